@@ -1,0 +1,97 @@
+-- A consistent census is one whose totals balance, and each operation keeps the balance.
+use Rattle.std.proofs.Common.{◌≡◌, ◌≢◌, ℕ, ◌+◌, ◌≤◌, ◌<◌, Bool, true, false, refl, ap, arith}
+use Rattle.std.specs.Prelude.{◌==◌, ◌&&◌}
+use Rattle.std.proofs.lemmas.Bool.Decides.{nat_tests}
+use Rattle.lockword_core.specs.declared.word.TheConstants.{NO_WORD}
+use Rattle.lockword_core.specs.Word.{bit}
+use Rattle.lockword_core.specs.LockState.{Census, references, lasts, number, encoded}
+use Rattle.lockword_core.specs.LockInvariant.{IsConsistentCensus}
+use Rattle.lockword_core.proofs.CountLemmas.{totals, count-within}
+use Rattle.lockword_core.proofs.BalanceLemmas.{IsBalanced, reads}
+
+-- the totals of a census balance, and this is its word
+abbrev pub Balance : Census → ℕ → Type 0
+Balance c n = IsBalanced (totals c.stakes) (bit c.closed) (bit c.destroyed) c.signals n
+
+pub bit-le : (b : Bool) → bit b ≤ 1
+bit-le true = omega arith
+bit-le false = omega arith
+
+pub bit-true : (b : Bool) → bit b ≡ 1 → b ≡ true
+bit-true true e = refl
+bit-true false e = absurd (omega arith)
+
+-- one `Last` or mark, as the definitions say it and as arithmetic
+record IsEnd (closed refs ends : ℕ) : Type 0 where
+  ended : closed ≡ 1 → refs ≡ 0 → ends ≡ 1
+  unclosed : closed ≡ 0 → ends ≡ 0
+  in_use : 0 < refs → ends ≡ 0
+
+end-arith : (b : Bool) (refs ends : ℕ) → ends ≡ bit (b && (refs == 0)) → IsEnd (bit b) refs ends
+end-arith false refs ends e = record { ended = λ c r. absurd (omega arith); unclosed = λ c. e; in_use = λ r. e }
+end-arith true refs ends e = by (refs == 0) refl e
+  where
+    by : (t : Bool) → (refs == 0) ≡ t → ends ≡ bit t → IsEnd 1 refs ends
+    by true h e = let zero_refs : refs ≡ 0 = grind (arith, nat_tests) in record { ended = λ c r. e; unclosed = λ c. absurd (omega arith); in_use = λ r. absurd (omega arith) }
+    by false h e = let some_refs : refs ≢ 0 = grind (arith, nat_tests) in record { ended = λ c r. absurd (some_refs r); unclosed = λ c. absurd (omega arith); in_use = λ r. e }
+
+arith-end : (b : Bool) (refs ends : ℕ) → (bit b ≡ 1 → refs ≡ 0 → ends ≡ 1) → (bit b ≡ 0 → ends ≡ 0) → (0 < refs → ends ≡ 0) → ends ≡ bit (b && (refs == 0))
+arith-end false refs ends ended unclosed in_use = unclosed refl
+arith-end true refs ends ended unclosed in_use = by (refs == 0) refl
+  where
+    by : (t : Bool) → (refs == 0) ≡ t → ends ≡ bit t
+    by true h = let zero_refs : refs ≡ 0 = grind (arith, nat_tests) in ended refl zero_refs
+    by false h = let some_refs : refs ≢ 0 = grind (arith, nat_tests) in in_use (omega arith)
+
+pub balance_of : (c : Census) → IsConsistentCensus c → Balance c (encoded c)
+balance_of c good =
+    let end = end-arith c.closed (number references c) (number lasts c + bit c.destroyed) good.one_last in
+    record {
+      closed_bit = bit-le c.closed;
+      destroyed_bit = bit-le c.destroyed;
+      one_reader = good.reading.one_lock;
+      one_writer = good.writing.one_lock;
+      locked = count-within c.stakes;
+      references_fit = good.references_fit;
+      read_signals_have_waiters = good.reading.signals_have_waiters;
+      write_signals_have_waiters = good.writing.signals_have_waiters;
+      read_waiters_fit = let fit = good.reading.waiters_fit in omega arith;
+      write_waiters_fit = let fit = good.writing.waiters_fit in omega arith;
+      read_signals_fit = good.reading.signals_fit;
+      write_signals_fit = good.writing.signals_fit;
+      no_reader_pending = λ e. let none = good.reading.none_pending_when_closed (bit-true c.closed e) in let have = good.reading.signals_have_waiters in omega arith;
+      no_writer_pending = λ e. let none = good.writing.none_pending_when_closed (bit-true c.closed e) in let have = good.writing.signals_have_waiters in omega arith;
+      one_closer = good.one_closer;
+      ended = end.ended;
+      unclosed = end.unclosed;
+      in_use = end.in_use;
+      word_is = let reading = good.reading.signals_have_waiters in let writing = good.writing.signals_have_waiters in omega arith;
+    }
+
+pub consistent_of : (c : Census) (n : ℕ) → Balance c n → IsConsistentCensus c
+consistent_of c n b =
+    record {
+      reading = record {
+        one_lock = b.one_reader;
+        signals_have_waiters = b.read_signals_have_waiters;
+        waiters_fit = omega arith;
+        signals_fit = b.read_signals_fit;
+        none_pending_when_closed = λ e. let told = b.no_reader_pending (ap bit e) in omega arith;
+      };
+      writing = record {
+        one_lock = b.one_writer;
+        signals_have_waiters = b.write_signals_have_waiters;
+        waiters_fit = omega arith;
+        signals_fit = b.write_signals_fit;
+        none_pending_when_closed = λ e. let told = b.no_writer_pending (ap bit e) in omega arith;
+      };
+      references_fit = b.references_fit;
+      one_closer = b.one_closer;
+      one_last = arith-end c.closed (number references c) (number lasts c + bit c.destroyed) b.ended b.unclosed b.in_use;
+    }
+
+pub encoded_of : (c : Census) (n : ℕ) → Balance c n → n ≡ encoded c
+encoded_of c n b = omega arith
+
+pub encoded-small : (c : Census) → IsConsistentCensus c → encoded c < NO_WORD
+encoded-small c good = (reads (totals c.stakes) (bit c.closed) (bit c.destroyed) c.signals (encoded c) (balance_of c good)).is_word

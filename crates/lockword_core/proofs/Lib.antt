@@ -1,0 +1,9 @@
+pub mod CountLemmas
+pub mod BalanceLemmas
+pub mod InvariantPreserved
+pub mod WordRefines
+pub mod StateLemmas
+pub mod WordLemmas
+pub mod MachineLemmas
+pub mod ReplayLemmas
+pub mod LawLemmas

@@ -1,0 +1,9 @@
+use Rattle.std.proofs.Common.{◌≡◌, take}
+use Rattle.lockword_core.specs.Replay.{state_after, answers_of}
+use Rattle.lockword_core.proofs.machine.Machine.run.Given as goal
+
+abbrev pub invariant-loop-done : goal.invariant-loop-done
+invariant-loop-done l = record {
+  state : l.self ≡ state_after l.initial.self (take l.done l.events);
+  answers : l.answers.items ≡ answers_of l.initial.self (take l.done l.events);
+}

@@ -1,0 +1,90 @@
+//! What the definitions come to, in the words of the subject. Each law is the contract of a function
+//! that does nothing.
+
+ghost use Rattle.std.specs.Prelude.{◌≡◌, ◌<◌, ◌≤◌, ◌+◌, ℕ, List, [], ◌∷◌, ◌++◌, Some, is_some, count_by, length, slice_set, slice_index_or};
+ghost use Rattle.std.specs.Ordering.{nat_cmp};
+ghost use Rattle.std.specs.Map.{values_of};
+ghost use Rattle.std.specs.BTreeMap.{insert_entry};
+ghost use Rattle.stream_base.specs.declared.direction.Dir.{Dir};
+ghost use Rattle.lockword_core.specs.declared.stake.Event.{Event};
+ghost use Rattle.lockword_core.specs.declared.stake.Stake.{Stake};
+ghost use Rattle.lockword_core.specs.declared.stake.Op.{Op};
+ghost use Rattle.lockword_core.specs.declared.stake.Answer.{Answer};
+ghost use Rattle.lockword_core.specs.declared.word.Word.{Word};
+ghost use Rattle.lockword_core.specs.declared.word.TheConstants.{NO_WORD};
+ghost use Rattle.lockword_core.specs.declared.transition.Kind.{Kind};
+ghost use Rattle.lockword_core.specs.Word.{bit, IsWord, packed};
+ghost use Rattle.lockword_core.specs.LockState.{LockState, empty, Census, census, stake_of, Counted, locks, part, count, number, encoded};
+ghost use Rattle.lockword_core.specs.LockInvariant.{IsConsistent, IsConsistentCensus, IsCounted, ChangesOneStake};
+ghost use Rattle.lockword_core.specs.Transition.{Change, moved, outcome, changed, transition};
+ghost use Rattle.lockword_core.specs.Replay.{state_after, answers_of};
+ghost use Rattle.lockword_core.specs.WordStep.{op_of};
+ghost use Rattle.lockword_core.specs.Laws.{CountsStakes, is_done, is_last, ReturnedTheLast};
+
+/// The empty state is consistent, every transition keeps a state consistent, and so every list of
+/// events leads to a consistent state.
+pub fn states_are_consistent()
+    ensures empty { IsConsistent empty }
+    ensures transition { (s : LockState) (holder : ℕ) (op : Op)
+        → IsConsistent s → IsConsistent (transition s holder op).0 }
+    ensures replay { (events : List Event) → IsConsistent (state_after empty events) }
+{}
+
+/// After every list of events, by any number of holders, the word's flag, lock bits and counts are
+/// exactly those of the stakes outstanding; at most one holder reads, and at most one writes.
+pub fn the_word_counts_the_stakes()
+    ensures is_word { (events : List Event) → encoded (census (state_after empty events)) < NO_WORD }
+    ensures fields { (events : List Event) (fields : Word) → IsWord fields
+        → packed fields ≡ encoded (census (state_after empty events))
+        → CountsStakes fields (state_after empty events) }
+    ensures one_lock { (events : List Event) (d : Dir) → number (locks d) (census (state_after empty events)) ≤ 1 }
+{}
+
+/// After every list of events the descriptor was destroyed at most once, after at most one last
+/// return, and by the holder that gave back the last reference after the close.
+pub fn the_last_return_destroys_once()
+    ensures done_once { (events : List Event) → count_by is_done (answers_of empty events)
+        ≡ bit (is_some (state_after empty events).destroyed_by) }
+    ensures last_once { (events : List Event) → count_by is_last (answers_of empty events) ≤ 1 }
+    ensures destroyer { (events : List Event) (holder : ℕ)
+        → (state_after empty events).destroyed_by ≡ Some holder → ReturnedTheLast events holder }
+{}
+
+/// A word has one reading: fields that pack to the same word are the same.
+pub fn a_word_has_one_reading()
+    ensures { (f g : Word) → IsWord f → IsWord g → packed f ≡ packed g → f ≡ g }
+{}
+
+/// Two consistent censuses with the same word, in which the holder that acts has the same stake, give
+/// the same outcome, and so the same answer and stake, and then the same word.
+pub fn the_word_decides()
+    ensures same_outcome { (b c : Census) (own : Stake) (kind : Kind) → IsConsistentCensus b → IsConsistentCensus c
+        → encoded b ≡ encoded c → outcome b own (op_of kind) ≡ outcome c own (op_of kind) }
+    ensures same_word { (b c : Census) (own : Stake) (kind : Kind) (answer : Answer) (new : Stake) (change : Change)
+        (of_b of_c : List Stake) → IsConsistentCensus b → IsConsistentCensus c
+        → encoded b ≡ encoded c → outcome b own (op_of kind) ≡ moved answer new change
+        → ChangesOneStake b.stakes own of_b new → ChangesOneStake c.stakes own of_c new
+        → encoded (changed b of_b change) ≡ encoded (changed c of_c change) }
+{}
+
+/// A change of one holder's stake changes each count by that stake's part alone, whether the stakes
+/// stand in a list of seats or in a map of holders; a new seat counts nothing.
+pub fn one_stake_counts_alone()
+    ensures seat { (what : Counted) (stakes : List Stake) (i : ℕ) (new : Stake) → i < length stakes
+        → count what (slice_set stakes i new) + part what (slice_index_or stakes i new)
+        ≡ count what stakes + part what new }
+    ensures changes_seat { (stakes : List Stake) (i : ℕ) (new : Stake) → i < length stakes
+        → ChangesOneStake stakes (slice_index_or stakes i new) (slice_set stakes i new) new }
+    ensures new_seat { (what : Counted) (stakes : List Stake)
+        → count what (stakes ++ Stake.Free ∷ []) ≡ count what stakes }
+    ensures changes_holder { (s : LockState) (holder : ℕ) (new : Stake) → IsConsistent s
+        → ChangesOneStake (values_of s.holders) (stake_of s holder)
+        (values_of (insert_entry nat_cmp s.holders holder new)) new }
+{}
+
+/// An operation keeps a census consistent, whoever the other holders are.
+pub fn operations_keep_the_census()
+    ensures { (c : Census) (own : Stake) (op : Op) (answer : Answer) (new : Stake) (change : Change)
+        (stakes : List Stake) → IsConsistentCensus c → outcome c own op ≡ moved answer new change
+        → ChangesOneStake c.stakes own stakes new → IsConsistentCensus (changed c stakes change) }
+{}

@@ -1,0 +1,91 @@
+//! The packed lock word.
+//!
+//! | Bits | Field | Greatest |
+//! |---|---|---|
+//! | 0 | closed; never cleared | 1 |
+//! | 1 | read lock | 1 |
+//! | 2 | write lock | 1 |
+//! | 3 to 22 | references, of which each lock and the closer hold one | 1,048,575 |
+//! | 23 to 42 | read waiters whom nobody is bound to signal | 1,048,575 |
+//! | 43 to 62 | write waiters whom nobody is bound to signal | 1,048,575 |
+//! | 63 | unused, always 0 | |
+//!
+//! The two widths below are the only numbers of the layout: all else is computed from them.
+
+ghost use Rattle.std.specs.Prelude.{◌≡◌, ◌≤◌, ◌<◌, IfNone, IfSome};
+ghost use Rattle.lockword_core.specs.Word.{bit, IsWord, packed};
+
+/// Bits of the count of references.
+const REFERENCES_WIDTH: u32 = 20;
+/// Bits of each count of waiters.
+const WAITERS_WIDTH: u32 = 20;
+
+/// The word of a closed descriptor without holders.
+pub const CLOSED: u64 = 1;
+/// What the read lock adds to a word, without its reference.
+pub const READ_LOCK: u64 = CLOSED << 1;
+/// What the write lock adds to a word, without its reference.
+pub const WRITE_LOCK: u64 = READ_LOCK << 1;
+/// What a reference adds to a word.
+pub const REFERENCE: u64 = WRITE_LOCK << 1;
+/// What a read waiter adds to a word.
+pub const READ_WAITER: u64 = REFERENCE << REFERENCES_WIDTH;
+/// What a write waiter adds to a word.
+pub const WRITE_WAITER: u64 = READ_WAITER << WAITERS_WIDTH;
+/// The first number that is no word.
+pub const NO_WORD: u64 = WRITE_WAITER << WAITERS_WIDTH;
+
+/// The greatest count of references.
+pub const MAX_REFERENCES: u32 = (1 << REFERENCES_WIDTH) - 1;
+/// The greatest count of waiters in one direction.
+pub const MAX_WAITERS: u32 = (1 << WAITERS_WIDTH) - 1;
+
+/// The six fields of a lock word. A count is at most [`MAX_REFERENCES`] or [`MAX_WAITERS`].
+#[derive(Clone, Copy, Debug, PartialEq, Eq, Drop)]
+pub struct Word {
+    pub closed: bool,
+    pub rlock: bool,
+    pub wlock: bool,
+    pub refs: u32,
+    pub rwait: u32,
+    pub wwait: u32,
+}
+
+fn bit_of(set: bool) -> u64
+    ensures { result ≡ bit set }
+{
+    if set { 1 } else { 0 }
+}
+
+/// The word with these fields.
+pub fn pack(word: Word) -> u64
+    requires { IsWord word }
+    ensures packed { result ≡ packed word }
+    ensures is_word { result < NO_WORD }
+{
+    CLOSED * bit_of(word.closed)
+        + READ_LOCK * bit_of(word.rlock)
+        + WRITE_LOCK * bit_of(word.wlock)
+        + REFERENCE * word.refs as u64
+        + READ_WAITER * word.rwait as u64
+        + WRITE_WAITER * word.wwait as u64
+}
+
+/// The fields of a word, or `None` where the number is no word, since its bit 63 is set.
+pub fn unpack(word: u64) -> Option<Word>
+    ensures none { IfNone result (NO_WORD ≤ word) }
+    ensures some { IfSome result (λ fields. IsWord fields) }
+    ensures same { IfSome result (λ fields. packed fields ≡ word) }
+{
+    if word >= NO_WORD {
+        return None;
+    }
+    Some(Word {
+        closed: word % 2 == 1,
+        rlock: word / READ_LOCK % 2 == 1,
+        wlock: word / WRITE_LOCK % 2 == 1,
+        refs: (word / REFERENCE % (READ_WAITER / REFERENCE)) as u32,
+        rwait: (word / READ_WAITER % (WRITE_WAITER / READ_WAITER)) as u32,
+        wwait: (word / WRITE_WAITER) as u32,
+    })
+}

@@ -1,0 +1,4 @@
+pub mod AttemptLemmas
+pub mod DecimalLemmas
+pub mod KnownBytesLemmas
+pub mod LineLemmas
