@@ -1,0 +1,5 @@
+pub mod PollHistoryLemmas
+pub mod TimersLemmas
+pub mod DueLemmas
+pub mod DueLawsLemmas
+pub mod OneAnswerLemmas

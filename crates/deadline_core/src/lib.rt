@@ -1,0 +1,21 @@
+//! When a read or a write is refused, and which timers are due: a poll state and a set of timers,
+//! both without a clock of their own.
+//!
+//! Moments are nanoseconds of a clock that the caller hands in, from 0 to `u64::MAX`; nothing here
+//! reads a clock, waits or starts a thread. `poll_state` decides for one descriptor, `timers` holds
+//! the moments of many, and `laws` says what follows from both.
+#![tactic(auto)]
+
+mod deadline;
+pub mod laws;
+mod poll_state;
+mod refusal;
+mod timers;
+
+pub use deadline::{Deadline, Dirs};
+pub use poll_state::{Look, PollState};
+pub use refusal::Refusal;
+pub use timers::{MAX_DUE, Timers};
+
+#[cfg(test)]
+mod tests;

@@ -1,0 +1,5 @@
+//! Rows of calls with their answers, and memory that is refused.
+mod callers;
+mod poll_rows;
+mod refused_memory;
+mod timer_rows;

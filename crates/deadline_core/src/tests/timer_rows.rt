@@ -1,0 +1,81 @@
+//! Rows of timers, with what is due and in which order.
+use crate::Timers;
+use std::test::Fail;
+use stream_base::Dir::{Read, Write};
+
+#[test]
+fn timers_fire_by_moment_then_key_then_read_first(rt: HostRuntime) -> Result<(), Fail> {
+    let mut timers = Timers::new(rt.alloc());
+    assert_eq!(rt; timers.next(), None);
+    timers.arm(7, Read, 100)?;
+    timers.arm(3, Write, 100)?;
+    assert!(rt; timers.due(99).is_empty(), "none is due before its moment");
+    assert_eq!(rt;
+        timers.due(100).as_slice(),
+        [(3, Write), (7, Read)].as_slice(),
+        "the lower key first"
+    );
+    assert_eq!(rt; timers.next(), None);
+    timers.arm(2, Write, 7)?;
+    timers.arm(2, Read, 7)?;
+    timers.arm(1, Write, 7)?;
+    timers.arm(9, Read, 3)?;
+    timers.arm(0, Read, 8)?;
+    let want = [(9, Read), (1, Write), (2, Read), (2, Write)];
+    assert_eq!(rt;
+        timers.due(7).as_slice(),
+        want.as_slice(),
+        "the earlier moment first"
+    );
+    assert_eq!(rt; timers.next(), Some(8), "what isn't due stays");
+    Ok(())
+}
+
+#[test]
+fn a_timer_armed_again_has_its_new_moment_alone(rt: HostRuntime) -> Result<(), Fail> {
+    let mut timers = Timers::new(rt.alloc());
+    timers.arm(7, Read, 100)?;
+    timers.arm(3, Write, 100)?;
+    timers.arm(7, Read, 50)?;
+    assert_eq!(rt; timers.next(), Some(50));
+    assert_eq!(rt;
+        timers.due(100).as_slice(),
+        [(7, Read), (3, Write)].as_slice(),
+        "armed for an earlier moment"
+    );
+    timers.arm(7, Read, 50)?;
+    timers.arm_both(7, 60)?;
+    assert!(rt; timers.due(59).is_empty(), "the old moment is forgotten");
+    assert_eq!(rt;
+        timers.due(60).as_slice(),
+        [(7, Read), (7, Write)].as_slice(),
+        "both at once"
+    );
+    timers.arm_both(7, 60)?;
+    timers.disarm(7, Read);
+    timers.disarm(8, Write);
+    assert_eq!(rt;
+        timers.due(u64::MAX).as_slice(),
+        [(7, Write)].as_slice(),
+        "one is disarmed"
+    );
+    Ok(())
+}
+
+#[test]
+fn what_is_due_comes_256_at_a_time(rt: HostRuntime) -> Result<(), Fail> {
+    let mut timers = Timers::new(rt.alloc());
+    for key in (0..300u64).rev() {
+        timers.arm(key, Read, 5)?;
+    }
+    let mut key = 0u64;
+    for want in [256, 44, 0] {
+        let given = timers.due(5);
+        assert_eq!(rt; given.len(), want, "from key {key}");
+        for slot in given.as_slice() {
+            assert_eq!(rt; *slot, (key, Read));
+            key = key.saturating_add(1);
+        }
+    }
+    Ok(())
+}

@@ -1,0 +1,5 @@
+pub mod TraceLemmas
+pub mod ReadLemmas
+pub mod AcceptLemmas
+pub mod PartialWriteLemmas
+pub mod RetryLemmas

@@ -1,0 +1,11 @@
+use Rattle.rwloops.proofs.accept_loop.try_once.Goals as goal
+
+pub returns : goal.returns
+returns g c = λ earlier stands. record {
+  made = c.try_accept-outcome.result;
+  told = c.try_accept-outcome.ensures.told;
+  offered = tt;
+  holds = tt;
+  answer = c.feed.ensures.answer earlier stands;
+  stands = c.feed.ensures.stands earlier stands;
+}

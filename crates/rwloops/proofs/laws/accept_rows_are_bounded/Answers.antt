@@ -1,0 +1,14 @@
+use Rattle.std.specs.List.{list_all}
+use Rattle.std.proofs.lemmas.Bool.{and_parts}
+use Rattle.std.proofs.lemmas.List.Sums.{AllPass-from_list_all, list_all-from_AllPass}
+use Rattle.rwloops.specs.RetryBound.{has_short_rows}
+use Rattle.rwloops.specs.AcceptTrace.{accept_goes_on, is_retried}
+use Rattle.rwloops.proofs.RetryLemmas.{both, short_rows, short_rows_by_cuts}
+use Rattle.rwloops.proofs.laws.accept_rows_are_bounded.Goals as goal
+
+pub returns : goal.returns
+returns g c = λ outcomes. (
+  λ quiet. let parts = and_parts (list_all accept_goes_on outcomes) (has_short_rows is_retried outcomes) quiet in
+      (AllPass-from_list_all accept_goes_on outcomes parts.0, short_rows is_retried outcomes parts.1),
+  λ facts. both _ _ (list_all-from_AllPass accept_goes_on outcomes facts.0) (short_rows_by_cuts is_retried outcomes facts.1),
+)

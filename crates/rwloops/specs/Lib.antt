@@ -1,0 +1,7 @@
+pub mod RetryBound
+pub mod Outcome
+pub mod Waits
+pub mod OutcomeTrace
+pub mod ReadTrace
+pub mod WriteTrace
+pub mod AcceptTrace

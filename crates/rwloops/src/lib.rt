@@ -1,0 +1,29 @@
+//! Reading, writing and accepting over halves that may have to wait: Go's `internal/poll` loops, made of pure loops that are fed one
+//! outcome at a time.
+#![tactic(auto)]
+
+mod accept_loop;
+mod fault;
+mod laws;
+mod limits;
+mod outcome;
+mod read_loop;
+mod retries;
+#[cfg(test)]
+mod tests;
+mod waits;
+mod write_loop;
+
+pub use accept_loop::{AcceptLoop, TryAccept, accept};
+pub use fault::{Fault, WriteFault};
+pub use laws::{
+    accept_rows_are_bounded, decisive_try_ends_a_read, decisive_try_ends_a_write,
+    decisive_try_ends_an_accept, no_written_byte_is_offered_again, read_rows_are_bounded,
+    write_rows_are_bounded, written_bytes_are_the_first,
+};
+pub use limits::{MAX_RETRIES, MAX_TRY_BYTES, chunk_of};
+pub use outcome::{AcceptOutcome, DevKind, Outcome};
+pub use read_loop::{ReadLoop, TryRead, read};
+pub use retries::Next;
+pub use waits::Waits;
+pub use write_loop::{TryWrite, WriteLoop, write};
