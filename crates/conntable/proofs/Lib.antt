@@ -1,0 +1,4 @@
+pub mod TokenLemmas
+pub mod UsedKeyLemmas
+pub mod ConnTableLemmas
+pub mod LawLemmas

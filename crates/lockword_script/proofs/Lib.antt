@@ -1,0 +1,5 @@
+pub mod ScriptLemmas
+pub mod EventLemmas
+pub mod ProgressLemmas
+pub mod TextLemmas
+pub mod TraceLemmas

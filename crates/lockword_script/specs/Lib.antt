@@ -1,0 +1,4 @@
+pub mod Script
+pub mod TraceOutput
+pub mod TraceOutcome
+pub mod Progress

@@ -1,0 +1,28 @@
+-- What a caller sees of a book, and how the calls change it.
+use Rattle.std.specs.Prelude.{◌≡◌, ◌<◌, ◌+◌, ◌⊎◌, ℕ, Bool, true, false, List, length}
+
+-- the sum of all credits, how many shares were opened, and whether all of them were gathered
+pub record Account : Type 0 where
+  pub total : ℕ
+  pub opened : ℕ
+  pub gathered : Bool
+
+-- one share more was opened
+abbrev pub OpensOne : Account → Account → Type 0
+OpensOne old new = new ≡ record old { opened = old.opened + 1 }
+
+-- this much was added to the total
+abbrev pub Adds : Account → Account → ℕ → Type 0
+Adds old new n = new ≡ record old { total = old.total + n }
+
+-- a book that opens one share more
+abbrev pub MayOpen : Account → Type 0
+MayOpen book = (book.opened < 4294967295) × (book.gathered ≡ false)
+
+-- a book that opens none
+abbrev pub CannotOpen : Account → Type 0
+CannotOpen book = (book.opened ≡ 4294967295) ⊎ (book.gathered ≡ true)
+
+-- as many shares as were opened, of a book that wasn't gathered before
+abbrev pub AreAllShares : Account → List ℕ → Type 0
+AreAllShares book shares = (book.gathered ≡ false) × (length shares ≡ book.opened)

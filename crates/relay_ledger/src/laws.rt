@@ -1,0 +1,10 @@
+//! What the contracts of a book mean together. The function does nothing: its contract is a law,
+//! which the check proves.
+
+ghost use Rattle.relay_ledger.specs.Conservation.{CreditsAreConserved};
+
+/// However shares are opened and credited, the total of the book is the sum over its shares of
+/// the sums of their credits, and it counts its shares.
+pub fn credits_are_conserved()
+    ensures { CreditsAreConserved }
+{}

@@ -1,0 +1,206 @@
+//! The worked row, the greatest total, and shares that cross threads.
+
+ghost use Rattle.std.specs.Prelude.{◌≡◌};
+
+use crate::book::{Book, Full, PARTS};
+use crate::share::{CarriedShare, Share, give_up_all};
+use std::alloc::{AllocError, Global};
+use std::marker::Brand;
+use std::sync::ledger::{Blank, Ledger};
+use std::sync::{Arc, Mutex, Wait};
+use std::test::Fail;
+use std::thread;
+use std::thread::Threads;
+
+// A share with these credits and its amount, or `None` where one of them was refused.
+fn worked<L: Ledger>(book: &mut Book<L>, credits: &[u64]) -> Option<(CarriedShare<L>, u64)> {
+    match book.open_share() {
+        Ok(mut share) => {
+            let mut refused = false;
+            for n in credits {
+                if book.credit(&mut share, *n).is_err() {
+                    refused = true;
+                }
+            }
+            let amount = share.amount();
+            let carried = CarriedShare::new(share);
+            if refused {
+                None
+            } else {
+                Some((carried, amount))
+            }
+        }
+        Err(Full) => None,
+    }
+}
+
+// One share more in the list, or one share less to gather.
+fn put_into<L: Ledger>(shares: &mut Vec<Share<L>>, carried: Option<CarriedShare<L>>) {
+    if let Some(carried) = carried {
+        if let Err(failed) = shares.push(carried.into_share()) {
+            failed.value.give_up();
+        }
+    }
+}
+
+// The total, or `None` and the shares are given up.
+fn total_of<L: Ledger>(book: &mut Book<L>, shares: Vec<Share<L>>) -> Option<u64> {
+    match book.gather(shares) {
+        Ok(total) => Some(total),
+        Err(back) => {
+            give_up_all(back);
+            None
+        }
+    }
+}
+
+#[derive(Debug, PartialEq, Eq, Drop)]
+struct Row {
+    amounts: (u64, u64, u64),
+    back_of_two: Option<usize>,
+    of_all: Option<u64>,
+    later_total: u64,
+    later_opened: u32,
+    opens_later: bool,
+    again: Option<u64>,
+}
+
+fn worked_row<L: Ledger>(heap: Global, blank: Blank) -> Option<Row>
+    requires name { blank.name ≡ L.name }
+    requires parts { blank.parts ≡ L.parts }
+    requires all { blank.parts ≡ 4294967296 }
+{
+    let mut book = Book::<L>::new(blank);
+    let (first, a) = worked(&mut book, &[5, 0])?;
+    let (second, b) = worked(&mut book, &[7])?;
+    let (third, c) = worked(&mut book, &[])?;
+    let mut shares = Vec::new(heap);
+    put_into(&mut shares, Some(first));
+    put_into(&mut shares, Some(second));
+    let (mut shares, back_of_two) = match book.gather(shares) {
+        Ok(_) => (Vec::new(heap), None),
+        Err(back) => {
+            let count = back.len();
+            (back, Some(count))
+        }
+    };
+    put_into(&mut shares, Some(third));
+    let of_all = total_of(&mut book, shares);
+    let opens_later = match book.open_share() {
+        Ok(share) => {
+            share.give_up();
+            true
+        }
+        Err(Full) => false,
+    };
+    let again = total_of(&mut book, Vec::new(heap));
+    Some(Row {
+        amounts: (a, b, c),
+        back_of_two,
+        of_all,
+        later_total: book.total(),
+        later_opened: book.opened(),
+        opens_later,
+        again,
+    })
+}
+
+#[test]
+fn all_shares_gather_and_two_of_three_do_not(rt: HostRuntime) {
+    let got = worked_row::<Brand>(rt.alloc(), Blank::new(PARTS));
+    let want = Row {
+        amounts: (5, 7, 0),
+        back_of_two: Some(2),
+        of_all: Some(12),
+        later_total: 12,
+        later_opened: 3,
+        opens_later: false,
+        again: None,
+    };
+    assert_eq!(rt; got, Some(want));
+}
+
+// What a credit of 1 at the greatest total answers, and the total and the amount then.
+fn one_too_many<L: Ledger>(blank: Blank) -> Option<(Result<(), Full>, u64, u64)>
+    requires name { blank.name ≡ L.name }
+    requires parts { blank.parts ≡ L.parts }
+    requires all { blank.parts ≡ 4294967296 }
+{
+    let mut book = Book::<L>::new(blank);
+    match book.open_share() {
+        Ok(mut share) => {
+            let most = book.credit(&mut share, 18_446_744_073_709_551_615).is_ok();
+            let more = book.credit(&mut share, 1);
+            let seen = (more, book.total(), share.amount());
+            share.give_up();
+            if most { Some(seen) } else { None }
+        }
+        Err(Full) => None,
+    }
+}
+
+#[test]
+fn credit_past_the_greatest_total_is_full(rt: HostRuntime) {
+    let greatest = 18_446_744_073_709_551_615u64;
+    let got = one_too_many::<Brand>(Blank::new(PARTS));
+    assert_eq!(rt; got, Some((Err(Full), greatest, greatest)));
+}
+
+// A worker on its own thread: it opens its share there, and gives it to the join.
+fn work<L: Ledger, R: Wait>(rt: &R, book: &Mutex<Book<L>>, n: u64) -> Option<CarriedShare<L>> {
+    let opened = book.lock(rt).open_share();
+    match opened {
+        Ok(mut share) => {
+            for _ in 0..100u32 {
+                let _ = book.lock(rt).credit(&mut share, n);
+            }
+            Some(CarriedShare::new(share))
+        }
+        Err(Full) => None,
+    }
+}
+
+// The gathered total of three workers and the book's own, where the last share may be lost.
+fn across_threads<L, R>(
+    rt: R,
+    heap: Global,
+    blank: Blank,
+    lose: bool,
+) -> Result<(Option<u64>, u64), AllocError>
+where
+    L: Ledger + Send + Sync + 'static,
+    R: Threads + Wait + Copy + Send + 'static,
+    requires name { blank.name ≡ L.name }
+    requires parts { blank.parts ≡ L.parts }
+    requires all { blank.parts ≡ 4294967296 }
+{
+    let book = Arc::new(heap, Mutex::new(Book::<L>::new(blank)))?;
+    let one = Arc::try_clone(&book)?;
+    let two = Arc::try_clone(&book)?;
+    let first = thread::spawn(&rt, move || work(&rt, &*one, 1))?;
+    let second = thread::spawn(&rt, move || work(&rt, &*two, 10))?;
+    let third = work(&rt, &*book, 100);
+    let mut shares = Vec::new(heap);
+    put_into(&mut shares, first.join(&rt));
+    put_into(&mut shares, second.join(&rt));
+    if !lose {
+        put_into(&mut shares, third);
+    }
+    let mut book = book.lock(&rt);
+    let gathered = total_of(&mut *book, shares);
+    Ok((gathered, book.total()))
+}
+
+#[test]
+fn shares_cross_threads_and_gather(rt: HostRuntime) -> Result<(), Fail> {
+    let got = across_threads::<Brand, _>(rt, rt.alloc(), Blank::new(PARTS), false)?;
+    assert_eq!(rt; got, (Some(11_100), 11_100));
+    Ok(())
+}
+
+#[test]
+fn book_with_a_lost_share_never_gathers(rt: HostRuntime) -> Result<(), Fail> {
+    let got = across_threads::<Brand, _>(rt, rt.alloc(), Blank::new(PARTS), true)?;
+    assert_eq!(rt; got, (None, 11_100));
+    Ok(())
+}
