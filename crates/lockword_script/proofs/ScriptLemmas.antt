@@ -15,35 +15,35 @@ use Rattle.lockword_script.specs.Script.{operation_name, NamesHolders, Says, IsB
 -- the names of holders have no space
 pub holders_lack_space : (text : List ℕ) (first count : ℕ) → first < 2 ^ 64 → count < 2 ^ 64 → NamesHolders text first count → Lacks 32 text
 holders_lack_space text first count p q = elim [
-    inl alone ↦ subst (Lacks 32) (sym alone.1) (decimal-lacks 32 first p (λ r. omega arith))
+  | inl alone ↦ subst (Lacks 32) (sym alone.1) (decimal-lacks 32 first p (λ r. omega arith))
   | inr range ↦ subst (Lacks 32) (sym range) (lacks-append 32 (decimal first) (codes "+" ++ decimal count) (decimal-lacks 32 first p (λ r. omega arith)) ((λ (e : 43 ≡ 32). omega arith), decimal-lacks 32 count q (λ r. omega arith)))
-  ]
+]
 
 -- with no plus there is one holder
 pub names_one : (text : List ℕ) (first count : ℕ) → Lacks 43 text → NamesHolders text first count → (count ≡ 1) × (text ≡ decimal first)
 names_one text first count l = elim [
-    inl alone ↦ alone
+  | inl alone ↦ alone
   | inr range ↦ absurd (lacks_not 43 (decimal first) (decimal count) (subst (Lacks 43) range l))
-  ]
+]
 
 -- with a plus there are two numbers
 pub names_range : (text front back : List ℕ) (first count : ℕ) → first < 2 ^ 64 → Lacks 43 front → text ≡ front ++ 43 ∷ back → NamesHolders text first count → (front ≡ decimal first) × (back ≡ decimal count)
 names_range text front back first count p l e = elim [
-    inl alone ↦ absurd (lacks_not 43 front back (subst (Lacks 43) (sym alone.1 ∙ e) (decimal-lacks 43 first p (λ r. omega arith))))
+  | inl alone ↦ absurd (lacks_not 43 front back (subst (Lacks 43) (sym alone.1 ∙ e) (decimal-lacks 43 first p (λ r. omega arith))))
   | inr range ↦ cut_once 43 front back (decimal first) (decimal count) l (decimal-lacks 43 first p (λ r. omega arith)) (sym e ∙ range)
-  ]
+]
 
 -- a text names holders in one way
 pub same_holders : (text : List ℕ) (first count first' count' : ℕ) → first < 2 ^ 64 → count < 2 ^ 64 → first' < 2 ^ 64 → count' < 2 ^ 64 → NamesHolders text first count → NamesHolders text first' count' → (first ≡ first') × (count ≡ count')
 same_holders text first count first' count' p q p' q' = elim [
-    inl alone ↦ λ other.
+  | inl alone ↦ λ other.
       let l : Lacks 43 text = subst (Lacks 43) (sym alone.1) (decimal-lacks 43 first p (λ r. omega arith)) in
       let one = names_one text first' count' l other in
       (decimal_injective first first' p p' (sym alone.1 ∙ one.1), alone.0 ∙ sym one.0)
   | inr range ↦ λ other.
       let two = names_range text (decimal first) (decimal count) first' count' p' (decimal-lacks 43 first p (λ r. omega arith)) range other in
       (decimal_injective first first' p p' two.0, decimal_injective count count' q q' two.1)
-  ]
+]
 
 -- what a line says where it is cut at its first space
 pub record SaysByParts (holders name : List ℕ) (first count : ℕ) (asked : Op) : Type 0 where
@@ -132,8 +132,8 @@ holders_short text first count p q =
     let a : length (decimal first) ≤ 7 = length-decimal-le 7 first (omega arith) p (omega arith) in
     let b : length (decimal count) ≤ 7 = length-decimal-le 7 count (omega arith) q (omega arith) in
     elim [
-      inl alone ↦ omega (arith, ap length alone.1)
-    | inr range ↦ omega (arith, ap length range, length-append (decimal first) (43 ∷ decimal count))
+      | inl alone ↦ omega (arith, ap length alone.1)
+      | inr range ↦ omega (arith, ap length range, length-append (decimal first) (43 ∷ decimal count))
     ]
 
 -- a line of more than 23 bytes is bad

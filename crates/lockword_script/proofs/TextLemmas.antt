@@ -31,12 +31,12 @@ record IsCut (b : ℕ) (text : List ℕ) : Type 0 where
 cut_or_lacks : (b : ℕ) (text : List ℕ) → IsCut b text ⊎ Lacks b text
 cut_or_lacks b [] = inr tt
 cut_or_lacks b (c ∷ text) = elim (cases_eq c b) [
-    inl e ↦ inl (record { front = []; back = text; first = tt; are = ap (λ (d : ℕ). d ∷ text) e })
+  | inl e ↦ inl (record { front = []; back = text; first = tt; are = ap (λ (d : ℕ). d ∷ text) e })
   | inr other ↦ elim (cut_or_lacks b text) [
-      inl w ↦ inl (record { front = c ∷ w.front; back = w.back; first = (other, w.first); are = ap (λ (t : List ℕ). c ∷ t) w.are })
+    | inl w ↦ inl (record { front = c ∷ w.front; back = w.back; first = (other, w.first); are = ap (λ (t : List ℕ). c ∷ t) w.are })
     | inr l ↦ inr (other, l)
-    ]
   ]
+]
 
 is_true_or_false : (b : Bool) → (b ≡ true) ⊎ (b ≡ false)
 is_true_or_false true = inl refl
@@ -72,10 +72,10 @@ name_or_none_of name [] = inr tt
 name_or_none_of name (asked ∷ others) =
     let decides = bytes_eq-Decides name (operation_name asked) in
     elim (is_true_or_false (bytes_eq name (operation_name asked))) [
-      inl is ↦ inl (record { asked = asked; spelled = decides.0 is })
-    | inr isnt ↦ elim (name_or_none_of name others) [
-        inl w ↦ inl w
-      | inr l ↦ inr ((λ (e : name ≡ operation_name asked). let here : bytes_eq name (operation_name asked) ≡ true = decides.1 e in absurd (cc)), l)
+      | inl is ↦ inl (record { asked = asked; spelled = decides.0 is })
+      | inr isnt ↦ elim (name_or_none_of name others) [
+        | inl w ↦ inl w
+        | inr l ↦ inr ((λ (e : name ≡ operation_name asked). let here : bytes_eq name (operation_name asked) ≡ true = decides.1 e in absurd (cc)), l)
       ]
     ]
 
@@ -109,24 +109,24 @@ NamesNone text = (first count : ℕ) → first < 2 ^ 64 → count < 2 ^ 64 → N
 
 holders_or_none : (text : List ℕ) → NamesSome text ⊎ NamesNone text
 holders_or_none text = elim (cut_or_lacks 43 text) [
-    inl w ↦ elim (number_or_none w.front) [
-      inl a ↦ elim (number_or_none w.back) [
-        inl b ↦ inl (record {
-          first = a.value;
-          count = b.value;
-          first_fits = a.fits;
-          count_fits = b.fits;
-          names = inr (w.are ∙ ap (λ (t : List ℕ). t ++ 43 ∷ w.back) a.spelled ∙ ap (λ (t : List ℕ). decimal a.value ++ 43 ∷ t) b.spelled);
-        })
+  | inl w ↦ elim (number_or_none w.front) [
+    | inl a ↦ elim (number_or_none w.back) [
+      | inl b ↦ inl (record {
+        first = a.value;
+        count = b.value;
+        first_fits = a.fits;
+        count_fits = b.fits;
+        names = inr (w.are ∙ ap (λ (t : List ℕ). t ++ 43 ∷ w.back) a.spelled ∙ ap (λ (t : List ℕ). decimal a.value ++ 43 ∷ t) b.spelled);
+      })
       | inr never ↦ inr (λ first count p q names. let two = names_range text w.front w.back first count p w.first w.are names in never count q two.1)
-      ]
+    ]
     | inr never ↦ inr (λ first count p q names. let two = names_range text w.front w.back first count p w.first w.are names in never first p two.0)
-    ]
-  | inr l ↦ elim (number_or_none text) [
-      inl a ↦ inl (record { first = a.value; count = 1; first_fits = a.fits; count_fits = (let one : 1 < 2 ^ 64 = omega arith in one); names = inl (refl, a.spelled) })
-    | inr never ↦ inr (λ first count p q names. let one = names_one text first count l names in never first p one.1)
-    ]
   ]
+  | inr l ↦ elim (number_or_none text) [
+    | inl a ↦ inl (record { first = a.value; count = 1; first_fits = a.fits; count_fits = (let one : 1 < 2 ^ 64 = omega arith in one); names = inl (refl, a.spelled) })
+    | inr never ↦ inr (λ first count p q names. let one = names_one text first count l names in never first p one.1)
+  ]
+]
 
 -- ---- A line
 
@@ -139,37 +139,37 @@ record SaysSomething (line : List ℕ) : Type 0 where
 
 says_of_parts : (line holders name : List ℕ) (first count : ℕ) (asked : Op) → Lacks 32 holders → line ≡ holders ++ 32 ∷ name → name ≡ operation_name asked → first < 2 ^ 64 → count < 2 ^ 64 → NamesHolders holders first count → SaysSomething line ⊎ IsBadLine line
 says_of_parts line holders name first count asked l e is p q names = elim (cases_lt count 1) [
-    inl none ↦ inr (bad_of_none line holders name first count l e p q names (omega arith))
+  | inl none ↦ inr (bad_of_none line holders name first count l e p q names (omega arith))
   | inr some ↦ elim (cases_lt 4194304 (first + count)) [
-      inl far ↦ inr (bad_of_far line holders name first count l e p q names far)
+    | inl far ↦ inr (bad_of_far line holders name first count l e p q names far)
     | inr near ↦ inl (record { first = first; count = count; asked = asked; says = record { some = some; named = near; holders = holders; names = names; text = e ∙ ap (λ (t : List ℕ). holders ++ 32 ∷ t) is } })
-    ]
   ]
+]
 
 says_or_bad : (line : List ℕ) → SaysSomething line ⊎ IsBadLine line
 says_or_bad line = elim (cut_or_lacks 32 line) [
-    inl w ↦ elim (name_or_none_of w.back all_operations) [
-      inl a ↦ elim (holders_or_none w.front) [
-        inl b ↦ says_of_parts line w.front w.back b.first b.count a.asked w.first w.are a.spelled b.first_fits b.count_fits b.names
+  | inl w ↦ elim (name_or_none_of w.back all_operations) [
+    | inl a ↦ elim (holders_or_none w.front) [
+      | inl b ↦ says_of_parts line w.front w.back b.first b.count a.asked w.first w.are a.spelled b.first_fits b.count_fits b.names
       | inr never ↦ inr (λ first count asked says. let parts = says_by_parts line w.front w.back first count asked w.first w.are says in never first count parts.first_fits parts.count_fits parts.names)
-      ]
-    | inr never ↦ inr (λ first count asked says. let parts = says_by_parts line w.front w.back first count asked w.first w.are says in is_no_name w.back never asked parts.named)
     ]
-  | inr l ↦ inr (λ first count asked says. says_with_space line first count asked l says)
+    | inr never ↦ inr (λ first count asked says. let parts = says_by_parts line w.front w.back first count asked w.first w.are says in is_no_name w.back never asked parts.named)
   ]
+  | inr l ↦ inr (λ first count asked says. says_with_space line first count asked l says)
+]
 
 -- ---- Each script has a text
 
 pub some_text : (lines : List (List ℕ)) (number : ℕ) (state : LockState) → (text : List ℕ) × (end : End) × Prints number state lines text end
 some_text [] number state = ([], Whole, whole)
 some_text (line ∷ lines) number state = elim (cases_lt 16777216 number) [
-    inl late ↦ (printed_of_bad_line number, BadLine number, bad (inl late))
+  | inl late ↦ (printed_of_bad_line number, BadLine number, bad (inl late))
   | inr few ↦ elim (says_or_bad line) [
-      inl s ↦ (let rest = some_text lines (number + 1) (state_after state (events_of s.first s.count s.asked)) in
+    | inl s ↦ (let rest = some_text lines (number + 1) (state_after state (events_of s.first s.count s.asked)) in
         (printed_of_events state s.first s.count s.asked ++ rest.0, rest.1, good s.first s.count s.asked rest.0 few s.says rest.2))
     | inr b ↦ (printed_of_bad_line number, BadLine number, bad (inr b))
-    ]
   ]
+]
 
 -- ---- A script has one text
 
@@ -183,9 +183,11 @@ one_text number state (line ∷ lines) _ _ end end' (good first count asked text
     let p1 : Prints (number + 1) (state_after state (events_of first count' asked')) lines text' end' = subst (λ (x : ℕ). Prints (number + 1) (state_after state (events_of x count' asked')) lines text' end') (sym same.0) p' in
     let p2 : Prints (number + 1) (state_after state (events_of first count asked')) lines text' end' = subst (λ (x : ℕ). Prints (number + 1) (state_after state (events_of first x asked')) lines text' end') (sym same.1) p1 in
     let p3 : Prints (number + 1) (state_after state (events_of first count asked)) lines text' end' = subst (λ (x : Op). Prints (number + 1) (state_after state (events_of first count x)) lines text' end') (sym same.2) p2 in
-    let rest = one_text (number + 1) (state_after state (events_of first count asked)) lines text text' end end' p p3 in
-    (ap (λ (x : ℕ). printed_of_events state x count asked ++ text) same.0 ∙ ap (λ (x : ℕ). printed_of_events state first' x asked ++ text) same.1
-     ∙ ap (λ (x : Op). printed_of_events state first' count' x ++ text) same.2 ∙ ap (λ (x : List ℕ). printed_of_events state first' count' asked' ++ x) rest.0, rest.1)
+    let rest = one_text (number + 1) (state_after state (events_of first count asked)) lines text text' end end' p p3 in (
+      ap (λ (x : ℕ). printed_of_events state x count asked ++ text) same.0 ∙ ap (λ (x : ℕ). printed_of_events state first' x asked ++ text) same.1
+          ∙ ap (λ (x : Op). printed_of_events state first' count' x ++ text) same.2 ∙ ap (λ (x : List ℕ). printed_of_events state first' count' asked' ++ x) rest.0,
+      rest.1,
+    )
 one_text number state (line ∷ lines) _ _ _ _ (good first count asked text few says p) (bad why) = absurd (not_good_and_bad number first count asked line few says why)
 one_text number state (line ∷ lines) _ _ _ _ (bad why) (good first count asked text few says p) = absurd (not_good_and_bad number first count asked line few says why)
 one_text number state (line ∷ lines) _ _ _ _ (bad why) (bad why') = (refl, refl)

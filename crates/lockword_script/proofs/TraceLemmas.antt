@@ -71,10 +71,12 @@ pub whole_text : (left left' left'' held held' held'' : Option (List ℕ)) (p : 
     → IfSome left (λ script. (text : List ℕ) × IsTextOf script text end × Appends held held'' text)
 whole_text left left' left'' held held' held'' p bytes before after written end went c a e w at_end l =
     of_script (λ (script : List ℕ). (text : List ℕ) × IsTextOf script text end × Appends held held'' text) left left' left'' went.got bytes went.consumed c at_end
-    (λ rest none. (went.text ++ written,
+    (λ rest none. (
+      went.text ++ written,
       text_at_end p went.got went.text bytes written rest end went.advances
-      (subst (λ (t : List ℕ). Prints p.number p.state (lines_of (p.partial ++ (bytes ++ rest))) t end) (printed_is_written before after written l.printed e w l.put) (l.prints rest none)),
-      appends_then_appends held held' held'' went.text written went.appended a))
+          (subst (λ (t : List ℕ). Prints p.number p.state (lines_of (p.partial ++ (bytes ++ rest))) t end) (printed_is_written before after written l.printed e w l.put) (l.prints rest none)),
+      appends_then_appends held held' held'' went.text written went.appended a,
+    ))
 
 -- nothing was read: the source is at its end
 pub at_end_of_none : (n : ℕ) (chunk : List ℕ) (left : Option (List ℕ)) → n ≤ length chunk → 0 < length chunk → (n ≡ 0 → 0 < length chunk → IsAtEnd left) → take n chunk ≡ [] → IsAtEnd left
@@ -92,9 +94,13 @@ abbrev pub AfterRead : Option (List ℕ) → Option (List ℕ) → Option (List 
 AfterRead left left' held held' = (got : List ℕ) × (text : List ℕ) × Consumes left left' got × Appends held held' text × IsTextOfWholeLines got text
 
 pub read_leaves : (left left' left'' held held' : Option (List ℕ)) (p : Progress) → IsReady p → Went left left' held held' p → Keeps left' left'' → AfterRead left left'' held held'
-read_leaves left left' left'' held held' p ready went k =
-    (went.got, went.text, consumes_then_keeps left left' left'' went.got went.consumed k, went.appended,
-    record { lines = went.advances.front; more = p.partial; split = went.advances.same; unended = ready.unended; prints = text_so_far p went.got went.text went.advances })
+read_leaves left left' left'' held held' p ready went k = (
+  went.got,
+  went.text,
+  consumes_then_keeps left left' left'' went.got went.consumed k,
+  went.appended,
+  record { lines = went.advances.front; more = p.partial; split = went.advances.same; unended = ready.unended; prints = text_so_far p went.got went.text went.advances },
+)
 
 abbrev pub AfterRefusal : Option (List ℕ) → Option (List ℕ) → Option (List ℕ) → Option (List ℕ) → Type 0
 AfterRefusal left left' held held' = (got : List ℕ) × (text : List ℕ) × Consumes left left' got × Appends held held' text × IsTextOfFirstLines got text
@@ -116,9 +122,13 @@ first_lines p got text bytes printed g h =
 
 pub refusal_leaves : (left left' left'' held held' held'' : Option (List ℕ)) (p : Progress) (bytes before after written : List ℕ) → Went left left' held held' p
     → Consumes left' left'' bytes → Appends held' held'' written → before ≡ [] → written ≡ after → LeadsPartly p bytes before after → AfterRefusal left left'' held held''
-refusal_leaves left left' left'' held held' held'' p bytes before after written went c a e w l =
-    (went.got ++ bytes, went.text ++ written, consumes_then_consumes left left' left'' went.got bytes went.consumed c, appends_then_appends held held' held'' went.text written went.appended a,
-    first_lines p went.got went.text bytes written went.advances (subst (AdvancesPartly p bytes) (printed_is_written before after written l.printed e w l.put) l.advances))
+refusal_leaves left left' left'' held held' held'' p bytes before after written went c a e w l = (
+  went.got ++ bytes,
+  went.text ++ written,
+  consumes_then_consumes left left' left'' went.got bytes went.consumed c,
+  appends_then_appends held held' held'' went.text written went.appended a,
+  first_lines p went.got went.text bytes written went.advances (subst (AdvancesPartly p bytes) (printed_is_written before after written l.printed e w l.put) l.advances),
+)
 
 -- ---- A front of the text
 
@@ -177,11 +187,13 @@ pub write_leaves : {E : Type 0} (advanced : Result (Option End) E) (left left' l
     → Consumes left' left'' bytes → Wrote held' held'' written → before ≡ [] → written ≡ after → (bytes ≡ [] → IsAtEnd left'')
     → IfOk advanced (λ ended. IfNone ended (LeadsOn p p' bytes before after)) → IfOk advanced (λ ended. IfSome ended (LeadsToEnd p bytes before after)) → OnErr advanced (LeadsPartly p bytes before after)
     → AfterWrite left held held''
-write_leaves advanced left left' left'' held held' held'' p p' bytes before after written went c wrote e w at_end goes ends err =
-    (went.text ++ take wrote.0 written, appends_then_appends held held' held'' went.text (take wrote.0 written) went.appended wrote.1,
-    of_script (λ (script : List ℕ). TextBegins script (went.text ++ take wrote.0 written)) left left' left'' went.got bytes went.consumed c at_end
-    (λ rest none. begins_take (went.got ++ (bytes ++ rest)) went.text written
-      (subst (λ (t : List ℕ). TextBegins (went.got ++ (bytes ++ rest)) (went.text ++ t)) (sym w) (advanced_begins advanced p p' went.got went.text bytes before after e went.advances goes ends err rest none)) wrote.0))
+write_leaves advanced left left' left'' held held' held'' p p' bytes before after written went c wrote e w at_end goes ends err = (
+  went.text ++ take wrote.0 written,
+  appends_then_appends held held' held'' went.text (take wrote.0 written) went.appended wrote.1,
+  of_script (λ (script : List ℕ). TextBegins script (went.text ++ take wrote.0 written)) left left' left'' went.got bytes went.consumed c at_end
+      (λ rest none. begins_take (went.got ++ (bytes ++ rest)) went.text written
+      (subst (λ (t : List ℕ). TextBegins (went.got ++ (bytes ++ rest)) (went.text ++ t)) (sym w) (advanced_begins advanced p p' went.got went.text bytes before after e went.advances goes ends err rest none)) wrote.0),
+)
 
 -- before anything was read
 pub first_flush_leaves : (left held held' : Option (List ℕ)) → Keeps held held' → AfterWrite left held held'

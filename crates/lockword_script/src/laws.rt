@@ -11,28 +11,24 @@ ghost use Rattle.lockword_script.specs.declared.outcome.End.{End};
 pub fn one_script_has_one_text()
     ensures { (script text text' : List ℕ) (end end' : End)
         → IsTextOf script text end → IsTextOf script text' end' → (text ≡ text') × (end ≡ end') }
-{
-}
+{}
 
 /// Each script has a text.
 pub fn each_script_has_a_text()
     ensures { (script : List ℕ) → (text : List ℕ) × (end : End) × IsTextOf script text end }
-{
-}
+{}
 
 /// A line says one thing.
 pub fn a_line_says_one_thing()
     ensures { (line : List ℕ) (first count first' count' : ℕ) (op op' : Op)
         → Says line first count op → Says line first' count' op'
         → (first ≡ first') × (count ≡ count') × (op ≡ op') }
-{
-}
+{}
 
 /// A line of more than 23 bytes is bad, so a run need not keep more of it.
 pub fn a_long_line_is_bad()
     ensures { (line : List ℕ) → 23 < length line → IsBadLine line }
-{
-}
+{}
 
 /// Only the first bad line counts: a script that begins with the same lines, up to and with that one,
 /// has the same text and the same end, whatever follows.
@@ -40,5 +36,4 @@ pub fn only_the_first_bad_line_counts()
     ensures { (script other text : List ℕ) (number : ℕ) → IsTextOf script text (End.BadLine number)
         → take number (lines_of script) ≡ take number (lines_of other)
         → IsTextOf other text (End.BadLine number) }
-{
-}
+{}

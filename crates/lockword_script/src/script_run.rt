@@ -105,11 +105,12 @@ impl ScriptRun {
         ensures good { IfOk result (λ bad. IfNone bad ((first count : ℕ) × (asked : Op)
             × Says self.old.partial first count asked
             × (progress_of self.new ≡ record {
-                number = self.old.number + 1;
-                state = state_after self.old.machine (events_of first count asked);
-                partial = [] })
+              number = self.old.number + 1;
+              state = state_after self.old.machine (events_of first count asked);
+              partial = [];
+            })
             × (out.new.items
-                ≡ out.old.items ++ printed_of_events self.old.machine first count asked))) }
+            ≡ out.old.items ++ printed_of_events self.old.machine first count asked))) }
         ensures bad { IfOk result (λ bad. IfSome bad (λ number. (number ≡ self.old.number)
             × IsBadLine self.old.partial
             × (out.new.items ≡ out.old.items ++ printed_of_bad_line number))) }

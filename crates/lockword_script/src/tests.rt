@@ -174,7 +174,11 @@ fn lines_at_their_limits(rt: HostRuntime) {
             let mut sink = writer(&rt, 0, 100, 100, false, 10_000, &passed_on);
             let answer = trace(rt.alloc(), &mut source, &mut sink);
             assert_eq!(rt; answer, Ok(end), "{script:?} by {chunk}");
-            assert_eq!(rt; sink.taken.as_slice(), text.as_bytes(), "{script:?} by {chunk}");
+            assert_eq!(rt;
+                sink.taken.as_slice(),
+                text.as_bytes(),
+                "{script:?} by {chunk}"
+            );
         }
     }
 }
@@ -243,7 +247,11 @@ fn broken_writers(rt: HostRuntime) {
         let mut sink = writer(&rt, row, chunk, room, breaks, flushes, &passed_on);
         let got = trace(rt.alloc(), &mut source, &mut sink);
         assert_eq!(rt; got, answer, "{row} {chunk} {room} {breaks} {flushes}");
-        assert_eq!(rt; sink.taken.len(), taken, "{row} {chunk} {room} {breaks} {flushes}");
+        assert_eq!(rt;
+            sink.taken.len(),
+            taken,
+            "{row} {chunk} {room} {breaks} {flushes}"
+        );
         assert!(rt; HELD_AND_KEPT.as_bytes().starts_with(sink.taken.as_slice()));
     }
 }

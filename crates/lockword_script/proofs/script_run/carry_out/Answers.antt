@@ -14,7 +14,7 @@ returns-clause-text c =
     let printed = events_printed c.args.machine.now c.answer_last.new.machine c.in_ok-answer.answer c.args.order.first c.args.order.count c.args.order.op c.in_ok-answer.ensures in
     let next = c.answer_last.new.machine in
     let line : printed_line c.in_ok-answer.answer c.shown.result.word c.shown.result.reading c.shown.result.writing c.shown.result.destroyed_by
-      ≡ printed_line c.in_ok-answer.answer (encoded (census next)) (signals_in Read next.signals) (signals_in Write next.signals) next.destroyed_by =
+    ≡ printed_line c.in_ok-answer.answer (encoded (census next)) (signals_in Read next.signals) (signals_in Write next.signals) next.destroyed_by =
     ap (λ (w : ℕ). printed_line c.in_ok-answer.answer w c.shown.result.reading c.shown.result.writing c.shown.result.destroyed_by) c.shown.ensures.word
     ∙ ap (λ (w : ℕ). printed_line c.in_ok-answer.answer (encoded (census next)) w c.shown.result.writing c.shown.result.destroyed_by) c.shown.ensures.reading
     ∙ ap (λ (w : ℕ). printed_line c.in_ok-answer.answer (encoded (census next)) (signals_in Read next.signals) w c.shown.result.destroyed_by) c.shown.ensures.writing
