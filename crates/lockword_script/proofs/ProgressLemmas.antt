@@ -9,7 +9,7 @@ use Rattle.lockword_core.specs.LockState.{LockState}
 use Rattle.lockword_core.specs.Replay.{state_after}
 use Rattle.lockword_script.specs.Script.{Says, IsBadLine, events_of}
 use Rattle.lockword_script.specs.TraceOutput.{Prints, printed_of_events, printed_of_bad_line, whole, good, bad}
-use Rattle.lockword_script.specs.Progress.{Progress, IsReady, Advances, StopsAt, AdvancesPartly, LeadsOn, LeadsToBadLine, LeadsPartly, LeadsToEnd, spent}
+use Rattle.lockword_script.specs.Progress.{Progress, IsReady, Advances, StopsAt, LeadsOn, LeadsToBadLine, LeadsPartly, LeadsToEnd, spent}
 use Rattle.lockword_script.specs.declared.outcome.End.{End}
 use Rattle.lockword_script.specs.declared.outcome.End.TheVariants.{Whole, BadLine}
 use Rattle.lockword_script.proofs.ScriptLemmas.{long_line_bad}

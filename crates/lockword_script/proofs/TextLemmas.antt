@@ -1,11 +1,11 @@
 -- Each line says something or is bad, so each script has a text; and it has one.
-use Rattle.std.proofs.Common.{◌≡◌, ◌≢◌, ◌∙◌, sym, ap, refl, subst, ℕ, zero, suc, ◌+◌, ◌-◌, ◌^◌, ◌≤◌, ◌<◌, List, [], ◌∷◌, ◌++◌, length, take, Option, None, Some, Bool, true, false, arith, inl, inr}
+use Rattle.std.proofs.Common.{◌≡◌, ◌≢◌, ◌∙◌, sym, ap, refl, subst, ℕ, zero, suc, ◌+◌, ◌^◌, ◌≤◌, ◌<◌, List, [], ◌∷◌, ◌++◌, take, Option, None, Some, Bool, true, false, arith, inl, inr}
 use Rattle.std.specs.Prelude.{◌⊎◌}
 use Rattle.std.specs.Str.{bytes_eq}
 use Rattle.std.specs.Fmt.{decimal}
 use Rattle.std.proofs.lemmas.Slice.Eq.{bytes_eq-Decides}
 use Rattle.std.proofs.lemmas.Bool.{cases_lt, cases_eq}
-use Rattle.stream_base.specs.Lines.{Lacks, lines_of}
+use Rattle.stream_base.specs.Lines.{Lacks}
 use Rattle.stream_base.specs.Decimal.{number_of}
 use Rattle.stream_base.proofs.DecimalLemmas.{number_of-decimal, number_of-spelled}
 use Rattle.stream_base.specs.declared.direction.Dir.TheVariants.{Read, Write}

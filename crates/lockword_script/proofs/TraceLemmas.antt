@@ -1,11 +1,11 @@
 -- What is known of the script and of the text, one chunk after the other.
-use Rattle.std.proofs.Common.{◌≡◌, ◌∙◌, sym, ap, refl, subst, ℕ, ◌+◌, ◌≤◌, ◌<◌, List, [], ◌∷◌, ◌++◌, length, take, drop, Option, None, Some, Result, Ok, Err, append_assoc, arith, inl, inr, length-take}
-use Rattle.std.specs.Prelude.{◌⊎◌, Bool, true, IfSome, IfNone, IfOk, OnErr}
+use Rattle.std.proofs.Common.{◌≡◌, ◌∙◌, sym, ap, refl, subst, ℕ, ◌≤◌, ◌<◌, List, [], ◌++◌, length, take, drop, Option, None, Some, Result, Ok, Err, append_assoc, arith, inl, inr, length-take}
+use Rattle.std.specs.Prelude.{Bool, IfSome, IfNone, IfOk, OnErr}
 use Rattle.std.specs.Io.KnownBytes.{Appends, Consumes, Keeps, IsAtEnd}
 use Rattle.std.proofs.lemmas.List.{append-nil, take-append-drop, take_all}
 use Rattle.stream_base.specs.Attempt.{FailedOrInterrupted, WriteStopped}
 use Rattle.stream_base.specs.Lines.{ended_lines, lines_of}
-use Rattle.stream_base.proofs.KnownBytesLemmas.{appends_nothing, appends_then_appends, appends_then_keeps, keeps_then_appends, consumes_nothing, consumes_then_consumes, consumes_then_keeps}
+use Rattle.stream_base.proofs.KnownBytesLemmas.{appends_nothing, appends_then_appends, appends_then_keeps, consumes_nothing, consumes_then_consumes, consumes_then_keeps}
 use Rattle.lockword_core.specs.LockState.{empty}
 use Rattle.lockword_script.specs.TraceOutput.{Prints, IsTextOf, whole}
 use Rattle.lockword_script.specs.Progress.{Progress, IsReady, Advances, AdvancesPartly, LeadsOn, LeadsPartly, LeadsToEnd, start}

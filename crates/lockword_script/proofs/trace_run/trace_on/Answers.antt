@@ -1,7 +1,6 @@
-use Rattle.std.proofs.Common.{◌≡◌, ◌∙◌, refl, ◌<◌, ℕ, List, [], take, length, arith}
-use Rattle.std.specs.Io.KnownBytes.{IsAtEnd}
+use Rattle.std.proofs.Common.{◌∙◌, refl, ◌<◌, ℕ, List, take, arith}
 use Rattle.lockword_script.specs.Progress.{progress_of, spent, IsReady, LeadsOn, LeadsToEnd}
-use Rattle.lockword_script.proofs.TraceLemmas.{Went, went_nowhere, went_on, ready_at_start, whole_text, at_end_of_none, read_leaves, refusal_leaves, write_leaves, first_flush_leaves, gone_on, has_ended}
+use Rattle.lockword_script.proofs.TraceLemmas.{went_nowhere, went_on, ready_at_start, whole_text, at_end_of_none, read_leaves, refusal_leaves, write_leaves, first_flush_leaves, gone_on, has_ended}
 use Rattle.lockword_script.proofs.trace_run.trace_on.Goals as goal
 
 -- the first flush stopped

@@ -1,4 +1,4 @@
-use Rattle.std.proofs.Common.{◌≡◌, ◌-◌, ◌*◌}
+use Rattle.std.proofs.Common.{◌-◌, ◌*◌}
 use Rattle.lockword_script.specs.Progress.{progress_of, spent, IsReady}
 use Rattle.lockword_script.specs.TraceOutcome.{SinkIsWell, SourceIsWell}
 use Rattle.lockword_script.proofs.TraceLemmas.{Went}
