@@ -1,0 +1,7 @@
+use Rattle.std.proofs.Common.{ap}
+use Rattle.relay_admin.specs.Addr.{address_text}
+use Rattle.relay_admin.proofs.RulesVerdict.{one_address}
+use Rattle.relay_admin.proofs.laws.one_text_an_address.Goals as goal
+
+pub returns : goal.returns
+returns c = λ one other is is'. ((λ e. one_address one other is is' e), (λ e. ap address_text e))

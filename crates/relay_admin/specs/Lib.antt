@@ -1,0 +1,14 @@
+pub mod Addr
+pub mod RulesGrammar
+pub mod RulesFault
+pub mod RulesLoop
+pub mod RulesReading
+pub mod TextReading
+pub mod Command
+pub mod CommandReading
+pub mod Reply
+pub mod ReplyBytes
+pub mod SessionTranscript
+pub mod SessionDevices
+pub mod SessionProgress
+pub mod Laws

@@ -1,0 +1,39 @@
+//! Lines and the commands that they spell.
+
+use super::*;
+use std::prelude::HostRuntime;
+
+#[test]
+fn lines_spell_their_commands(rt: HostRuntime) {
+    for (line, want) in [
+        ("list", Some(Command::List)),
+        ("totals", Some(Command::Totals)),
+        ("quit", Some(Command::Quit)),
+        ("stop", Some(Command::Stop)),
+        ("close 1", Some(Command::CloseConn(1))),
+        (
+            "close 4503599627370494",
+            Some(Command::CloseConn(4_503_599_627_370_494)),
+        ),
+        ("close 4503599627370495", None),
+        ("close 0", None),
+        ("close 01", None),
+        ("close", None),
+        ("deadline 3 0", Some(Command::DeadlineOf(3, Some(0)))),
+        (
+            "deadline 3 86400000",
+            Some(Command::DeadlineOf(3, Some(86_400_000))),
+        ),
+        ("deadline 3 86400001", None),
+        ("deadline 3 00", None),
+        ("deadline 3 never", Some(Command::DeadlineOf(3, None))),
+        ("deadline 3", None),
+        ("", None),
+        ("frob", None),
+        ("quit ", None),
+        ("list\r", None),
+        ("LIST", None),
+    ] {
+        assert_eq!(rt; Command::parse(line.as_bytes()), want, "{line}");
+    }
+}

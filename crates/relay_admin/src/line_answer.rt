@@ -1,0 +1,58 @@
+//! What one line of a session asks, and its reply.
+
+ghost use Rattle.relay_admin.specs.Reply.{Exchanges, IsQuestion, answer_of};
+ghost use Rattle.relay_admin.specs.ReplyBytes.{bytes_of};
+ghost use Rattle.relay_admin.specs.SessionProgress.{AnswersLine};
+
+use crate::command::Command;
+use crate::desk::Desk;
+use crate::desk_answer::DeskAnswer;
+use crate::end::AdminEnd;
+use crate::reply::reply_to;
+use crate::reply_bytes::Reply;
+use std::alloc::{Allocator, Global};
+
+/// Answers a line without its line feed: the reply, and how the session ends by it, if it does.
+/// The desk may take memory of `alloc`, the reply of `memory`.
+pub(crate) fn answer_line<A: Allocator + Copy, D: Desk>(
+    alloc: Global,
+    memory: A,
+    desk: &mut D,
+    line: &[u8],
+) -> (Reply<A>, Option<AdminEnd>)
+    ensures { AnswersLine (D.exchanges desk.old) (D.exchanges desk.new)
+        line.now (bytes_of result.0) result.1 }
+{
+    if line.len() > 64 {
+        return (
+            Reply::Fixed(b"error 400 bad command\n"),
+            Some(AdminEnd::TooLong),
+        );
+    }
+    let Some(command) = Command::parse(line) else {
+        return (Reply::Fixed(b"error 400 bad command\n"), None);
+    };
+    match command {
+        Command::Quit => (Reply::Fixed(b"ok\n"), Some(AdminEnd::Quit)),
+        Command::Stop => (Reply::Fixed(b"ok\n"), Some(AdminEnd::Stop)),
+        _ => {
+            let answer = ask(alloc, desk, &command);
+            (reply_to(memory, &answer), None)
+        }
+    }
+}
+
+/// Asks the desk what a command asks.
+fn ask<D: Desk>(alloc: Global, desk: &mut D, command: &Command) -> DeskAnswer
+    requires { IsQuestion command.now }
+    ensures { Exchanges (D.exchanges desk.old) (D.exchanges desk.new)
+        command.now (answer_of result) }
+{
+    match *command {
+        Command::List => desk.ids(alloc),
+        Command::Totals => desk.totals(),
+        Command::CloseConn(id) => desk.close(id),
+        Command::DeadlineOf(id, after_ms) => desk.deadline(alloc, id, after_ms),
+        Command::Quit | Command::Stop => unreachable!(),
+    }
+}
