@@ -1,0 +1,9 @@
+pub mod ViewLemmas
+pub mod Representation
+pub mod Exchanges
+pub mod LookSteps
+pub mod WordTests
+pub mod StateSteps
+pub mod DestroySteps
+pub mod SplitSteps
+pub mod OpeningKeepsInvariant

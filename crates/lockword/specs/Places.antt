@@ -1,0 +1,30 @@
+-- The seat in each value that holds one.
+use Rattle.std.specs.Prelude.{ℕ}
+use Rattle.stream_base.specs.declared.direction.Dir.{Dir}
+use Rattle.lockword_core.specs.LockState.{owed_part}
+use Rattle.lockword.specs.declared.holders.Seat.{Seat}
+use Rattle.lockword.specs.declared.holders.Ref.{Ref}
+use Rattle.lockword.specs.declared.holders.Closing.{Closing}
+use Rattle.lockword.specs.declared.holders.Last.{Last}
+use Rattle.lockword.specs.Marks.{Place}
+
+module _ {R W : Type 0} where
+  -- a seat's place
+  abbrev pub seat_place : Seat R W → Place R W
+  seat_place s = s.place
+
+  -- a reference's place
+  abbrev pub ref_place : Ref R W → Place R W
+  ref_place r = r.place
+
+  -- a closer's place
+  abbrev pub closing_place : Closing R W → Place R W
+  closing_place c = c.place
+
+  -- the signals that a closer still owes in a direction
+  abbrev pub owed_by : Closing R W → Dir → ℕ
+  owed_by c d = owed_part d c.owed_read c.owed_write
+
+  -- a last holder's place
+  abbrev pub last_place : Last R W → Place R W
+  last_place l = l.place

@@ -1,0 +1,71 @@
+//! Loads of the state, through any value that holds a seat.
+
+use crate::holders::{Closing, Last, LockWord, Ref, Seat};
+use lockword_core::Word;
+
+/// A value that holds a seat, and can look through it.
+pub trait Holder<R: Drop, W: Drop> {
+    ghost use Rattle.lockword.specs.Marks.{Place};
+    ghost use Rattle.lockword.specs.TransitionOutcomes.{IsSeatOf, SameStake, Looks};
+
+    ghost place: { Self → Place R W };
+
+    /// One load of the state word.
+    fn look_in(&mut self, word: &LockWord<R, W>) -> Word
+        requires { IsSeatOf word.now (place self.old) }
+        ensures looks { Looks (place self.old) (place self.new) result }
+        ensures stake { SameStake (place self.old) (place self.new) };
+}
+
+impl<R: Drop, W: Drop> LockWord<R, W> {
+    ghost use Rattle.lockword.specs.TransitionOutcomes.{IsSeatOf, SameStake, Looks};
+
+    /// The six fields of the state word, by one load.
+    pub fn look<S: Holder<R, W>>(&self, holder: &mut S) -> Word
+        requires { IsSeatOf self.now (S.place holder.old) }
+        ensures looks { Looks (S.place holder.old) (S.place holder.new) result }
+        ensures stake { SameStake (S.place holder.old) (S.place holder.new) }
+    {
+        holder.look_in(self)
+    }
+}
+
+impl<R: Drop, W: Drop> Holder<R, W> for Seat<R, W> {
+    ghost use Rattle.lockword.specs.Places.{seat_place};
+
+    ghost place = { seat_place };
+
+    fn look_in(&mut self, word: &LockWord<R, W>) -> Word {
+        word.look_at(&mut self.place)
+    }
+}
+
+impl<R: Drop, W: Drop> Holder<R, W> for Ref<R, W> {
+    ghost use Rattle.lockword.specs.Places.{ref_place};
+
+    ghost place = { ref_place };
+
+    fn look_in(&mut self, word: &LockWord<R, W>) -> Word {
+        word.look_at(&mut self.place)
+    }
+}
+
+impl<R: Drop, W: Drop> Holder<R, W> for Closing<R, W> {
+    ghost use Rattle.lockword.specs.Places.{closing_place};
+
+    ghost place = { closing_place };
+
+    fn look_in(&mut self, word: &LockWord<R, W>) -> Word {
+        word.look_at(&mut self.place)
+    }
+}
+
+impl<R: Drop, W: Drop> Holder<R, W> for Last<R, W> {
+    ghost use Rattle.lockword.specs.Places.{last_place};
+
+    ghost place = { last_place };
+
+    fn look_in(&mut self, word: &LockWord<R, W>) -> Word {
+        word.look_at(&mut self.place)
+    }
+}

@@ -1,0 +1,145 @@
+//! The atomic steps: what each tells the seat that makes it.
+
+ghost use Rattle.std.specs.Prelude.{◌≡◌, ◌<◌, true};
+ghost use Rattle.lockword_core.specs.declared.word.TheConstants.{NO_WORD};
+ghost use Rattle.lockword_core.specs.Word.{IsWord, packed};
+ghost use Rattle.lockword_core.specs.Transition.{allows};
+ghost use Rattle.lockword_core.specs.WordStep.{op_of};
+ghost use Rattle.lockword.specs.Steps.{looked, moved, asked, emptied, marked, MovesNoHalf, Keeps, Advanced};
+ghost use Rattle.lockword.specs.TransitionOutcomes.{Looks};
+ghost use Rattle.lockword_core.specs.declared.transition.Kind.{Kind};
+ghost use Rattle.lockword_core.specs.declared.transition.Kind.TheVariants as kind;
+
+use crate::holders::{LockWord, Place};
+use crate::local_view::LocalView;
+use crate::shared_rule::{Half, STATE};
+use atomic_table::{Play, Split};
+use lockword_core::{After, Kind, Refused, Word, unpack, word_step};
+use std::marker::PhantomData;
+
+/// A load of the state.
+pub(crate) struct Look;
+
+impl<R, W> Play<Half<R, W>, LocalView> for Look {
+    ghost then = { looked };
+}
+
+/// A kind of step on the state word, as a type.
+pub(crate) trait StateStep {
+    ghost kind: { Kind };
+}
+
+/// An exchange of the state word, as a step of the kind `M`.
+pub(crate) struct Move<M: StateStep> {
+    marker: PhantomData<M>,
+}
+
+impl<R, W, M: StateStep> Play<Half<R, W>, LocalView> for Move<M> {
+    ghost then = { moved M.kind };
+}
+
+pub(crate) struct TakeReference;
+
+impl StateStep for TakeReference {
+    ghost kind = { kind.Incref };
+}
+
+pub(crate) struct DropReference;
+
+impl StateStep for DropReference {
+    ghost kind = { kind.Decref };
+}
+
+pub(crate) struct SetClosed;
+
+impl StateStep for SetClosed {
+    ghost kind = { kind.Close };
+}
+
+/// A load of the done word.
+pub(crate) struct Ask;
+
+impl<R, W> Play<Half<R, W>, LocalView> for Ask {
+    ghost then = { asked };
+}
+
+/// A load of the done word, with which the last holder takes both halves.
+pub(crate) struct Empty;
+
+impl<R, W> Play<Half<R, W>, LocalView> for Empty {
+    ghost then = { emptied };
+}
+
+/// A store of the done word.
+pub(crate) struct Mark;
+
+impl<R, W> Play<Half<R, W>, LocalView> for Mark {
+    ghost then = { marked };
+}
+
+/// A new seat, which has seen what the other has seen.
+pub(crate) struct Another;
+
+impl Split<LocalView> for Another {
+    ghost use Rattle.lockword.specs.LocalView.{without_stake};
+
+    ghost left = { λ v. v };
+
+    ghost right = { without_stake };
+}
+
+/// What a try at a step on the state word came to.
+pub(crate) enum Advance {
+    Done(After),
+    Closed,
+    TooMany(Word),
+    Lost,
+}
+
+/// The fields of a word.
+fn fields_of(word: u64) -> Word
+    requires { word < NO_WORD }
+    ensures fits { IsWord result }
+    ensures same { packed result ≡ word }
+{
+    let Some(fields) = unpack(word) else {
+        unreachable!()
+    };
+    fields
+}
+
+impl<R: Drop, W: Drop> LockWord<R, W> {
+    /// One load of the state, the decision of `word_step`, and at most one exchange.
+    pub(crate) fn try_step<M: StateStep>(&self, place: &mut Place<R, W>, kind: Kind) -> Advance
+        requires word { place.old.table_id ≡ self.now.table.shared.table_id }
+        requires kind { kind ≡ M.kind }
+        requires allowed { allows place.old.me.0.stake (op_of kind) ≡ true }
+        requires no_half { MovesNoHalf kind }
+        ensures word { place.new.table_id ≡ place.old.table_id }
+        ensures step { Advanced kind place.old place.new result }
+    {
+        let shared = &self.table.shared;
+        let found = shared.load::<Look>(place, STATE);
+        match word_step(found, kind) {
+            Ok((next, after)) => {
+                if shared.compare_exchange::<Move<M>>(place, STATE, found, next) == found {
+                    Advance::Done(after)
+                } else {
+                    Advance::Lost
+                }
+            }
+            Err(Refused::Closed) => Advance::Closed,
+            Err(Refused::TooMany) => Advance::TooMany(fields_of(found)),
+            Err(Refused::Misuse) => unreachable!(),
+        }
+    }
+
+    /// The state word, as it was found.
+    pub(crate) fn look_at(&self, place: &mut Place<R, W>) -> Word
+        requires { place.old.table_id ≡ self.now.table.shared.table_id }
+        ensures looks { Looks place.old place.new result }
+        ensures keeps { Keeps place.old place.new }
+    {
+        fields_of(self.table.shared.load::<Look>(place, STATE))
+    }
+}
