@@ -4,6 +4,7 @@ use mathlib.Core.Option.{Option, none, some}
 use lib.ListN.{get_elem?}
 use Rattle.atomic_table.specs.Table.{step, takes, gives, chain, Allows}
 use Rattle.atomic_table.proofs.Lists.{set_here, set_else}
+use Rattle.stream_base.specs.declared.direction.Dir.{Dir}
 use Rattle.stream_base.specs.declared.direction.Dir.TheVariants.{Read, Write}
 use Rattle.lockword_core.specs.declared.stake.Stake.{Stake}
 use Rattle.lockword_core.specs.declared.stake.Stake.TheVariants as stake
@@ -15,28 +16,20 @@ use Rattle.lockword_core.proofs.BalanceLemmas.{IsBalanced, destroy_keeps}
 use Rattle.lockword.specs.declared.local_view.LocalView.{LocalView}
 use Rattle.lockword.specs.declared.shared_rule.Half.TheVariants as half
 use Rattle.lockword.specs.LocalView.{stakes_of, taken_by, takers}
-use Rattle.lockword.specs.SharedInvariant.{read_home, write_home, Represents}
+use Rattle.lockword.specs.Directions.{Guarded, half_of, half_home}
+use Rattle.lockword.specs.SharedInvariant.{Represents}
 use Rattle.lockword.specs.Steps.{emptied, marked}
 use Rattle.lockword.proofs.ViewLemmas.{one_changes, same_stakes, counted_at, takers-set, takers-le}
-use Rattle.lockword.proofs.Representation.{fits, represents, on_done}
+use Rattle.lockword.proofs.Representation.{both, fits, represents, on_done}
 use Rattle.lockword.proofs.LookSteps.{is_over}
 use Rattle.lockword.proofs.Exchanges.{H, M}
 
 module _ (R W : Type 0) where
-  -- the halves at home
-  pub has_read : (x : Option (Option (H R W))) → read_home x ≡ 1 → (r : R) × (x ≡ some (some (half.Read r)))
-  has_read none e = absurd (omega arith)
-  has_read (some none) e = absurd (omega arith)
-  has_read (some (some (half.Read r))) e = (r, refl)
-  has_read (some (some (half.Write w))) e = absurd (omega arith)
-  has_read (some (some half.Away)) e = absurd (omega arith)
-
-  pub has_write : (x : Option (Option (H R W))) → write_home x ≡ 1 → (w : W) × (x ≡ some (some (half.Write w)))
-  has_write none e = absurd (omega arith)
-  has_write (some none) e = absurd (omega arith)
-  has_write (some (some (half.Read r))) e = absurd (omega arith)
-  has_write (some (some (half.Write w))) e = (w, refl)
-  has_write (some (some half.Away)) e = absurd (omega arith)
+  -- a half at home
+  pub has_half : (d : Dir) (x : Option (Option (H R W))) → half_home d x ≡ 1 → (h : Guarded R W d) × (x ≡ some (some (half_of d h)))
+  has_half Read (some (some (half.Read r))) e = (r, refl)
+  has_half Write (some (some (half.Write w))) e = (w, refl)
+  has_half d _ e = absurd (omega arith)
 
   -- what is so where a seat is the last: no lock is held, nobody destroyed, and nobody else took the halves
   record IsAlone (views : List LocalView) (destroyed : ℕ) (mine : ℕ) : Type 0 where
@@ -85,17 +78,17 @@ module _ (R W : Type 0) where
       let took : takers views + taken_by me.0 ≡ takers s.views + taken_by w = takers-set s.views id me.0 w at in
       let readers : count (locks Read) (stakes_of views) ≡ count (locks Read) (stakes_of s.views) = ap (count (locks Read)) same in
       let writers : count (locks Write) (stakes_of views) ≡ count (locks Write) (stakes_of s.views) = ap (count (locks Write)) same in
-      let read_was = f.read_half in let write_was = f.write_half in let deep = f.deep in
-      let a = has_read (get_elem? s.homes 0) (omega arith) in
-      let b = has_write (get_elem? s.homes 1) (omega arith) in
+      let read_was = f.halves Read in let write_was = f.halves Write in let deep = f.deep in
+      let a = has_half Read (get_elem? s.homes 0) (omega arith) in
+      let b = has_half Write (get_elem? s.homes 1) (omega arith) in
       let homes : List (Option (H R W)) = set (set s.homes 0 none) 1 none in
       let long : length (set s.homes 0 none) ≡ 2 = length-set s.homes 0 none ∙ f.deep in
-      let read_now : read_home (get_elem? homes 0) ≡ 0 = ap read_home (set_else (set s.homes 0 none) 1 0 none (omega arith) ∙ set_here s.homes 0 none (omega arith)) in
-      let write_now : write_home (get_elem? homes 1) ≡ 0 = ap write_home (set_here (set s.homes 0 none) 1 none (omega arith)) in
+      let read_now : half_home Read (get_elem? homes 0) ≡ 0 = ap (half_home Read) (set_else (set s.homes 0 none) 1 0 none (omega arith) ∙ set_here s.homes 0 none (omega arith)) in
+      let write_now : half_home Write (get_elem? homes 1) ≡ 0 = ap (half_home Write) (set_here (set s.homes 0 none) 1 none (omega arith)) in
       let done_is : n ≡ bit destroyed = f.done in
       let next = on_done s.words s.homes homes s.views closed destroyed destroyed signals state id w f (length-set (set s.homes 0 none) 1 none ∙ long)
       (subst (λ ys. IsBalanced (totals ys) (bit closed) (bit destroyed) signals state) (sym same) f.balance)
-      (omega arith) (omega arith)
+      (both _ (omega arith) (omega arith))
       (λ e. f.closed_seen id me.0 at e) (λ e. e) (λ e. f.done_seen id me.0 at e) in (
         w,
         chain (takes 0 (half.Read a.0)) (takes 1 (half.Write b.0)),
@@ -127,11 +120,11 @@ module _ (R W : Type 0) where
       let homes : List (Option (H R W)) = set (set s.homes 1 x) 0 x in
       let deep = f.deep in
       let long : length (set s.homes 1 x) ≡ 2 = length-set s.homes 1 x ∙ f.deep in
-      let read_now : read_home (get_elem? homes 0) ≡ 0 = ap read_home (set_here (set s.homes 1 x) 0 x (omega arith)) in
-      let write_now : write_home (get_elem? homes 1) ≡ 0 = ap write_home (set_else (set s.homes 1 x) 0 1 x (omega arith) ∙ set_here s.homes 1 x (omega arith)) in
+      let read_now : half_home Read (get_elem? homes 0) ≡ 0 = ap (half_home Read) (set_here (set s.homes 1 x) 0 x (omega arith)) in
+      let write_now : half_home Write (get_elem? homes 1) ≡ 0 = ap (half_home Write) (set_else (set s.homes 1 x) 0 1 x (omega arith) ∙ set_here s.homes 1 x (omega arith)) in
       let next = on_done s.words s.homes homes s.views closed destroyed true signals state id w f (length-set (set s.homes 1 x) 0 x ∙ long)
       (destroy_keeps _ _ _ _ _ _ f.balance (shifts _ _ _ _ from_last))
-      (omega arith) (omega arith)
+      (both _ (omega arith) (omega arith))
       (λ e. f.closed_seen id me.0 at e) (λ e. refl) (λ e. refl) in (
         w,
         chain gives gives,

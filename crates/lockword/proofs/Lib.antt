@@ -7,3 +7,4 @@ pub mod StateSteps
 pub mod DestroySteps
 pub mod SplitSteps
 pub mod OpeningKeepsInvariant
+pub mod WakeupSteps

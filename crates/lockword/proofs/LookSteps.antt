@@ -21,10 +21,10 @@ use Rattle.lockword_core.proofs.WordRefines.{reads_as, same_numbers}
 use Rattle.lockword.specs.declared.local_view.LocalView.{LocalView}
 use Rattle.lockword.specs.declared.shared_rule.Half.{Half}
 use Rattle.lockword.specs.LocalView.{stakes_of, taken_by, takers}
-use Rattle.lockword.specs.SharedInvariant.{read_home, write_home, Represents}
+use Rattle.lockword.specs.SharedInvariant.{Represents}
 use Rattle.lockword.specs.Steps.{Shows, Told, seen_in, looked, asked}
 use Rattle.lockword.proofs.ViewLemmas.{same_stakes, counted_at, takers-set}
-use Rattle.lockword.proofs.Representation.{census_of, Fits, fits, represents, on_state, on_done}
+use Rattle.lockword.proofs.Representation.{census_of, Fits, fits, recounted, represents, on_state, on_done}
 use Rattle.lockword.proofs.Exchanges.{M}
 
 -- ---- Where one is the last, or destroyed
@@ -82,10 +82,6 @@ module _ {R W : Type 0} where
         none_waits = λ d e. none_waits d t (bit closed) (bit destroyed) signals n f.balance (ap bit (flag ∙ e));
       }
 
--- stakes and takers that are the same
-carry : (P : List Stake → ℕ → Type 0) (ys xs : List Stake) (k j : ℕ) → ys ≡ xs → k ≡ j → P xs j → P ys k
-carry P ys xs k j e f p = subst (λ (z : List Stake × ℕ). P z.0 z.1) (λ i. (sym e i, sym f i)) p
-
 module _ (R W : Type 0) where
   -- a load of the state
   pub looks : (slots id : ℕ) (me : M R W) → Allows Represents slots id me 0 (λ n. n) (looked (step slots 0 0 0 none) me)
@@ -104,9 +100,8 @@ module _ (R W : Type 0) where
         tt,
         represents (set s.words 0 n) s.homes views closed destroyed signals n
             (on_state s.words s.homes s.homes s.views closed closed destroyed signals n n id w f f.deep
-            (carry (λ ys k. IsBalanced (totals ys) (bit closed) (bit destroyed) signals n) _ _ _ _ same takers_same f.balance)
-            (carry (λ ys k. read_home (get_elem? s.homes 0) + count (locks Read) ys + k + bit destroyed ≡ 1) _ _ _ _ same takers_same f.read_half)
-            (carry (λ ys k. write_home (get_elem? s.homes 1) + count (locks Write) ys + k + bit destroyed ≡ 1) _ _ _ _ same takers_same f.write_half)
+            (subst (λ (ys : List Stake). IsBalanced (totals ys) (bit closed) (bit destroyed) signals n) (sym same) f.balance)
+            (λ d. recounted d s.homes _ _ _ _ destroyed (ap (count (locks d)) same) takers_same (f.halves d))
             (λ e. e) (λ e. flag ∙ e) (λ e. f.done_seen id me.0 at e)),
         (told s.words s.homes s.views closed destroyed signals n id me.0 f at, refl),
       )
@@ -126,9 +121,8 @@ module _ (R W : Type 0) where
       let takers_same : takers views ≡ takers s.views = omega arith in
       let state : ℕ = get_or s.words 0 0 in
       let next = on_done s.words s.homes s.homes s.views closed destroyed destroyed signals state id w f f.deep
-      (carry (λ ys k. IsBalanced (totals ys) (bit closed) (bit destroyed) signals state) _ _ _ _ same takers_same f.balance)
-      (carry (λ ys k. read_home (get_elem? s.homes 0) + count (locks Read) ys + k + bit destroyed ≡ 1) _ _ _ _ same takers_same f.read_half)
-      (carry (λ ys k. write_home (get_elem? s.homes 1) + count (locks Write) ys + k + bit destroyed ≡ 1) _ _ _ _ same takers_same f.write_half)
+      (subst (λ (ys : List Stake). IsBalanced (totals ys) (bit closed) (bit destroyed) signals state) (sym same) f.balance)
+      (λ d. recounted d s.homes _ _ _ _ destroyed (ap (count (locks d)) same) takers_same (f.halves d))
       (λ e. f.closed_seen id me.0 at e) (λ e. e) (λ e. bit-true destroyed (sym done_is ∙ same_numbers n 1 e)) in (
         w,
         keeps,

@@ -13,7 +13,7 @@ use Rattle.lockword.specs.declared.shared_rule.Half.TheVariants as half
 use Rattle.lockword.specs.LocalView.{takers, newcomer}
 use Rattle.lockword.specs.SharedInvariant.{Represents}
 use Rattle.lockword.proofs.ViewLemmas.{takers-nil, takers-push}
-use Rattle.lockword.proofs.Representation.{represents}
+use Rattle.lockword.proofs.Representation.{both, represents}
 
 none_counted : (what : Rattle.lockword_core.specs.LockState.Counted) → count what (stake.Free ∷ []) ≡ 0
 none_counted what = let pushed : count what ([] ++ stake.Free ∷ []) ≡ count what [] = count-push what [] in omega (arith, count-nil what)
@@ -48,12 +48,10 @@ module _ (R W : Type 0) where
         wide = refl;
         deep = refl;
         state = refl;
-        reads = refl;
-        writes = refl;
+        semaphores = both _ refl refl;
         done = refl;
         balance = starts;
-        read_half = omega (arith, none_counted (locks Read), none_took);
-        write_half = omega (arith, none_counted (locks Write), none_took);
+        halves = both _ (omega (arith, none_counted (locks Read), none_took)) (omega (arith, none_counted (locks Write), none_took));
         closed_seen = λ i v at saw. ap (λ (y : LocalView). y.saw_closed) (saw_nothing i v at) ∙ saw;
         done_seen = λ i v at saw. ap (λ (y : LocalView). y.saw_done) (saw_nothing i v at) ∙ saw;
       }

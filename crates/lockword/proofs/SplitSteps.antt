@@ -2,7 +2,7 @@
 use Rattle.std.proofs.Common.{◌≡◌, ℕ, ◌+◌, ◌∙◌, ⊎_elim, List, [], ◌∷◌, ◌++◌, get_or, sym, ap, subst, arith}
 use Rattle.atomic_table.specs.Table.{Splits}
 use Rattle.atomic_table.proofs.Lists.{set_again, at_snoc}
-use Rattle.stream_base.specs.declared.direction.Dir.TheVariants.{Read, Write}
+use Rattle.stream_base.specs.declared.direction.Dir.{Dir}
 use Rattle.lockword_core.specs.declared.stake.Stake.TheVariants as stake
 use Rattle.lockword_core.specs.Word.{bit}
 use Rattle.lockword_core.specs.LockState.{locks, count}
@@ -13,7 +13,7 @@ use Rattle.lockword.specs.declared.shared_rule.Half.{Half}
 use Rattle.lockword.specs.LocalView.{stakes_of, takers, without_stake}
 use Rattle.lockword.specs.SharedInvariant.{Represents}
 use Rattle.lockword.proofs.ViewLemmas.{stakes_push, totals_push, takers-push}
-use Rattle.lockword.proofs.Representation.{Fits, fits, represents}
+use Rattle.lockword.proofs.Representation.{Fits, fits, recounted, represents}
 
 module _ (R W : Type 0) where
   pub splits : (id : ℕ) (v : LocalView) → Splits {S = Half R W} Represents id v v (without_stake v)
@@ -26,19 +26,16 @@ module _ (R W : Type 0) where
       let pushed : stakes_of views ≡ stakes_of s.views ++ stake.Free ∷ [] = stakes_push s.views w in
       let same : totals (stakes_of s.views) ≡ totals (stakes_of views) = sym (ap totals pushed ∙ totals_push (stakes_of s.views)) in
       let took : takers views ≡ takers s.views + 0 = takers-push s.views w in
-      let readers : count (locks Read) (stakes_of views) ≡ count (locks Read) (stakes_of s.views) = ap (count (locks Read)) pushed ∙ count-push (locks Read) (stakes_of s.views) in
-      let writers : count (locks Write) (stakes_of views) ≡ count (locks Write) (stakes_of s.views) = ap (count (locks Write)) pushed ∙ count-push (locks Write) (stakes_of s.views) in
-      let read_was = f.read_half in let write_was = f.write_half in
+      let locked : (d : Dir) → count (locks d) (stakes_of views) ≡ count (locks d) (stakes_of s.views) = λ d. ap (count (locks d)) pushed ∙ count-push (locks d) (stakes_of s.views) in
+      let took_none : takers views ≡ takers s.views = omega arith in
       let next : Fits s.words s.homes views closed destroyed signals state = record {
         wide = f.wide;
         deep = f.deep;
         state = f.state;
-        reads = f.reads;
-        writes = f.writes;
+        semaphores = f.semaphores;
         done = f.done;
         balance = subst (λ (t : Totals). IsBalanced t (bit closed) (bit destroyed) signals state) same f.balance;
-        read_half = omega arith;
-        write_half = omega arith;
+        halves = λ d. recounted d s.homes _ _ _ _ destroyed (locked d) took_none (f.halves d);
         closed_seen = λ i x at' saw. ⊎_elim (λ here. f.closed_seen i x here saw) (λ new. f.closed_seen id v at (ap (λ (y : LocalView). y.saw_closed) new ∙ saw)) (at_snoc s.views w x i at');
         done_seen = λ i x at' saw. ⊎_elim (λ here. f.done_seen i x here saw) (λ new. f.done_seen id v at (ap (λ (y : LocalView). y.saw_done) new ∙ saw)) (at_snoc s.views w x i at');
       } in

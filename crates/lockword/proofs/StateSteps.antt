@@ -1,10 +1,10 @@
 -- Exchanges of the state word: each kind of step keeps the rule.
-use Rattle.std.proofs.Common.{◌≡◌, ℕ, ◌+◌, ◌≤◌, ◌∙◌, eqb, Bool, true, false, List, get_or, set, refl, sym, ap, subst, arith, Result, Ok}
+use Rattle.std.proofs.Common.{◌≡◌, ℕ, ◌+◌, ◌≤◌, ◌∙◌, eqb, Bool, true, false, List, [], ◌∷◌, length, length-set, get_or, set, refl, sym, ap, subst, arith, Result, Ok}
 use Rattle.std.specs.Prelude.{◌==◌, ◌&&◌, if◌then◌else◌}
-use mathlib.Core.Option.{none, some}
+use mathlib.Core.Option.{Option, none, some}
 use lib.ListN.{get_elem?}
 use prog.Atomic.{either}
-use Rattle.atomic_table.specs.Table.{step, keeps, stepped, Allows}
+use Rattle.atomic_table.specs.Table.{step, Act, keeps, takes, gives, stepped, Valid, carried_after, Allows}
 use Rattle.stream_base.specs.declared.direction.Dir.{Dir}
 use Rattle.stream_base.specs.declared.direction.Dir.TheVariants.{Read, Write}
 use Rattle.lockword_core.specs.declared.stake.Stake.{Stake}
@@ -17,9 +17,10 @@ use Rattle.lockword_core.specs.declared.transition.After.{After}
 use Rattle.lockword_core.specs.declared.transition.After.TheVariants as after
 use Rattle.lockword_core.specs.declared.transition.Refused.{Refused}
 use Rattle.lockword_core.specs.Word.{bit}
-use Rattle.lockword_core.specs.LockState.{Census, references, locks, lasts, part, count, number, pending}
+use Rattle.lockword_core.specs.declared.stake.Op.TheVariants as op
+use Rattle.lockword_core.specs.LockState.{Census, is_same, references, locks, lasts, part, count, number, pending}
 use Rattle.lockword_core.specs.LockInvariant.{IsCounted, ChangesOneStake}
-use Rattle.lockword_core.specs.Transition.{Change, nothing, closes, Outcome, refused, moved, allows, outcome, allowed_outcome, drop_outcome, changed}
+use Rattle.lockword_core.specs.Transition.{lock_stake, Change, nothing, closes, Outcome, refused, moved, allows, outcome, allowed_outcome, drop_outcome, changed}
 use Rattle.lockword_core.specs.WordStep.{op_of, gained}
 use Rattle.lockword_core.specs.WordArithmetic.{stepped_word}
 use Rattle.lockword_core.proofs.CountLemmas.{totals}
@@ -28,13 +29,18 @@ use Rattle.lockword_core.proofs.InvariantPreserved.{Balance}
 use Rattle.lockword_core.proofs.WordRefines.{StepIs, step_is}
 use Rattle.lockword.specs.declared.local_view.LocalView.{LocalView}
 use Rattle.lockword.specs.declared.shared_rule.Half.{Half}
+use Rattle.lockword.specs.declared.shared_rule.Half.TheVariants as half
+use Rattle.atomic_table.proofs.Lists.{set_here, set_else}
+use Rattle.lockword.proofs.WordTests.{possible}
+use Rattle.lockword.proofs.DestroySteps.{has_half}
 use Rattle.lockword.specs.LocalView.{stakes_of, taken_by, takers}
-use Rattle.lockword.specs.SharedInvariant.{read_home, write_home, Represents}
-use Rattle.lockword.specs.Steps.{saw_after, moved_view, Carries, MovesNoHalf}
+use Rattle.lockword.specs.Directions.{slot_of, Guarded, half_of, half_home}
+use Rattle.lockword.specs.SharedInvariant.{Represents}
+use Rattle.lockword.specs.Steps.{saw_after, moved_view, Carries, HasSlots}
 use Rattle.lockword.specs.Steps as steps
-use Rattle.lockword.proofs.ViewLemmas.{one_changes, counted_at, takers-set, taken-le}
-use Rattle.lockword.proofs.Representation.{census_of, fits, represents, on_state}
-use Rattle.lockword.proofs.Exchanges.{St, M, swaps}
+use Rattle.lockword.proofs.ViewLemmas.{one_changes, counted_at, takers-set, taken-le, takers-le}
+use Rattle.lockword.proofs.Representation.{census_of, IsInOnePlace, fits, recounted, represents, on_state}
+use Rattle.lockword.proofs.Exchanges.{H, St, M, swaps}
 
 -- ---- What changes beside the stake
 
@@ -125,13 +131,6 @@ IsQuiet kind.Close a = Unit {0}
 IsQuiet (kind.Lock d) after.Queued = Unit {0}
 IsQuiet _ _ = ⊥
 
-pub is_quiet : (k : Kind) (a : After) → MovesNoHalf k → IsQuiet k a
-is_quiet kind.Incref a no_half = tt
-is_quiet kind.Decref a no_half = tt
-is_quiet kind.Close a no_half = tt
-is_quiet (kind.Lock d) a no_half = absurd no_half
-is_quiet (kind.Unlock d) a no_half = absurd no_half
-
 own_lockless : (own : Stake) (k : Kind) (a : After) (d : Dir) → IsQuiet k a → allows own (op_of k) ≡ true → part (locks d) own ≡ 0
 own_lockless stake.Read kind.Incref a d quiet may = absurd (cc)
 own_lockless stake.Read kind.Decref a d quiet may = absurd (cc)
@@ -161,12 +160,77 @@ carries_same : {R W : Type 0} (k : Kind) (a : After) (slots : List (ℕ × Half 
 carries_same kind.Incref a slots quiet = refl
 carries_same kind.Decref a slots quiet = refl
 carries_same kind.Close a slots quiet = refl
-carries_same (kind.Lock Read) after.Queued slots quiet = refl
-carries_same (kind.Lock Write) after.Queued slots quiet = refl
+carries_same (kind.Lock d) after.Queued slots quiet = refl
 carries_same (kind.Lock d) _ slots quiet = absurd quiet
 carries_same (kind.Unlock d) _ slots quiet = absurd quiet
 
-same_count : (before now others p q : ℕ) → before ≡ p + others → now ≡ q + others → p ≡ 0 → q ≡ 0 → now ≡ before
+is_free : (own : Stake) (d : Dir) → allows own (op_of (kind.Lock d)) ≡ true → own ≡ stake.Free
+is_free stake.Free d may = refl
+is_free _ d may = absurd (cc)
+
+is_holder : (own : Stake) (d : Dir) → allows own (op_of (kind.Unlock d)) ≡ true → own ≡ lock_stake d
+is_holder stake.Read Read may = refl
+is_holder stake.Write Write may = refl
+is_holder stake.Read Write may = absurd (cc)
+is_holder stake.Write Read may = absurd (cc)
+is_holder _ d may = absurd (cc)
+
+-- an unlock leaves no lock
+unlocked : (e : Dir) (a : After) (d : Dir) → part (locks d) (gained (kind.Unlock e) a).1 ≡ 0
+unlocked e after.Owes d = refl
+unlocked e after.Kept d = refl
+unlocked e after.Last d = refl
+unlocked e _ d = refl
+
+-- ---- Steps that move a half
+
+lock_part : (e d : Dir) → part (locks e) (lock_stake d) ≡ bit (is_same e d)
+lock_part e Read = refl
+lock_part e Write = refl
+
+lock_not_last : (d : Dir) → part lasts (lock_stake d) ≡ 0
+lock_not_last Read = refl
+lock_not_last Write = refl
+
+holder_may : (d : Dir) → allows (lock_stake d) (op.Unlock d) ≡ true
+holder_may Read = refl
+holder_may Write = refl
+
+one_more : (before now others b p : ℕ) → before ≡ 0 + others → now ≡ p + others → p ≡ b → now ≡ b + before
+one_more before now others b p e f g = omega arith
+
+one_less : (before now others b p q : ℕ) → before ≡ p + others → now ≡ q + others → p ≡ b → q ≡ 0 → before ≡ b + now
+one_less before now others b p q e f g h = omega arith
+
+-- whoever has just taken a lock is the only holder of it, and nobody took the halves
+locks_alone : (d : Dir) (c : Census) (m x k : ℕ) → Balance c m → count (locks d) c.stakes ≡ bit (is_same d d) + x → k ≤ count lasts c.stakes → (x ≡ 0) × (k ≡ 0) × (bit c.destroyed ≡ 0)
+locks_alone Read c m x k b locked few = let one = b.one_reader in let held = b.locked in let calm = b.in_use (omega arith) in (omega arith, omega arith, omega arith)
+locks_alone Write c m x k b locked few = let one = b.one_writer in let held = b.locked in let calm = b.in_use (omega arith) in (omega arith, omega arith, omega arith)
+
+module _ {R W : Type 0} where
+  -- a slot once another content is in it, or in the other slot
+  slot_after : (e d : Dir) (homes : List (Option (Half R W))) (x : Option (Half R W)) → length homes ≡ 2
+      → half_home e (get_elem? (set homes (slot_of d) x) (slot_of e)) ≡ (if is_same e d then half_home e (some x) else half_home e (get_elem? homes (slot_of e)))
+  slot_after Read Read homes x deep = ap (half_home Read) (set_here homes 0 x (omega arith))
+  slot_after Write Write homes x deep = ap (half_home Write) (set_here homes 1 x (omega arith))
+  slot_after Read Write homes x deep = ap (half_home Read) (set_else homes 1 0 x (omega arith))
+  slot_after Write Read homes x deep = ap (half_home Write) (set_else homes 0 1 x (omega arith))
+
+  taken_half : (e d : Dir) (homes : List (Option (Half R W))) (ys xs : List Stake) (k j : ℕ) (destroyed : Bool) → length homes ≡ 2 → half_home d (get_elem? homes (slot_of d)) ≡ 1
+      → count (locks e) ys ≡ bit (is_same e d) + count (locks e) xs → k ≡ j → IsInOnePlace e homes xs j destroyed → IsInOnePlace e (set homes (slot_of d) none) ys k destroyed
+  taken_half Read Read homes ys xs k j destroyed deep home locked took was = let now = slot_after Read Read homes none deep in omega arith
+  taken_half Write Write homes ys xs k j destroyed deep home locked took was = let now = slot_after Write Write homes none deep in omega arith
+  taken_half Read Write homes ys xs k j destroyed deep home locked took was = let now = slot_after Read Write homes none deep in omega arith
+  taken_half Write Read homes ys xs k j destroyed deep home locked took was = let now = slot_after Write Read homes none deep in omega arith
+
+  given_half : (e d : Dir) (h : Guarded R W d) (homes : List (Option (Half R W))) (ys xs : List Stake) (k j : ℕ) (destroyed : Bool) → length homes ≡ 2
+      → count (locks e) xs ≡ bit (is_same e d) + count (locks e) ys → k ≡ j → IsInOnePlace e homes xs j destroyed → IsInOnePlace e (set homes (slot_of d) (some (half_of d h))) ys k destroyed
+  given_half Read Read h homes ys xs k j destroyed deep locked took was = let now = slot_after Read Read homes (some (half.Read h)) deep in omega arith
+  given_half Write Write h homes ys xs k j destroyed deep locked took was = let now = slot_after Write Write homes (some (half.Write h)) deep in omega arith
+  given_half Read Write h homes ys xs k j destroyed deep locked took was = let now = slot_after Read Write homes (some (half.Write h)) deep in omega arith
+  given_half Write Read h homes ys xs k j destroyed deep locked took was = let now = slot_after Write Read homes (some (half.Read h)) deep in omega arith
+
+pub same_count : (before now others p q : ℕ) → before ≡ p + others → now ≡ q + others → p ≡ 0 → q ≡ 0 → now ≡ before
 same_count before now others p q e f g h = omega arith
 
 module _ (R W : Type 0) where
@@ -183,10 +247,8 @@ module _ (R W : Type 0) where
       let one = one_changes s.views id me.0 w at in
       let balance : Balance c n = subst (λ (x : ℕ). Balance c x) found f.balance in
       let next : Balance (changed c (stakes_of views) (change_of k)) m = kept_balance c me.0.stake k a n m (stakes_of views) balance (record { at_least = counted_at s.views id me.0 at }) may is one in
-      let readers : count (locks Read) (stakes_of views) ≡ count (locks Read) (stakes_of s.views) =
-      same_count _ _ _ _ _ (one.counted_before (locks Read)) (one.counted_after (locks Read)) (own_lockless me.0.stake k a Read quiet may) (new_lockless k a Read quiet) in
-      let writers : count (locks Write) (stakes_of views) ≡ count (locks Write) (stakes_of s.views) =
-      same_count _ _ _ _ _ (one.counted_before (locks Write)) (one.counted_after (locks Write)) (own_lockless me.0.stake k a Write quiet may) (new_lockless k a Write quiet) in
+      let locked : (d : Dir) → count (locks d) (stakes_of views) ≡ count (locks d) (stakes_of s.views) =
+      λ d. same_count _ _ _ _ _ (one.counted_before (locks d)) (one.counted_after (locks d)) (own_lockless me.0.stake k a d quiet may) (new_lockless k a d quiet) in
       let took : takers views + taken_by me.0 ≡ takers s.views + 0 = takers-set s.views id me.0 w at in
       let mine : taken_by me.0 ≤ part lasts me.0.stake = taken-le me.0 in
       let last : part lasts me.0.stake ≡ 0 = not_last me.0.stake k may in
@@ -194,23 +256,95 @@ module _ (R W : Type 0) where
       represents (set s.words 0 m) s.homes views (saw_after k closed) destroyed signals m
       (on_state s.words s.homes s.homes s.views closed (saw_after k closed) destroyed signals (get_or s.words 0 0) m id w f f.deep
       (flag_after k c (stakes_of views) m next)
-      (subst (λ (z : ℕ × ℕ). read_home (get_elem? s.homes 0) + z.0 + z.1 + bit destroyed ≡ 1) (λ i. (sym readers i, sym takers_same i)) f.read_half)
-      (subst (λ (z : ℕ × ℕ). write_home (get_elem? s.homes 1) + z.0 + z.1 + bit destroyed ≡ 1) (λ i. (sym writers i, sym takers_same i)) f.write_half)
+      (λ d. recounted d s.homes _ _ _ _ destroyed (locked d) takers_same (f.halves d))
       (flag_grows k closed) (saw_so k me.0.saw_closed closed (f.closed_seen id me.0 at)) (f.done_seen id me.0 at))
+
+  abbrev Kept : Kind → After → ℕ → ℕ → M R W → St R W → Type 0
+  Kept k a m id me s = (act : Act (H R W)) × Valid s.homes me.1 act × Represents (stepped s 0 m id me.1 (moved_view k a me.0) act) × Carries k a me.1 (carried_after me.1 act)
+
+  -- a lock that is taken brings its half
+  takes_half : (d : Dir) (n m id : ℕ) (me : M R W) (s : St R W) → stepped_word n (kind.Lock d) ≡ Ok (m, after.Held) → me.0.stake ≡ stake.Free
+      → Represents s → get_elem? s.views id ≡ some me.0 → get_or s.words 0 0 ≡ n → Kept (kind.Lock d) after.Held m id me s
+  takes_half d n m id me s is free r at found =
+      let f = fits s r in
+      let closed = r.census.closed in let destroyed = r.census.destroyed in let signals = r.census.signals in
+      let c : Census = census_of s.views closed destroyed signals in
+      let w : LocalView = moved_view (kind.Lock d) after.Held me.0 in
+      let views : List LocalView = set s.views id w in
+      let one = one_changes s.views id me.0 w at in
+      let from_free = subst (λ (x : Stake). ChangesOneStake (stakes_of s.views) x (stakes_of views) (lock_stake d)) free one in
+      let balance : Balance c n = subst (λ (x : ℕ). Balance c x) found f.balance in
+      let next : Balance (record c { stakes = stakes_of views }) m = kept_balance c me.0.stake (kind.Lock d) after.Held n m (stakes_of views) balance (record { at_least = counted_at s.views id me.0 at }) (ap (λ (x : Stake). allows x (op.Lock d)) free) is one in
+      let locked : (e : Dir) → count (locks e) (stakes_of views) ≡ bit (is_same e d) + count (locks e) (stakes_of s.views) = λ e. one_more _ _ _ _ _ (from_free.counted_before (locks e)) (from_free.counted_after (locks e)) (lock_part e d) in
+      let took : takers views + taken_by me.0 ≡ takers s.views + 0 = takers-set s.views id me.0 w at in
+      let mine : taken_by me.0 ≤ part lasts me.0.stake = taken-le me.0 in
+      let no_last : part lasts me.0.stake ≡ 0 = ap (part lasts) free in
+      let takers_same : takers views ≡ takers s.views = omega arith in
+      let alone = locks_alone d (record c { stakes = stakes_of views }) m (count (locks d) (stakes_of s.views)) (takers views) next (locked d) (takers-le views) in
+      let was = f.halves d in let lock_free = alone.0 in let none_took = alone.1 in let not_destroyed = alone.2 in
+      let home : half_home d (get_elem? s.homes (slot_of d)) ≡ 1 = omega arith in
+      let there = has_half R W d (get_elem? s.homes (slot_of d)) home in (
+        takes (slot_of d) (half_of d there.0),
+        there.1,
+        represents (set s.words 0 m) (set s.homes (slot_of d) none) views closed destroyed signals m
+            (on_state s.words s.homes (set s.homes (slot_of d) none) s.views closed closed destroyed signals (get_or s.words 0 0) m id w f (length-set s.homes (slot_of d) none ∙ f.deep) next
+            (λ e. taken_half e d s.homes _ _ _ _ destroyed f.deep home (locked e) takers_same (f.halves e))
+            (λ e. e) (f.closed_seen id me.0 at) (f.done_seen id me.0 at)),
+        (there.0, refl),
+      )
+
+  -- a lock that is given back leaves its half
+  gives_half : (d : Dir) (n m id : ℕ) (a : After) (v : LocalView) (h : Guarded R W d) (s : St R W) → stepped_word n (kind.Unlock d) ≡ Ok (m, a) → v.stake ≡ lock_stake d
+      → Represents s → get_elem? s.views id ≡ some v → get_or s.words 0 0 ≡ n → Kept (kind.Unlock d) a m id (v, (slot_of d, half_of d h) ∷ []) s
+  gives_half d n m id a v h s is holds r at found =
+      let f = fits s r in
+      let closed = r.census.closed in let destroyed = r.census.destroyed in let signals = r.census.signals in
+      let c : Census = census_of s.views closed destroyed signals in
+      let w : LocalView = moved_view (kind.Unlock d) a v in
+      let views : List LocalView = set s.views id w in
+      let one = one_changes s.views id v w at in
+      let from_lock = subst (λ (x : Stake). ChangesOneStake (stakes_of s.views) x (stakes_of views) (gained (kind.Unlock d) a).1) holds one in
+      let balance : Balance c n = subst (λ (x : ℕ). Balance c x) found f.balance in
+      let next : Balance (record c { stakes = stakes_of views }) m = kept_balance c v.stake (kind.Unlock d) a n m (stakes_of views) balance (record { at_least = counted_at s.views id v at }) (ap (λ (x : Stake). allows x (op.Unlock d)) holds ∙ holder_may d) is one in
+      let locked : (e : Dir) → count (locks e) (stakes_of s.views) ≡ bit (is_same e d) + count (locks e) (stakes_of views) = λ e. one_less _ _ _ _ _ _ (from_lock.counted_before (locks e)) (from_lock.counted_after (locks e)) (lock_part e d) (unlocked d a e) in
+      let took : takers views + taken_by v ≡ takers s.views + 0 = takers-set s.views id v w at in
+      let mine : taken_by v ≤ part lasts v.stake = taken-le v in
+      let no_last : part lasts v.stake ≡ 0 = ap (part lasts) holds ∙ lock_not_last d in
+      let takers_same : takers views ≡ takers s.views = omega arith in
+      let x : Option (H R W) = some (half_of d h) in (
+        gives,
+        tt,
+        represents (set s.words 0 m) (set s.homes (slot_of d) x) views closed destroyed signals m
+            (on_state s.words s.homes (set s.homes (slot_of d) x) s.views closed closed destroyed signals (get_or s.words 0 0) m id w f (length-set s.homes (slot_of d) x ∙ f.deep) next
+            (λ e. given_half e d h s.homes _ _ _ _ destroyed f.deep (locked e) takers_same (f.halves e))
+            (λ e. e) (f.closed_seen id v at) (f.done_seen id v at)),
+        refl,
+      )
+
+  -- every step that the stake allows, with the slots that it needs, keeps the rule
+  kept : (k : Kind) (a : After) (n m id : ℕ) (me : M R W) (s : St R W) → stepped_word n k ≡ Ok (m, a) → allows me.0.stake (op_of k) ≡ true → HasSlots k me.1
+      → Represents s → get_elem? s.views id ≡ some me.0 → get_or s.words 0 0 ≡ n → Kept k a m id me s
+  kept kind.Incref a n m id me s is may slots r at found = (keeps, tt, quiet_fits kind.Incref a n m id me s is may tt r at found, refl)
+  kept kind.Decref a n m id me s is may slots r at found = (keeps, tt, quiet_fits kind.Decref a n m id me s is may tt r at found, refl)
+  kept kind.Close a n m id me s is may slots r at found = (keeps, tt, quiet_fits kind.Close a n m id me s is may tt r at found, refl)
+  kept (kind.Lock d) after.Queued n m id me s is may slots r at found = (keeps, tt, quiet_fits (kind.Lock d) after.Queued n m id me s is may tt r at found, refl)
+  kept (kind.Lock d) after.Held n m id me s is may slots r at found = takes_half d n m id me s is (is_free me.0.stake d may) r at found
+  kept (kind.Lock d) a n m id me s is may slots r at found = absurd (possible n m (kind.Lock d) a is)
+  kept (kind.Unlock d) a n m id me s is may slots r at found =
+      subst (λ (l : List (ℕ × H R W)). Kept (kind.Unlock d) a m id (me.0, l) s) (sym slots.1) (gives_half d n m id a me.0 slots.0 s is (is_holder me.0.stake d may) r at found)
 
   abbrev MovesAs : ℕ → ℕ → ℕ → ℕ → M R W → Kind → Type 0
   MovesAs slots id n m me k = Allows Represents slots id me 0 (λ x. either (eqb x n) m x) (steps.moved k (step slots 0 n m none) me)
 
-  pub quiet_steps : (slots id n m : ℕ) (me : M R W) (k j : Kind) (a : After) → k ≡ j → stepped_word n k ≡ Ok (m, a) → allows me.0.stake (op_of k) ≡ true → MovesNoHalf k
+  pub moves : (slots id n m : ℕ) (me : M R W) (k j : Kind) (a : After) → k ≡ j → stepped_word n k ≡ Ok (m, a) → allows me.0.stake (op_of k) ≡ true → HasSlots k me.1
       → Allows Represents slots id me 0 (λ x. either (eqb x n) m x) (steps.moved j (step slots 0 n m none) me)
-  quiet_steps slots id n m me k j a same_kind is may no_half =
-      let quiet = is_quiet k a no_half in
+  moves slots id n m me k j a same_kind is may has =
       subst (λ (z : Kind). MovesAs slots id n m me z) same_kind
       (swaps R W slots id 0 n m me (λ me'. (b : After) → stepped_word n k ≡ Ok (m, b) → (me'.0 ≡ moved_view k b me.0) × Carries k b me.1 me'.1)
-      (λ s r at found. (
+      (λ s r at found. let t = kept k a n m id me s is may has r at found in (
         moved_view k a me.0,
-        keeps,
-        tt,
-        quiet_fits k a n m id me s is may quiet r at found,
-        λ b same. subst (λ (x : After). (moved_view k a me.0 ≡ moved_view k x me.0) × Carries k x me.1 me.1) (ap (λ (p : ℕ × After). p.1) (same_pair (m, a) (m, b) (sym is ∙ same))) (refl, carries_same k a me.1 quiet),
+        t.0,
+        t.1,
+        t.2,
+        λ b same. subst (λ (x : After). (moved_view k a me.0 ≡ moved_view k x me.0) × Carries k x me.1 (carried_after me.1 t.0)) (ap (λ (p : ℕ × After). p.1) (same_pair (m, a) (m, b) (sym is ∙ same))) (refl, t.3),
       )))

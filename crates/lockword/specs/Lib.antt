@@ -1,3 +1,4 @@
+pub mod Directions
 pub mod LocalView
 pub mod Marks
 pub mod Places
@@ -5,3 +6,4 @@ pub mod SharedInvariant
 pub mod Slots
 pub mod Steps
 pub mod TransitionOutcomes
+pub mod Lent

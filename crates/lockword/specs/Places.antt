@@ -6,6 +6,11 @@ use Rattle.lockword.specs.declared.holders.Seat.{Seat}
 use Rattle.lockword.specs.declared.holders.Ref.{Ref}
 use Rattle.lockword.specs.declared.holders.Closing.{Closing}
 use Rattle.lockword.specs.declared.holders.Last.{Last}
+use Rattle.lockword.specs.declared.holders.ReadLock.{ReadLock}
+use Rattle.lockword.specs.declared.holders.WriteLock.{WriteLock}
+use Rattle.lockword.specs.declared.holders.ReadWait.{ReadWait}
+use Rattle.lockword.specs.declared.holders.WriteWait.{WriteWait}
+use Rattle.lockword.specs.declared.holders.Owing.{Owing}
 use Rattle.lockword.specs.Marks.{Place}
 
 module _ {R W : Type 0} where
@@ -28,3 +33,27 @@ module _ {R W : Type 0} where
   -- a last holder's place
   abbrev pub last_place : Last R W → Place R W
   last_place l = l.place
+
+  -- a read lock's place
+  abbrev pub read_lock_place : ReadLock R W → Place R W
+  read_lock_place l = l.place
+
+  -- a write lock's place
+  abbrev pub write_lock_place : WriteLock R W → Place R W
+  write_lock_place l = l.place
+
+  -- the place of one that waits to read
+  abbrev pub read_wait_place : ReadWait R W → Place R W
+  read_wait_place w = w.place
+
+  -- the place of one that waits to write
+  abbrev pub write_wait_place : WriteWait R W → Place R W
+  write_wait_place w = w.place
+
+  -- the place of one that owes a signal
+  abbrev pub owing_place : Owing R W → Place R W
+  owing_place o = o.place
+
+  -- the direction in which it owes
+  abbrev pub owing_way : Owing R W → Dir
+  owing_way o = o.dir

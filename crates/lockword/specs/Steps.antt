@@ -1,11 +1,12 @@
 -- What the atomic steps tell the seat that makes them. No public clause cites this module.
-use Rattle.std.specs.Prelude.{◌≡◌, ◌≢◌, ◌==◌, ◌<◌, ◌≤◌, ℕ, List, ◌∷◌, Bool, true, false, Ok}
+use Rattle.std.specs.Prelude.{◌≡◌, ◌≢◌, ◌==◌, ◌<◌, ◌≤◌, ℕ, List, [], ◌∷◌, Bool, true, false, Ok, if◌then◌else◌}
 use Rattle.atomic_table.specs.Table.{Me, Step, rest}
 use Rattle.stream_base.specs.declared.direction.Dir.{Dir}
 use Rattle.stream_base.specs.declared.direction.Dir.TheVariants.{Read, Write}
 use Rattle.lockword_core.specs.declared.stake.Stake.{Stake}
 use Rattle.lockword_core.specs.declared.stake.Stake.TheVariants as stake
 use Rattle.lockword_core.specs.declared.word.TheConstants.{CLOSED, NO_WORD, MAX_REFERENCES}
+use Rattle.lockword_core.specs.declared.signals.TheConstants.{MAX_SIGNALS}
 use Rattle.lockword_core.specs.declared.transition.Kind.{Kind}
 use Rattle.lockword_core.specs.declared.transition.Kind.TheVariants as kind
 use Rattle.lockword_core.specs.declared.transition.After.{After}
@@ -15,13 +16,16 @@ use Rattle.lockword_core.specs.WordStep.{gained}
 use Rattle.lockword_core.specs.WordArithmetic.{stepped_word}
 use Rattle.lockword.specs.declared.local_view.LocalView.{LocalView}
 use Rattle.lockword_core.specs.declared.word.Word.{Word}
-use Rattle.lockword_core.specs.Transition.{lock_stake}
+use Rattle.lockword_core.specs.Transition.{lock_stake, stake_after_signal}
 use Rattle.lockword.specs.declared.transitions.Advance.{Advance}
 use Rattle.lockword.specs.declared.transitions.Advance.TheVariants as advance
+use Rattle.lockword.specs.declared.signals.Rung.{Rung}
+use Rattle.lockword.specs.declared.signals.Rung.TheVariants as rung
+use Rattle.lockword.specs.Directions.{slot_of, Guarded, half_of}
 use Rattle.lockword.specs.Marks.{Place, SameMarks, Later, NowClosed, IsOpen, IsFullWay}
 use Rattle.lockword.specs.declared.shared_rule.Half.{Half}
 use Rattle.lockword.specs.declared.shared_rule.Half.TheVariants as half
-use Rattle.lockword.specs.declared.shared_rule.TheConstants.{READ_HALF, WRITE_HALF}
+use Rattle.lockword.specs.declared.shared_rule.TheConstants.{READ_HALF, WRITE_HALF, READ_SIGNALS}
 
 -- what the state word shows to the holder of a stake
 abbrev pub Shows : Stake → ℕ → Type 0
@@ -65,8 +69,7 @@ module _ {S : Type 0} where
 module _ {R W : Type 0} where
   -- the slots that a seat holds once it made a step: a lock that is taken brings its half, one given back leaves it
   abbrev pub Carries : Kind → After → List (ℕ × Half R W) → List (ℕ × Half R W) → Type 0
-  Carries (kind.Lock Read) after.Held before now = (r : R) × (now ≡ (READ_HALF, half.Read r) ∷ before)
-  Carries (kind.Lock Write) after.Held before now = (w : W) × (now ≡ (WRITE_HALF, half.Write w) ∷ before)
+  Carries (kind.Lock d) after.Held before now = (h : Guarded R W d) × (now ≡ (slot_of d, half_of d h) ∷ before)
   Carries (kind.Unlock d) _ before now = now ≡ rest before
   Carries _ _ before now = now ≡ before
 
@@ -139,9 +142,32 @@ module _ {R W : Type 0} where
   Advanced k p q (advance.TooMany w) = IsFull k w × (w.closed ≡ false) × Keeps p q × SameMarks p q × IsOpen p
   Advanced k p q advance.Lost = Keeps p q × LostMarks k p q
 
--- the steps that move no half
-abbrev pub MovesNoHalf : Kind → Type 0
-MovesNoHalf kind.Incref = Unit {0}
-MovesNoHalf kind.Decref = Unit {0}
-MovesNoHalf kind.Close = Unit {0}
-MovesNoHalf _ = ⊥
+-- the slots that a seat has to hold before it makes a step: a lock that is given back needs its half
+abbrev pub HasSlots : {R W : Type 0} → Kind → List (ℕ × Half R W) → Type 0
+HasSlots {R} {W} (kind.Unlock d) slots = (h : Guarded R W d) × (slots ≡ (slot_of d, half_of d h) ∷ [])
+HasSlots _ slots = Unit {0}
+
+-- ---- Signals
+
+-- the direction of a semaphore's word
+abbrev pub way_of : ℕ → Dir
+way_of i = if i == READ_SIGNALS then Read else Write
+
+-- the view once the seat gave or took a signal
+abbrev pub signalled_view : Dir → LocalView → LocalView
+signalled_view d v = record { stake = stake_after_signal d v.stake; took = false; saw_closed = v.saw_closed; saw_done = v.saw_done }
+
+module _ {S : Type 0} where
+  -- a load of a semaphore
+  abbrev pub counted : Step S → Me S LocalView → ℕ → Me S LocalView → Type 0
+  counted st me n me' = (n ≤ MAX_SIGNALS) × (me' ≡ me)
+
+  -- an exchange of a semaphore, by which a signal is given or taken
+  abbrev pub signalled : Step S → Me S LocalView → ℕ → Me S LocalView → Type 0
+  signalled st me n me' = (n ≡ st.first → me' ≡ (signalled_view (way_of st.word) me.0, me.1)) × (n ≢ st.first → me' ≡ me)
+
+-- what a try at a semaphore did to its seat
+abbrev pub Signalled : {R W : Type 0} → Dir → Place R W → Place R W → Rung → Type 0
+Signalled d p q rung.Done = (q.me.0.stake ≡ stake_after_signal d p.me.0.stake) × (q.me.1 ≡ p.me.1) × SameMarks p q
+Signalled d p q rung.Refused = Keeps p q × SameMarks p q
+Signalled d p q rung.Lost = Keeps p q × SameMarks p q

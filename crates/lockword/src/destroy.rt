@@ -10,6 +10,7 @@ use crate::shared_rule::{DONE, Half, READ_HALF, WRITE_HALF};
 use crate::transitions::{Another, Ask, Empty, Mark};
 use atomic_table::Table;
 use std::alloc::{AllocFailed, Global};
+use std::sync::Wait;
 use stream_base::OutOfMemory;
 
 impl<R: Drop, W: Drop> LockWord<R, W> {
@@ -56,6 +57,18 @@ impl<R: Drop, W: Drop> LockWord<R, W> {
         ensures stays { saw_done (seat_place seat.old) ≡ true → result ≡ true }
     {
         self.table.shared.load::<Ask>(&mut seat.place, DONE) == 1
+    }
+
+    /// Sleeps while the resource is not destroyed, or returns for no reason. It changes nothing and
+    /// tells nothing: ask `is_done`, park, and ask again.
+    pub fn park_until_done<T: Wait>(&self, rt: &T) {
+        self.table.shared.park(rt, DONE, 0);
+    }
+
+    /// Wakes one thread that is parked until the resource is destroyed: `mark_done` wakes one, and
+    /// each that was woken wakes the next.
+    pub fn wake_until_done(&self) {
+        self.table.shared.wake_one(DONE);
     }
 
     /// Says that the resource was destroyed, once its halves were taken, and wakes one thread that is

@@ -7,11 +7,18 @@ mod destroy;
 mod holders;
 mod local_view;
 mod look;
+mod read_lock;
 mod references;
 mod shared_rule;
+mod signals;
 mod transitions;
+mod write_lock;
 
-pub use holders::{Close, Closing, DropClosing, DropRef, Incref, Last, LockWord, Place, Ref, Seat};
+pub use holders::{
+    Close, Closing, DropClosing, DropRef, Incref, Last, LockRead, LockWord, LockWrite, Owing,
+    Place, ReadLock, ReadWait, Ref, Seat, Signal, SignalClosing, UnlockRead, UnlockWrite, WakeRead,
+    WakeWrite, WriteLock, WriteWait,
+};
 pub use local_view::LocalView;
 pub use look::Holder;
 pub use shared_rule::Half;

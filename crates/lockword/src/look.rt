@@ -1,6 +1,8 @@
 //! Loads of the state, through any value that holds a seat.
 
-use crate::holders::{Closing, Last, LockWord, Ref, Seat};
+use crate::holders::{
+    Closing, Last, LockWord, Owing, ReadLock, ReadWait, Ref, Seat, WriteLock, WriteWait,
+};
 use lockword_core::Word;
 
 /// A value that holds a seat, and can look through it.
@@ -64,6 +66,56 @@ impl<R: Drop, W: Drop> Holder<R, W> for Last<R, W> {
     ghost use Rattle.lockword.specs.Places.{last_place};
 
     ghost place = { last_place };
+
+    fn look_in(&mut self, word: &LockWord<R, W>) -> Word {
+        word.look_at(&mut self.place)
+    }
+}
+
+impl<R: Drop, W: Drop> Holder<R, W> for ReadLock<R, W> {
+    ghost use Rattle.lockword.specs.Places.{read_lock_place};
+
+    ghost place = { read_lock_place };
+
+    fn look_in(&mut self, word: &LockWord<R, W>) -> Word {
+        word.look_at(&mut self.place)
+    }
+}
+
+impl<R: Drop, W: Drop> Holder<R, W> for WriteLock<R, W> {
+    ghost use Rattle.lockword.specs.Places.{write_lock_place};
+
+    ghost place = { write_lock_place };
+
+    fn look_in(&mut self, word: &LockWord<R, W>) -> Word {
+        word.look_at(&mut self.place)
+    }
+}
+
+impl<R: Drop, W: Drop> Holder<R, W> for ReadWait<R, W> {
+    ghost use Rattle.lockword.specs.Places.{read_wait_place};
+
+    ghost place = { read_wait_place };
+
+    fn look_in(&mut self, word: &LockWord<R, W>) -> Word {
+        word.look_at(&mut self.place)
+    }
+}
+
+impl<R: Drop, W: Drop> Holder<R, W> for WriteWait<R, W> {
+    ghost use Rattle.lockword.specs.Places.{write_wait_place};
+
+    ghost place = { write_wait_place };
+
+    fn look_in(&mut self, word: &LockWord<R, W>) -> Word {
+        word.look_at(&mut self.place)
+    }
+}
+
+impl<R: Drop, W: Drop> Holder<R, W> for Owing<R, W> {
+    ghost use Rattle.lockword.specs.Places.{owing_place};
+
+    ghost place = { owing_place };
 
     fn look_in(&mut self, word: &LockWord<R, W>) -> Word {
         word.look_at(&mut self.place)

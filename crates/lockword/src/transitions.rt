@@ -5,8 +5,9 @@ ghost use Rattle.lockword_core.specs.declared.word.TheConstants.{NO_WORD};
 ghost use Rattle.lockword_core.specs.Word.{IsWord, packed};
 ghost use Rattle.lockword_core.specs.Transition.{allows};
 ghost use Rattle.lockword_core.specs.WordStep.{op_of};
-ghost use Rattle.lockword.specs.Steps.{looked, moved, asked, emptied, marked, MovesNoHalf, Keeps, Advanced};
+ghost use Rattle.lockword.specs.Steps.{looked, moved, asked, emptied, marked, counted, signalled, HasSlots, Keeps, Advanced};
 ghost use Rattle.lockword.specs.TransitionOutcomes.{Looks};
+ghost use Rattle.stream_base.specs.declared.direction.Dir.TheVariants.{Read, Write};
 ghost use Rattle.lockword_core.specs.declared.transition.Kind.{Kind};
 ghost use Rattle.lockword_core.specs.declared.transition.Kind.TheVariants as kind;
 
@@ -54,6 +55,44 @@ pub(crate) struct SetClosed;
 
 impl StateStep for SetClosed {
     ghost kind = { kind.Close };
+}
+
+pub(crate) struct LockForReading;
+
+impl StateStep for LockForReading {
+    ghost kind = { kind.Lock Read };
+}
+
+pub(crate) struct LockForWriting;
+
+impl StateStep for LockForWriting {
+    ghost kind = { kind.Lock Write };
+}
+
+pub(crate) struct UnlockReading;
+
+impl StateStep for UnlockReading {
+    ghost kind = { kind.Unlock Read };
+}
+
+pub(crate) struct UnlockWriting;
+
+impl StateStep for UnlockWriting {
+    ghost kind = { kind.Unlock Write };
+}
+
+/// A load of a semaphore.
+pub(crate) struct Count;
+
+impl<R, W> Play<Half<R, W>, LocalView> for Count {
+    ghost then = { counted };
+}
+
+/// An exchange of a semaphore, by which a signal is given or taken.
+pub(crate) struct Ring;
+
+impl<R, W> Play<Half<R, W>, LocalView> for Ring {
+    ghost then = { signalled };
 }
 
 /// A load of the done word.
@@ -114,7 +153,7 @@ impl<R: Drop, W: Drop> LockWord<R, W> {
         requires word { place.old.table_id ≡ self.now.table.shared.table_id }
         requires kind { kind ≡ M.kind }
         requires allowed { allows place.old.me.0.stake (op_of kind) ≡ true }
-        requires no_half { MovesNoHalf kind }
+        requires slots { HasSlots kind place.old.me.1 }
         ensures word { place.new.table_id ≡ place.old.table_id }
         ensures step { Advanced kind place.old place.new result }
     {

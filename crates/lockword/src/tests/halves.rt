@@ -39,15 +39,9 @@ fn halves_that_were_taken_are_not_dropped_again(rt: HostRuntime) -> Result<(), F
         Counted { drops: &drops },
         Counted { drops: &drops },
     )?;
-    let closing = match word.try_close(seat) {
-        Close::Closing(closing) => closing,
-        other => wrong(&rt, other),
-    };
+    let closing = want!(&rt; word.try_close(seat), Close::Closing);
     owes_nobody(&rt, &closing);
-    let mut last = match word.try_drop_closing(closing) {
-        DropClosing::Last(last) => last,
-        other => wrong(&rt, other),
-    };
+    let mut last = want!(&rt; word.try_drop_closing(closing), DropClosing::Last);
     let (read, write) = last.halves(&word);
     let _seat = word.mark_done(last);
     drop(word);

@@ -1,11 +1,12 @@
-use Rattle.std.proofs.Common.{rules, ◌≡◌, ◌∙◌, sym, ap, Ok, Err, true}
+use Rattle.std.proofs.Common.{rules, ◌≡◌, ◌∙◌, sym, ap, subst, Ok, Err, true}
 use Rattle.lockword_core.specs.declared.transition.Refused.TheVariants as why
 use Rattle.lockword_core.specs.Transition.{allows}
 use Rattle.lockword_core.specs.WordStep.{op_of}
 use Rattle.lockword_core.specs.WordArithmetic.{stepped_word}
+use Rattle.lockword.specs.Steps.{HasSlots}
 use Rattle.lockword.proofs.LookSteps.{looks}
 use Rattle.lockword.proofs.WordTests.{is_stepped, came_after, lost, refused_closed, refused_full, no_misuse}
-use Rattle.lockword.proofs.StateSteps.{quiet_steps}
+use Rattle.lockword.proofs.StateSteps.{moves}
 use Rattle.lockword.proofs.holders.LockWord.try_step.Goals as goal
 
 pub load-found-requires : goal.load-found-requires
@@ -18,7 +19,8 @@ compare_exchange-requires g c =
     let ok : c.word_step.result ≡ Ok (c.in-Ok.next, c.in-Ok.after) = search rules in
     let is : stepped_word n c.args.kind ≡ Ok (c.in-Ok.next, c.in-Ok.after) = sym (is_stepped n c.args.kind c.word_step.result told.0.is_word c.word_step.ensures.fields) ∙ ok in
     let may : allows c.load-found.new.seat.me.0.stake (op_of c.args.kind) ≡ true = ap (λ me. allows me.0.stake (op_of c.args.kind)) told.1 ∙ c.requires.allowed in
-    (search rules, search rules, quiet_steps _ _ _ _ _ _ _ _ _ c.in-Ok.after c.requires.kind is may c.requires.no_half)
+    let has : HasSlots c.args.kind c.load-found.new.seat.me.1 = subst (λ me. HasSlots c.args.kind me.1) (sym told.1) c.requires.slots in
+    (search rules, search rules, moves _ _ _ _ _ _ _ _ _ c.in-Ok.after c.requires.kind is may has)
 
 pub unreachable-requires : goal.unreachable-requires
 unreachable-requires g c =

@@ -1,4 +1,4 @@
-//! The words of worked rows, seen through a spare seat.
+//! The words of worked rows of references and of the close, seen through a spare seat.
 
 use super::{owes_nobody, wrong};
 use crate::{Close, DropClosing, DropRef, Incref, LockWord};
@@ -10,15 +10,9 @@ fn a_reference_is_eight_and_goes_back_to_zero(rt: HostRuntime) -> Result<(), Fai
     let (word, seat) = LockWord::new(rt.alloc(), 1u64, 2u64)?;
     let (mut spare, one) = word.split(seat);
     assert_eq!(rt; pack(word.look(&mut spare)), 0, "a new word");
-    let held = match word.try_incref(one) {
-        Incref::Held(held) => held,
-        other => wrong(&rt, other),
-    };
+    let held = want!(&rt; word.try_incref(one), Incref::Held);
     assert_eq!(rt; pack(word.look(&mut spare)), 0x8, "1 incref");
-    let _one = match word.try_drop_ref(held) {
-        DropRef::Kept(one) => one,
-        other => wrong(&rt, other),
-    };
+    let _one = want!(&rt; word.try_drop_ref(held), DropRef::Kept);
     assert_eq!(rt; pack(word.look(&mut spare)), 0, "1 decref");
     Ok(())
 }
@@ -28,25 +22,13 @@ fn the_closer_is_last_and_destroys(rt: HostRuntime) -> Result<(), Fail> {
     let (word, seat) = LockWord::new(rt.alloc(), 7u64, 2u64)?;
     let (mut spare, seat) = word.split(seat);
     let (one, two) = word.split(seat);
-    let closing = match word.try_close(one) {
-        Close::Closing(closing) => closing,
-        other => wrong(&rt, other),
-    };
+    let closing = want!(&rt; word.try_close(one), Close::Closing);
     assert_eq!(rt; pack(word.look(&mut spare)), 0x9, "1 close");
     owes_nobody(&rt, &closing);
-    let two = match word.try_close(two) {
-        Close::Closed(two) => two,
-        other => wrong(&rt, other),
-    };
+    let two = want!(&rt; word.try_close(two), Close::Closed);
     assert_eq!(rt; pack(word.look(&mut spare)), 0x9, "2 close");
-    let mut two = match word.try_incref(two) {
-        Incref::Closed(two) => two,
-        other => wrong(&rt, other),
-    };
-    let mut last = match word.try_drop_closing(closing) {
-        DropClosing::Last(last) => last,
-        other => wrong(&rt, other),
-    };
+    let mut two = want!(&rt; word.try_incref(two), Incref::Closed);
+    let mut last = want!(&rt; word.try_drop_closing(closing), DropClosing::Last);
     assert_eq!(rt; pack(word.look(&mut spare)), 0x1, "1 decref");
     assert!(rt; !word.is_done(&mut two), "not yet destroyed");
     let (read, write) = last.halves(&word);

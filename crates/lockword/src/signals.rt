@@ -1,0 +1,162 @@
+//! Signals and wakes: one load and at most one exchange of a semaphore a call.
+
+ghost use Rattle.std.specs.Prelude.{◌≡◌, ◌<◌, true};
+ghost use Rattle.lockword_core.specs.declared.stake.Op.TheVariants as op;
+ghost use Rattle.lockword_core.specs.Transition.{allows};
+ghost use Rattle.lockword.specs.Directions.{semaphore};
+ghost use Rattle.lockword.specs.Steps.{Signalled};
+ghost use Rattle.lockword.specs.TransitionOutcomes.{IsSeatOf, signal_answers, signal_closing_answers, wake_read_answers, wake_write_answers};
+ghost use Rattle.lockword.specs.Places.{owing_place, closing_place, owed_by, read_wait_place, write_wait_place};
+
+use crate::holders::{
+    Closing, LockWord, Owing, Place, ReadWait, Seat, Signal, SignalClosing, WakeRead, WakeWrite,
+    WriteWait,
+};
+use crate::shared_rule::{READ_SIGNALS, WRITE_SIGNALS};
+use crate::transitions::{Count, Ring};
+use lockword_core::{signal_add, signal_take};
+use std::sync::Wait;
+use stream_base::Dir;
+
+/// What a try at a semaphore came to.
+pub(crate) enum Rung {
+    Done,
+    Refused,
+    Lost,
+}
+
+fn semaphore(dir: Dir) -> usize
+    ensures value { result ≡ semaphore dir }
+    ensures is_word { result < 4 }
+{
+    match dir {
+        Dir::Read => READ_SIGNALS,
+        Dir::Write => WRITE_SIGNALS,
+    }
+}
+
+impl<R: Drop, W: Drop> LockWord<R, W> {
+    /// One load of a semaphore, and at most one exchange, by which a signal is given; a signal that
+    /// is given wakes one thread that is parked on the semaphore.
+    fn try_ring(&self, place: &mut Place<R, W>, dir: Dir) -> Rung
+        requires word { place.old.table_id ≡ self.now.table.shared.table_id }
+        requires allowed { allows place.old.me.0.stake (op.Signal dir) ≡ true }
+        ensures word { place.new.table_id ≡ place.old.table_id }
+        ensures step { Signalled dir place.old place.new result }
+    {
+        let shared = &self.table.shared;
+        let word = semaphore(dir);
+        let found = shared.load::<Count>(place, word);
+        let Some(more) = signal_add(found) else {
+            return Rung::Refused;
+        };
+        if shared.compare_exchange::<Ring>(place, word, found, more) == found {
+            shared.wake_one(word);
+            Rung::Done
+        } else {
+            Rung::Lost
+        }
+    }
+
+    /// One load of a semaphore, and at most one exchange, by which a signal is taken.
+    fn try_take(&self, place: &mut Place<R, W>, dir: Dir) -> Rung
+        requires word { place.old.table_id ≡ self.now.table.shared.table_id }
+        requires allowed { allows place.old.me.0.stake (op.Wake dir) ≡ true }
+        ensures word { place.new.table_id ≡ place.old.table_id }
+        ensures step { Signalled dir place.old place.new result }
+    {
+        let shared = &self.table.shared;
+        let word = semaphore(dir);
+        let found = shared.load::<Count>(place, word);
+        let Some(less) = signal_take(found) else {
+            return Rung::Refused;
+        };
+        if shared.compare_exchange::<Ring>(place, word, found, less) == found {
+            Rung::Done
+        } else {
+            Rung::Lost
+        }
+    }
+
+    /// Gives the signal that is owed, and wakes one thread that is parked on the semaphore.
+    pub fn try_signal(&self, owing: Owing<R, W>) -> Signal<R, W>
+        requires { IsSeatOf self.now (owing_place owing) }
+        ensures { signal_answers owing result }
+    {
+        let Owing { mut place, dir } = owing;
+        match self.try_ring(&mut place, dir) {
+            Rung::Done => Signal::Signalled(Seat { place }),
+            Rung::Refused => Signal::Full(Owing { place, dir }),
+            Rung::Lost => Signal::Lost(Owing { place, dir }),
+        }
+    }
+
+    /// Gives one of the signals that a closer owes, and wakes one thread that is parked on the
+    /// semaphore.
+    pub fn try_signal_closing(&self, closing: Closing<R, W>, dir: Dir) -> SignalClosing<R, W>
+        requires word { IsSeatOf self.now (closing_place closing) }
+        requires owes { 0 < owed_by closing dir }
+        ensures { signal_closing_answers closing dir result }
+    {
+        let Closing {
+            mut place,
+            owed_read,
+            owed_write,
+        } = closing;
+        match self.try_ring(&mut place, dir) {
+            Rung::Done => {
+                let (owed_read, owed_write) = match dir {
+                    Dir::Read => (owed_read - 1, owed_write),
+                    Dir::Write => (owed_read, owed_write - 1),
+                };
+                SignalClosing::Signalled(Closing {
+                    place,
+                    owed_read,
+                    owed_write,
+                })
+            }
+            Rung::Refused => SignalClosing::Full(Closing {
+                place,
+                owed_read,
+                owed_write,
+            }),
+            Rung::Lost => SignalClosing::Lost(Closing {
+                place,
+                owed_read,
+                owed_write,
+            }),
+        }
+    }
+
+    /// Takes a signal to a reader, after which its holder has nothing and contends again.
+    pub fn try_wake_read(&self, wait: ReadWait<R, W>) -> WakeRead<R, W>
+        requires { IsSeatOf self.now (read_wait_place wait) }
+        ensures { wake_read_answers wait result }
+    {
+        let ReadWait { mut place } = wait;
+        match self.try_take(&mut place, Dir::Read) {
+            Rung::Done => WakeRead::Woken(Seat { place }),
+            Rung::Refused => WakeRead::NotYet(ReadWait { place }),
+            Rung::Lost => WakeRead::Lost(ReadWait { place }),
+        }
+    }
+
+    /// Takes a signal to a writer, after which its holder has nothing and contends again.
+    pub fn try_wake_write(&self, wait: WriteWait<R, W>) -> WakeWrite<R, W>
+        requires { IsSeatOf self.now (write_wait_place wait) }
+        ensures { wake_write_answers wait result }
+    {
+        let WriteWait { mut place } = wait;
+        match self.try_take(&mut place, Dir::Write) {
+            Rung::Done => WakeWrite::Woken(Seat { place }),
+            Rung::Refused => WakeWrite::NotYet(WriteWait { place }),
+            Rung::Lost => WakeWrite::Lost(WriteWait { place }),
+        }
+    }
+
+    /// Sleeps while no signal is there for this direction, or returns for no reason. It changes nothing
+    /// and tells nothing: try to wake, park, and try again.
+    pub fn park_for_signal<T: Wait>(&self, rt: &T, dir: Dir) {
+        self.table.shared.park(rt, semaphore(dir), 0);
+    }
+}
