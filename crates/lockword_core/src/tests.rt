@@ -104,3 +104,11 @@ fn a_run_goes_on_where_the_last_one_ended(rt: HostRuntime) {
     assert!(&rt; machine.word() == 1 && machine.signals(Dir::Read) == 0);
     assert!(&rt; machine.destroyed_by() == Some(3) && machine.stake(9) == Stake::Free);
 }
+
+#[test]
+fn a_run_of_no_events_has_no_answers(rt: HostRuntime) {
+    let mut machine = Machine::new(rt.alloc());
+    let answers = machine.run(rt.alloc(), &[]);
+    assert!(&rt; answers.is_ok_and(|answers| answers.is_empty()));
+    assert!(&rt; machine.word() == 0);
+}

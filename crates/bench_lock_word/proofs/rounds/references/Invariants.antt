@@ -1,0 +1,7 @@
+use Rattle.std.proofs.Common.{◌≡◌}
+use Rattle.lockword.specs.Marks.{word_of}
+use Rattle.lockword.specs.Places.{seat_place}
+use Rattle.bench_lock_word.proofs.rounds.references.Given as goal
+
+abbrev pub invariant-loop-made : goal.invariant-loop-made
+invariant-loop-made g l = word_of (seat_place l.seat) ≡ word_of (seat_place l.initial.seat)

@@ -1,0 +1,33 @@
+-- A handle, as callers see it: its descriptor, the descriptor's key and cell, and what it has seen.
+use Rattle.std.specs.Prelude.{ℕ, Bool}
+use Rattle.std.specs.Arc.{arc_value}
+use Rattle.fd_descriptor.specs.declared.descriptor.Fd.{Fd}
+use Rattle.fd_descriptor.specs.declared.descriptor.FdHandle.{FdHandle}
+use Rattle.fd_descriptor.specs.declared.poll_cell.PollCell.{PollCell}
+use Rattle.fd_descriptor.specs.CellKey.{key_of_cell}
+use Rattle.fd_descriptor.specs.ClosedMarks.{Marks, marks_in}
+
+module _ {X R W A : Type 0} where
+  -- the descriptor that a handle is on
+  abbrev pub descriptor_of : FdHandle X R W A → Fd X R W A
+  descriptor_of h = arc_value h.fd
+
+  -- where calls on the descriptor wait
+  abbrev pub cell_of : FdHandle X R W A → PollCell
+  cell_of h = arc_value (descriptor_of h).cell
+
+  -- the key that the descriptor was opened with, which its cell has for its alarms
+  abbrev pub key_of : FdHandle X R W A → ℕ
+  key_of h = key_of_cell (cell_of h)
+
+  -- what the handle has seen
+  abbrev pub marks_of : FdHandle X R W A → Marks
+  marks_of h = marks_in h.seat
+
+  -- the handle saw that the descriptor is closed
+  abbrev pub saw_closed : FdHandle X R W A → Bool
+  saw_closed h = (marks_of h).closed
+
+  -- the handle saw that the halves are destroyed
+  abbrev pub saw_done : FdHandle X R W A → Bool
+  saw_done h = (marks_of h).done

@@ -1,0 +1,118 @@
+//! The end of a call and of a descriptor, from a value that is given back to the seat that is left.
+//!
+//! Whoever gives the last reference of a closed word back destroys the halves there and then. Only a
+//! close that destroys tells the device's fault; any other call has an answer of its own.
+
+ghost use Rattle.std.specs.Prelude.{◌≡◌, true, Err};
+ghost use Rattle.lockword.specs.Marks.{saw_closed, saw_done};
+ghost use Rattle.lockword.specs.Places.{seat_place, ref_place, last_place, read_lock_place, write_lock_place};
+ghost use Rattle.lockword.specs.TransitionOutcomes.{IsSeatOf, HasNotTaken};
+ghost use Rattle.fd_descriptor.specs.ClosedMarks.{KeepsMarks, marks_at, close_shows};
+
+use crate::descriptor::Fd;
+use crate::resource::Resource;
+use fdmutex::{
+    Freed, Refusal, close_mark, decref, drop_closing, read_unlock, wait_done, write_unlock,
+};
+use lockword::{Last, LockWord, ReadLock, Ref, Seat, WriteLock};
+use rwloops::{DevKind, Fault};
+use std::alloc::Allocator;
+use std::sync::Wait;
+
+// Destroys the halves, and says so to all that wait for it.
+fn finish<X: Resource>(
+    word: &LockWord<X::R, X::W>,
+    last: Last<X::R, X::W>,
+) -> (Seat<X::R, X::W>, Result<(), DevKind>)
+    requires seat { IsSeatOf word.now (last_place last) }
+    requires not_taken { HasNotTaken (last_place last) }
+    ensures seat { IsSeatOf word.now (seat_place result.0) }
+    ensures closed { saw_closed (seat_place result.0) ≡ true }
+    ensures done { saw_done (seat_place result.0) ≡ true }
+{
+    let mut last = last;
+    let (read, write) = last.halves(word);
+    let told = X::destroy(read, write);
+    (word.mark_done(last), told)
+}
+
+/// Gives the read lock back.
+pub(crate) fn leave_read<X: Resource, T: Wait>(
+    rt: &T,
+    word: &LockWord<X::R, X::W>,
+    held: ReadLock<X::R, X::W>,
+) -> Seat<X::R, X::W>
+    requires seat { IsSeatOf word.now (read_lock_place held) }
+    ensures seat { IsSeatOf word.now (seat_place result) }
+    ensures marks { KeepsMarks (marks_at (read_lock_place held)) (marks_at (seat_place result)) }
+{
+    match read_unlock(rt, word, held) {
+        Freed::Kept(seat) => seat,
+        Freed::Last(last) => finish::<X>(word, last).0,
+    }
+}
+
+/// Gives the write lock back.
+pub(crate) fn leave_write<X: Resource, T: Wait>(
+    rt: &T,
+    word: &LockWord<X::R, X::W>,
+    held: WriteLock<X::R, X::W>,
+) -> Seat<X::R, X::W>
+    requires seat { IsSeatOf word.now (write_lock_place held) }
+    ensures seat { IsSeatOf word.now (seat_place result) }
+    ensures marks { KeepsMarks (marks_at (write_lock_place held)) (marks_at (seat_place result)) }
+{
+    match write_unlock(rt, word, held) {
+        Freed::Kept(seat) => seat,
+        Freed::Last(last) => finish::<X>(word, last).0,
+    }
+}
+
+/// Gives a reference back.
+pub(crate) fn leave<X: Resource, T: Wait>(
+    rt: &T,
+    word: &LockWord<X::R, X::W>,
+    held: Ref<X::R, X::W>,
+) -> Seat<X::R, X::W>
+    requires seat { IsSeatOf word.now (ref_place held) }
+    ensures seat { IsSeatOf word.now (seat_place result) }
+    ensures marks { KeepsMarks (marks_at (ref_place held)) (marks_at (seat_place result)) }
+{
+    match decref(rt, word, held) {
+        Freed::Kept(seat) => seat,
+        Freed::Last(last) => finish::<X>(word, last).0,
+    }
+}
+
+/// Closes: the flag first, so that nobody comes in; then all that wait are woken, to leave; then the
+/// closer's own reference goes, and it waits until whoever leaves last has destroyed.
+pub(crate) fn close_by<X: Resource, A: Allocator, T: Wait>(
+    rt: &T,
+    fd: &Fd<X, A>,
+    seat: Seat<X::R, X::W>,
+) -> (Seat<X::R, X::W>, Result<(), Fault>)
+    requires { IsSeatOf fd.now.word (seat_place seat) }
+    ensures seat { IsSeatOf fd.now.word (seat_place result.0) }
+    ensures marks { KeepsMarks (marks_at (seat_place seat)) (marks_at (seat_place result.0)) }
+    ensures closed { saw_closed (seat_place seat) ≡ true → result.1 ≡ Err Fault.Closed }
+    ensures shows { close_shows (marks_at (seat_place seat)) (marks_at (seat_place result.0))
+        result.1 }
+{
+    let word = &fd.word;
+    let closing = match close_mark(rt, word, seat) {
+        Ok(closing) => closing,
+        Err((seat, Refusal::Closed)) => return (seat, Err(Fault::Closed)),
+        Err((seat, Refusal::TooMany(_))) => return (seat, Err(Fault::TooMany)),
+    };
+    fd.cell.evict(rt);
+    match drop_closing(rt, word, closing) {
+        Freed::Kept(seat) => (wait_done(rt, word, seat), Ok(())),
+        Freed::Last(last) => {
+            let (seat, told) = finish::<X>(word, last);
+            match told {
+                Ok(()) => (seat, Ok(())),
+                Err(kind) => (seat, Err(Fault::Device(kind))),
+            }
+        }
+    }
+}

@@ -1,0 +1,95 @@
+//! The handle's own calls: how a descriptor is opened, shared and waited for.
+
+ghost use Rattle.std.specs.Prelude.{◌≡◌, false, IfOk, IfErr};
+ghost use Rattle.std.specs.Arc.{arc_value};
+ghost use Rattle.fd_descriptor.specs.ClosedMarks.{SameMarks};
+ghost use Rattle.fd_descriptor.specs.FdHandle.{descriptor_of, key_of, cell_of, marks_of, saw_closed, saw_done};
+
+use crate::descriptor::{Fd, FdHandle};
+use crate::poll_cell::PollCell;
+use crate::resource::Resource;
+use lockword::LockWord;
+use rwloops::Fault;
+use std::alloc::{Allocator, Global};
+use std::sync::Arc;
+use stream_base::OutOfMemory;
+
+impl<X: Resource> FdHandle<X> {
+    /// A new descriptor, with its first handle. Where memory is refused the halves are dropped, and
+    /// nobody destroys them.
+    pub fn open(
+        alloc: Global,
+        read: X::R,
+        write: X::W,
+        key: u64,
+    ) -> Result<FdHandle<X>, OutOfMemory>
+        ensures key { IfOk result (λ handle. key_of handle ≡ key) }
+        ensures open { IfOk result (λ handle. saw_closed handle ≡ false) }
+        ensures not_done { IfOk result (λ handle. saw_done handle ≡ false) }
+    {
+        FdHandle::open_in(alloc, alloc, read, write, key)
+    }
+}
+
+impl<X: Resource, A: Allocator> FdHandle<X, A> {
+    // As `open`, with the cell and the descriptor's own block over any allocator.
+    pub(crate) fn open_in(
+        alloc: A,
+        words: Global,
+        read: X::R,
+        write: X::W,
+        key: u64,
+    ) -> Result<FdHandle<X, A>, OutOfMemory>
+    where
+        A: Copy,
+        ensures key { IfOk result (λ handle. key_of handle ≡ key) }
+        ensures open { IfOk result (λ handle. saw_closed handle ≡ false) }
+        ensures not_done { IfOk result (λ handle. saw_done handle ≡ false) }
+    {
+        let Ok(cell) = Arc::new(alloc, PollCell::new(key)) else {
+            return Err(OutOfMemory);
+        };
+        let (word, seat) = LockWord::new(words, read, write)?;
+        let Ok(fd) = Arc::new(alloc, Fd { word, cell }) else {
+            return Err(OutOfMemory);
+        };
+        Ok(FdHandle {
+            fd,
+            seat: Some(seat),
+        })
+    }
+
+    /// Where the calls on this descriptor wait: whoever hears that it is ready, or that a moment has
+    /// come, tells it to the cell. It takes no memory; refused is only a cell that is held too often.
+    pub fn cell(&self) -> Result<Arc<PollCell, A>, OutOfMemory>
+        ensures own { IfOk result (λ cell. arc_value cell ≡ cell_of self.now) }
+    {
+        match Arc::try_clone(&self.fd.cell) {
+            Ok(cell) => Ok(cell),
+            Err(_) => Err(OutOfMemory),
+        }
+    }
+
+    /// Another handle on this descriptor, which has seen the same. It takes no memory; refused is
+    /// only a descriptor that is held too often.
+    pub fn share(&mut self) -> Result<FdHandle<X, A>, Fault>
+        ensures same { descriptor_of self.new ≡ descriptor_of self.old }
+        ensures kept { SameMarks (marks_of self.old) (marks_of self.new) }
+        ensures shared { IfOk result (λ other. descriptor_of other ≡ descriptor_of self.old) }
+        ensures seen { IfOk result (λ other. SameMarks (marks_of self.old) (marks_of other)) }
+        ensures refused { IfErr result (λ fault. fault ≡ Fault.OutOfMemory) }
+    {
+        let Ok(fd) = Arc::try_clone(&self.fd) else {
+            return Err(Fault::OutOfMemory);
+        };
+        let Some(seat) = self.seat.take() else {
+            unreachable!()
+        };
+        let (mine, theirs) = self.fd.word.split(seat);
+        self.seat = Some(mine);
+        Ok(FdHandle {
+            fd,
+            seat: Some(theirs),
+        })
+    }
+}

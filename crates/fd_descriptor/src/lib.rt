@@ -1,0 +1,19 @@
+//! What a program holds instead of a socket: a descriptor that many handles read, write, time and
+//! close at once, and that is destroyed once, after its last user. Go's `fd_unix.go` over the lock
+//! word, the poll state and the loops below.
+#![tactic(auto)]
+
+mod calls;
+mod close;
+mod deadlines;
+mod descriptor;
+mod handle;
+mod poll_cell;
+mod resource;
+#[cfg(test)]
+mod tests;
+mod transfer;
+
+pub use descriptor::{Fd, FdHandle};
+pub use poll_cell::{CellWaits, PollCell};
+pub use resource::{Alarms, HalfClose, Resource};

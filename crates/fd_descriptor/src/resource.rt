@@ -1,0 +1,39 @@
+//! What a program brings to a descriptor: the two halves and how they are destroyed, a half that can
+//! be shut, and alarms for deadlines.
+
+use deadline_core::Dirs;
+use rwloops::DevKind;
+use stream_base::OutOfMemory;
+
+/// What a descriptor guards: two halves, and how they are destroyed.
+pub trait Resource {
+    /// What is read from, or accepted from.
+    type R: Drop;
+
+    /// What is written to.
+    type W: Drop;
+
+    /// Destroys both. It runs once, in the call that came last; only a `close` that is that call
+    /// tells its fault.
+    fn destroy(read: Self::R, write: Self::W) -> Result<(), DevKind>;
+}
+
+/// A half that can be shut while the other goes on, as `CloseWrite` of Go's `net.TCPConn`.
+pub trait HalfClose {
+    /// Shuts it for good.
+    fn shut(&mut self) -> Result<(), DevKind>;
+}
+
+/// Where a descriptor asks to be told of a moment: its timers, under whatever lock they need.
+///
+/// A cell calls them with its own lock held, so that of two threads which set a deadline the later
+/// one also arms later. The order of locks is cell, then timers: whoever takes due timers out gives
+/// the timers' lock up before it ticks a cell.
+pub trait Alarms {
+    /// Asks for a `tick` of this key at `at`, in place of what was asked for these directions. One
+    /// that is refused changes neither direction.
+    fn arm(&self, key: u64, dirs: Dirs, at: u64) -> Result<(), OutOfMemory>;
+
+    /// Asks for no `tick` for these directions any more.
+    fn disarm(&self, key: u64, dirs: Dirs);
+}

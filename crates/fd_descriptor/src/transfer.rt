@@ -1,0 +1,159 @@
+//! Reads, accepts, writes, shuts and settings of deadlines, from a seat to the seat that is left.
+//!
+//! A half is borrowed from the value of its lock, so that a use before the lock or after its return
+//! doesn't compile.
+
+ghost use Rattle.std.specs.Prelude.{◌≡◌, ◌≤◌, ◌<◌, true, length, Err, IfOk, IfErr};
+ghost use Rattle.lockword.specs.Marks.{saw_closed};
+ghost use Rattle.lockword.specs.Places.{seat_place};
+ghost use Rattle.lockword.specs.TransitionOutcomes.{IsSeatOf};
+ghost use Rattle.fd_descriptor.specs.ClosedMarks.{KeepsMarks, marks_at, lock_shows, read_shows, accept_shows, write_shows, shut_shows, set_shows};
+
+use crate::close::{leave, leave_read, leave_write};
+use crate::deadlines::Setting;
+use crate::descriptor::Fd;
+use crate::poll_cell::CellWaits;
+use crate::resource::{Alarms, HalfClose, Resource};
+use fdmutex::{Refusal, incref, read_lock, write_lock};
+use lockword::Seat;
+use rwloops::{Fault, TryAccept, TryRead, TryWrite, WriteFault};
+use std::alloc::Allocator;
+use std::sync::Wait;
+
+pub(crate) fn read_by<X: Resource, A: Allocator, T: Wait>(
+    rt: &T,
+    fd: &Fd<X, A>,
+    seat: Seat<X::R, X::W>,
+    buf: &mut [u8],
+) -> (Seat<X::R, X::W>, Result<usize, Fault>)
+where
+    X::R: TryRead,
+    requires { IsSeatOf fd.now.word (seat_place seat) }
+    ensures seat { IsSeatOf fd.now.word (seat_place result.0) }
+    ensures marks { KeepsMarks (marks_at (seat_place seat)) (marks_at (seat_place result.0)) }
+    ensures closed { saw_closed (seat_place seat) ≡ true → result.1 ≡ Err Fault.Closed }
+    ensures within { IfOk result.1 (λ count. count ≤ length buf.old) }
+    ensures some { 0 < length buf.old → IfOk result.1 (λ count. 0 < count) }
+    ensures empty { length buf.old ≡ 0 → lock_shows (marks_at (seat_place seat))
+        (marks_at (seat_place result.0)) result.1 }
+    ensures shows { read_shows (marks_at (seat_place seat)) (marks_at (seat_place result.0))
+        result.1 }
+{
+    let word = &fd.word;
+    let mut held = match read_lock(rt, word, seat) {
+        Ok(held) => held,
+        Err((seat, Refusal::Closed)) => return (seat, Err(Fault::Closed)),
+        Err((seat, Refusal::TooMany(_))) => return (seat, Err(Fault::TooMany)),
+    };
+    let mut waits = CellWaits::new(&fd.cell, rt);
+    let answer = rwloops::read(rt, held.half(word), buf, &mut waits);
+    (leave_read::<X, T>(rt, word, held), answer)
+}
+
+pub(crate) fn accept_by<X: Resource, A: Allocator, T: Wait>(
+    rt: &T,
+    fd: &Fd<X, A>,
+    seat: Seat<X::R, X::W>,
+) -> (Seat<X::R, X::W>, Result<<X::R as TryAccept>::T, Fault>)
+where
+    X::R: TryAccept,
+    requires { IsSeatOf fd.now.word (seat_place seat) }
+    ensures seat { IsSeatOf fd.now.word (seat_place result.0) }
+    ensures marks { KeepsMarks (marks_at (seat_place seat)) (marks_at (seat_place result.0)) }
+    ensures closed { saw_closed (seat_place seat) ≡ true → result.1 ≡ Err Fault.Closed }
+    ensures shows { accept_shows (marks_at (seat_place seat)) (marks_at (seat_place result.0))
+        result.1 }
+{
+    let word = &fd.word;
+    let mut held = match read_lock(rt, word, seat) {
+        Ok(held) => held,
+        Err((seat, Refusal::Closed)) => return (seat, Err(Fault::Closed)),
+        Err((seat, Refusal::TooMany(_))) => return (seat, Err(Fault::TooMany)),
+    };
+    let mut waits = CellWaits::new(&fd.cell, rt);
+    let answer = rwloops::accept(rt, held.half(word), &mut waits);
+    (leave_read::<X, T>(rt, word, held), answer)
+}
+
+pub(crate) fn write_by<X: Resource, A: Allocator, T: Wait>(
+    rt: &T,
+    fd: &Fd<X, A>,
+    seat: Seat<X::R, X::W>,
+    bytes: &[u8],
+) -> (Seat<X::R, X::W>, Result<usize, WriteFault>)
+where
+    X::W: TryWrite,
+    requires { IsSeatOf fd.now.word (seat_place seat) }
+    ensures seat { IsSeatOf fd.now.word (seat_place result.0) }
+    ensures marks { KeepsMarks (marks_at (seat_place seat)) (marks_at (seat_place result.0)) }
+    ensures closed { saw_closed (seat_place seat) ≡ true
+        → result.1 ≡ Err (record { fault = Fault.Closed; count = 0 }) }
+    ensures whole { IfOk result.1 (λ count. count ≡ length bytes.now) }
+    ensures part { IfErr result.1 (λ failed. failed.count ≤ length bytes.now) }
+    ensures shows { write_shows (marks_at (seat_place seat)) (marks_at (seat_place result.0))
+        result.1 }
+{
+    let word = &fd.word;
+    let (seat, fault) = match write_lock(rt, word, seat) {
+        Ok(held) => {
+            let mut held = held;
+            let mut waits = CellWaits::new(&fd.cell, rt);
+            let answer = rwloops::write(rt, held.half(word), bytes, &mut waits);
+            return (leave_write::<X, T>(rt, word, held), answer);
+        }
+        Err((seat, Refusal::Closed)) => (seat, Fault::Closed),
+        Err((seat, Refusal::TooMany(_))) => (seat, Fault::TooMany),
+    };
+    (seat, Err(WriteFault { fault, count: 0 }))
+}
+
+pub(crate) fn shut_by<X: Resource, A: Allocator, T: Wait>(
+    rt: &T,
+    fd: &Fd<X, A>,
+    seat: Seat<X::R, X::W>,
+) -> (Seat<X::R, X::W>, Result<(), Fault>)
+where
+    X::W: HalfClose,
+    requires { IsSeatOf fd.now.word (seat_place seat) }
+    ensures seat { IsSeatOf fd.now.word (seat_place result.0) }
+    ensures marks { KeepsMarks (marks_at (seat_place seat)) (marks_at (seat_place result.0)) }
+    ensures closed { saw_closed (seat_place seat) ≡ true → result.1 ≡ Err Fault.Closed }
+    ensures shows { shut_shows (marks_at (seat_place seat)) (marks_at (seat_place result.0))
+        result.1 }
+{
+    let word = &fd.word;
+    let mut held = match write_lock(rt, word, seat) {
+        Ok(held) => held,
+        Err((seat, Refusal::Closed)) => return (seat, Err(Fault::Closed)),
+        Err((seat, Refusal::TooMany(_))) => return (seat, Err(Fault::TooMany)),
+    };
+    let answer = match held.half(word).shut() {
+        Ok(()) => Ok(()),
+        Err(kind) => Err(Fault::Device(kind)),
+    };
+    (leave_write::<X, T>(rt, word, held), answer)
+}
+
+pub(crate) fn set_by<X: Resource, A: Allocator, T: Wait, L: Alarms>(
+    rt: &T,
+    fd: &Fd<X, A>,
+    seat: Seat<X::R, X::W>,
+    alarms: &L,
+    setting: Setting,
+) -> (Seat<X::R, X::W>, Result<(), Fault>)
+    requires { IsSeatOf fd.now.word (seat_place seat) }
+    ensures seat { IsSeatOf fd.now.word (seat_place result.0) }
+    ensures marks { KeepsMarks (marks_at (seat_place seat)) (marks_at (seat_place result.0)) }
+    ensures closed { saw_closed (seat_place seat) ≡ true → result.1 ≡ Err Fault.Closed }
+    ensures shows { set_shows (marks_at (seat_place seat)) (marks_at (seat_place result.0))
+        result.1 }
+{
+    let word = &fd.word;
+    let held = match incref(rt, word, seat) {
+        Ok(held) => held,
+        Err((seat, Refusal::Closed)) => return (seat, Err(Fault::Closed)),
+        Err((seat, Refusal::TooMany(_))) => return (seat, Err(Fault::TooMany)),
+    };
+    let answer = fd.cell.set(rt, alarms, setting);
+    (leave::<X, T>(rt, word, held), answer)
+}

@@ -1,0 +1,106 @@
+//! The close. Who closes takes over the signals of all waiters, and gives them before it returns. The
+//! woken contend again, and find the word closed.
+
+ghost use Rattle.std.specs.Prelude.{◌≡◌, false, IfOk, IfErr};
+ghost use Rattle.stream_base.specs.declared.direction.Dir.{Dir};
+ghost use Rattle.stream_base.specs.declared.direction.Dir.TheVariants.{Read, Write};
+ghost use Rattle.lockword_core.specs.LockState.{is_same};
+ghost use Rattle.lockword.specs.Marks.{NowClosed, IsOpen};
+ghost use Rattle.lockword.specs.Places.{seat_place, closing_place, owed_by};
+ghost use Rattle.lockword.specs.TransitionOutcomes.{IsSeatOf, IsAtLimit};
+ghost use Rattle.fdmutex.specs.Refusal.{refused, freed_closing};
+
+use crate::{Freed, Refusal};
+use lockword::{Close, Closing, DropClosing, LockWord, Seat, SignalClosing};
+use std::sync::Wait;
+use stream_base::Dir;
+
+/// Sets the flag, and takes over the signals of all waiters.
+fn take_over<R: Drop, W: Drop, T: Wait>(
+    rt: &T,
+    word: &LockWord<R, W>,
+    seat: Seat<R, W>,
+) -> Result<Closing<R, W>, (Seat<R, W>, Refusal)>
+    requires seat { IsSeatOf word.now (seat_place seat) }
+    ensures closed { IfOk result (λ closing. NowClosed (seat_place seat) (closing_place closing)) }
+    ensures was_open { IfOk result (λ closing. IsOpen (seat_place seat)) }
+    ensures refusal { IfErr result (λ e. refused IsAtLimit seat e.0 e.1) }
+{
+    let mut seat = seat;
+    for _ in rt.forever() {
+        match word.try_close(seat) {
+            Close::Closing(closing) => return Ok(closing),
+            Close::Closed(back) => return Err((back, Refusal::Closed)),
+            Close::TooMany(back, found) => return Err((back, Refusal::TooMany(found))),
+            Close::Lost(back) => seat = back,
+        }
+    }
+    unreachable!()
+}
+
+/// Gives all signals of one direction. A semaphore at its limit is tried again: only the closer can
+/// give what it owes, and each waiter that wakes makes room.
+fn signal_all<R: Drop, W: Drop, T: Wait>(
+    rt: &T,
+    word: &LockWord<R, W>,
+    closing: Closing<R, W>,
+    dir: Dir,
+) -> Closing<R, W>
+    requires seat { IsSeatOf word.now (closing_place closing) }
+    ensures closed { NowClosed (closing_place closing) (closing_place result) }
+    ensures given { owed_by result dir ≡ 0 }
+    ensures other_way { (d : Dir) → is_same dir d ≡ false → owed_by result d ≡ owed_by closing d }
+{
+    let mut closing = closing;
+    for _ in rt.forever() {
+        if closing.owed(dir) == 0 {
+            return closing;
+        }
+        match word.try_signal_closing(closing, dir) {
+            SignalClosing::Signalled(back)
+            | SignalClosing::Full(back)
+            | SignalClosing::Lost(back) => closing = back,
+        }
+    }
+    unreachable!()
+}
+
+/// Closes the word, takes a reference, and gives the signals of all waiters.
+pub fn close_mark<R: Drop, W: Drop, T: Wait>(
+    rt: &T,
+    word: &LockWord<R, W>,
+    seat: Seat<R, W>,
+) -> Result<Closing<R, W>, (Seat<R, W>, Refusal)>
+    requires seat { IsSeatOf word.now (seat_place seat) }
+    ensures closed { IfOk result (λ closing. NowClosed (seat_place seat) (closing_place closing)) }
+    ensures was_open { IfOk result (λ closing. IsOpen (seat_place seat)) }
+    ensures no_reader_owed { IfOk result (λ closing. owed_by closing Read ≡ 0) }
+    ensures no_writer_owed { IfOk result (λ closing. owed_by closing Write ≡ 0) }
+    ensures refusal { IfErr result (λ e. refused IsAtLimit seat e.0 e.1) }
+{
+    let closing = take_over(rt, word, seat)?;
+    let closing = signal_all(rt, word, closing, Dir::Read);
+    Ok(signal_all(rt, word, closing, Dir::Write))
+}
+
+/// Gives the closer's reference back.
+pub fn drop_closing<R: Drop, W: Drop, T: Wait>(
+    rt: &T,
+    word: &LockWord<R, W>,
+    closing: Closing<R, W>,
+) -> Freed<R, W>
+    requires seat { IsSeatOf word.now (closing_place closing) }
+    requires no_reader_owed { owed_by closing Read ≡ 0 }
+    requires no_writer_owed { owed_by closing Write ≡ 0 }
+    ensures answer { freed_closing (closing_place closing) result }
+{
+    let mut closing = closing;
+    for _ in rt.forever() {
+        match word.try_drop_closing(closing) {
+            DropClosing::Kept(seat) => return Freed::Kept(seat),
+            DropClosing::Last(last) => return Freed::Last(last),
+            DropClosing::Lost(back) => closing = back,
+        }
+    }
+    unreachable!()
+}

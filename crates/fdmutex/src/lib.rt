@@ -1,0 +1,19 @@
+//! The calls that wait, over the lock word's single tries. They try again where another step came
+//! between, park while somebody has the lock, and give each signal that they owe before they end.
+//! Names and rules follow Go's `fd_mutex.go`; where Go panics at a limit these answer `TooMany`.
+#![tactic(auto)]
+
+mod answers;
+mod close;
+mod done;
+mod lock;
+mod reference;
+
+pub use answers::{Freed, Refusal};
+pub use close::{close_mark, drop_closing};
+pub use done::wait_done;
+pub use lock::{read_lock, read_unlock, write_lock, write_unlock};
+pub use reference::{decref, incref};
+
+#[cfg(test)]
+mod tests;

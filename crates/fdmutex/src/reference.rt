@@ -1,0 +1,54 @@
+//! References: a try that was lost is made again.
+
+ghost use Rattle.std.specs.Prelude.{IfOk, IfErr};
+ghost use Rattle.lockword.specs.Marks.{SameMarks, IsOpen};
+ghost use Rattle.lockword.specs.Places.{seat_place, ref_place};
+ghost use Rattle.lockword.specs.TransitionOutcomes.{IsSeatOf, IsAtLimit};
+ghost use Rattle.fdmutex.specs.Refusal.{refused, freed};
+
+use crate::{Freed, Refusal};
+use lockword::{DropRef, Incref, LockWord, Ref, Seat};
+use std::sync::Wait;
+
+/// Takes a reference.
+pub fn incref<R: Drop, W: Drop, T: Wait>(
+    rt: &T,
+    word: &LockWord<R, W>,
+    seat: Seat<R, W>,
+) -> Result<Ref<R, W>, (Seat<R, W>, Refusal)>
+    requires seat { IsSeatOf word.now (seat_place seat) }
+    ensures marks { IfOk result (λ held. SameMarks (seat_place seat) (ref_place held)) }
+    ensures was_open { IfOk result (λ held. IsOpen (seat_place seat)) }
+    ensures refusal { IfErr result (λ e. refused IsAtLimit seat e.0 e.1) }
+{
+    let mut seat = seat;
+    for _ in rt.forever() {
+        match word.try_incref(seat) {
+            Incref::Held(held) => return Ok(held),
+            Incref::Closed(back) => return Err((back, Refusal::Closed)),
+            Incref::TooMany(back, found) => return Err((back, Refusal::TooMany(found))),
+            Incref::Lost(back) => seat = back,
+        }
+    }
+    unreachable!()
+}
+
+/// Gives a reference back.
+pub fn decref<R: Drop, W: Drop, T: Wait>(
+    rt: &T,
+    word: &LockWord<R, W>,
+    held: Ref<R, W>,
+) -> Freed<R, W>
+    requires seat { IsSeatOf word.now (ref_place held) }
+    ensures answer { freed (ref_place held) result }
+{
+    let mut held = held;
+    for _ in rt.forever() {
+        match word.try_drop_ref(held) {
+            DropRef::Kept(seat) => return Freed::Kept(seat),
+            DropRef::Last(last) => return Freed::Last(last),
+            DropRef::Lost(back) => held = back,
+        }
+    }
+    unreachable!()
+}
