@@ -1,11 +1,12 @@
 //! Nanoseconds a round on one lock word at 1, 2 and 4 threads: the proved word (the program of the crate
 //! `bench_lock_word`), and beside it plain Rust. Each run is a process of its own, timed from outside, in
-//! turn with its peers; each prints its rounds, its word and its half, which are compared. Prints medians
-//! and ratios.
+//! turn with its peers; each prints its rounds, its word and its half, which are compared. In each turn
+//! the words lie elsewhere in their pages. Prints medians and ratios.
 
 mod plain_word;
 
 use plain_word::PlainWord;
+use std::hint::black_box;
 use std::process::Command;
 use std::sync::Mutex;
 use std::thread;
@@ -15,7 +16,32 @@ const PROVED: &str = concat!(
     env!("CARGO_MANIFEST_DIR"),
     "/../crates/bench_lock_word/out/bench_lock_word"
 );
-const RUNS: usize = 9;
+/// Bytes taken on the heap ahead of the word, a turn each: what a step costs depends on the place of the
+/// word in its page.
+const LEADS: [usize; 9] = [0, 24, 72, 136, 264, 392, 520, 1032, 1992];
+
+/// What the threads of one process do.
+#[derive(Clone, Copy)]
+struct Job {
+    threads: u64,
+    rounds: u64,
+    lead: usize,
+}
+
+impl Job {
+    fn of(words: &[String]) -> Job {
+        let number = |at: usize| words[at].parse::<u64>().expect("a number");
+        Job {
+            threads: number(0),
+            rounds: number(1),
+            lead: number(2) as usize,
+        }
+    }
+
+    fn words(&self) -> [String; 3] {
+        [self.threads, self.rounds, self.lead as u64].map(|number| number.to_string())
+    }
+}
 
 /// Makes the rounds of each thread.
 fn crew(threads: u64, rounds: u64, round: impl Fn() + Sync) {
@@ -32,7 +58,13 @@ fn line(rounds: u64, (word, half): (u64, u64)) -> String {
 }
 
 /// A run of plain Rust in this process.
-fn plain(load: &str, threads: u64, rounds: u64) {
+fn plain(load: &str, job: Job) {
+    let Job {
+        threads,
+        rounds,
+        lead,
+    } = job;
+    let _ahead = black_box(Vec::<u8>::with_capacity(lead));
     let mut word = Box::new(PlainWord::default());
     let left = match load {
         "references" => {
@@ -56,10 +88,9 @@ fn plain(load: &str, threads: u64, rounds: u64) {
 }
 
 /// Nanoseconds a round of one process, from its start to its end.
-fn nanoseconds(program: &str, words: &[&str], threads: u64, rounds: u64, want: &str) -> f64 {
-    let (threads_word, rounds_word) = (threads.to_string(), rounds.to_string());
+fn nanoseconds(program: &str, words: &[&str], job: Job, want: &str) -> f64 {
     let mut command = Command::new(program);
-    command.args(words).args([&threads_word, &rounds_word]);
+    command.args(words).args(job.words());
     let start = Instant::now();
     let output = command
         .output()
@@ -70,58 +101,68 @@ fn nanoseconds(program: &str, words: &[&str], threads: u64, rounds: u64, want: &
         want,
         "{program} {words:?}"
     );
-    time / (threads * rounds) as f64
+    time / (job.threads * job.rounds) as f64
 }
 
-fn median(mut times: Vec<f64>) -> f64 {
+/// The median and the greatest.
+fn spread<const N: usize>(mut times: [f64; N]) -> (f64, f64) {
     times.sort_by(f64::total_cmp);
-    times[times.len() / 2]
+    (times[N / 2], times[N - 1])
 }
 
-/// Runs the contenders in turn, and prints the median of each with its ratio to the second.
+/// Runs the contenders in turn, and prints for each the median over the places of its word and the worst
+/// place, and the ratio of the first two medians. A place counts by the least of its turns. `half` is
+/// what a round adds to the half.
 fn compare(
     title: &str,
     contenders: &[(&str, &str, &[&str])],
-    threads: u64,
-    rounds: u64,
+    (threads, rounds, turns): (u64, u64, usize),
     half: u64,
 ) {
-    let want = line(threads * rounds, (0, half));
-    let mut times = vec![Vec::new(); contenders.len()];
-    for _ in 0..RUNS {
-        for ((_, program, words), times) in contenders.iter().zip(&mut times) {
-            times.push(nanoseconds(program, words, threads, rounds, &want));
+    let want = line(threads * rounds, (0, threads * rounds * half));
+    let mut times = vec![[f64::INFINITY; LEADS.len()]; contenders.len()];
+    for _ in 0..turns {
+        for (place, &lead) in LEADS.iter().enumerate() {
+            let job = Job {
+                threads,
+                rounds,
+                lead,
+            };
+            for ((_, program, words), times) in contenders.iter().zip(&mut times) {
+                times[place] = times[place].min(nanoseconds(program, words, job, &want));
+            }
         }
     }
-    let medians: Vec<f64> = times.into_iter().map(median).collect();
+    let spreads: Vec<(f64, f64)> = times.into_iter().map(spread).collect();
     print!("{title}, threads {threads}:");
-    for ((name, _, _), time) in contenders.iter().zip(&medians) {
-        print!(" {name} {time:.1} ns,");
+    for ((name, _, _), (median, worst)) in contenders.iter().zip(&spreads) {
+        print!(" {name} {median:.1} ns (worst {worst:.1}),");
     }
-    println!(" ratio {:.2}", medians[0] / medians[1]);
+    println!(" ratio {:.2}", spreads[0].0 / spreads[1].0);
 }
 
 fn main() {
     let words: Vec<String> = std::env::args().collect();
-    if let [_, plain_word, load, threads, rounds] = words.as_slice() {
+    if let [_, plain_word, load, numbers @ ..] = words.as_slice() {
         assert_eq!(plain_word, "plain");
-        let number = |word: &String| word.parse().expect("a number");
-        return plain(load, number(threads), number(rounds));
+        return plain(load, Job::of(numbers));
     }
     let own = words[0].as_str();
-    for (threads, rounds) in [(1, 20_000_000), (2, 4_000_000), (4, 2_000_000)] {
-        let references: [(&str, &str, &[&str]); 2] = [
-            ("proved", PROVED, &["references"]),
-            ("plain atomics", own, &["plain", "references"]),
-        ];
-        compare("take and drop", &references, threads, rounds, 0);
+    let references: [(&str, &str, &[&str]); 2] = [
+        ("proved", PROVED, &["references"]),
+        ("plain atomics", own, &["plain", "references"]),
+    ];
+    let locks: [(&str, &str, &[&str]); 3] = [
+        ("proved", PROVED, &["reads"]),
+        ("spin", own, &["plain", "spin"]),
+        ("std's mutex", own, &["plain", "mutex"]),
+    ];
+    // One thread's runs are short and many, so that those in which the machine was busy don't count;
+    // more threads need long ones, in which they meet.
+    for work in [(1, 4_000_000, 5), (2, 4_000_000, 1), (4, 2_000_000, 1)] {
+        compare("take and drop", &references, work, 0);
     }
-    for (threads, rounds) in [(1, 10_000_000), (2, 1_000_000), (4, 500_000)] {
-        let locks: [(&str, &str, &[&str]); 3] = [
-            ("proved", PROVED, &["reads"]),
-            ("spin", own, &["plain", "spin"]),
-            ("std's mutex", own, &["plain", "mutex"]),
-        ];
-        compare("lock and unlock", &locks, threads, rounds, threads * rounds);
+    for work in [(1, 4_000_000, 5), (2, 2_000_000, 1), (4, 1_000_000, 1)] {
+        compare("lock and unlock", &locks, work, 1);
     }
 }

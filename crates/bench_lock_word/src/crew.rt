@@ -70,6 +70,7 @@ fn count_all<T: Threads + Wait + Sync>(
 
 /// Runs a job to its end.
 pub fn run<T: Threads + Wait + Sync>(rt: &T, alloc: Global, job: Job) -> Result<Left, OutOfMemory> {
+    let lead: Vec<u8> = Vec::with_capacity(alloc, usize::from(job.lead))?;
     let (word, seat) = LockWord::new(alloc, 0u64, 0u64)?;
     let (mut spare, seat) = word.split(seat);
     let made = AtomicU64::new(0);

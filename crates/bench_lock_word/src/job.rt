@@ -1,5 +1,5 @@
-//! What the program is asked to do, by three words: a load, the number of threads, and how many
-//! rounds each of them makes.
+//! What the program is asked to do, by four words: a load, the number of threads, how many rounds each
+//! of them makes, and the bytes that lie ahead of the lock word.
 
 /// What a thread does in a round.
 #[derive(Clone, Copy, Drop)]
@@ -10,12 +10,14 @@ pub enum Load {
     Reads,
 }
 
-/// How many threads do what, and how often.
+/// How many threads do what, and how often, on a word at which place.
 #[derive(Clone, Copy, Drop)]
 pub struct Job {
     pub load: Load,
     pub threads: u8,
     pub rounds: u64,
+    /// Bytes taken on the heap before the word is, which move it on in its page.
+    pub lead: u16,
 }
 
 fn load_of(word: &str) -> Option<Load> {
@@ -29,10 +31,11 @@ fn load_of(word: &str) -> Option<Load> {
 /// The job that the words after the program's name ask for.
 pub fn job_of(words: &[String]) -> Option<Job> {
     match words {
-        [_, load, threads, rounds] => Some(Job {
+        [_, load, threads, rounds, lead] => Some(Job {
             load: load_of(load.as_str())?,
             threads: threads.as_str().parse::<u8>().ok()?,
             rounds: rounds.as_str().parse::<u64>().ok()?,
+            lead: lead.as_str().parse::<u16>().ok()?,
         }),
         _ => None,
     }

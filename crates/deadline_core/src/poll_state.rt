@@ -5,7 +5,7 @@
 //! `Go`.
 ghost use Rattle.std.specs.Prelude.{◌≡◌, ◌||◌, ◌&&◌, not, List, [], ◌∷◌, false, true, is_err};
 ghost use Rattle.deadline_core.specs.PollHistory.{Call, Prepared, Looked, Readied, DeadlineSet, Ticked, Evicted, StandsFor};
-ghost use Rattle.deadline_core.specs.PollHistory.{prepare_answer, look_answer, set_answer, passed, why_refused, ok_unless, look_at, is_go};
+ghost use Rattle.deadline_core.specs.PollHistory.{prepare_answer, look_answer, set_answer, closing, passed, why_refused, ok_unless, look_at, is_go};
 
 use crate::deadline::{Deadline, Dirs};
 use crate::refusal::Refusal;
@@ -120,6 +120,13 @@ impl PollState {
             read: Side::new(),
             write: Side::new(),
         }
+    }
+
+    /// Whether it is closing. What is closing stays so.
+    pub fn is_closing(&self) -> bool
+        ensures answer { (calls : List Call) → StandsFor self.now calls → result ≡ closing calls }
+    {
+        self.closing
     }
 
     /// Begins a read or a write: answers why it is refused, or forgets the notice that an earlier

@@ -5,9 +5,9 @@ ghost use Rattle.deadline_core.specs.PollHistory.{Call, DeadlineSet, StandsFor, 
 ghost use Rattle.fd_descriptor.specs.Deadlines.{alarm_at, IsSettingFault};
 
 use crate::resource::Alarms;
-use deadline_core::{Deadline, Dirs, Look, PollState, Refusal};
+use deadline_core::{Deadline, Dirs, PollState};
 use rwloops::Fault;
-use stream_base::{Dir, OutOfMemory};
+use stream_base::OutOfMemory;
 
 /// What one call asks: a deadline for some directions, at a moment.
 #[derive(Clone, Copy)]
@@ -25,21 +25,6 @@ impl Setting {
         match self.deadline {
             Deadline::At(at) if self.now < at => Some(at),
             _ => None,
-        }
-    }
-}
-
-/// Whether the state is closing. The look that tells may use a notice up, which is given back.
-pub(crate) fn is_closing(state: &mut PollState) -> bool
-    ensures answer { (calls : List Call) → StandsFor state.old calls → result ≡ closing calls }
-    ensures same { (calls : List Call) → StandsFor state.old calls → StandsFor state.new calls }
-{
-    match state.look(Dir::Read) {
-        Look::Refused(Refusal::Closed) => true,
-        Look::Refused(Refusal::DeadlineExceeded) | Look::Park => false,
-        Look::Go => {
-            state.ready(Dir::Read);
-            false
         }
     }
 }
@@ -63,7 +48,7 @@ pub(crate) fn set_in<A: Alarms>(
         → IfErr result (λ fault. StandsFor state.new calls) }
     ensures faults { IfErr result IsSettingFault }
 {
-    if is_closing(state) {
+    if state.is_closing() {
         return Err(Fault::Closed);
     }
     match setting.alarm() {
