@@ -16,8 +16,8 @@ const PROVED: &str = concat!(
     env!("CARGO_MANIFEST_DIR"),
     "/../crates/bench_lock_word/out/bench_lock_word"
 );
-/// Bytes taken on the heap ahead of the word, a turn each: what a step costs depends on the place of the
-/// word in its page.
+/// Bytes taken on the heap ahead of the word, a turn each: what a step costs can depend on the place of
+/// the word in its page.
 const LEADS: [usize; 9] = [0, 24, 72, 136, 264, 392, 520, 1032, 1992];
 
 /// What the threads of one process do.
