@@ -4,7 +4,7 @@
 ghost use Rattle.std.specs.Prelude.{◌≡◌, IfSome};
 ghost use Rattle.lockword.specs.Places.{seat_place};
 ghost use Rattle.lockword.specs.TransitionOutcomes.{IsSeatOf};
-ghost use Rattle.bench_lock_word.specs.Freed.{IsFreed};
+ghost use Rattle.fdmutex.specs.Refusal.{IsFreedOf};
 
 use fdmutex::{Freed, decref, incref, read_lock, read_unlock};
 use lockword::{LockWord, Seat};
@@ -17,7 +17,7 @@ pub type CounterSeat = Seat<u64, u64>;
 
 /// The seat, where there is one. The last holder of a closed word destroys it, and has done.
 fn seat_of(word: &Counters, freed: Freed<u64, u64>) -> Option<CounterSeat>
-    requires { IsFreed word.now freed }
+    requires { IsFreedOf word.now freed }
     ensures { IfSome result (λ seat. IsSeatOf word.now (seat_place seat)) }
 {
     match freed {

@@ -3,8 +3,12 @@ use Rattle.std.specs.Prelude.{◌≡◌, ℕ, Bool, true, false, Option, Some, N
 use Rattle.lockword.specs.declared.holders.Seat.{Seat}
 use Rattle.lockword.specs.declared.holders.LockWord.{LockWord}
 use Rattle.lockword.specs.Marks.{Place, WordId, word_of, saw_closed, saw_done}
-use Rattle.lockword.specs.Places.{seat_place}
+use Rattle.lockword.specs.Places.{seat_place, last_place}
 use Rattle.lockword.specs.TransitionOutcomes.{word_id}
+use Rattle.fdmutex.specs.declared.answers.Freed.{Freed}
+use Rattle.fdmutex.specs.declared.answers.Freed.TheVariants as freed
+use Rattle.fdmutex.specs.declared.answers.Refusal.{Refusal}
+use Rattle.fdmutex.specs.declared.answers.Refusal.TheVariants as refusal
 use Rattle.rwloops.specs.declared.fault.Fault.{Fault}
 use Rattle.rwloops.specs.declared.fault.Fault.TheVariants as fault
 use Rattle.rwloops.specs.declared.fault.WriteFault.{WriteFault}
@@ -40,6 +44,16 @@ module _ {R W : Type 0} where
   -- there is a seat, and it is one of this word's
   abbrev pub HoldsSeatOf : LockWord R W → Option (Seat R W) → Type 0
   HoldsSeatOf w seat = word_in seat ≡ Some (word_id w)
+
+  -- what the seat has seen of which this is left
+  abbrev pub marks_of_freed : Freed R W → Marks
+  marks_of_freed (freed.Kept s) = marks_at (seat_place s)
+  marks_of_freed (freed.Last l) = marks_at (last_place l)
+
+-- what a refusal of the lock word is to the caller of a handle
+abbrev pub fault_of : Refusal → Fault
+fault_of refusal.Closed = fault.Closed
+fault_of (refusal.TooMany w) = fault.TooMany
 
 -- no reference is left to take: the call did nothing, on a descriptor not seen closed
 abbrev pub IsTooMany : Marks → Marks → Type 0

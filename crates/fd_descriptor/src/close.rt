@@ -5,16 +5,15 @@
 
 ghost use Rattle.std.specs.Prelude.{◌≡◌, true, Err};
 ghost use Rattle.lockword.specs.Marks.{saw_closed, saw_done};
-ghost use Rattle.lockword.specs.Places.{seat_place, ref_place, last_place, read_lock_place, write_lock_place};
+ghost use Rattle.lockword.specs.Places.{seat_place, last_place};
 ghost use Rattle.lockword.specs.TransitionOutcomes.{IsSeatOf, HasNotTaken};
-ghost use Rattle.fd_descriptor.specs.ClosedMarks.{KeepsMarks, marks_at, close_shows};
+ghost use Rattle.fdmutex.specs.Refusal.{IsFreedOf};
+ghost use Rattle.fd_descriptor.specs.ClosedMarks.{KeepsMarks, marks_at, marks_of_freed, fault_of, close_shows};
 
 use crate::descriptor::Fd;
 use crate::resource::Resource;
-use fdmutex::{
-    Freed, Refusal, close_mark, decref, drop_closing, read_unlock, wait_done, write_unlock,
-};
-use lockword::{Last, LockWord, ReadLock, Ref, Seat, WriteLock};
+use fdmutex::{Freed, Refusal, close_mark, drop_closing, wait_done};
+use lockword::{Last, LockWord, Seat};
 use rwloops::{DevKind, Fault};
 use std::alloc::Allocator;
 use std::sync::Wait;
@@ -36,51 +35,28 @@ fn finish<X: Resource>(
     (word.mark_done(last), told)
 }
 
-/// Gives the read lock back.
-pub(crate) fn leave_read<X: Resource, T: Wait>(
-    rt: &T,
+/// The seat that is left of what was given back.
+pub(crate) fn leave<X: Resource>(
     word: &LockWord<X::R, X::W>,
-    held: ReadLock<X::R, X::W>,
+    freed: Freed<X::R, X::W>,
 ) -> Seat<X::R, X::W>
-    requires seat { IsSeatOf word.now (read_lock_place held) }
+    requires { IsFreedOf word.now freed }
     ensures seat { IsSeatOf word.now (seat_place result) }
-    ensures marks { KeepsMarks (marks_at (read_lock_place held)) (marks_at (seat_place result)) }
+    ensures marks { KeepsMarks (marks_of_freed freed) (marks_at (seat_place result)) }
 {
-    match read_unlock(rt, word, held) {
+    match freed {
         Freed::Kept(seat) => seat,
         Freed::Last(last) => finish::<X>(word, last).0,
     }
 }
 
-/// Gives the write lock back.
-pub(crate) fn leave_write<X: Resource, T: Wait>(
-    rt: &T,
-    word: &LockWord<X::R, X::W>,
-    held: WriteLock<X::R, X::W>,
-) -> Seat<X::R, X::W>
-    requires seat { IsSeatOf word.now (write_lock_place held) }
-    ensures seat { IsSeatOf word.now (seat_place result) }
-    ensures marks { KeepsMarks (marks_at (write_lock_place held)) (marks_at (seat_place result)) }
+/// What a refusal of the lock word is to the caller of a handle.
+pub(crate) fn fault_of(refusal: Refusal) -> Fault
+    ensures { result ≡ fault_of refusal }
 {
-    match write_unlock(rt, word, held) {
-        Freed::Kept(seat) => seat,
-        Freed::Last(last) => finish::<X>(word, last).0,
-    }
-}
-
-/// Gives a reference back.
-pub(crate) fn leave<X: Resource, T: Wait>(
-    rt: &T,
-    word: &LockWord<X::R, X::W>,
-    held: Ref<X::R, X::W>,
-) -> Seat<X::R, X::W>
-    requires seat { IsSeatOf word.now (ref_place held) }
-    ensures seat { IsSeatOf word.now (seat_place result) }
-    ensures marks { KeepsMarks (marks_at (ref_place held)) (marks_at (seat_place result)) }
-{
-    match decref(rt, word, held) {
-        Freed::Kept(seat) => seat,
-        Freed::Last(last) => finish::<X>(word, last).0,
+    match refusal {
+        Refusal::Closed => Fault::Closed,
+        Refusal::TooMany(_) => Fault::TooMany,
     }
 }
 
@@ -101,8 +77,7 @@ pub(crate) fn close_by<X: Resource, A: Allocator, T: Wait>(
     let word = &fd.word;
     let closing = match close_mark(rt, word, seat) {
         Ok(closing) => closing,
-        Err((seat, Refusal::Closed)) => return (seat, Err(Fault::Closed)),
-        Err((seat, Refusal::TooMany(_))) => return (seat, Err(Fault::TooMany)),
+        Err((seat, refusal)) => return (seat, Err(fault_of(refusal))),
     };
     fd.cell.evict(rt);
     match drop_closing(rt, word, closing) {

@@ -9,12 +9,12 @@ ghost use Rattle.lockword.specs.Places.{seat_place};
 ghost use Rattle.lockword.specs.TransitionOutcomes.{IsSeatOf};
 ghost use Rattle.fd_descriptor.specs.ClosedMarks.{KeepsMarks, marks_at, lock_shows, read_shows, accept_shows, write_shows, shut_shows, set_shows};
 
-use crate::close::{leave, leave_read, leave_write};
+use crate::close::{fault_of, leave};
 use crate::deadlines::Setting;
 use crate::descriptor::Fd;
 use crate::poll_cell::CellWaits;
 use crate::resource::{Alarms, HalfClose, Resource};
-use fdmutex::{Refusal, incref, read_lock, write_lock};
+use fdmutex::{decref, incref, read_lock, read_unlock, write_lock, write_unlock};
 use lockword::Seat;
 use rwloops::{Fault, TryAccept, TryRead, TryWrite, WriteFault};
 use std::alloc::Allocator;
@@ -42,12 +42,11 @@ where
     let word = &fd.word;
     let mut held = match read_lock(rt, word, seat) {
         Ok(held) => held,
-        Err((seat, Refusal::Closed)) => return (seat, Err(Fault::Closed)),
-        Err((seat, Refusal::TooMany(_))) => return (seat, Err(Fault::TooMany)),
+        Err((seat, refusal)) => return (seat, Err(fault_of(refusal))),
     };
     let mut waits = CellWaits::new(&fd.cell, rt);
     let answer = rwloops::read(rt, held.half(word), buf, &mut waits);
-    (leave_read::<X, T>(rt, word, held), answer)
+    (leave::<X>(word, read_unlock(rt, word, held)), answer)
 }
 
 pub(crate) fn accept_by<X: Resource, A: Allocator, T: Wait>(
@@ -67,12 +66,11 @@ where
     let word = &fd.word;
     let mut held = match read_lock(rt, word, seat) {
         Ok(held) => held,
-        Err((seat, Refusal::Closed)) => return (seat, Err(Fault::Closed)),
-        Err((seat, Refusal::TooMany(_))) => return (seat, Err(Fault::TooMany)),
+        Err((seat, refusal)) => return (seat, Err(fault_of(refusal))),
     };
     let mut waits = CellWaits::new(&fd.cell, rt);
     let answer = rwloops::accept(rt, held.half(word), &mut waits);
-    (leave_read::<X, T>(rt, word, held), answer)
+    (leave::<X>(word, read_unlock(rt, word, held)), answer)
 }
 
 pub(crate) fn write_by<X: Resource, A: Allocator, T: Wait>(
@@ -94,17 +92,16 @@ where
         result.1 }
 {
     let word = &fd.word;
-    let (seat, fault) = match write_lock(rt, word, seat) {
-        Ok(held) => {
-            let mut held = held;
-            let mut waits = CellWaits::new(&fd.cell, rt);
-            let answer = rwloops::write(rt, held.half(word), bytes, &mut waits);
-            return (leave_write::<X, T>(rt, word, held), answer);
+    let mut held = match write_lock(rt, word, seat) {
+        Ok(held) => held,
+        Err((seat, refusal)) => {
+            let fault = fault_of(refusal);
+            return (seat, Err(WriteFault { fault, count: 0 }));
         }
-        Err((seat, Refusal::Closed)) => (seat, Fault::Closed),
-        Err((seat, Refusal::TooMany(_))) => (seat, Fault::TooMany),
     };
-    (seat, Err(WriteFault { fault, count: 0 }))
+    let mut waits = CellWaits::new(&fd.cell, rt);
+    let answer = rwloops::write(rt, held.half(word), bytes, &mut waits);
+    (leave::<X>(word, write_unlock(rt, word, held)), answer)
 }
 
 pub(crate) fn shut_by<X: Resource, A: Allocator, T: Wait>(
@@ -124,14 +121,13 @@ where
     let word = &fd.word;
     let mut held = match write_lock(rt, word, seat) {
         Ok(held) => held,
-        Err((seat, Refusal::Closed)) => return (seat, Err(Fault::Closed)),
-        Err((seat, Refusal::TooMany(_))) => return (seat, Err(Fault::TooMany)),
+        Err((seat, refusal)) => return (seat, Err(fault_of(refusal))),
     };
     let answer = match held.half(word).shut() {
         Ok(()) => Ok(()),
         Err(kind) => Err(Fault::Device(kind)),
     };
-    (leave_write::<X, T>(rt, word, held), answer)
+    (leave::<X>(word, write_unlock(rt, word, held)), answer)
 }
 
 pub(crate) fn set_by<X: Resource, A: Allocator, T: Wait, L: Alarms>(
@@ -151,9 +147,8 @@ pub(crate) fn set_by<X: Resource, A: Allocator, T: Wait, L: Alarms>(
     let word = &fd.word;
     let held = match incref(rt, word, seat) {
         Ok(held) => held,
-        Err((seat, Refusal::Closed)) => return (seat, Err(Fault::Closed)),
-        Err((seat, Refusal::TooMany(_))) => return (seat, Err(Fault::TooMany)),
+        Err((seat, refusal)) => return (seat, Err(fault_of(refusal))),
     };
     let answer = fd.cell.set(rt, alarms, setting);
-    (leave::<X, T>(rt, word, held), answer)
+    (leave::<X>(word, decref(rt, word, held)), answer)
 }

@@ -2,10 +2,11 @@
 use Rattle.std.specs.Prelude.{◌≡◌, false}
 use Rattle.stream_base.specs.declared.direction.Dir.{Dir}
 use Rattle.lockword_core.specs.declared.word.Word.{Word}
+use Rattle.lockword.specs.declared.holders.LockWord.{LockWord}
 use Rattle.lockword.specs.declared.holders.Seat.{Seat}
 use Rattle.lockword.specs.Marks.{Place, IsFullWay, SameMarks, Later, NowClosed, IsOpen}
 use Rattle.lockword.specs.Places.{seat_place, last_place}
-use Rattle.lockword.specs.TransitionOutcomes.{HasNotTaken}
+use Rattle.lockword.specs.TransitionOutcomes.{IsSeatOf, HasNotTaken}
 use Rattle.fdmutex.specs.declared.answers.Refusal.{Refusal}
 use Rattle.fdmutex.specs.declared.answers.Refusal.TheVariants as refusal
 use Rattle.fdmutex.specs.declared.answers.Freed.{Freed}
@@ -30,3 +31,8 @@ module _ {R W : Type 0} where
   abbrev pub freed_closing : Place R W → Freed R W → Type 0
   freed_closing p (freed_as.Kept s) = NowClosed p (seat_place s)
   freed_closing p (freed_as.Last l) = NowClosed p (last_place l) × HasNotTaken (last_place l)
+
+  -- a seat of this word is left, or the duty to destroy, with the halves still to take
+  abbrev pub IsFreedOf : LockWord R W → Freed R W → Type 0
+  IsFreedOf w (freed_as.Kept s) = IsSeatOf w (seat_place s)
+  IsFreedOf w (freed_as.Last l) = IsSeatOf w (last_place l) × HasNotTaken (last_place l)

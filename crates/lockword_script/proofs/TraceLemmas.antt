@@ -1,9 +1,9 @@
 -- What is known of the script and of the text, one chunk after the other.
-use Rattle.std.proofs.Common.{◌≡◌, ◌∙◌, sym, ap, refl, subst, ℕ, ◌≤◌, ◌<◌, List, [], ◌++◌, length, take, drop, Option, None, Some, Result, Ok, Err, append_assoc, arith, inl, inr, length-take}
-use Rattle.std.specs.Prelude.{Bool, IfSome, IfNone, IfOk, OnErr}
+use Rattle.std.proofs.Common.{◌≡◌, ◌∙◌, sym, ap, refl, subst, ℕ, ◌≤◌, ◌<◌, List, [], ◌++◌, length, take, drop, Option, None, Some, Result, Ok, Err, append_assoc, arith, length-take}
+use Rattle.std.specs.Prelude.{IfSome, IfNone, IfOk, OnErr}
 use Rattle.std.specs.Io.KnownBytes.{Appends, Consumes, Keeps, IsAtEnd}
-use Rattle.std.proofs.lemmas.List.{append-nil, take-append-drop, take_all}
-use Rattle.stream_base.specs.Attempt.{FailedOrInterrupted, WriteStopped}
+use Rattle.std.proofs.lemmas.List.{append-nil, take-append-drop}
+use Rattle.stream_base.specs.Fronts.{AppendsFront}
 use Rattle.stream_base.specs.Lines.{ended_lines, lines_of}
 use Rattle.stream_base.proofs.KnownBytesLemmas.{appends_nothing, appends_then_appends, appends_then_keeps, consumes_nothing, consumes_then_consumes, consumes_then_keeps}
 use Rattle.lockword_core.specs.LockState.{empty}
@@ -177,19 +177,16 @@ advanced_begins (Err x) p p' got text bytes before after e g goes ends err rest 
     let l : LeadsPartly p bytes before after = err in
     begins_partly p got text bytes after g (subst (AdvancesPartly p bytes) (printed_is_written before after after l.printed e refl l.put) l.advances) rest
 
-abbrev pub Wrote : Option (List ℕ) → Option (List ℕ) → List ℕ → Type 0
-Wrote held held' text = (k : ℕ) × Appends held held' (take k text)
-
 abbrev pub AfterWrite : Option (List ℕ) → Option (List ℕ) → Option (List ℕ) → Type 0
 AfterWrite left held held' = (text : List ℕ) × Appends held held' text × IfSome left (λ script. TextBegins script text)
 
 pub write_leaves : {E : Type 0} (advanced : Result (Option End) E) (left left' left'' held held' held'' : Option (List ℕ)) (p p' : Progress) (bytes before after written : List ℕ) → Went left left' held held' p
-    → Consumes left' left'' bytes → Wrote held' held'' written → before ≡ [] → written ≡ after → (bytes ≡ [] → IsAtEnd left'')
+    → Consumes left' left'' bytes → AppendsFront held' held'' written → before ≡ [] → written ≡ after → (bytes ≡ [] → IsAtEnd left'')
     → IfOk advanced (λ ended. IfNone ended (LeadsOn p p' bytes before after)) → IfOk advanced (λ ended. IfSome ended (LeadsToEnd p bytes before after)) → OnErr advanced (LeadsPartly p bytes before after)
     → AfterWrite left held held''
 write_leaves advanced left left' left'' held held' held'' p p' bytes before after written went c wrote e w at_end goes ends err = (
   went.text ++ take wrote.0 written,
-  appends_then_appends held held' held'' went.text (take wrote.0 written) went.appended wrote.1,
+  appends_then_appends held held' held'' went.text (take wrote.0 written) went.appended wrote.2,
   of_script (λ (script : List ℕ). TextBegins script (went.text ++ take wrote.0 written)) left left' left'' went.got bytes went.consumed c at_end
       (λ rest none. begins_take (went.got ++ (bytes ++ rest)) went.text written
       (subst (λ (t : List ℕ). TextBegins (went.got ++ (bytes ++ rest)) (went.text ++ t)) (sym w) (advanced_begins advanced p p' went.got went.text bytes before after e went.advances goes ends err rest none)) wrote.0),
@@ -214,14 +211,3 @@ pub has_ended : {E : Type 0} (r : Result (Option End) E) (o : Option End) (end :
 has_ended (Ok None) o end P e n h = absurd (cc)
 has_ended (Ok (Some k)) o end P e n h = let same : k ≡ end = cc in subst P same h
 has_ended (Err x) o end P e n h = absurd (cc)
-
--- a flush stops as a write does
-pub flush_stops : (failed : Bool) (interruptions : ℕ) (took_nothing : Bool) → FailedOrInterrupted failed interruptions → WriteStopped failed interruptions took_nothing
-flush_stops failed interruptions took_nothing = elim [ inl f ↦ inl f | inr i ↦ inr (inl i) ]
-
--- all was written, and then a flush failed
-pub wrote_all : (held held' held'' : Option (List ℕ)) (text : List ℕ) → Appends held held' text → Keeps held' held'' → Wrote held held'' text
-wrote_all held held' held'' text a k = (length text, subst (Appends held held'') (sym (take_whole text)) (appends_then_keeps held held' held'' text a k))
-  where
-    take_whole : (t : List ℕ) → take (length t) t ≡ t
-    take_whole t = take_all (length t) t (omega arith)

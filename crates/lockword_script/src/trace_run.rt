@@ -12,34 +12,12 @@ use crate::script_run::ScriptRun;
 use std::alloc::Global;
 use std::io::{Read, Write};
 use stream_base::reader_source::ReaderSource;
-use stream_base::sink::{Sink, SinkFault, flush_to, write_to};
+use stream_base::sink::{Sink, deliver_to, flush_to};
 use stream_base::source::{Source, read_from};
 use stream_base::writer_sink::WriterSink;
 
 /// The most bytes that one read takes.
 const CHUNK_BYTES: usize = 4_096;
-
-/// Writes the text, and makes the sink pass on all that it holds.
-fn deliver<K: Sink>(sink: &mut K, text: &[u8]) -> Result<(), SinkFault>
-    requires uninterrupted { K.interruptions sink.old ≡ 0 }
-    ensures ok { OnOk result (Appends (K.contents sink.old) (K.contents sink.new) text.now) }
-    ensures well { OnOk result (SinkIsWell (K.failed sink.old) (K.failed sink.new)
-        (K.interruptions sink.new) (K.took_nothing sink.old) (K.took_nothing sink.new)
-        (K.flushed sink.new)) }
-    ensures front { OnErr result ((k : ℕ)
-        × Appends (K.contents sink.old) (K.contents sink.new) (take k text.now)) }
-    ensures cause { OnErr result
-        (WriteStopped (K.failed sink.new) (K.interruptions sink.new) (K.took_nothing sink.new)) }
-    ensures same { K.stays sink.old sink.new }
-{
-    match write_to(sink, text) {
-        Ok(()) => match flush_to(sink) {
-            Ok(()) => Ok(()),
-            Err(fault) => Err(fault),
-        },
-        Err(fault) => Err(fault),
-    }
-}
 
 /// Runs a script: reads it to its end or to its first bad line, and writes its text. What the source has
 /// left after a bad line, and in what state a fault leaves a device, is not said.
@@ -91,7 +69,7 @@ pub fn trace_on<S: Source, K: Sink>(
         };
         out.clear();
         let advanced = run.advance(&chunk[..count], &mut out);
-        if let Err(_) = deliver(sink, out.as_slice()) {
+        if let Err(_) = deliver_to(sink, out.as_slice()) {
             return Err(TraceFault::Write);
         }
         let ended = match advanced {

@@ -2,6 +2,7 @@
 use Rattle.std.proofs.Common.{◌≡◌, ◌≢◌, ◌∙◌, sym, ap, refl, subst, ℕ, ◌+◌, ◌≤◌, ◌<◌, List, [], ◌∷◌, ◌++◌, length, get_or, take, drop, Option, Some, None, arith, append_assoc, length-append, append-nil}
 use Rattle.std.specs.Io.KnownBytes.{Appends}
 use Rattle.std.proofs.lemmas.List.{take_more, take-append-drop, drop_more}
+use Rattle.stream_base.specs.Fronts.{AppendsFront}
 use Rattle.stream_base.specs.Lines.{lines_of, Lacks}
 use Rattle.stream_base.proofs.LineLemmas.{lacks-push, lines_of-ended_line, lines_of-last_line, lines_of-empty, long_first_line, ends_none, ends_push, ends_line, ends_then}
 use Rattle.stream_base.proofs.KnownBytesLemmas.{appends_nothing, appends_then_appends}
@@ -160,9 +161,9 @@ line_is_last number line kept k0 k1 h0 h1 reply written o d a b w c few many =
 pub line_goes_on : (line kept : List ℕ) (k0 k1 : Option (List Exchange)) (h0 h1 : Option (List ℕ)) (reply written : List ℕ) (o : Option AdminEnd) → AnswersLine k0 k1 line reply o → line ≡ kept → written ≡ reply → Appends h0 h1 written → o ≡ None → Meanwhile k0 k1 h0 h1 (λ exchanges replies. LineTranscript kept exchanges replies None)
 line_goes_on line kept k0 k1 h0 h1 reply written o d a b w c = record { exchanges = d.exchanges; replies = written; told = d.told; written = w; holds = as_kept line kept d.exchanges reply written o None d.are a b c }
 
-pub line_breaks : (number : ℕ) (line kept : List ℕ) (k0 k1 : Option (List Exchange)) (h0 h1 : Option (List ℕ)) (reply written : List ℕ) (o : Option AdminEnd) → AnswersLine k0 k1 line reply o → line ≡ kept → written ≡ reply → (k : ℕ) × Appends h0 h1 (take k written) → LineMeanwhile number kept k0 k1 h0 h1 cut_off
+pub line_breaks : (number : ℕ) (line kept : List ℕ) (k0 k1 : Option (List Exchange)) (h0 h1 : Option (List ℕ)) (reply written : List ℕ) (o : Option AdminEnd) → AnswersLine k0 k1 line reply o → line ≡ kept → written ≡ reply → AppendsFront h0 h1 written → LineMeanwhile number kept k0 k1 h0 h1 cut_off
 line_breaks number line kept k0 k1 h0 h1 reply written o d a b w =
-    record { exchanges = d.exchanges; replies = take w.0 written; told = d.told; written = w.1; holds = λ lines. cut_line w.0 (as_kept line kept d.exchanges reply written o o d.are a b refl) }
+    record { exchanges = d.exchanges; replies = take w.0 written; told = d.told; written = w.2; holds = λ lines. cut_line w.0 (as_kept line kept d.exchanges reply written o o d.are a b refl) }
 
 pub feed_closes : (number : ℕ) (kept : List ℕ) (b : ℕ) (k0 k1 : Option (List Exchange)) (h0 h1 : Option (List ℕ)) (ending : Ending) → Lacks 10 kept → b ≡ 10 → LineMeanwhile number kept k0 k1 h0 h1 ending → ClosesMeanwhile (record { number = number; kept = kept }) (b ∷ []) k0 k1 h0 h1 ending
 feed_closes number kept b k0 k1 h0 h1 ending lacks feed h =
@@ -187,5 +188,5 @@ finish_ends number kept k0 k1 h0 h1 lacks some few h =
 pub feed_too_long : (number : ℕ) (kept : List ℕ) (b : ℕ) (asked : Option (List Exchange)) (h0 h1 : Option (List ℕ)) → Lacks 10 kept → b ≢ 10 → length kept ≡ 64 → Appends h0 h1 bad_command → (ends.TooLong ≢ ends.End) × ClosesMeanwhile (record { number = number; kept = kept }) (b ∷ []) asked asked h0 h1 (ended ends.TooLong)
 feed_too_long number kept b asked h0 h1 lacks other full w = (λ e. absurd (cc), record { exchanges = []; replies = bad_command; told = adds_none asked; written = w; holds = closes_long number kept b lacks other full })
 
-pub feed_too_long_breaks : (number : ℕ) (kept : List ℕ) (b : ℕ) (asked : Option (List Exchange)) (h0 h1 : Option (List ℕ)) → Lacks 10 kept → b ≢ 10 → length kept ≡ 64 → (k : ℕ) × Appends h0 h1 (take k bad_command) → ClosesMeanwhile (record { number = number; kept = kept }) (b ∷ []) asked asked h0 h1 cut_off
-feed_too_long_breaks number kept b asked h0 h1 lacks other full w = record { exchanges = []; replies = take w.0 bad_command; told = adds_none asked; written = w.1; holds = closes_long_cut number kept b w.0 lacks other full }
+pub feed_too_long_breaks : (number : ℕ) (kept : List ℕ) (b : ℕ) (asked : Option (List Exchange)) (h0 h1 : Option (List ℕ)) → Lacks 10 kept → b ≢ 10 → length kept ≡ 64 → AppendsFront h0 h1 bad_command → ClosesMeanwhile (record { number = number; kept = kept }) (b ∷ []) asked asked h0 h1 cut_off
+feed_too_long_breaks number kept b asked h0 h1 lacks other full w = record { exchanges = []; replies = take w.0 bad_command; told = adds_none asked; written = w.2; holds = closes_long_cut number kept b w.0 lacks other full }

@@ -14,7 +14,7 @@ use crate::fed::Fed;
 use crate::line_answer::answer_line;
 use arrayvec::ArrayVec;
 use std::alloc::{Allocator, Global};
-use stream_base::sink::{Sink, SinkFault, flush_to, write_to};
+use stream_base::sink::{Sink, SinkFault, deliver_to};
 
 /// The most lines of a session.
 const MAX_LINES: u32 = 65_536;
@@ -93,7 +93,7 @@ impl Dialogue {
             };
         }
         if self.line.is_full() {
-            return match send(sink, b"error 400 bad command\n") {
+            return match deliver_to(sink, b"error 400 bad command\n") {
                 Ok(()) => Fed::Ended(AdminEnd::TooLong),
                 Err(_) => Fed::Broken,
             };
@@ -121,7 +121,7 @@ impl Dialogue {
         ensures same { K.stays sink.old sink.new }
     {
         let (reply, end) = answer_line(alloc, memory, desk, self.line.as_slice());
-        if let Err(_) = send(sink, reply.as_slice()) {
+        if let Err(_) = deliver_to(sink, reply.as_slice()) {
             return Fed::Broken;
         }
         match end {
@@ -165,27 +165,6 @@ impl Dialogue {
             Fed::Broken => Err(SinkFault),
         }
     }
-}
-
-/// Writes a reply and flushes it, so that it is out before the next read.
-fn send<K: Sink>(sink: &mut K, reply: &[u8]) -> Result<(), SinkFault>
-    requires uninterrupted { K.interruptions sink.old ≡ 0 }
-    ensures ok { OnOk result (Appends (K.contents sink.old) (K.contents sink.new) reply.now) }
-    ensures row { OnOk result (K.interruptions sink.new ≡ 0) }
-    ensures flushed { OnOk result (K.flushed sink.new ≡ true) }
-    ensures front { OnErr result ((k : ℕ)
-        × Appends (K.contents sink.old) (K.contents sink.new) (take k reply.now)) }
-    ensures cause { OnErr result
-        (WriteStopped (K.failed sink.new) (K.interruptions sink.new) (K.took_nothing sink.new)) }
-    ensures same { K.stays sink.old sink.new }
-{
-    if let Err(fault) = write_to(sink, reply) {
-        return Err(fault);
-    }
-    if let Err(fault) = flush_to(sink) {
-        return Err(fault);
-    }
-    Ok(())
 }
 
 #[cfg(test)]

@@ -1,5 +1,6 @@
 pub mod Attempt
 pub mod Decimal
+pub mod Fronts
 pub mod Laws
 pub mod Lines
 pub mod ReaderSource

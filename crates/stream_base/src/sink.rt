@@ -3,6 +3,7 @@
 ghost use Rattle.std.specs.Prelude.{◌≡◌, ◌<◌, ◌≤◌, ◌||◌, ℕ, Bool, true, List, Option, IfOk, OnOk, OnErr, is_ok, length, take};
 ghost use Rattle.std.specs.Io.{WritesAtMost};
 ghost use Rattle.std.specs.Io.KnownBytes.{Appends, Keeps, WriteAppends};
+ghost use Rattle.stream_base.specs.Fronts.{AppendsFront, AppendsPart};
 ghost use Rattle.stream_base.specs.Attempt.{interruptions_after, failed_after, flushed_after, taken, took_nothing_after, FailedOrInterrupted, WriteStopped};
 
 use crate::attempt::{AttemptError, MAX_INTERRUPTIONS};
@@ -87,7 +88,7 @@ fn write_some<K: Sink>(sink: &mut K, text: &[u8]) -> Result<usize, SinkFault>
     Err(SinkFault)
 }
 
-/// Writes the whole text. At a fault the sink has taken a front of it.
+/// Writes the whole text. At a fault the sink has taken a front of it, and never the whole.
 pub fn write_to<K: Sink>(sink: &mut K, text: &[u8]) -> Result<(), SinkFault>
     requires uninterrupted { K.interruptions sink.old ≡ 0 }
     ensures ok { OnOk result (Appends (K.contents sink.old) (K.contents sink.new) text.now) }
@@ -96,8 +97,7 @@ pub fn write_to<K: Sink>(sink: &mut K, text: &[u8]) -> Result<(), SinkFault>
     ensures progress { OnOk result (K.took_nothing sink.new ≡ K.took_nothing sink.old) }
     ensures flushed { OnOk result
         (K.flushed sink.new ≡ flushed_after (K.flushed sink.old) text.now) }
-    ensures front { OnErr result ((k : ℕ)
-        × Appends (K.contents sink.old) (K.contents sink.new) (take k text.now)) }
+    ensures front { OnErr result (AppendsPart (K.contents sink.old) (K.contents sink.new) text.now) }
     ensures cause { OnErr result
         (WriteStopped (K.failed sink.new) (K.interruptions sink.new) (K.took_nothing sink.new)) }
     ensures same { K.stays sink.old sink.new }
@@ -132,4 +132,25 @@ pub fn flush_to<K: Sink>(sink: &mut K) -> Result<(), SinkFault>
         }
     }
     Err(SinkFault)
+}
+
+/// Writes the whole text, and makes the sink pass on all that it holds. At a fault the sink has taken a
+/// front of the text, which is the whole where the fault is the flush's.
+pub fn deliver_to<K: Sink>(sink: &mut K, text: &[u8]) -> Result<(), SinkFault>
+    requires uninterrupted { K.interruptions sink.old ≡ 0 }
+    ensures ok { OnOk result (Appends (K.contents sink.old) (K.contents sink.new) text.now) }
+    ensures row { OnOk result (K.interruptions sink.new ≡ 0) }
+    ensures health { OnOk result (K.failed sink.new ≡ K.failed sink.old) }
+    ensures progress { OnOk result (K.took_nothing sink.new ≡ K.took_nothing sink.old) }
+    ensures flushed { OnOk result (K.flushed sink.new ≡ true) }
+    ensures front { OnErr result
+        (AppendsFront (K.contents sink.old) (K.contents sink.new) text.now) }
+    ensures cause { OnErr result
+        (WriteStopped (K.failed sink.new) (K.interruptions sink.new) (K.took_nothing sink.new)) }
+    ensures same { K.stays sink.old sink.new }
+{
+    if let Err(fault) = write_to(sink, text) {
+        return Err(fault);
+    }
+    flush_to(sink)
 }

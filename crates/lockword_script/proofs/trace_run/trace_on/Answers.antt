@@ -22,11 +22,11 @@ pub returns-in-Err-read_from-clause-left : goal.returns-in-Err-read_from-clause-
 returns-in-Err-read_from-clause-left g c = read_leaves _ _ _ _ _ (progress_of c.chunks.run) c.chunks.invariant.ready c.chunks.invariant.went c.in-Err-read_from.ensures.kept
 
 -- a write or a flush stopped
-pub returns-in-Err-deliver-clause-left : goal.returns-in-Err-deliver-clause-left
-returns-in-Err-deliver-clause-left g c =
+pub returns-in-Err-deliver_to-clause-left : goal.returns-in-Err-deliver_to-clause-left
+returns-in-Err-deliver_to-clause-left g c =
     let bytes : List ℕ = take c.in-Ok.count c.read_from.new.buf in
     write_leaves c.advance-advanced.result _ _ _ _ _ _ (progress_of c.chunks.run) (progress_of c.advance-advanced.new.self) bytes c.clear.new.self.items c.advance-advanced.new.out.items c.as_slice.result.now
-    c.chunks.invariant.went c.in-Ok.ensures.bytes c.in-Err-deliver.ensures.front c.clear.ensures.items c.as_slice.ensures.value
+    c.chunks.invariant.went c.in-Ok.ensures.bytes c.in-Err-deliver_to.ensures.front c.clear.ensures.items c.as_slice.ensures.value
     (at_end_of_none c.in-Ok.count c.read_from.new.buf _ c.in-Ok.ensures.bound.0 (omega arith) c.in-Ok.ensures.end)
     c.advance-advanced.ensures.goes c.advance-advanced.ensures.ends c.advance-advanced.ensures.err
 
@@ -35,7 +35,7 @@ pub returns-in-Err-advanced-clause-left : goal.returns-in-Err-advanced-clause-le
 returns-in-Err-advanced-clause-left g c =
     let bytes : List ℕ = take c.in-Ok.count c.read_from.new.buf in
     refusal_leaves _ _ _ _ _ _ (progress_of c.chunks.run) bytes c.clear.new.self.items c.advance-advanced.new.out.items c.as_slice.result.now
-    c.chunks.invariant.went c.in-Ok.ensures.bytes c.in_default-deliver.ensures.ok c.clear.ensures.items c.as_slice.ensures.value c.in-Err-advanced.ensures.err
+    c.chunks.invariant.went c.in-Ok.ensures.bytes c.in_default-deliver_to.ensures.ok c.clear.ensures.items c.as_slice.ensures.value c.in-Err-advanced.ensures.err
 
 -- the script goes on
 pub chunks-preserved : goal.chunks-preserved
@@ -46,14 +46,14 @@ chunks-preserved g c =
     let goes = gone_on c.advance-advanced.result c.in-Ok-advanced.ended (LeadsOn p p' bytes c.clear.new.self.items c.advance-advanced.new.out.items) c.in-Ok-advanced.is c.in-None.is c.advance-advanced.ensures.goes in
     let ready = gone_on c.advance-advanced.result c.in-Ok-advanced.ended (IsReady p' × (spent p < spent p')) c.in-Ok-advanced.is c.in-None.is c.advance-advanced.ensures.ready in
     let well = c.chunks.invariant in
-    let delivered = c.in_default-deliver.ensures.well in
+    let delivered = c.in_default-deliver_to.ensures in
     record {
       ready = ready.0;
       source_same = g.met.S.Source.stays_on _ _ _ well.source_same c.read_from.ensures.same;
-      sink_same = g.met.K.Sink.stays_on _ _ _ well.sink_same c.deliver.ensures.same;
+      sink_same = g.met.K.Sink.stays_on _ _ _ well.sink_same c.deliver_to.ensures.same;
       source_well = (c.in-Ok.ensures.health ∙ well.source_well.0, c.in-Ok.ensures.row);
-      sink_well = (delivered.0 ∙ well.sink_well.0, delivered.1, delivered.2 ∙ well.sink_well.2, delivered.3);
-      went = went_on _ _ _ _ _ _ p p' bytes c.clear.new.self.items c.advance-advanced.new.out.items c.as_slice.result.now well.went c.in-Ok.ensures.bytes c.in_default-deliver.ensures.ok c.clear.ensures.items c.as_slice.ensures.value goes;
+      sink_well = (delivered.health ∙ well.sink_well.0, delivered.row, delivered.progress ∙ well.sink_well.2, delivered.flushed);
+      went = went_on _ _ _ _ _ _ p p' bytes c.clear.new.self.items c.advance-advanced.new.out.items c.as_slice.result.now well.went c.in-Ok.ensures.bytes c.in_default-deliver_to.ensures.ok c.clear.ensures.items c.as_slice.ensures.value goes;
     }
 
 -- each byte is paid for
@@ -72,7 +72,7 @@ returns-in-Some-clause-text g c =
     let bytes : List ℕ = take c.in-Ok.count c.read_from.new.buf in
     let ends = has_ended c.advance-advanced.result c.in-Ok-advanced.ended c.in-Some.end (LeadsToEnd p bytes c.clear.new.self.items c.advance-advanced.new.out.items) c.in-Ok-advanced.is c.in-Some.is c.advance-advanced.ensures.ends in
     whole_text _ _ _ _ _ _ p bytes c.clear.new.self.items c.advance-advanced.new.out.items c.as_slice.result.now c.in-Some.end
-    c.chunks.invariant.went c.in-Ok.ensures.bytes c.in_default-deliver.ensures.ok c.clear.ensures.items c.as_slice.ensures.value
+    c.chunks.invariant.went c.in-Ok.ensures.bytes c.in_default-deliver_to.ensures.ok c.clear.ensures.items c.as_slice.ensures.value
     (at_end_of_none c.in-Ok.count c.read_from.new.buf _ c.in-Ok.ensures.bound.0 (omega arith) c.in-Ok.ensures.end) ends
 
 pub returns-in-Some-clause-whole : goal.returns-in-Some-clause-whole
