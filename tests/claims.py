@@ -1,0 +1,151 @@
+#!/usr/bin/env python3
+"""Checks that each call, clause, fact and file that README.md and docs/guarantees.md name is there.
+
+A row of a table that promises something names, in its last cell, functions, followed by the clauses that each of them
+has, as `Timers::arm`, `arm_both` `armed`, `unchanged`; items are parted by semicolons, and what definitions a clause
+cites stands in brackets. The crates are those of the heading above, or of the paths. Prints a line for each name that
+is missing, and `N passed, M failed`.
+"""
+import pathlib
+import re
+import sys
+
+ROOT = pathlib.Path(__file__).resolve().parent.parent
+HEADS = ("Function and clause", "Contract that carries it", "Clause")
+FN = re.compile(r"^( *)(?:pub(?:\([a-z]+\))? )?(?:const )?(?:unsafe )?fn (\w+)")
+OWNER = re.compile(r"^(?:pub(?:\([a-z]+\))? )?(impl|trait)\b(.*)")
+ITEM = re.compile(r"^\s*(?:pub(?:\([a-z]+\))? )?(?:struct|enum|trait|const|type|mod) (\w+)", re.M)
+# (a definition; an indented line without one of these words is a field of a record)
+FACT = re.compile(r"^(?: *(?:pub )?(?:abbrev|data|record) (?:pub )?|pub |)([A-Za-z_]\w*)\b[^\n]*?:", re.M)
+
+
+class Crate:
+    """The functions of a crate, each with the names of its clauses, and its other names."""
+
+    def __init__(self, folder):
+        self.functions, self.names = {}, set()
+        for file in sorted(folder.glob("src/**/*.rt")):
+            if "tests" not in file.relative_to(folder).parts and file.stem != "tests":
+                self.read_source(file.read_text())
+        for file in folder.glob("specs/**/*.antt"):
+            self.names |= set(FACT.findall(file.read_text()))
+
+    def read_source(self, text):
+        self.names |= set(ITEM.findall(text))
+        owner, clauses = "", None
+        for line in text.splitlines():
+            block, head = OWNER.match(line), FN.match(line)
+            if block:
+                owner, clauses = owner_of(block[2]), None
+            elif head:
+                owner = owner if head[1] else ""
+                clauses = set()
+                for key in {head[2], f"{owner}::{head[2]}" if owner else head[2]}:
+                    self.functions.setdefault(key, []).append(clauses)
+            elif clauses is not None:
+                clauses |= set(re.findall(r"\b(?:ensures|requires)\*? (\w+) \{", line))
+
+    def has(self, name):
+        return name in self.functions or name in self.names
+
+
+def owner_of(text):
+    """The type or trait that a block belongs to: `impl<..> Trait for Type<..> {` is Type's."""
+    while "<" in text and re.search(r"<[^<>]*>", text):
+        text = re.sub(r"<[^<>]*>", "", text)
+    found = re.findall(r"[\w:]+", text.split("{")[0].split(" where")[0].split(":")[0])
+    return found[-1].split("::")[-1] if found else ""
+
+
+def rows_of(text):
+    """Each last cell of a table of promises, with its line and the crates of the heading above it."""
+    named, inside = [], False
+    for number, line in enumerate(text.splitlines(), 1):
+        if line.startswith("#"):
+            named, inside = re.findall(r"`(\w+)`", line), False
+        elif not line.startswith("|"):
+            inside = False
+        else:
+            cells = [it.strip() for it in line.strip().strip("|").split(" | ")]
+            if any(it in HEADS for it in cells):
+                inside = True
+            elif inside and not set(line) <= set("|- "):
+                yield number, named, cells[1]
+
+
+class Row:
+    """One cell's claims: functions, then the clauses of those functions."""
+
+    def __init__(self, crates, named):
+        self.all, self.crates = crates, [crates[it] for it in named if it in crates] or list(crates.values())
+        self.missing, self.seen = [], 0
+
+    def read(self, cell):
+        for item in re.split(r";", cell):
+            in_brackets = " ".join(re.findall(r"\(([^)]*)\)", item))
+            tokens = re.findall(r"`([^`]+)`", re.sub(r"\([^)]*\)", "", item))
+            facts = re.findall(r"`([^`]+)`", in_brackets)
+            self.seen += len(tokens) + len(facts)
+            self.crates = [self.all[it] for it in tokens if it in self.all] or self.crates
+            self.missing += [it for it in facts if self.bodies(it) is None]
+            self.read_item([it for it in tokens if it not in self.all])
+        return self
+
+    def read_item(self, tokens):
+        group, after_clause = [], False
+        for token in tokens:
+            if self.is_clause(token, group):
+                after_clause = True
+                continue
+            found = self.bodies(token)
+            # (after a function a plain word is a clause or another function)
+            if found is None or not found and group and token.islower() and "_" not in token:
+                self.missing.append(token)
+            elif found:
+                group = found if after_clause else group + found
+                after_clause = False
+
+    def is_clause(self, token, group):
+        if group:
+            return all(any(token in it for it in same) for same in group)
+        return any(token in it for crate in self.crates for same in crate.functions.values() for it in same)
+
+    def bodies(self, token):
+        """The bodies of that name; none for a name that is no function; None where nothing has the name."""
+        if "/" in token or token.endswith((".antt", ".sh")):
+            return [] if any(ROOT.glob(token)) or any(ROOT.glob(f"crates/*/{token}")) else None
+        parts = token.split("::")
+        if parts[0] in self.all:
+            self.crates, parts = [self.all[parts[0]]], parts[1:]
+        name = "::".join(it for it in parts if it not in ("laws",)) or "laws"
+        holders = [it for it in self.crates if it.has(name)]
+        if not holders:
+            # (a fact may be a lower crate's)
+            return [] if any(name in it.names for it in self.all.values()) else None
+        return [same for it in holders for same in [it.functions.get(name)] if same]
+
+
+def check(text, crates):
+    """The missing names, each with its line, and how many names were looked up."""
+    missing, seen = [], 0
+    for number, named, cell in rows_of(text):
+        row = Row(crates, named).read(cell)
+        seen += row.seen
+        missing += [(number, it) for it in row.missing]
+    return missing, seen
+
+
+def main():
+    crates = {it.name: Crate(it) for it in sorted((ROOT / "crates").iterdir()) if it.is_dir()}
+    failed = passed = 0
+    for name in ("README.md", "docs/guarantees.md"):
+        missing, seen = check((ROOT / name).read_text(), crates)
+        for number, token in missing:
+            print(f"{name}:{number}: nothing is called `{token}`, or no function before it has that clause")
+        failed, passed = failed + len(missing), passed + seen - len(missing)
+    print(f"{passed} passed, {failed} failed")
+    return 1 if failed or not passed else 0
+
+
+if __name__ == "__main__":
+    sys.exit(main())
