@@ -1,0 +1,43 @@
+#!/bin/sh
+# Runs a million random steps, by 2 to 50 holders, on Go's own fd_mutex.go and on the built program, and compares every
+# word and answer; a panic of Go's is `toomany` or `misuse` here. Go's file is copied out of Debian's golang-src when
+# this runs; nothing of it is kept. Then two wrong copies of it must be told apart. About two minutes.
+# Usage: tests/against_go.sh [STEPS]; PROGRAM is the program, by default crates/pollrelay/out/pollrelay.
+set -eu
+root=$(cd "$(dirname "$0")/.." && pwd)
+program=${PROGRAM:-$root/crates/pollrelay/out/pollrelay}
+steps=${1:-1000000}
+[ -x "$program" ] || { echo "$program isn't built: run 'rt run' in crates/pollrelay"; exit 1; }
+if ! command -v go > /dev/null || ! ls /usr/share/go-*/src/internal/poll/fd_mutex.go > /dev/null 2>&1; then
+    apt-get update -q > /dev/null
+    apt-get install -y -q golang-go golang-src > /dev/null
+fi
+work=$(mktemp -d)
+trap 'rm -rf "$work"' EXIT
+export GOCACHE="$work/cache" GOFLAGS=-mod=mod GO111MODULE=on
+mkdir "$work/right"
+cp "$root"/tests/against_go/*.go "$work/right/"
+# Go's file as it is, but for its package and for the two functions that the runtime gives it.
+sed -e 's/^package poll$/package main/' -e '/^func runtime_Sem[a-z]*(sema \*uint32)$/d' \
+    "$(ls /usr/share/go-*/src/internal/poll/fd_mutex.go | tail -n 1)" > "$work/right/fd_mutex.go"
+printf 'module against\n\ngo 1.18\n' > "$work/right/go.mod"
+
+# build NAME EDIT: a copy with this edit of Go's file, which has to change it
+build() {
+    [ "$1" = right ] || cp -r "$work/right" "$work/$1"
+    sed -i "$2" "$work/$1/fd_mutex.go"
+    [ "$1" = right ] || ! cmp -s "$work/right/fd_mutex.go" "$work/$1/fd_mutex.go"
+    (cd "$work/$1" && go build -o "../against-$1" .)
+}
+
+build right ''
+"$work/against-right" -program "$program" -steps "$steps"
+build keeps_waiters 's/new &^= mutexRMask | mutexWMask/new \&^= mutexRMask/'
+build forgets_a_waiter 's/new -= mutexWait/new -= mutexWait - mutexWait/'
+for wrong in keeps_waiters forgets_a_waiter; do
+    if "$work/against-$wrong" -program "$program" -steps "$steps" > "$work/said"; then
+        echo "a wrong copy of Go's word ($wrong) was not told apart"
+        exit 1
+    fi
+    echo "a wrong copy of Go's word ($wrong) is told apart: $(head -n 1 "$work/said")"
+done
