@@ -1,12 +1,14 @@
 //! Nanoseconds a round on one lock word at 1, 2 and 4 threads: the proved word (the program of the crate
-//! `bench_lock_word`), and beside it plain Rust. Each run is a process of its own, timed from outside, in
-//! turn with its peers; each prints its rounds, its word and its half, which are compared. In each turn
-//! the words lie elsewhere in their pages. Prints medians and ratios.
+//! `bench_lock_word`), and beside it plain Rust and, where `go_word/build.sh` has built it, Go's own word.
+//! Each run is a process of its own, timed from outside, in turn with its peers; each prints its rounds,
+//! its word and its half, which are compared. In each turn the words lie elsewhere in their pages. Prints
+//! medians, and the ratio of the proved word's to each.
 
 mod plain_word;
 
 use plain_word::PlainWord;
 use std::hint::black_box;
+use std::path::Path;
 use std::process::Command;
 use std::sync::Mutex;
 use std::thread;
@@ -16,6 +18,7 @@ const PROVED: &str = concat!(
     env!("CARGO_MANIFEST_DIR"),
     "/../crates/bench_lock_word/out/bench_lock_word"
 );
+const GO: &str = concat!(env!("CARGO_MANIFEST_DIR"), "/target/go_word");
 /// Bytes taken on the heap ahead of the word, a turn each: what a step costs can depend on the place of
 /// the word in its page.
 const LEADS: [usize; 9] = [0, 24, 72, 136, 264, 392, 520, 1032, 1992];
@@ -110,12 +113,15 @@ fn spread<const N: usize>(mut times: [f64; N]) -> (f64, f64) {
     (times[N / 2], times[N - 1])
 }
 
+/// What runs: its name, its program, and the words before the job's.
+type Contender<'a> = (&'a str, &'a str, &'a [&'a str]);
+
 /// Runs the contenders in turn, and prints for each the median over the places of its word and the worst
-/// place, and the ratio of the first two medians. A place counts by the least of its turns. `half` is
+/// place, and the ratio of the first median to it. A place counts by the least of its turns. `half` is
 /// what a round adds to the half.
 fn compare(
     title: &str,
-    contenders: &[(&str, &str, &[&str])],
+    contenders: &[Contender],
     (threads, rounds, turns): (u64, u64, usize),
     half: u64,
 ) {
@@ -136,9 +142,10 @@ fn compare(
     let spreads: Vec<(f64, f64)> = times.into_iter().map(spread).collect();
     print!("{title}, threads {threads}:");
     for ((name, _, _), (median, worst)) in contenders.iter().zip(&spreads) {
-        print!(" {name} {median:.1} ns (worst {worst:.1}),");
+        let ratio = spreads[0].0 / median;
+        print!(" {name} {median:.1} ns (worst {worst:.1}; ratio {ratio:.2}),");
     }
-    println!(" ratio {:.2}", spreads[0].0 / spreads[1].0);
+    println!();
 }
 
 fn main() {
@@ -148,15 +155,19 @@ fn main() {
         return plain(load, Job::of(numbers));
     }
     let own = words[0].as_str();
-    let references: [(&str, &str, &[&str]); 2] = [
+    let mut references: Vec<Contender> = vec![
         ("proved", PROVED, &["references"]),
         ("plain atomics", own, &["plain", "references"]),
     ];
-    let locks: [(&str, &str, &[&str]); 3] = [
+    let mut locks: Vec<Contender> = vec![
         ("proved", PROVED, &["reads"]),
         ("spin", own, &["plain", "spin"]),
         ("std's mutex", own, &["plain", "mutex"]),
     ];
+    if Path::new(GO).exists() {
+        references.push(("Go's", GO, &["references"]));
+        locks.push(("Go's", GO, &["reads"]));
+    }
     // One thread's runs are short and many, so that those in which the machine was busy don't count;
     // more threads need long ones, in which they meet.
     for work in [(1, 4_000_000, 5), (2, 4_000_000, 1), (4, 2_000_000, 1)] {

@@ -85,5 +85,8 @@ fn main() {
         theirs.push(plain_time);
     }
     let (ours, theirs) = (median(ours), median(theirs));
-    println!("proved {ours:.2} ns a step, by hand {theirs:.2} ns, ratio {:.2}", ours / theirs);
+    println!(
+        "proved {ours:.2} ns a step, by hand {theirs:.2} ns, ratio {:.2}",
+        ours / theirs
+    );
 }
