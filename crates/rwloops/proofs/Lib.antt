@@ -3,3 +3,4 @@ pub mod ReadLemmas
 pub mod AcceptLemmas
 pub mod PartialWriteLemmas
 pub mod RetryLemmas
+pub mod AnswerLemmas

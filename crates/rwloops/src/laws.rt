@@ -85,3 +85,26 @@ pub fn no_written_byte_is_offered_again()
         → (start : ℕ) × (count_of older + count_in made.outcome ≤ start)
         × (later.offered ≡ chunk_after bytes start) }
 {}
+
+/// The outcomes of the tries and the answers of the waits decide the answer of a read.
+pub fn outcomes_decide_a_read()
+    ensures { (buffer other : List ℕ) (tries others : List ReadTry) (calls asked : List WaitCall)
+        (result answer : Result ℕ Fault) → ReadTrace buffer tries calls result
+        → ReadTrace other others asked answer
+        → map read_outcome tries ≡ map read_outcome others → calls ≡ asked → result ≡ answer }
+{}
+
+/// The length, the outcomes of the tries and the answers of the waits decide the answer of a write.
+pub fn outcomes_decide_a_write()
+    ensures { (bytes other : List ℕ) (tries others : List WriteTry) (calls asked : List WaitCall)
+        (result answer : Result ℕ WriteFault) → WriteTrace bytes tries calls result
+        → WriteTrace other others asked answer → length bytes ≡ length other
+        → map write_outcome tries ≡ map write_outcome others → calls ≡ asked → result ≡ answer }
+{}
+
+/// The outcomes of the tries and the answers of the waits decide the answer of an accept, with what it took.
+pub fn outcomes_decide_an_accept<T>()
+    ensures { (tries others : List (AcceptOutcome T)) (calls asked : List WaitCall)
+        (result answer : Result T Fault) → AcceptTrace tries calls result
+        → AcceptTrace others asked answer → tries ≡ others → calls ≡ asked → result ≡ answer }
+{}
