@@ -73,18 +73,27 @@ def newest(crate):
     return max(found)
 
 
+def stamp(crate):
+    """Where `rt` notes which text it built a library of. `rt ci` leaves libraries without one."""
+    return f"{crate.folder}/out/rlib/stamp"
+
+
 def stands(crate):
-    """Whether `out/` holds what the crate's proof leaves: its library, or the built program, newer than all text under it."""
+    """Whether `out/` holds what a proof of this text leaves: the library, or the built program."""
+    if os.path.exists(stamp(crate)):
+        return crate.is_built()
     made = f"{crate.folder}/out/{crate.name}" if crate.is_program else f"{crate.rlib}/format"
     return os.path.exists(made) and os.path.getmtime(made) > newest(crate)
 
 
 def prove(crate):
-    """Proves the crate and the libraries below it where `out/` doesn't show that they are, and says whether they are."""
-    for it in [*crate.below(), crate]:
-        if not stands(it):
-            done = run([RT, "check" if it.is_program else "lib", "--jobs", "1"], it.folder)
-            if done.status:
-                print(done.text, end="")
-                return False
-    return True
+    """Proves a crate and the libraries below it where `out/` doesn't show that they are, and says whether they are.
+
+    Libraries of `rt ci` hold statements alone, which fit no library that another command built: it's all or none."""
+    kinds = {os.path.exists(stamp(it)) for it in crate.below()}
+    if len(kinds) < 2 and all(map(stands, [*crate.below(), crate])):
+        return True
+    done = run([RT, "check" if crate.is_program else "lib", "--jobs", "1"], crate.folder)
+    if done.status:
+        print(done.text, end="")
+    return not done.status

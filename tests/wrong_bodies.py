@@ -124,7 +124,7 @@ def packed(edits, read):
 def own_goal(function, text):
     """What a check's text says that it refuses of the function itself: a goal, or an error at its own answers; else None."""
     said = re.search(rf"^fn {re.escape(function)}: (.*)", text, re.M)
-    goals = re.search(r"`search` did not prove (`[^`]*`)", said[1]) if said else None
+    goals = re.search(r"`search` did not prove (`[^`]*`(?:, `[^`]*`)*)", said[1]) if said else None
     if goals:
         return f"`search` did not prove {goals[1]}"
     if not said or not said[1].startswith(("not proved", "no proof")):
