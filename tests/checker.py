@@ -23,7 +23,8 @@ Run = namedtuple("Run", "text status seconds by_function")
 
 
 def crates(root=ROOT):
-    """The crates of crates.txt, lowest first."""
+    """The crates of crates.txt, lowest first. The main thread asks for them before others run checks."""
+    rtlib.guarded()  # (its first call sets a signal's handler)
     return rtlib.crates_below(root)
 
 

@@ -129,17 +129,20 @@ def own_goal(function, text):
         return f"`search` did not prove {goals[1]}"
     if not said or not said[1].startswith(("not proved", "no proof")):
         return None
-    answers = re.escape("proofs/" + "/".join(function.split("::")[1:]))
-    errors = re.findall(rf"^(?:\./)?{answers}/\w+\.antt:\d+:\d+: error: (.*)", text, re.M)
+    errors = errors_in("proofs/" + "/".join([*function.split("::")[1:], ""]), text)
     return next((it for it in errors if not NAMES_WHAT_IS_GONE.search(it)), None)
 
 
+def errors_in(path, text):
+    """What a check says of each error in files whose paths begin so. An error goes on in lines that are indented."""
+    return re.findall(rf"^(?:\./)?{re.escape(path)}\S*?:\d+:\d+: error: (.*(?:\n  .*)*)", text, re.M)
+
+
 def unreadable(text):
-    """The line by which a check says that it can't read a text of src/ or specs/, where a false statement would read well."""
-    for line in re.findall(r"^(?:\./)?(?:src|specs)/\S+:\d+:\d+: error: .*", text, re.M):
-        said = line.split(" error: ", 1)[1]
+    """The error by which a check says that it can't read a text of src/ or specs/, where a false statement would read well."""
+    for said in errors_in("src/", text) + errors_in("specs/", text):
         if not re.match(r"`[^`]*`: ", said) or UNREADABLE.search(re.sub(r"`[^`]*`", "", said)):
-            return line
+            return said
     return None
 
 
@@ -159,7 +162,7 @@ def judged(run, batch, names):
         return [Verdict(False, why)] * len(batch)
     bad = unreadable(run.text)
     if bad:
-        return [Verdict(False, f"a text can't be read: {bad[:200]}")] * len(batch)
+        return [Verdict(False, f"a text can't be read: {one_line(bad)}")] * len(batch)
     broken = others_refused(run.text, batch, names) if names else []
     if broken:
         return [Verdict(False, f"it breaks a function that it doesn't name: {broken[0]}")] * len(batch)
@@ -168,7 +171,11 @@ def judged(run, batch, names):
 
 def first_error(text):
     errors = re.findall(r"^.*(?:error|no verdict|cannot be used).*", text, re.M)
-    return (errors or text.split("\n"))[0][:200]
+    return one_line((errors or [text])[0])
+
+
+def one_line(text):
+    return " ".join(text.split())[:160]
 
 
 def judged_alone(text, function, is_beside_others):
@@ -178,14 +185,14 @@ def judged_alone(text, function, is_beside_others):
     if said[1].startswith("proved"):
         return Verdict(False, f"NOT REFUSED: {function} is proved")
     if is_beside_others and re.search(r"which (is|are) not proved", said[1]):
-        return Verdict(False, f"it calls what another edit of the batch breaks: {said[1][:160]}")
+        return Verdict(False, f"it calls what another edit of the batch breaks: {one_line(said[1])}")
     goal = own_goal(function, text)
     if goal:
-        return Verdict(True, goal[:160])
-    gone = next((it for it in re.findall(r"^(?:\./)?proofs/.*error: .*", text, re.M) if NAMES_WHAT_IS_GONE.search(it)), "")
+        return Verdict(True, one_line(goal))
+    gone = next((it for it in errors_in("proofs/", text) if NAMES_WHAT_IS_GONE.search(it)), "")
     if gone:
-        return Verdict(False, f"refused only because a proof file names what is gone: {gone[:160]}")
-    return Verdict(False, f"{function} isn't refused at a goal of its own: {said[1][:160]}")
+        return Verdict(False, f"refused only because a proof file names what is gone: {one_line(gone)}")
+    return Verdict(False, f"{function} isn't refused at a goal of its own: {one_line(said[1])}")
 
 
 def try_batch(batch, check, read):

@@ -135,10 +135,10 @@ class Verdicts(unittest.TestCase):
         self.assertIn("not refused at a goal of its own", alone(HIGH, waits)[1].replace("isn't", "not"))
 
     def test_a_refusal_for_a_name_that_is_gone_is_none(self):
-        gone = "./proofs/low/Answers.antt:3:9: error: `returns`: `c.add` has no field `result`"
-        found = alone(LOW, says(gone, "fn a::low: not proved"))
-        self.assertFalse(found[0])
-        self.assertIn("names what is gone", found[1])
+        for gone in ("`c.add` has no field `result`", "`record {x : Unit}`\n  has no field `result`\n  its fields are `x`", "`c.add` is not in scope"):
+            found = alone(LOW, says(f"./proofs/low/Answers.antt:3:9: error: `returns`: {gone}", "fn a::low: not proved"))
+            self.assertFalse(found[0], gone)
+            self.assertIn("names what is gone", found[1])
 
     def test_an_answer_that_no_longer_holds_is_a_refusal(self):
         wrong = "./proofs/low/Answers.antt:3:9: error: `returns`: the two types differ"
