@@ -9,7 +9,7 @@ mkdir -p "$work/crates/misuse/src" "$work/crates/misuse/specs" "$work/crates/mis
 touch "$work/crates/misuse/specs/Lib.antt" "$work/crates/misuse/proofs/Lib.antt"
 cp "$root/HANDLES" "$work/"
 for crate in stream_base lockword_core lockword; do
-    (cd "$root/crates" && tar --exclude=out --exclude=must-fail -cf - "$crate") | tar -C "$work/crates" -xf -
+    (cd "$root/crates" && tar --exclude=out --exclude=must-fail --exclude=wrong-bodies -cf - "$crate") | tar -C "$work/crates" -xf -
 done
 {
     grep -E '^(stream_base|lockword_core|lockword)[ :]' "$root/crates.txt"

@@ -1,0 +1,271 @@
+"""Tries the wrong bodies of `crates/NAME/wrong-bodies/*.edit`: the prover has to refuse each at a goal of the function that it names.
+
+    python3 tests/wrong_bodies.py [NAME..]      those of the named crates, or of all
+
+An edit is written as those of `must-fail/`, with one line more, `refused: FUNCTION`, the name as a check prints it. Edits
+of different functions are tried in one check of the functions that they name. What isn't refused there is tried with fewer
+beside it, and alone at last. The last line is `N passed, M failed`.
+"""
+
+import os
+import re
+import sys
+import tempfile
+import threading
+import time
+from collections import namedtuple
+from concurrent.futures import ThreadPoolExecutor
+
+import checker
+
+Edit = namedtuple("Edit", "crate name refused pairs")
+
+# What became of an edit: whether it was refused as it has to be, and what was said.
+Verdict = namedtuple("Verdict", "is_refused why")
+
+NAMES_WHAT_IS_GONE = re.compile(r"has no field|is not in scope|has no `|was not admitted")
+UNREADABLE = re.compile(r"is not in scope|has no field|is no name|operand is missing|expected the end|cannot continue")
+
+printing = threading.Lock()
+started = time.monotonic()
+
+
+def read_edit(crate_name, path):
+    """Reads an edit: its pairs of a file's path, the text that stands there once, and the text that takes its place."""
+    refused, pairs, file, old = "", [], "", None
+    with open(path, encoding="utf-8") as text:
+        for line in text.read().split("\n"):
+            key, _, said = line.partition(":")
+            if key == "new" and old is not None:
+                pairs.append((file, old, said.removeprefix(" ")))
+                old = None
+            elif key == "file":
+                file = said.strip()
+            elif key == "refused":
+                refused = said.strip()
+            elif key == "old":
+                old = said.removeprefix(" ")
+    return Edit(crate_name, os.path.basename(path).removesuffix(".edit"), refused, pairs)
+
+
+def edits_of(crate):
+    folder = f"{crate.folder}/wrong-bodies"
+    names = sorted(os.listdir(folder)) if os.path.isdir(folder) else []
+    return [read_edit(crate.name, f"{folder}/{it}") for it in names]
+
+
+def apply(edit, read):
+    """The texts with the edit, by path, where `read` gives a file's text; or a reason why it doesn't apply."""
+    texts = {}
+    if not edit.pairs or not edit.refused:
+        return None, "it has no pair of `old:` and `new:`, or no line `refused:`"
+    for path, old, new in edit.pairs:
+        try:
+            text = texts[path] if path in texts else read(path)
+        except OSError:
+            return None, f"there is no file {path}"
+        if text.count(old) != 1:
+            return None, f"an `old:` text stands in {path} {text.count(old)} times, and not once"
+        texts[path] = text.replace(old, new)
+    return texts, None
+
+
+def body_around(text, at):
+    """The function whose body has the place `at`, as its line and name, by the layout that `rt fmt` gives; or None."""
+    lines = text[:at].split("\n")
+    for number in range(len(lines) - 1, -1, -1):
+        head = re.match(r"( *)(?:pub(?:\([^)]*\))? )?(?:const |unsafe )*fn (\w+)", lines[number])
+        if head:
+            above = lines[number:-1]
+            begins = [it for it in above if it.endswith("{") and (it is above[0] or it.startswith((f"{head[1]}{{", f"{head[1]})")))]
+            return (number, head[2]) if begins and f"{head[1]}}}" not in above else None
+    return None
+
+
+def bodies(edit, read):
+    """The functions whose bodies the edit changes, each as its file, line and name; or None where it changes anything else."""
+    found = set()
+    for path, old, _ in edit.pairs:
+        text = read(path)
+        body = body_around(text, text.index(old) + len(old) - 1) if path.startswith("src/") else None
+        if body is None:
+            return None
+        found.add((path, *body))
+    return found
+
+
+def applied_together(edits, read):
+    """The texts with all of these edits, by path, or None where one keeps another from applying."""
+    texts = {}
+    for edit in edits:
+        more, why = apply(edit, lambda path: texts[path] if path in texts else read(path))
+        if why:
+            return None
+        texts.update(more)
+    return texts
+
+
+def packed(edits, read):
+    """Batches of edits: in a batch no two change one function or are refused at one, and what is no body stands alone."""
+    batches = []
+    for edit in edits:
+        takes = bodies(edit, read)
+        takes = takes and takes | {edit.refused}
+        for taken, batch in batches:
+            if takes and taken and not takes & taken and applied_together([*batch, edit], read):
+                taken.update(takes)
+                batch.append(edit)
+                break
+        else:
+            batches.append((takes, [edit]))
+    return [batch for _, batch in batches]
+
+
+def own_goal(function, text):
+    """What a check's text says that it refuses of the function itself: a goal, or an error at its own answers; else None."""
+    said = re.search(rf"^fn {re.escape(function)}: (.*)", text, re.M)
+    goals = re.search(r"`search` did not prove (`[^`]*`(?:, `[^`]*`)*)", said[1]) if said else None
+    if goals:
+        return f"`search` did not prove {goals[1]}"
+    if not said or not said[1].startswith(("not proved", "no proof")):
+        return None
+    errors = errors_in("proofs/" + "/".join([*function.split("::")[1:], ""]), text)
+    return next((it for it in errors if not NAMES_WHAT_IS_GONE.search(it)), None)
+
+
+def errors_in(path, text):
+    """What a check says of each error in files whose paths begin so. An error goes on in lines that are indented."""
+    return re.findall(rf"^(?:\./)?{re.escape(path)}\S*?:\d+:\d+: error: (.*(?:\n  .*)*)", text, re.M)
+
+
+def unreadable(text):
+    """The error by which a check says that it can't read a text of src/ or specs/, where a false statement would read well."""
+    for said in errors_in("src/", text) + errors_in("specs/", text):
+        if not re.match(r"`[^`]*`: ", said) or UNREADABLE.search(re.sub(r"`[^`]*`", "", said)):
+            return said
+    return None
+
+
+def others_refused(text, batch, names):
+    """The functions refused at goals of their own which no edit of the batch changes or names."""
+    refused = re.findall(r"^fn (\S+): no[t ]", text, re.M)
+    known = {it.refused for it in batch}
+    return [it for it in refused if it not in known and not names & set(re.split(r"::|\+", it)) and own_goal(it, text)]
+
+
+def judged(run, batch, names):
+    """A verdict on each edit of a batch, from what the check of it said."""
+    last = run.text.rstrip("\n").split("\n")[-1]
+    if run.status != 1 or not last.startswith("only="):
+        reached = re.search(r"^only=\d+ proved=\d+$", last) and run.status == 0
+        why = "NOT REFUSED: it is proved" if reached else f"no verdict, or it doesn't compile: {first_error(run.text)}"
+        return [Verdict(False, why)] * len(batch)
+    bad = unreadable(run.text)
+    if bad:
+        return [Verdict(False, f"a text can't be read: {one_line(bad)}")] * len(batch)
+    broken = others_refused(run.text, batch, names) if names else []
+    if broken:
+        return [Verdict(False, f"it breaks a function that it doesn't name: {broken[0]}")] * len(batch)
+    return [judged_alone(run.text, it.refused, len(batch) > 1) for it in batch]
+
+
+def first_error(text):
+    errors = re.findall(r"^.*(?:error|no verdict|cannot be used).*", text, re.M)
+    return one_line((errors or [text])[0])
+
+
+def one_line(text):
+    return " ".join(text.split())[:160]
+
+
+def judged_alone(text, function, is_beside_others):
+    said = re.search(rf"^fn {re.escape(function)}: (.*)", text, re.M)
+    if not said:
+        return Verdict(False, f"the check says nothing of {function}")
+    if said[1].startswith("proved"):
+        return Verdict(False, f"NOT REFUSED: {function} is proved")
+    if is_beside_others and re.search(r"which (is|are) not proved", said[1]):
+        return Verdict(False, f"it calls what another edit of the batch breaks: {one_line(said[1])}")
+    goal = own_goal(function, text)
+    if goal:
+        return Verdict(True, one_line(goal))
+    gone = next((it for it in errors_in("proofs/", text) if NAMES_WHAT_IS_GONE.search(it)), "")
+    if gone:
+        return Verdict(False, f"refused only because a proof file names what is gone: {one_line(gone)}")
+    return Verdict(False, f"{function} isn't refused at a goal of its own: {one_line(said[1])}")
+
+
+def try_batch(batch, check, read):
+    """Yields each edit with its verdict and its share of the processor seconds. `check` runs a batch's texts and functions."""
+    texts = applied_together(batch, read)
+    changed = [bodies(it, read) for it in batch]
+    names = {name for it in changed for _, _, name in it} if all(changed) else set()
+    run = check(texts, [it.refused for it in batch])
+    verdicts = judged(run, batch, names)
+    rest = [it for it, verdict in zip(batch, verdicts) if not verdict.is_refused]
+    if len(batch) == 1:
+        rest = []
+    for edit, verdict in zip(batch, verdicts):
+        if edit not in rest:
+            yield edit, verdict, run.seconds / (len(batch) - len(rest))
+    half = len(rest) // 2 if len(rest) == len(batch) else len(rest)
+    for part in (rest[:half], rest[half:]):
+        if part:
+            yield from try_batch(part, check, read)
+
+
+def try_crate(crate):
+    """Tries a crate's edits, and returns for each whether it was refused as it has to be, with its seconds."""
+    edits, told = edits_of(crate), []
+
+    def read(path):
+        with open(f"{crate.folder}/{path}", encoding="utf-8") as file:
+            return file.read()
+
+    def tell(edit, verdict, seconds):
+        told.append((edit, verdict.is_refused, seconds))
+        minutes, rest = divmod(int(time.monotonic() - started), 60)
+        state = f"refused, {edit.refused}" if verdict.is_refused else "FAILED"
+        with printing:
+            print(f"{minutes}:{rest:02} {crate.name} {len(told)} of {len(edits)}, {edit.name}: {state}: {verdict.why} ({seconds:.1f} s)", flush=True)
+
+    applied = [(it, apply(it, read)[1]) for it in edits]
+    for edit, why in applied:
+        if why:
+            tell(edit, Verdict(False, f"it doesn't apply: {why}"), 0)
+    with tempfile.TemporaryDirectory(prefix="wrong-bodies-") as kept:
+
+        def check(texts, functions):
+            flags = [flag for it in functions for flag in ("--only", it.partition("::")[2])]
+            return checker.check(crate, texts, flags, kept)
+
+        for batch in packed([it for it, why in applied if not why], read):
+            for said in try_batch(batch, check, read):
+                tell(*said)
+    return told
+
+
+def main(names):
+    crates = [it for it in checker.crates() if edits_of(it) and (not names or it.name in names)]
+    unknown = set(names) - {it.name for it in crates}
+    if unknown:
+        print(f"no crate with wrong bodies: {', '.join(sorted(unknown))}")
+        return 2
+    if not all([checker.prove(it) for it in crates]):
+        print("the crates themselves are not proved, so no refusal would say anything")
+        print("0 passed, 1 failed")
+        return 1
+    crates.sort(key=lambda it: -len(edits_of(it)))
+    with ThreadPoolExecutor(checker.lanes()) as pool:
+        told = list(pool.map(try_crate, crates))
+    for crate, of_crate in sorted(zip([it.name for it in crates], told)):
+        print(f"{crate}: {len(of_crate)} wrong bodies, {sum(it[2] for it in of_crate):.0f} s of processor time")
+    failed = [f"{edit.crate}/{edit.name}" for of_crate in told for edit, is_refused, _ in of_crate if not is_refused]
+    if failed:
+        print(f"FAILED: {' '.join(failed)}")
+    print(f"{sum(map(len, told)) - len(failed)} passed, {len(failed)} failed")
+    return 1 if failed else 0
+
+
+if __name__ == "__main__":
+    sys.exit(main(sys.argv[1:]))
