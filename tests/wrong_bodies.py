@@ -1,4 +1,4 @@
-"""Tries the wrong bodies of `crates/NAME/wrong-bodies/*.edit`: the prover has to refuse each at a goal of the function that it names.
+"""Tries the wrong bodies of `crates/NAME/wrong-bodies/*.edit`: each has to be refused at a goal of the function that it names.
 
     python3 tests/wrong_bodies.py [NAME..]      those of the named crates, or of all
 
@@ -232,7 +232,8 @@ class CrateRun:
         state = f"refused, {edit.refused}" if verdict.is_refused else "FAILED"
         minutes, rest = divmod(int(time.monotonic() - started), 60)
         with printing:
-            print(f"{minutes}:{rest:02} {self.crate.name} {count}, {edit.name}: {state}: {verdict.why} ({seconds:.1f} s)", flush=True)
+            where = f"{minutes}:{rest:02} {self.crate.name} {count}, {edit.name}"
+            print(f"{where}: {state}: {verdict.why} ({seconds:.1f} s)", flush=True)
 
     def check(self, kept, texts, functions):
         flags = [flag for it in functions for flag in ("--only", it.partition("::")[2])]
@@ -252,7 +253,8 @@ class CrateRun:
 
 
 def main(names):
-    runs = [CrateRun(it) for it in checker.crates() if os.path.isdir(f"{it.folder}/wrong-bodies") and (not names or it.name in names)]
+    runs = [CrateRun(it) for it in checker.crates() if os.path.isdir(f"{it.folder}/wrong-bodies")]
+    runs = [it for it in runs if not names or it.crate.name in names]
     unknown = set(names) - {it.crate.name for it in runs}
     if unknown:
         print(f"no crate with wrong bodies: {', '.join(sorted(unknown))}")
