@@ -119,17 +119,15 @@ class Verdicts(unittest.TestCase):
         self.assertTrue(found["high_adds"][0] and found["other_adds"][0])
         self.assertEqual(sizes, [3, 1, 2])
 
-    def test_a_function_is_tried_again_without_the_edits_of_what_it_calls(self):
-        for high in ("no proof: it calls `a::low`, which is not proved", f"{SEARCHED}; it calls `a::low`, which is not proved"):
+    def test_a_function_that_waits_for_what_it_calls_is_tried_without_it(self):
+        def check(text, functions):
+            if "x + 3" in text:
+                return says(f"fn a::low: {SEARCHED}", "fn a::Table::high: no proof: it calls `a::low`, which is not proved")
+            return says("fn a::low: proved", f"fn a::Table::high: {SEARCHED}")
 
-            def check(text, functions):
-                if "x + 3" in text:
-                    return says(f"fn a::low: {SEARCHED}", f"fn a::Table::high: {high}")
-                return says("fn a::low: proved", f"fn a::Table::high: {SEARCHED}")
-
-            found, sizes = tried([LOW, HIGH], check)
-            self.assertTrue(found["low_adds"][0] and found["high_adds"][0])
-            self.assertEqual(sizes, [2, 1])
+        found, sizes = tried([LOW, HIGH], check)
+        self.assertTrue(found["low_adds"][0] and found["high_adds"][0])
+        self.assertEqual(sizes, [2, 1])
 
     def test_a_refusal_for_another_function_alone_is_none(self):
         waits = says("fn a::low: proved", "fn a::Table::high: no proof: it calls `a::low`, which is not proved")
