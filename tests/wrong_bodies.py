@@ -266,7 +266,7 @@ def main(names):
         for _ in pool.map(CrateRun.try_all, runs):
             pass
     for it in runs:
-        print(f"{it.crate.name}: {len(it.edits)} wrong bodies, {it.seconds:.0f} s of processor time")
+        print(f"{it.crate.name}: {len(it.edits)} tried in {it.seconds:.0f} s of processor time")
     failed = [name for it in runs for name in it.failed]
     if failed:
         print(f"FAILED: {' '.join(failed)}")
