@@ -6,7 +6,6 @@ import shutil
 import subprocess
 import sys
 import tempfile
-import time
 from collections import namedtuple
 
 ROOT = os.path.dirname(os.path.dirname(os.path.realpath(__file__)))
@@ -17,8 +16,8 @@ import rtlib  # the kit's own module, beside rt: it knows how a crate is passed 
 
 BYTES_OF_A_CHECK = 3_000_000_000
 
-# What a command printed, its exit status, the processor seconds that it took, and the seconds that passed from the end of
-# the function before it to the end of each function.
+# What a command printed, its exit status, the processor seconds that it took, and those from the end of the function before
+# it to the end of each function.
 Run = namedtuple("Run", "text status seconds by_function")
 
 
@@ -35,16 +34,23 @@ def lanes():
     return max(1, min(len(os.sched_getaffinity(0)), free // BYTES_OF_A_CHECK))
 
 
+def seconds_of(pid):
+    """The processor seconds so far of a process, and of those of its children that have ended."""
+    with open(f"/proc/{pid}/stat", encoding="ascii", errors="replace") as file:
+        ticks = file.read().rpartition(")")[2].split()[11:15]
+    return sum(map(int, ticks)) / os.sysconf("SC_CLK_TCK")
+
+
 def run(words, folder):
     """Runs a command and measures it with all that it starts."""
     how = {"cwd": folder, "stdin": subprocess.DEVNULL, "stdout": subprocess.PIPE, "stderr": subprocess.STDOUT}
     started = subprocess.Popen([*rtlib.guarded(), *words], errors="replace", text=True, **how)
-    lines, by_function, last = [], {}, time.monotonic()
+    lines, by_function, last = [], {}, 0
     for line in started.stdout:
         lines.append(line)
         ended = re.match(r"checked (\S+), \d+ of \d+", line)
         if ended:
-            now = time.monotonic()
+            now = seconds_of(started.pid)
             by_function[ended[1]], last = now - last, now
     _, status, used = os.wait4(started.pid, 0)
     started.returncode = os.waitstatus_to_exitcode(status)

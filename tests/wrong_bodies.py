@@ -1,4 +1,4 @@
-"""Tries the wrong bodies of `crates/NAME/wrong-bodies/*.edit`: the prover has to refuse each at a goal of the function that it names.
+"""Tries the wrong bodies of `crates/NAME/wrong-bodies/*.edit`: each has to be refused at a goal of the function that it names.
 
     python3 tests/wrong_bodies.py [NAME..]      those of the named crates, or of all
 
@@ -15,6 +15,7 @@ import threading
 import time
 from collections import namedtuple
 from concurrent.futures import ThreadPoolExecutor
+from functools import partial
 
 import checker
 
@@ -45,13 +46,12 @@ def read_edit(crate_name, path):
                 refused = said.strip()
             elif key == "old":
                 old = said.removeprefix(" ")
-    return Edit(crate_name, os.path.basename(path).removesuffix(".edit"), refused, pairs)
+    return Edit(crate_name, os.path.basename(path).removesuffix(".edit"), refused, tuple(pairs))
 
 
 def edits_of(crate):
     folder = f"{crate.folder}/wrong-bodies"
-    names = sorted(os.listdir(folder)) if os.path.isdir(folder) else []
-    return [read_edit(crate.name, f"{folder}/{it}") for it in names]
+    return [read_edit(crate.name, f"{folder}/{it}") for it in sorted(os.listdir(folder))]
 
 
 def apply(edit, read):
@@ -76,9 +76,10 @@ def body_around(text, at):
     for number in range(len(lines) - 1, -1, -1):
         head = re.match(r"( *)(?:pub(?:\([^)]*\))? )?(?:const |unsafe )*fn (\w+)", lines[number])
         if head:
-            above = lines[number:-1]
-            begins = [it for it in above if it.endswith("{") and (it is above[0] or it.startswith((f"{head[1]}{{", f"{head[1]})")))]
-            return (number, head[2]) if begins and f"{head[1]}}}" not in above else None
+            indent, name = head.groups()
+            first, *others = lines[number:-1] or [""]
+            begins = first.endswith("{") or any(it.endswith("{") and it.startswith((f"{indent}{{", f"{indent})")) for it in others)
+            return (number, name) if begins and f"{indent}}}" not in others else None
     return None
 
 
@@ -166,7 +167,7 @@ def judged(run, batch, names):
     broken = others_refused(run.text, batch, names) if names else []
     if broken:
         return [Verdict(False, f"it breaks a function that it doesn't name: {broken[0]}")] * len(batch)
-    return [judged_alone(run.text, it.refused, len(batch) > 1) for it in batch]
+    return [judged_alone(run.text, it.refused) for it in batch]
 
 
 def first_error(text):
@@ -178,14 +179,13 @@ def one_line(text):
     return " ".join(text.split())[:160]
 
 
-def judged_alone(text, function, is_beside_others):
+def judged_alone(text, function):
+    """A verdict on one edit. Of a function that calls what isn't proved, the goals that wait for it are not tried."""
     said = re.search(rf"^fn {re.escape(function)}: (.*)", text, re.M)
     if not said:
         return Verdict(False, f"the check says nothing of {function}")
     if said[1].startswith("proved"):
         return Verdict(False, f"NOT REFUSED: {function} is proved")
-    if is_beside_others and re.search(r"which (is|are) not proved", said[1]):
-        return Verdict(False, f"it calls what another edit of the batch breaks: {one_line(said[1])}")
     goal = own_goal(function, text)
     if goal:
         return Verdict(True, one_line(goal))
@@ -196,74 +196,81 @@ def judged_alone(text, function, is_beside_others):
 
 
 def try_batch(batch, check, read):
-    """Yields each edit with its verdict and its share of the processor seconds. `check` runs a batch's texts and functions."""
-    texts = applied_together(batch, read)
+    """Yields each edit with its verdict and its share of the processor seconds. `check` runs texts for some functions."""
+    run = check(applied_together(batch, read), [it.refused for it in batch])
     changed = [bodies(it, read) for it in batch]
     names = {name for it in changed for _, _, name in it} if all(changed) else set()
-    run = check(texts, [it.refused for it in batch])
-    verdicts = judged(run, batch, names)
-    rest = [it for it, verdict in zip(batch, verdicts) if not verdict.is_refused]
-    if len(batch) == 1:
-        rest = []
-    for edit, verdict in zip(batch, verdicts):
+    verdicts = dict(zip(batch, judged(run, batch, names)))
+    rest = [it for it in batch if not verdicts[it].is_refused and len(batch) > 1]
+    for edit in batch:
         if edit not in rest:
-            yield edit, verdict, run.seconds / (len(batch) - len(rest))
+            yield edit, verdicts[edit], run.seconds / len(batch)
     half = len(rest) // 2 if len(rest) == len(batch) else len(rest)
     for part in (rest[:half], rest[half:]):
         if part:
             yield from try_batch(part, check, read)
 
 
-def try_crate(crate):
-    """Tries a crate's edits, and returns for each whether it was refused as it has to be, with its seconds."""
-    edits, told = edits_of(crate), []
+class CrateRun:
+    """The edits of a crate as they are tried: those that failed, and the processor seconds so far."""
 
-    def read(path):
-        with open(f"{crate.folder}/{path}", encoding="utf-8") as file:
+    def __init__(self, crate):
+        self.crate, self.edits = crate, edits_of(crate)
+        self.passed, self.failed, self.seconds = 0, [], 0
+
+    def read(self, path):
+        with open(f"{self.crate.folder}/{path}", encoding="utf-8") as file:
             return file.read()
 
-    def tell(edit, verdict, seconds):
-        told.append((edit, verdict.is_refused, seconds))
-        minutes, rest = divmod(int(time.monotonic() - started), 60)
+    def tell(self, edit, verdict, seconds=0):
+        if verdict.is_refused:
+            self.passed += 1
+        else:
+            self.failed.append(f"{self.crate.name}/{edit.name}")
+        count = f"{self.passed + len(self.failed)} of {len(self.edits)}"
         state = f"refused, {edit.refused}" if verdict.is_refused else "FAILED"
+        minutes, rest = divmod(int(time.monotonic() - started), 60)
         with printing:
-            print(f"{minutes}:{rest:02} {crate.name} {len(told)} of {len(edits)}, {edit.name}: {state}: {verdict.why} ({seconds:.1f} s)", flush=True)
+            where = f"{minutes}:{rest:02} {self.crate.name} {count}, {edit.name}"
+            print(f"{where}: {state}: {verdict.why} ({seconds:.1f} s)", flush=True)
 
-    applied = [(it, apply(it, read)[1]) for it in edits]
-    for edit, why in applied:
-        if why:
-            tell(edit, Verdict(False, f"it doesn't apply: {why}"), 0)
-    with tempfile.TemporaryDirectory(prefix="wrong-bodies-") as kept:
+    def check(self, kept, texts, functions):
+        flags = [flag for it in functions for flag in ("--only", it.partition("::")[2])]
+        run = checker.check(self.crate, texts, flags, kept)
+        self.seconds += run.seconds
+        return run
 
-        def check(texts, functions):
-            flags = [flag for it in functions for flag in ("--only", it.partition("::")[2])]
-            return checker.check(crate, texts, flags, kept)
-
-        for batch in packed([it for it, why in applied if not why], read):
-            for said in try_batch(batch, check, read):
-                tell(*said)
-    return told
+    def try_all(self):
+        wrong = {it: apply(it, self.read)[1] for it in self.edits}
+        for edit, why in wrong.items():
+            if why:
+                self.tell(edit, Verdict(False, f"it doesn't apply: {why}"))
+        with tempfile.TemporaryDirectory(prefix="wrong-bodies-") as kept:
+            for batch in packed([it for it, why in wrong.items() if not why], self.read):
+                for told in try_batch(batch, partial(self.check, kept), self.read):
+                    self.tell(*told)
 
 
 def main(names):
-    crates = [it for it in checker.crates() if edits_of(it) and (not names or it.name in names)]
-    unknown = set(names) - {it.name for it in crates}
+    runs = [CrateRun(it) for it in checker.crates() if os.path.isdir(f"{it.folder}/wrong-bodies")]
+    runs = [it for it in runs if not names or it.crate.name in names]
+    unknown = set(names) - {it.crate.name for it in runs}
     if unknown:
         print(f"no crate with wrong bodies: {', '.join(sorted(unknown))}")
         return 2
-    if not all([checker.prove(it) for it in crates]):
-        print("the crates themselves are not proved, so no refusal would say anything")
-        print("0 passed, 1 failed")
+    if not all([checker.prove(it.crate) for it in runs]):
+        print("a crate is not proved, so a refusal would say nothing of the edit\n0 passed, 1 failed")
         return 1
-    crates.sort(key=lambda it: -len(edits_of(it)))
+    runs.sort(key=lambda it: -len(it.edits))
     with ThreadPoolExecutor(checker.lanes()) as pool:
-        told = list(pool.map(try_crate, crates))
-    for crate, of_crate in sorted(zip([it.name for it in crates], told)):
-        print(f"{crate}: {len(of_crate)} wrong bodies, {sum(it[2] for it in of_crate):.0f} s of processor time")
-    failed = [f"{edit.crate}/{edit.name}" for of_crate in told for edit, is_refused, _ in of_crate if not is_refused]
+        for _ in pool.map(CrateRun.try_all, runs):
+            pass
+    for it in runs:
+        print(f"{it.crate.name}: {len(it.edits)} tried in {it.seconds:.0f} s of processor time")
+    failed = [name for it in runs for name in it.failed]
     if failed:
         print(f"FAILED: {' '.join(failed)}")
-    print(f"{sum(map(len, told)) - len(failed)} passed, {len(failed)} failed")
+    print(f"{sum(it.passed for it in runs)} passed, {len(failed)} failed")
     return 1 if failed else 0
 
 

@@ -29,10 +29,10 @@ impl Table {
 }
 """
 
-LOW = Edit("a", "low_adds", "a::low", [("src/lib.rt", "x + 0", "x + 3")])
-HIGH = Edit("a", "high_adds", "a::Table::high", [("src/lib.rt", "low(x) + 1", "low(x) + 4")])
-OTHER = Edit("a", "other_adds", "a::Table::other", [("src/lib.rt", "low(2)", "low(3)")])
-LIMITED = Edit("a", "limit_is_nine", "a::low", [("src/lib.rt", "LIMIT: u64 = 8", "LIMIT: u64 = 9")])
+LOW = Edit("a", "low_adds", "a::low", (("src/lib.rt", "x + 0", "x + 3"),))
+HIGH = Edit("a", "high_adds", "a::Table::high", (("src/lib.rt", "low(x) + 1", "low(x) + 4"),))
+OTHER = Edit("a", "other_adds", "a::Table::other", (("src/lib.rt", "low(2)", "low(3)"),))
+LIMITED = Edit("a", "limit_is_nine", "a::low", (("src/lib.rt", "LIMIT: u64 = 8", "LIMIT: u64 = 9"),))
 
 SEARCHED = "no proof: expected answers in ./proofs/x/Answers.antt; `search` did not prove `returns`"
 
@@ -66,25 +66,26 @@ def alone(edit, run):
 class Edits(unittest.TestCase):
     def test_an_edit_whose_old_text_is_gone_or_stands_twice_does_not_apply(self):
         for old, times in (("x + 9", 0), ("low(", 3)):
-            texts, why = wrong_bodies.apply(LOW._replace(pairs=[("src/lib.rt", old, "y")]), read)
+            texts, why = wrong_bodies.apply(LOW._replace(pairs=(("src/lib.rt", old, "y"),)), read)
             self.assertIsNone(texts)
             self.assertIn(f"{times} times", why)
 
     def test_an_edit_of_no_file_or_that_names_no_function_does_not_apply(self):
-        self.assertIn("no file", wrong_bodies.apply(LOW._replace(pairs=[("src/gone.rt", "a", "b")]), read)[1])
+        self.assertIn("no file", wrong_bodies.apply(LOW._replace(pairs=(("src/gone.rt", "a", "b"),)), read)[1])
         self.assertIn("refused:", wrong_bodies.apply(LOW._replace(refused=""), read)[1])
 
     def test_a_body_is_told_from_what_stands_round_it(self):
-        for text, name in (("x + 0", "low"), ("low(x)", "high"), ("low(2)", "other"), ("LIMIT", None), ("result ≡", None), ("impl", None), ("&self,", None)):
-            found = wrong_bodies.body_around(SOURCE, SOURCE.index(text))
-            self.assertEqual(found and found[1], name, text)
+        for text, name in (("x + 0", "low"), ("low(x)", "high"), ("low(2)", "other")):
+            self.assertEqual(wrong_bodies.body_around(SOURCE, SOURCE.index(text))[1], name)
+        for text in ("LIMIT", "result ≡", "impl", "&self,"):
+            self.assertIsNone(wrong_bodies.body_around(SOURCE, SOURCE.index(text)), text)
 
     def test_edits_of_one_function_and_of_no_body_stand_in_batches_of_their_own(self):
         again = LOW._replace(name="low_adds_more")
         self.assertEqual(wrong_bodies.packed([LOW, HIGH, again, LIMITED], read), [[LOW, HIGH], [again], [LIMITED]])
 
     def test_an_edit_that_another_keeps_from_applying_stands_in_another_batch(self):
-        twice = HIGH._replace(pairs=[("src/lib.rt", "low(x) + 1", "low(2)")])
+        twice = HIGH._replace(pairs=(("src/lib.rt", "low(x) + 1", "low(2)"),))
         self.assertEqual(wrong_bodies.packed([twice, OTHER], read), [[twice], [OTHER]])
 
 
@@ -118,24 +119,23 @@ class Verdicts(unittest.TestCase):
         self.assertTrue(found["high_adds"][0] and found["other_adds"][0])
         self.assertEqual(sizes, [3, 1, 2])
 
-    def test_a_function_is_tried_again_without_the_edits_of_what_it_calls(self):
-        for high in ("no proof: it calls `a::low`, which is not proved", f"{SEARCHED}; it calls `a::low`, which is not proved"):
+    def test_a_function_that_waits_for_what_it_calls_is_tried_without_it(self):
+        def check(text, functions):
+            if "x + 3" in text:
+                return says(f"fn a::low: {SEARCHED}", "fn a::Table::high: no proof: it calls `a::low`, which is not proved")
+            return says("fn a::low: proved", f"fn a::Table::high: {SEARCHED}")
 
-            def check(text, functions):
-                if "x + 3" in text:
-                    return says(f"fn a::low: {SEARCHED}", f"fn a::Table::high: {high}")
-                return says("fn a::low: proved", f"fn a::Table::high: {SEARCHED}")
-
-            found, sizes = tried([LOW, HIGH], check)
-            self.assertTrue(found["low_adds"][0] and found["high_adds"][0])
-            self.assertEqual(sizes, [2, 1])
+        found, sizes = tried([LOW, HIGH], check)
+        self.assertTrue(found["low_adds"][0] and found["high_adds"][0])
+        self.assertEqual(sizes, [2, 1])
 
     def test_a_refusal_for_another_function_alone_is_none(self):
         waits = says("fn a::low: proved", "fn a::Table::high: no proof: it calls `a::low`, which is not proved")
         self.assertIn("not refused at a goal of its own", alone(HIGH, waits)[1].replace("isn't", "not"))
 
     def test_a_refusal_for_a_name_that_is_gone_is_none(self):
-        for gone in ("`c.add` has no field `result`", "`record {x : Unit}`\n  has no field `result`\n  its fields are `x`", "`c.add` is not in scope"):
+        long = "`record {x : Unit}`\n  has no field `result`\n  its fields are `x`"
+        for gone in ("`c.add` has no field `result`", "`c.add` is not in scope", long):
             found = alone(LOW, says(f"./proofs/low/Answers.antt:3:9: error: `returns`: {gone}", "fn a::low: not proved"))
             self.assertFalse(found[0], gone)
             self.assertIn("names what is gone", found[1])
