@@ -61,19 +61,35 @@ fn closer_has_left<C: Clock, X: Resource>(clock: &C, handle: &mut FdHandle<X>) -
     false
 }
 
+/// A read that is in its half, and a close that has left it there.
+fn leave_a_reader<T: Threads + Wait + Clock + Copy + Send + Drop + Abort + 'static>(
+    rt: T,
+    handle: &mut Plain<T>,
+    told: &Told,
+) -> Result<
+    (
+        JoinHandle<Result<usize, Fault>>,
+        JoinHandle<Result<(), Fault>>,
+    ),
+    Fail,
+> {
+    let mut closer = share(handle)?;
+    let reading = start_read(rt, handle)?;
+    assert!(rt; comes_to(&rt, &told.tries, 1), "the reader is in its half");
+    let closing = thread::spawn(&rt, move || closer.close(&rt))?;
+    assert!(rt;
+        closer_has_left(&rt, handle),
+        "the closer waits for the reader"
+    );
+    Ok((reading, closing))
+}
+
 #[test]
 fn a_closer_whose_reader_destroys_is_told_nothing(rt: HostRuntime) -> Result<(), Fail> {
     let told = Told::shared(rt.alloc())?;
     let script = [(Try::Gated, 1), (BLOCKS, u32::MAX), END, END, END];
     let mut spare = open_plain(rt, rt.alloc(), &told, script, Some(DevKind::Reset))?;
-    let mut closer = share(&mut spare)?;
-    let reading = start_read(rt, &mut spare)?;
-    assert!(rt; comes_to(&rt, &told.tries, 1), "the reader is in its half");
-    let closing = thread::spawn(&rt, move || closer.close(&rt))?;
-    assert!(rt;
-        closer_has_left(&rt, &mut spare),
-        "the closer waits for the reader"
-    );
+    let (reading, closing) = leave_a_reader(rt, &mut spare, &told)?;
     assert!(rt;
         told.destroys.load(Ordering::SeqCst) == 0,
         "not under the reader"

@@ -8,8 +8,9 @@ use fd_descriptor::{FdHandle, Resource};
 use linked_list_allocator::LocalHeap;
 use rwloops::DevKind;
 use std::alloc::{AllocError, Global};
-use std::sync::Arc;
+use std::process::Abort;
 use std::sync::atomic::{AtomicU64, Ordering};
+use std::sync::{Arc, Wait};
 use std::test::Fail;
 
 /// A half that counts its drops.
@@ -60,32 +61,49 @@ fn fill<'a>(alloc: Global, heap: &'a LocalHeap) -> Result<Vec<Vec<u8, &'a LocalH
     Ok(blocks)
 }
 
+/// Whether a descriptor is opened on a heap of this size. Its halves are dropped once each, and
+/// nothing is left on the heap.
+fn opens<R: Abort>(rt: &R, alloc: Global, size: usize) -> Result<bool, Fail> {
+    let heap = LocalHeap::new(alloc, size)?;
+    let drops = Arc::new(alloc, AtomicU64::new(0))?;
+    let read = half_of(&drops)?;
+    let write = half_of(&drops)?;
+    let opened = FdHandle::<Pair, &LocalHeap>::open_in(&heap, alloc, read, write, KEY);
+    let is_open = opened.is_ok();
+    assert!(rt; !is_open || drops.load(Ordering::SeqCst) == 0, "at home");
+    drop(opened);
+    assert!(rt;
+        drops.load(Ordering::SeqCst) == 2,
+        "dropped once each, at {size}"
+    );
+    assert!(rt; heap.used() == 0, "nothing is left at {size}");
+    Ok(is_open)
+}
+
 #[test]
 fn a_refused_open_drops_the_halves_and_destroys_nothing(rt: HostRuntime) -> Result<(), Fail> {
     let mut refused = 0u32;
     let mut opened = 0u32;
     for size in 2..64usize {
-        let heap = LocalHeap::new(rt.alloc(), size.saturating_mul(16))?;
-        let drops = Arc::new(rt.alloc(), AtomicU64::new(0))?;
-        let read = half_of(&drops)?;
-        let write = half_of(&drops)?;
-        match FdHandle::<Pair, &LocalHeap>::open_in(&heap, rt.alloc(), read, write, KEY) {
-            Ok(handle) => {
-                opened = opened.saturating_add(1);
-                assert_eq!(rt; drops.load(Ordering::SeqCst), 0, "at home");
-                drop(handle);
-            }
-            Err(_) => refused = refused.saturating_add(1),
+        if opens(&rt, rt.alloc(), size.saturating_mul(16))? {
+            opened = opened.saturating_add(1);
+        } else {
+            refused = refused.saturating_add(1);
         }
-        assert_eq!(rt;
-            drops.load(Ordering::SeqCst),
-            2,
-            "dropped once each, at {size}"
-        );
-        assert_eq!(rt; heap.used(), 0, "nothing is left at {size}");
     }
     assert!(rt; refused >= 2, "refused {refused} times");
     assert!(rt; opened >= 2, "opened {opened} times");
+    Ok(())
+}
+
+/// Shares, tells, sets a deadline and closes.
+fn use_it<T: Wait + Abort>(rt: &T, handle: &mut FdHandle<Pair, &LocalHeap>) -> Result<(), Fail> {
+    let mut other = share(handle)?;
+    let cell = other.cell()?;
+    cell.tick(rt, 5);
+    let set = other.set_deadline(rt, Deadline::At(10), 5, &Silent);
+    assert!(rt; set == Ok(()));
+    assert!(rt; other.close(rt) == Ok(()));
     Ok(())
 }
 
@@ -98,14 +116,9 @@ fn a_handle_is_shared_and_used_with_no_memory_left(rt: HostRuntime) -> Result<()
     let mut handle = FdHandle::<Pair, &LocalHeap>::open_in(&heap, rt.alloc(), read, write, KEY)?;
     let blocks = fill(rt.alloc(), &heap)?;
     let full = heap.used();
-    let mut other = share(&mut handle)?;
-    let cell = other.cell()?;
-    cell.tick(&rt, 5);
-    let set = other.set_deadline(&rt, Deadline::At(10), 5, &Silent);
-    assert!(rt; set == Ok(()));
-    assert!(rt; other.close(&rt) == Ok(()));
-    assert_eq!(rt; heap.used(), full, "no call took memory");
-    assert_eq!(rt; drops.load(Ordering::SeqCst), DESTROYED.saturating_add(2));
+    use_it(&rt, &mut handle)?;
+    assert!(rt; heap.used() == full, "no call took memory");
+    assert!(rt; drops.load(Ordering::SeqCst) == DESTROYED.saturating_add(2));
     drop(blocks);
     Ok(())
 }

@@ -4,10 +4,13 @@ use super::scripted::{ALWAYS_BLOCKS, Told};
 use super::{Plain, Silent, comes_to, open_plain, share};
 use deadline_core::Deadline;
 use rwloops::{Fault, WriteFault};
+use std::alloc::Global;
+use std::process::Abort;
 use std::sync::atomic::Ordering;
 use std::sync::{Arc, Wait};
 use std::test::Fail;
 use std::thread;
+use std::thread::{JoinHandle, Threads};
 use std::time::Clock;
 
 const ROUNDS: u64 = 100;
@@ -59,30 +62,50 @@ fn closes<T: Wait + Clock, C: Clock + Drop>(rt: &T, handle: &mut Plain<C>, told:
     comes_to(rt, &told.gate, 1) && handle.close(rt) == Ok(())
 }
 
+/// Three that read, two that write, two that set deadlines, and one that closes.
+fn start_eight<T: Threads + Wait + Clock + Copy + Send + Drop + 'static>(
+    rt: T,
+    alloc: Global,
+    handle: &mut Plain<T>,
+    told: &Arc<Told, Global>,
+) -> Result<Vec<JoinHandle<bool>>, Fail> {
+    let mut threads = Vec::new(alloc);
+    for thread in 0..8u32 {
+        let mut mine = share(handle)?;
+        let told = Arc::try_clone(told)?;
+        threads.push(thread::spawn(&rt, move || match thread {
+            0..=2 => reads_on(&rt, &mut mine),
+            3..=4 => writes_on(&rt, &mut mine),
+            5..=6 => sets_on(&rt, &mut mine),
+            _ => closes(&rt, &mut mine, &told),
+        })?)?;
+    }
+    Ok(threads)
+}
+
+/// One round: the close comes once so many tries were made.
+fn play_round<T: Threads + Wait + Clock + Copy + Send + Drop + Abort + 'static>(
+    rt: T,
+    alloc: Global,
+    round: u64,
+) -> Result<(), Fail> {
+    let told = Told::shared(alloc)?;
+    let mut handle = open_plain(rt, alloc, &told, ALWAYS_BLOCKS, None)?;
+    let threads = start_eight(rt, alloc, &mut handle, &told)?;
+    assert!(rt; comes_to(&rt, &told.tries, round), "round {round}");
+    told.gate.store(1, Ordering::SeqCst);
+    for thread in threads {
+        assert!(rt; thread.join(&rt), "round {round}");
+    }
+    assert!(rt; told.destroys.load(Ordering::SeqCst) == 1, "round {round}");
+    assert!(rt; handle.close(&rt) == Err(Fault::Closed), "round {round}");
+    Ok(())
+}
+
 #[test]
 fn eight_threads_end_when_one_closes(rt: HostRuntime) -> Result<(), Fail> {
-    let alloc = rt.alloc();
     for round in 0..ROUNDS {
-        let told = Told::shared(alloc)?;
-        let mut handle = open_plain(rt, alloc, &told, ALWAYS_BLOCKS, None)?;
-        let mut threads = Vec::new(alloc);
-        for thread in 0..8u32 {
-            let mut mine = share(&mut handle)?;
-            let told = Arc::try_clone(&told)?;
-            threads.push(thread::spawn(&rt, move || match thread {
-                0..=2 => reads_on(&rt, &mut mine),
-                3..=4 => writes_on(&rt, &mut mine),
-                5..=6 => sets_on(&rt, &mut mine),
-                _ => closes(&rt, &mut mine, &told),
-            })?)?;
-        }
-        assert!(rt; comes_to(&rt, &told.tries, round), "round {round}");
-        told.gate.store(1, Ordering::SeqCst);
-        for thread in threads {
-            assert!(rt; thread.join(&rt), "round {round}");
-        }
-        assert_eq!(rt; told.destroys.load(Ordering::SeqCst), 1, "round {round}");
-        assert!(rt; handle.close(&rt) == Err(Fault::Closed), "round {round}");
+        play_round(rt, rt.alloc(), round)?;
     }
     Ok(())
 }

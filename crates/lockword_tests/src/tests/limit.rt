@@ -32,7 +32,7 @@ const FULL: Word = Word {
 
 /// A list with room for as many references as there may be.
 fn room<'a>(alloc: Global) -> Result<Vec<Held<'a>>, AllocError> {
-    Vec::with_capacity(alloc, 1_048_575)
+    Vec::with_capacity(alloc, MAX_REFERENCES as usize)
 }
 
 /// As many references as there may be, and a seat.
