@@ -1,7 +1,8 @@
 //! The handle's own calls: how a descriptor is opened, shared and waited for.
 
-ghost use Rattle.std.specs.Prelude.{◌≡◌, false, IfOk, IfErr};
+ghost use Rattle.std.specs.Prelude.{◌≡◌, true, false, IfOk, IfErr};
 ghost use Rattle.std.specs.Arc.{arc_value};
+ghost use Rattle.lockword.specs.TransitionOutcomes.{IsOnlyClosed};
 ghost use Rattle.fd_descriptor.specs.ClosedMarks.{SameMarks};
 ghost use Rattle.fd_descriptor.specs.FdHandle.{descriptor_of, key_of, cell_of, marks_of, saw_closed, saw_done};
 
@@ -9,6 +10,7 @@ use crate::descriptor::{Fd, FdHandle};
 use crate::poll_cell::PollCell;
 use crate::resource::Resource;
 use lockword::LockWord;
+use lockword_core::Word;
 use rwloops::Fault;
 use std::alloc::{Allocator, Global};
 use std::sync::Arc;
@@ -32,8 +34,8 @@ impl<X: Resource> FdHandle<X> {
 }
 
 impl<X: Resource, A: Allocator> FdHandle<X, A> {
-    // As `open`, with the cell and the descriptor's own block over any allocator.
-    pub(crate) fn open_in(
+    /// As `open`, with the cell and the descriptor's own block over any allocator.
+    pub fn open_in(
         alloc: A,
         words: Global,
         read: X::R,
@@ -68,6 +70,23 @@ impl<X: Resource, A: Allocator> FdHandle<X, A> {
             Ok(cell) => Ok(cell),
             Err(_) => Err(OutOfMemory),
         }
+    }
+
+    /// The six fields of the descriptor's lock word, by one load: who has it, who waits for it, and
+    /// whether it is closed.
+    pub fn look(&mut self) -> Word
+        ensures same { descriptor_of self.new ≡ descriptor_of self.old }
+        ensures closed { saw_closed self.new ≡ result.closed }
+        ensures stays { saw_closed self.old ≡ true → result.closed ≡ true }
+        ensures done { saw_done self.new ≡ saw_done self.old }
+        ensures gone { saw_done self.old ≡ true → IsOnlyClosed result }
+    {
+        let Some(mut seat) = self.seat.take() else {
+            unreachable!()
+        };
+        let word = self.fd.word.look(&mut seat);
+        self.seat = Some(seat);
+        word
     }
 
     /// Another handle on this descriptor, which has seen the same. It takes no memory; refused is

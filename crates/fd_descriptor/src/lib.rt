@@ -10,8 +10,6 @@ mod descriptor;
 mod handle;
 mod poll_cell;
 mod resource;
-#[cfg(test)]
-mod tests;
 mod transfer;
 
 pub use descriptor::{Fd, FdHandle};

@@ -14,6 +14,3 @@ pub use close::{close_mark, drop_closing};
 pub use done::wait_done;
 pub use lock::{read_lock, read_unlock, write_lock, write_unlock};
 pub use reference::{decref, incref};
-
-#[cfg(test)]
-mod tests;

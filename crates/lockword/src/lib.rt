@@ -22,6 +22,3 @@ pub use holders::{
 pub use local_view::LocalView;
 pub use look::Holder;
 pub use shared_rule::Half;
-
-#[cfg(test)]
-mod tests;

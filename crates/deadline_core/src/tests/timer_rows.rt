@@ -1,7 +1,14 @@
 //! Rows of timers, with what is due and in which order.
 use crate::Timers;
+use std::process::Abort;
 use std::test::Fail;
+use stream_base::Dir;
 use stream_base::Dir::{Read, Write};
+
+/// What is due by now is this, in this order.
+fn gives(rt: &impl Abort, timers: &mut Timers, now: u64, want: &[(u64, Dir)], row: &str) {
+    assert!(rt; timers.due(now).as_slice() == want, "{row}");
+}
 
 #[test]
 fn timers_fire_by_moment_then_key_then_read_first(rt: HostRuntime) -> Result<(), Fail> {
@@ -9,11 +16,13 @@ fn timers_fire_by_moment_then_key_then_read_first(rt: HostRuntime) -> Result<(),
     assert_eq!(rt; timers.next(), None);
     timers.arm(7, Read, 100)?;
     timers.arm(3, Write, 100)?;
-    assert!(rt; timers.due(99).is_empty(), "none is due before its moment");
-    assert_eq!(rt;
-        timers.due(100).as_slice(),
-        [(3, Write), (7, Read)].as_slice(),
-        "the lower key first"
+    gives(&rt, &mut timers, 99, &[], "none is due before its moment");
+    gives(
+        &rt,
+        &mut timers,
+        100,
+        &[(3, Write), (7, Read)],
+        "the lower key first",
     );
     assert_eq!(rt; timers.next(), None);
     timers.arm(2, Write, 7)?;
@@ -22,11 +31,7 @@ fn timers_fire_by_moment_then_key_then_read_first(rt: HostRuntime) -> Result<(),
     timers.arm(9, Read, 3)?;
     timers.arm(0, Read, 8)?;
     let want = [(9, Read), (1, Write), (2, Read), (2, Write)];
-    assert_eq!(rt;
-        timers.due(7).as_slice(),
-        want.as_slice(),
-        "the earlier moment first"
-    );
+    gives(&rt, &mut timers, 7, &want, "the earlier moment first");
     assert_eq!(rt; timers.next(), Some(8), "what isn't due stays");
     Ok(())
 }
@@ -38,27 +43,27 @@ fn a_timer_armed_again_has_its_new_moment_alone(rt: HostRuntime) -> Result<(), F
     timers.arm(3, Write, 100)?;
     timers.arm(7, Read, 50)?;
     assert_eq!(rt; timers.next(), Some(50));
-    assert_eq!(rt;
-        timers.due(100).as_slice(),
-        [(7, Read), (3, Write)].as_slice(),
-        "armed for an earlier moment"
+    gives(
+        &rt,
+        &mut timers,
+        100,
+        &[(7, Read), (3, Write)],
+        "armed for an earlier moment",
     );
     timers.arm(7, Read, 50)?;
     timers.arm_both(7, 60)?;
-    assert!(rt; timers.due(59).is_empty(), "the old moment is forgotten");
-    assert_eq!(rt;
-        timers.due(60).as_slice(),
-        [(7, Read), (7, Write)].as_slice(),
-        "both at once"
+    gives(&rt, &mut timers, 59, &[], "the old moment is forgotten");
+    gives(
+        &rt,
+        &mut timers,
+        60,
+        &[(7, Read), (7, Write)],
+        "both at once",
     );
     timers.arm_both(7, 60)?;
     timers.disarm(7, Read);
     timers.disarm(8, Write);
-    assert_eq!(rt;
-        timers.due(u64::MAX).as_slice(),
-        [(7, Write)].as_slice(),
-        "one is disarmed"
-    );
+    gives(&rt, &mut timers, u64::MAX, &[(7, Write)], "one is disarmed");
     Ok(())
 }
 

@@ -2,10 +2,12 @@
 
 use super::*;
 use crate::clerk::Clerk;
+use std::alloc::Global;
 use std::cell::Cell;
 use std::io;
 use std::io::Cursor;
 use std::prelude::HostRuntime;
+use std::process::Abort;
 use std::test::Fail;
 
 const X64: &str = "xxxxxxxxxxxxxxxxxxxxxxxxxxxxxxxxxxxxxxxxxxxxxxxxxxxxxxxxxxxxxxxx";
@@ -17,56 +19,65 @@ const X65: &str = "xxxxxxxxxxxxxxxxxxxxxxxxxxxxxxxxxxxxxxxxxxxxxxxxxxxxxxxxxxxxx
 
 const BAD: &str = "error 400 bad command\n";
 
+/// Sessions: what is read, what is replied, how it ends, and how often the desk is asked.
+const SESSIONS: [(&str, &str, AdminEnd, u64); 13] = [
+    ("", "", AdminEnd::End, 0),
+    ("list\n", "ids 1 2\n", AdminEnd::End, 1),
+    ("deadline 3 0\n", "ok\n", AdminEnd::End, 1),
+    ("deadline 3 86400001\n", BAD, AdminEnd::End, 0),
+    (
+        "close 01\nclose 4503599627370495\n",
+        "error 400 bad command\nerror 400 bad command\n",
+        AdminEnd::End,
+        0,
+    ),
+    ("quit\nlist\n", "ok\n", AdminEnd::Quit, 0),
+    ("stop", "ok\n", AdminEnd::Stop, 0),
+    (
+        "\nlist\r\n",
+        "error 400 bad command\nerror 400 bad command\n",
+        AdminEnd::End,
+        0,
+    ),
+    (X65, BAD, AdminEnd::TooLong, 0),
+    (X64, BAD, AdminEnd::End, 0),
+    (
+        X64_THEN_QUIT,
+        "error 400 bad command\nok\n",
+        AdminEnd::Quit,
+        0,
+    ),
+    // docs/admin-protocol.md
+    (
+        "totals\nclose 9\nlist\nfrob\nquit\n",
+        "totals up 12 down 0\nerror 404 no such connection\nids 1 2\nerror 400 bad command\nok\n",
+        AdminEnd::Quit,
+        3,
+    ),
+    (
+        "close 1\nclose 2\nclose 3\nclose 4\ndeadline 1 never\nstop\n",
+        "ok\nerror 409 closed\nerror 409 busy\nerror 507 out of memory\nok\nok\n",
+        AdminEnd::Stop,
+        5,
+    ),
+];
+
+/// Plays one session.
+fn play<R: Abort>(rt: &R, alloc: Global, session: &(&str, &str, AdminEnd, u64)) {
+    let (text, replies, end, asked) = session;
+    let mut reader = Cursor::new(text.as_bytes());
+    let mut writer = Vec::new(alloc);
+    let mut desk = Clerk::new();
+    let got = serve_admin(alloc, &mut reader, &mut writer, &mut desk);
+    assert!(rt; got == Ok(*end), "{text}: {got:?}");
+    assert_eq!(rt; writer.as_slice(), replies.as_bytes(), "{text}");
+    assert_eq!(rt; desk.asked, *asked, "{text}");
+}
+
 #[test]
 fn lines_have_their_replies(rt: HostRuntime) {
-    for (text, replies, end, asked) in [
-        ("", "", AdminEnd::End, 0),
-        ("list\n", "ids 1 2\n", AdminEnd::End, 1),
-        ("deadline 3 0\n", "ok\n", AdminEnd::End, 1),
-        ("deadline 3 86400001\n", BAD, AdminEnd::End, 0),
-        (
-            "close 01\nclose 4503599627370495\n",
-            "error 400 bad command\nerror 400 bad command\n",
-            AdminEnd::End,
-            0,
-        ),
-        ("quit\nlist\n", "ok\n", AdminEnd::Quit, 0),
-        ("stop", "ok\n", AdminEnd::Stop, 0),
-        (
-            "\nlist\r\n",
-            "error 400 bad command\nerror 400 bad command\n",
-            AdminEnd::End,
-            0,
-        ),
-        (X65, BAD, AdminEnd::TooLong, 0),
-        (X64, BAD, AdminEnd::End, 0),
-        (
-            X64_THEN_QUIT,
-            "error 400 bad command\nok\n",
-            AdminEnd::Quit,
-            0,
-        ),
-        // docs/admin-protocol.md
-        (
-            "totals\nclose 9\nlist\nfrob\nquit\n",
-            "totals up 12 down 0\nerror 404 no such connection\nids 1 2\nerror 400 bad command\nok\n",
-            AdminEnd::Quit,
-            3,
-        ),
-        (
-            "close 1\nclose 2\nclose 3\nclose 4\ndeadline 1 never\nstop\n",
-            "ok\nerror 409 closed\nerror 409 busy\nerror 507 out of memory\nok\nok\n",
-            AdminEnd::Stop,
-            5,
-        ),
-    ] {
-        let mut reader = Cursor::new(text.as_bytes());
-        let mut writer = Vec::new(rt.alloc());
-        let mut desk = Clerk::new();
-        let got = serve_admin(rt.alloc(), &mut reader, &mut writer, &mut desk);
-        assert_eq!(rt; got, Ok(end), "{text}");
-        assert_eq!(rt; writer.as_slice(), replies.as_bytes(), "{text}");
-        assert_eq!(rt; desk.asked, asked, "{text}");
+    for session in &SESSIONS {
+        play(&rt, rt.alloc(), session);
     }
 }
 
@@ -173,137 +184,158 @@ impl Write for NarrowWriter {
     }
 }
 
+/// A session over a slow reader and a narrow writer, and what becomes of it.
+struct Row {
+    name: &'static str,
+    text: &'static str,
+    reader_row: u32,
+    reader_fails: bool,
+    writer_row: u32,
+    room: usize,
+    full: Full,
+    want: Result<AdminEnd, AdminFault>,
+    replies: &'static str,
+}
+
+const ROWS: [Row; 10] = [
+    Row {
+        name: "1,024 interruptions",
+        text: "list\nquit\n",
+        reader_row: 1_024,
+        reader_fails: false,
+        writer_row: 1_024,
+        room: 100,
+        full: Full::Fails,
+        want: Ok(AdminEnd::Quit),
+        replies: "ids 1 2\nok\n",
+    },
+    Row {
+        name: "1,025 interrupted reads",
+        text: "quit\n",
+        reader_row: 1_025,
+        reader_fails: false,
+        writer_row: 0,
+        room: 100,
+        full: Full::Fails,
+        want: Err(AdminFault::Read),
+        replies: "",
+    },
+    Row {
+        name: "1,025 interrupted writes",
+        text: "quit\n",
+        reader_row: 0,
+        reader_fails: false,
+        writer_row: 1_025,
+        room: 100,
+        full: Full::Fails,
+        want: Err(AdminFault::Write),
+        replies: "",
+    },
+    Row {
+        name: "a failing read",
+        text: "list\nfrob\nlis",
+        reader_row: 0,
+        reader_fails: true,
+        writer_row: 0,
+        room: 100,
+        full: Full::Fails,
+        want: Err(AdminFault::Read),
+        replies: "ids 1 2\nerror 400 bad command\n",
+    },
+    Row {
+        name: "a failing write",
+        text: "list\ntotals\nlist\n",
+        reader_row: 0,
+        reader_fails: false,
+        writer_row: 0,
+        room: 12,
+        full: Full::Fails,
+        want: Err(AdminFault::Write),
+        replies: "ids 1 2\ntota",
+    },
+    Row {
+        name: "a write of nothing",
+        text: "list\ntotals\nlist\n",
+        reader_row: 0,
+        reader_fails: false,
+        writer_row: 0,
+        room: 12,
+        full: Full::TakesNothing,
+        want: Err(AdminFault::Write),
+        replies: "ids 1 2\ntota",
+    },
+    Row {
+        name: "a failing flush",
+        text: "list\ntotals\nlist\n",
+        reader_row: 0,
+        reader_fails: false,
+        writer_row: 0,
+        room: 9,
+        full: Full::FailsAtFlush,
+        want: Err(AdminFault::Write),
+        replies: "ids 1 2\ntotals up 12 down 0\n",
+    },
+    Row {
+        name: "a broken last reply",
+        text: "list\nquit",
+        reader_row: 0,
+        reader_fails: false,
+        writer_row: 0,
+        room: 8,
+        full: Full::TakesNothing,
+        want: Err(AdminFault::Write),
+        replies: "ids 1 2\n",
+    },
+    Row {
+        name: "no read after quit",
+        text: "list\nquit\n",
+        reader_row: 0,
+        reader_fails: true,
+        writer_row: 0,
+        room: 100,
+        full: Full::Fails,
+        want: Ok(AdminEnd::Quit),
+        replies: "ids 1 2\nok\n",
+    },
+    Row {
+        name: "no read after the 65th byte",
+        text: X65,
+        reader_row: 0,
+        reader_fails: true,
+        writer_row: 0,
+        room: 100,
+        full: Full::Fails,
+        want: Ok(AdminEnd::TooLong),
+        replies: BAD,
+    },
+];
+
+/// Plays one session over such devices.
+fn play_on_devices<R: Abort>(rt: &R, alloc: Global, row: &Row) {
+    let name = row.name;
+    let mut reader = SlowReader {
+        bytes: row.text.as_bytes(),
+        row: row.reader_row,
+        left: row.reader_row,
+        fails: row.reader_fails,
+    };
+    let mut writer = NarrowWriter {
+        taken: Vec::new(alloc),
+        row: row.writer_row,
+        left: row.writer_row,
+        room: row.room,
+        full: row.full,
+    };
+    let mut desk = Clerk::new();
+    let got = serve_admin(alloc, &mut reader, &mut writer, &mut desk);
+    assert!(rt; got == row.want, "{name}: {got:?}");
+    assert_eq!(rt; writer.taken.as_slice(), row.replies.as_bytes(), "{name}");
+}
+
 #[test]
 fn devices_may_be_slow_short_or_broken(rt: HostRuntime) {
-    for (name, text, reader_row, reader_fails, writer_row, room, full, want, replies) in [
-        (
-            "1,024 interruptions",
-            "list\nquit\n",
-            1_024,
-            false,
-            1_024,
-            100,
-            Full::Fails,
-            Ok(AdminEnd::Quit),
-            "ids 1 2\nok\n",
-        ),
-        (
-            "1,025 interrupted reads",
-            "quit\n",
-            1_025,
-            false,
-            0,
-            100,
-            Full::Fails,
-            Err(AdminFault::Read),
-            "",
-        ),
-        (
-            "1,025 interrupted writes",
-            "quit\n",
-            0,
-            false,
-            1_025,
-            100,
-            Full::Fails,
-            Err(AdminFault::Write),
-            "",
-        ),
-        (
-            "a failing read",
-            "list\nfrob\nlis",
-            0,
-            true,
-            0,
-            100,
-            Full::Fails,
-            Err(AdminFault::Read),
-            "ids 1 2\nerror 400 bad command\n",
-        ),
-        (
-            "a failing write",
-            "list\ntotals\nlist\n",
-            0,
-            false,
-            0,
-            12,
-            Full::Fails,
-            Err(AdminFault::Write),
-            "ids 1 2\ntota",
-        ),
-        (
-            "a write of nothing",
-            "list\ntotals\nlist\n",
-            0,
-            false,
-            0,
-            12,
-            Full::TakesNothing,
-            Err(AdminFault::Write),
-            "ids 1 2\ntota",
-        ),
-        (
-            "a failing flush",
-            "list\ntotals\nlist\n",
-            0,
-            false,
-            0,
-            9,
-            Full::FailsAtFlush,
-            Err(AdminFault::Write),
-            "ids 1 2\ntotals up 12 down 0\n",
-        ),
-        (
-            "a broken last reply",
-            "list\nquit",
-            0,
-            false,
-            0,
-            8,
-            Full::TakesNothing,
-            Err(AdminFault::Write),
-            "ids 1 2\n",
-        ),
-        (
-            "no read after quit",
-            "list\nquit\n",
-            0,
-            true,
-            0,
-            100,
-            Full::Fails,
-            Ok(AdminEnd::Quit),
-            "ids 1 2\nok\n",
-        ),
-        (
-            "no read after the 65th byte",
-            X65,
-            0,
-            true,
-            0,
-            100,
-            Full::Fails,
-            Ok(AdminEnd::TooLong),
-            BAD,
-        ),
-    ] {
-        let mut reader = SlowReader {
-            bytes: text.as_bytes(),
-            row: reader_row,
-            left: reader_row,
-            fails: reader_fails,
-        };
-        let mut writer = NarrowWriter {
-            taken: Vec::new(rt.alloc()),
-            row: writer_row,
-            left: writer_row,
-            room,
-            full,
-        };
-        let mut desk = Clerk::new();
-        let got = serve_admin(rt.alloc(), &mut reader, &mut writer, &mut desk);
-        assert_eq!(rt; got, want, "{name}");
-        assert_eq!(rt; writer.taken.as_slice(), replies.as_bytes(), "{name}");
+    for row in &ROWS {
+        play_on_devices(&rt, rt.alloc(), row);
     }
 }
 

@@ -1,0 +1,239 @@
+//! Deadlines set by one thread for calls of another, and the alarms that go with them.
+
+use super::scripted::{ALWAYS_BLOCKS, BLOCKS, END, Script, Told, Try};
+use super::{KEY, Plain, comes_to, open_plain, share, start_read, start_two_reads};
+use deadline_core::{Deadline, Dirs, Timers};
+use fd_descriptor::{Alarms, PollCell};
+use rwloops::{Fault, Outcome, WriteFault};
+use std::alloc::Global;
+use std::process::Abort;
+use std::sync::{Mutex, Wait};
+use std::test::Fail;
+use std::time::Clock;
+use stream_base::{Dir, OutOfMemory};
+
+/// Timers under a lock, which a caller takes after the cell's and never before it.
+#[derive(Drop)]
+struct TimerAlarms<T: Wait + Drop> {
+    timers: Mutex<Timers>,
+    rt: T,
+}
+
+impl<T: Wait + Drop> TimerAlarms<T> {
+    fn new(rt: T, alloc: Global) -> TimerAlarms<T> {
+        TimerAlarms {
+            timers: Mutex::new(Timers::new(alloc)),
+            rt,
+        }
+    }
+
+    fn next(&self) -> Option<u64> {
+        self.timers.lock(&self.rt).next()
+    }
+
+    /// Takes the timers that are due out, and says whether they are these.
+    fn are_due(&self, now: u64, want: &[(u64, Dir)]) -> bool {
+        self.timers.lock(&self.rt).due(now).as_slice() == want
+    }
+}
+
+impl<T: Wait + Drop> Alarms for TimerAlarms<T> {
+    fn arm(&self, key: u64, dirs: Dirs, at: u64) -> Result<(), OutOfMemory> {
+        let mut timers = self.timers.lock(&self.rt);
+        match dirs {
+            Dirs::Read => timers.arm(key, Dir::Read, at),
+            Dirs::Write => timers.arm(key, Dir::Write, at),
+            Dirs::Both => timers.arm_both(key, at),
+        }
+    }
+
+    fn disarm(&self, key: u64, dirs: Dirs) {
+        let mut timers = self.timers.lock(&self.rt);
+        if dirs != Dirs::Write {
+            timers.disarm(key, Dir::Read);
+        }
+        if dirs != Dirs::Read {
+            timers.disarm(key, Dir::Write);
+        }
+    }
+}
+
+/// Alarms that are always refused memory.
+#[derive(Drop)]
+struct Full;
+
+impl Alarms for Full {
+    fn arm(&self, _key: u64, _dirs: Dirs, _at: u64) -> Result<(), OutOfMemory> {
+        Err(OutOfMemory)
+    }
+
+    fn disarm(&self, _key: u64, _dirs: Dirs) {}
+}
+
+const THEN_THREE: Script = [
+    (BLOCKS, 1),
+    (Try::Gives(Outcome::Count(3)), 1),
+    (BLOCKS, u32::MAX),
+    END,
+    END,
+];
+
+const LATE: Result<usize, Fault> = Err(Fault::DeadlineExceeded);
+
+#[test]
+fn a_deadline_ends_a_parked_read(rt: HostRuntime) -> Result<(), Fail> {
+    let told = Told::shared(rt.alloc())?;
+    let alarms = TimerAlarms::new(rt, rt.alloc());
+    let mut handle = open_plain(rt, rt.alloc(), &told, ALWAYS_BLOCKS, None)?;
+    let cell = handle.cell()?;
+    let reading = start_two_reads(rt, &mut handle)?;
+    assert!(rt; comes_to(&rt, &told.tries, 1));
+    let set = handle.set_read_deadline(&rt, Deadline::At(100), 0, &alarms);
+    assert!(rt; set == Ok(()));
+    cell.tick(&rt, 99);
+    cell.tick(&rt, 100);
+    assert!(rt; reading.join(&rt) == [LATE, LATE], "the second read, too");
+    Ok(())
+}
+
+#[test]
+fn a_deadline_that_has_passed_ends_a_parked_read_at_once(rt: HostRuntime) -> Result<(), Fail> {
+    let told = Told::shared(rt.alloc())?;
+    let alarms = TimerAlarms::new(rt, rt.alloc());
+    let mut handle = open_plain(rt, rt.alloc(), &told, ALWAYS_BLOCKS, None)?;
+    let reading = start_read(rt, &mut handle)?;
+    assert!(rt; comes_to(&rt, &told.tries, 1));
+    let set = handle.set_deadline(&rt, Deadline::At(100), 100, &alarms);
+    assert!(rt; set == Ok(()));
+    assert!(rt; reading.join(&rt) == LATE);
+    assert!(rt; alarms.next().is_none(), "no alarm for what has passed");
+    Ok(())
+}
+
+#[test]
+fn a_later_deadline_replaces_the_earlier(rt: HostRuntime) -> Result<(), Fail> {
+    let told = Told::shared(rt.alloc())?;
+    let alarms = TimerAlarms::new(rt, rt.alloc());
+    let mut handle = open_plain(rt, rt.alloc(), &told, THEN_THREE, None)?;
+    let cell = handle.cell()?;
+    let reading = start_two_reads(rt, &mut handle)?;
+    assert!(rt; comes_to(&rt, &told.tries, 1));
+    for at in [100, 200] {
+        let set = handle.set_deadline(&rt, Deadline::At(at), 0, &alarms);
+        assert!(rt; set == Ok(()), "{at}");
+    }
+    cell.tick(&rt, 100);
+    cell.notify(&rt, Dir::Read);
+    assert!(rt;
+        comes_to(&rt, &told.tries, 3),
+        "the first deadline ended nothing"
+    );
+    cell.tick(&rt, 200);
+    assert!(rt; reading.join(&rt) == [Ok(3), LATE]);
+    Ok(())
+}
+
+#[test]
+fn no_deadline_lifts_the_earlier(rt: HostRuntime) -> Result<(), Fail> {
+    let told = Told::shared(rt.alloc())?;
+    let alarms = TimerAlarms::new(rt, rt.alloc());
+    let mut handle = open_plain(rt, rt.alloc(), &told, THEN_THREE, None)?;
+    let cell = handle.cell()?;
+    let reading = start_read(rt, &mut handle)?;
+    assert!(rt; comes_to(&rt, &told.tries, 1));
+    for deadline in [Deadline::At(100), Deadline::Never] {
+        let set = handle.set_read_deadline(&rt, deadline, 0, &alarms);
+        assert!(rt; set == Ok(()));
+    }
+    assert!(rt; alarms.next().is_none(), "no alarm is left");
+    cell.tick(&rt, 100);
+    cell.notify(&rt, Dir::Read);
+    assert!(rt; reading.join(&rt) == Ok(3));
+    Ok(())
+}
+
+/// After a read deadline of 100 and a write deadline of 200, each alarm is for its direction.
+fn set_one_each<T: Wait + Clock + Copy + Drop + Abort>(
+    rt: T,
+    handle: &mut Plain<T>,
+    alarms: &TimerAlarms<T>,
+) {
+    let read = handle.set_read_deadline(&rt, Deadline::At(100), 0, alarms);
+    assert!(rt; read == Ok(()), "a read deadline");
+    assert!(rt; alarms.are_due(100, &[(KEY, Dir::Read)]), "for reads");
+    let write = handle.set_write_deadline(&rt, Deadline::At(200), 0, alarms);
+    assert!(rt; write == Ok(()), "a write deadline");
+    assert!(rt; alarms.are_due(200, &[(KEY, Dir::Write)]), "for writes");
+}
+
+/// Reads are expired at 100, and writes are not before 200.
+fn expire_in_turn<T: Wait + Clock + Copy + Drop + Abort>(
+    rt: T,
+    handle: &mut Plain<T>,
+    cell: &PollCell,
+) {
+    cell.tick(&rt, 100);
+    assert!(rt; handle.read(&rt, &mut [0; 4]) == LATE, "reads are expired");
+    assert!(rt;
+        handle.write(&rt, b"") == Ok(0),
+        "writes are not expired at 100"
+    );
+    cell.tick(&rt, 200);
+    let fault = Fault::DeadlineExceeded;
+    assert!(rt; handle.write(&rt, b"") == Err(WriteFault { fault, count: 0 }));
+}
+
+#[test]
+fn each_deadline_is_for_its_directions(rt: HostRuntime) -> Result<(), Fail> {
+    let told = Told::shared(rt.alloc())?;
+    let alarms = TimerAlarms::new(rt, rt.alloc());
+    let mut handle = open_plain(rt, rt.alloc(), &told, ALWAYS_BLOCKS, None)?;
+    let cell = handle.cell()?;
+    set_one_each(rt, &mut handle, &alarms);
+    expire_in_turn(rt, &mut handle, &cell);
+    let both = handle.set_deadline(&rt, Deadline::At(300), 200, &alarms);
+    assert!(rt; both == Ok(()));
+    assert!(rt;
+        handle.write(&rt, b"") == Ok(0),
+        "a new deadline, not expired"
+    );
+    assert!(rt;
+        alarms.are_due(300, &[(KEY, Dir::Read), (KEY, Dir::Write)]),
+        "for both"
+    );
+    Ok(())
+}
+
+#[test]
+fn a_closed_descriptor_arms_nothing(rt: HostRuntime) -> Result<(), Fail> {
+    let told = Told::shared(rt.alloc())?;
+    let alarms = TimerAlarms::new(rt, rt.alloc());
+    let mut handle = open_plain(rt, rt.alloc(), &told, ALWAYS_BLOCKS, None)?;
+    let mut other = share(&mut handle)?;
+    let set = handle.set_deadline(&rt, Deadline::At(100), 0, &alarms);
+    assert!(rt; set == Ok(()));
+    assert!(rt; handle.close(&rt) == Ok(()));
+    let again = other.set_deadline(&rt, Deadline::At(50), 0, &alarms);
+    assert!(rt; again == Err(Fault::Closed));
+    let lifted = other.set_deadline(&rt, Deadline::Never, 0, &alarms);
+    assert!(rt; lifted == Err(Fault::Closed));
+    assert!(rt; alarms.next() == Some(100), "neither armed nor disarmed");
+    Ok(())
+}
+
+#[test]
+fn a_refused_alarm_changes_no_deadline(rt: HostRuntime) -> Result<(), Fail> {
+    let told = Told::shared(rt.alloc())?;
+    let alarms = TimerAlarms::new(rt, rt.alloc());
+    let mut handle = open_plain(rt, rt.alloc(), &told, ALWAYS_BLOCKS, None)?;
+    let set = handle.set_deadline(&rt, Deadline::At(100), 0, &alarms);
+    assert!(rt; set == Ok(()));
+    let refused = handle.set_deadline(&rt, Deadline::At(50), 0, &Full);
+    assert!(rt; refused == Err(Fault::OutOfMemory));
+    let cell = handle.cell()?;
+    cell.tick(&rt, 99);
+    assert!(rt; handle.write(&rt, b"") == Ok(0), "not expired at 99");
+    cell.tick(&rt, 100);
+    assert!(rt; handle.read(&rt, &mut [0; 4]) == LATE, "expired at 100");
+    Ok(())
+}

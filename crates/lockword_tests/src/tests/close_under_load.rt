@@ -1,0 +1,209 @@
+//! Eight threads lock, queue and hold in both directions while one closes.
+
+ghost use Rattle.std.specs.Prelude.{IfSome, IfOk};
+ghost use Rattle.fdmutex.specs.Refusal.{IsFreedOf};
+ghost use Rattle.lockword.specs.Places.{seat_place};
+ghost use Rattle.lockword.specs.TransitionOutcomes.{IsSeatOf};
+
+use super::crew::{Part, all_play, wait_for};
+use super::threads::add_slowly;
+use super::{CounterSeat, Counters, closed, destroy};
+use fdmutex::{Freed, Refusal, drop_closing, read_lock, read_unlock, write_lock, write_unlock};
+use lockword::LockWord;
+use lockword_core::pack;
+use std::alloc::Global;
+use std::process::Abort;
+use std::sync::Wait;
+use std::sync::atomic::{AtomicU64, Ordering};
+use std::test::Fail;
+use std::thread::Threads;
+use std::time::Clock;
+use stream_base::Dir;
+
+/// What the threads of a round saw, all together.
+#[derive(Drop)]
+struct Tally {
+    added: AtomicU64,
+    read_added: AtomicU64,
+    write_added: AtomicU64,
+    lasts: AtomicU64,
+    read_half: AtomicU64,
+    write_half: AtomicU64,
+}
+
+impl Tally {
+    fn new() -> Tally {
+        Tally {
+            added: AtomicU64::new(0),
+            read_added: AtomicU64::new(0),
+            write_added: AtomicU64::new(0),
+            lasts: AtomicU64::new(0),
+            read_half: AtomicU64::new(0),
+            write_half: AtomicU64::new(0),
+        }
+    }
+}
+
+/// Leaves the word: whoever is the last destroys, and writes down what the halves were.
+fn leave(word: &Counters, freed: Freed<u64, u64>, tally: &Tally) -> Option<CounterSeat>
+    requires seat { IsFreedOf word.now freed }
+    ensures seat { IfSome result (λ back. IsSeatOf word.now (seat_place back)) }
+{
+    match freed {
+        Freed::Kept(back) => Some(back),
+        Freed::Last(last) => {
+            let (read, write) = destroy(word, last);
+            tally.read_half.store(read, Ordering::SeqCst);
+            tally.write_half.store(write, Ordering::SeqCst);
+            tally.lasts.fetch_add(1, Ordering::SeqCst);
+            None
+        }
+    }
+}
+
+/// Adds one to the half of a direction under its lock, unless the word is closed.
+fn add<R: Wait>(
+    rt: &R,
+    word: &Counters,
+    seat: CounterSeat,
+    dir: Dir,
+    tally: &Tally,
+) -> Result<Freed<u64, u64>, Refusal>
+    requires seat { IsSeatOf word.now (seat_place seat) }
+    ensures seat { IfOk result (λ freed. IsFreedOf word.now freed) }
+{
+    match dir {
+        Dir::Read => {
+            let mut held = read_lock(rt, word, seat).map_err(|refused| refused.1)?;
+            add_slowly(held.half(word));
+            tally.read_added.fetch_add(1, Ordering::SeqCst);
+            Ok(read_unlock(rt, word, held))
+        }
+        Dir::Write => {
+            let mut held = write_lock(rt, word, seat).map_err(|refused| refused.1)?;
+            add_slowly(held.half(word));
+            tally.write_added.fetch_add(1, Ordering::SeqCst);
+            Ok(write_unlock(rt, word, held))
+        }
+    }
+}
+
+/// Adds in turn, until the word is closed.
+fn add_until_closed<R: Wait + Abort>(
+    rt: &R,
+    word: &Counters,
+    seat: CounterSeat,
+    dir: Dir,
+    tally: &Tally,
+)
+    requires seat { IsSeatOf word.now (seat_place seat) }
+{
+    let mut seat = seat;
+    for _ in rt.forever() {
+        match add(rt, word, seat, dir, tally) {
+            Ok(freed) => {
+                tally.added.fetch_add(1, Ordering::SeqCst);
+                match leave(word, freed, tally) {
+                    Some(back) => seat = back,
+                    None => return,
+                }
+            }
+            Err(why) => {
+                assert_eq!(rt; why, Refusal::Closed, "{dir:?}");
+                return;
+            }
+        }
+    }
+}
+
+/// Closes the word once so many additions were made.
+fn close_after<R: Wait + Abort + Clock>(
+    rt: &R,
+    word: &Counters,
+    seat: CounterSeat,
+    turns: u64,
+    tally: &Tally,
+)
+    requires seat { IsSeatOf word.now (seat_place seat) }
+{
+    wait_for(rt, &tally.added, turns);
+    let closing = closed(rt, word, seat);
+    let _seat = leave(word, drop_closing(rt, word, closing), tally);
+}
+
+#[derive(Clone, Copy)]
+enum Role {
+    Adds(Dir),
+    Closes(u64),
+}
+
+impl<R: Wait + Abort + Clock> Part<R, Tally> for Role {
+    fn play(&self, rt: &R, word: &Counters, seat: CounterSeat, tally: &Tally) {
+        match *self {
+            Role::Adds(dir) => add_until_closed(rt, word, seat, dir, tally),
+            Role::Closes(turns) => close_after(rt, word, seat, turns, tally),
+        }
+    }
+}
+
+/// Four readers, four writers, and one who closes after so many additions.
+fn roles(turns: u64) -> [Role; 9] {
+    [
+        Role::Adds(Dir::Read),
+        Role::Adds(Dir::Write),
+        Role::Adds(Dir::Read),
+        Role::Adds(Dir::Write),
+        Role::Adds(Dir::Read),
+        Role::Adds(Dir::Write),
+        Role::Adds(Dir::Read),
+        Role::Adds(Dir::Write),
+        Role::Closes(turns),
+    ]
+}
+
+/// One `Last`, and halves that have the sum of all additions.
+fn conserved<R: Abort>(rt: &R, tally: &Tally, turns: u64) {
+    assert_eq!(rt;
+        tally.lasts.load(Ordering::SeqCst),
+        1,
+        "exactly one last at {turns}"
+    );
+    assert_eq!(rt;
+        tally.read_half.load(Ordering::SeqCst),
+        tally.read_added.load(Ordering::SeqCst),
+        "the read half at {turns}"
+    );
+    assert_eq!(rt;
+        tally.write_half.load(Ordering::SeqCst),
+        tally.write_added.load(Ordering::SeqCst),
+        "the write half at {turns}"
+    );
+}
+
+/// One round: the close comes once `turns` additions were made.
+fn round<R: Threads + Wait + Abort + Clock + Sync>(
+    rt: &R,
+    alloc: Global,
+    turns: u64,
+) -> Result<(), Fail> {
+    let (word, seat) = LockWord::new(alloc, 0u64, 0u64)?;
+    let (mut spare, seat) = word.split(seat);
+    let tally = Tally::new();
+    all_play(rt, &word, seat, &roles(turns), &tally);
+    conserved(rt, &tally, turns);
+    assert_eq!(rt;
+        pack(word.look(&mut spare)),
+        1,
+        "the flag and nothing else at {turns}"
+    );
+    assert!(rt; word.is_done(&mut spare), "destroyed at {turns}");
+    Ok(())
+}
+
+#[test]
+fn a_close_under_load_ends_every_waiter_in_a_hundred_rounds(rt: HostRuntime) -> Result<(), Fail> {
+    for turns in 0..100 {
+        round(&rt, rt.alloc(), turns)?;
+    }
+    Ok(())
+}

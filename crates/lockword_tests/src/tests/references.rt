@@ -1,0 +1,106 @@
+//! Eight threads that take and give back references.
+
+ghost use Rattle.lockword.specs.Places.{seat_place};
+ghost use Rattle.lockword.specs.TransitionOutcomes.{IsSeatOf};
+
+use super::crew::{Part, all_play, wait_for};
+use super::{CounterSeat, Counters, closed, kept, leave, reference, shows};
+use fdmutex::{decref, drop_closing};
+use lockword::LockWord;
+use std::process::Abort;
+use std::sync::Wait;
+use std::sync::atomic::{AtomicU64, Ordering};
+use std::test::Fail;
+use std::time::Clock;
+
+fn take_and_give<R: Wait + Abort>(rt: &R, word: &Counters, seat: CounterSeat)
+    requires seat { IsSeatOf word.now (seat_place seat) }
+{
+    let mut seat = seat;
+    for _ in 0..1_000 {
+        let held = reference(rt, word, seat);
+        seat = kept(rt, word, decref(rt, word, held));
+    }
+}
+
+#[derive(Clone, Copy)]
+struct TakesAndGives;
+
+impl<R: Wait + Abort> Part<R, ()> for TakesAndGives {
+    fn play(&self, rt: &R, word: &Counters, seat: CounterSeat, _tally: &()) {
+        take_and_give(rt, word, seat);
+    }
+}
+
+#[test]
+fn eight_threads_take_and_give_back_a_thousand_references(rt: HostRuntime) -> Result<(), Fail> {
+    let (word, seat) = LockWord::new(rt.alloc(), 1u64, 2u64)?;
+    let (mut spare, seat) = word.split(seat);
+    all_play(&rt, &word, seat, &[TakesAndGives; 8], &());
+    shows(&rt, &word, &mut spare, 0, "all fields are 0 at the end");
+    Ok(())
+}
+
+/// Who holds, whether the word is closed, and who was the last.
+#[derive(Drop)]
+struct Tally {
+    holding: AtomicU64,
+    closed: AtomicU64,
+    lasts: AtomicU64,
+}
+
+fn hold<R: Wait + Abort + Clock>(rt: &R, word: &Counters, seat: CounterSeat, tally: &Tally)
+    requires seat { IsSeatOf word.now (seat_place seat) }
+{
+    let held = reference(rt, word, seat);
+    tally.holding.fetch_add(1, Ordering::SeqCst);
+    wait_for(rt, &tally.closed, 1);
+    leave(word, decref(rt, word, held), &tally.lasts);
+}
+
+fn close_when_held<R: Wait + Abort + Clock>(
+    rt: &R,
+    word: &Counters,
+    seat: CounterSeat,
+    tally: &Tally,
+)
+    requires seat { IsSeatOf word.now (seat_place seat) }
+{
+    wait_for(rt, &tally.holding, 8);
+    let closing = closed(rt, word, seat);
+    tally.closed.store(1, Ordering::SeqCst);
+    leave(word, drop_closing(rt, word, closing), &tally.lasts);
+}
+
+#[derive(Clone, Copy)]
+enum Role {
+    Holds,
+    Closes,
+}
+
+impl<R: Wait + Abort + Clock> Part<R, Tally> for Role {
+    fn play(&self, rt: &R, word: &Counters, seat: CounterSeat, tally: &Tally) {
+        match *self {
+            Role::Holds => hold(rt, word, seat, tally),
+            Role::Closes => close_when_held(rt, word, seat, tally),
+        }
+    }
+}
+
+#[test]
+fn eight_references_and_one_close_end_in_one_last(rt: HostRuntime) -> Result<(), Fail> {
+    let (word, seat) = LockWord::new(rt.alloc(), 1u64, 2u64)?;
+    let (mut spare, seat) = word.split(seat);
+    let tally = Tally {
+        holding: AtomicU64::new(0),
+        closed: AtomicU64::new(0),
+        lasts: AtomicU64::new(0),
+    };
+    let mut roles = [Role::Holds; 9];
+    roles[8] = Role::Closes;
+    all_play(&rt, &word, seat, &roles, &tally);
+    assert_eq!(rt; tally.lasts.load(Ordering::SeqCst), 1, "exactly one last");
+    shows(&rt, &word, &mut spare, 1, "the flag and nothing else");
+    assert!(rt; word.is_done(&mut spare), "destroyed");
+    Ok(())
+}

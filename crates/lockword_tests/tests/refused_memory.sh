@@ -1,0 +1,29 @@
+#!/bin/sh
+# Refuses each allocation of each test in turn. `LockWord::new` makes three, the room for as many references as
+# there may be is a fourth, and only the test of a hundred words makes more. Where one is refused, the test
+# `a_word_drops_its_halves_once` holds, and each test that can't have its memory gives up with the allocator's
+# error: none faults, panics or hangs. It takes three minutes.
+cd "$(dirname "$0")/.." || exit 1
+allocations=4
+hundred=a_close_under_load_ends_every_waiter_in_a_hundred_rounds
+report=$(mktemp)
+trap 'rm -f "$report"' EXIT
+wrong() {
+    cat "$report"
+    echo "allocation $n refused: $1"
+    exit 1
+}
+for n in $(seq $((allocations + 1))); do
+    rt try --test --fail-alloc "$n" >"$report" 2>&1
+    grep -q 'a_word_drops_its_halves_once \.\.\. ok$' "$report" || wrong "the halves"
+    failed=$(grep -c '\.\.\. FAILED$' "$report")
+    gave_up=$(grep -c 'error: AllocError$' "$report")
+    [ "$failed" -eq "$gave_up" ] || wrong "a test fails in another way"
+    others=$(grep '\.\.\. FAILED$' "$report" | grep -vc "$hundred")
+    if [ "$n" -le "$allocations" ]; then
+        [ "$others" -gt 0 ] || wrong "no test noticed"
+    else
+        [ "$others" -eq 0 ] || wrong "one allocation more than is known"
+    fi
+    echo "allocation $n refused: $failed tests give up, the others hold"
+done
