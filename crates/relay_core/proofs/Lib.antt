@@ -1,0 +1,2 @@
+pub mod CopyTraceLemmas
+pub mod AcceptTraceLemmas

@@ -1,0 +1,3 @@
+pub mod CopyTrace
+pub mod AcceptTrace
+pub mod Pair
