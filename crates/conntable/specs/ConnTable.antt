@@ -46,9 +46,17 @@ module _ {T : Type 0} where
     pub keys : AllPairs (λ e f. key_of e.token ≢ key_of f.token) t.entries
     pub next_key : IsFreeKey t.next_key t.entries
 
+  -- the first entry that has this token, if one has
+  abbrev pub entry_with_token : ℕ → List (Entry T) → Option (Entry T)
+  entry_with_token token entries = find (λ e. e.token == token) entries
+
   -- the value of the first entry that has this token, if one has
   abbrev pub value_with_token : ℕ → List (Entry T) → Option T
-  value_with_token token entries = option_map (λ e. e.value) (find (λ e. e.token == token) entries)
+  value_with_token token entries = option_map (λ e. e.value) (entry_with_token token entries)
+
+  -- the id of the first entry that has this token, if one has
+  abbrev pub id_with_token : ℕ → List (Entry T) → Option ℕ
+  id_with_token token entries = option_map (λ e. e.id) (entry_with_token token entries)
 
   -- the value of the first entry that has this id, if one has
   abbrev pub value_with_id : ℕ → List (Entry T) → Option T

@@ -7,6 +7,7 @@ ghost use Rattle.std.specs.Prelude.{◌≡◌, ◌≢◌, ◌<◌, ◌≤◌, []
 ghost use Rattle.std.specs.Prelude.{IfOk, OnOk, IfErr, OnErr, IfSome, IfNone, option_copied};
 ghost use Rattle.conntable.specs.ConnTable.{Inserts, Removes, HasIdAt, HasNoId, IsConsistent};
 ghost use Rattle.conntable.specs.ConnTable.{next_token, value_with_token, value_with_id, ids_of};
+ghost use Rattle.conntable.specs.ConnTable.{entry_with_token, id_with_token};
 ghost use Rattle.conntable.specs.ConnTable.{first_id_of};
 ghost use Rattle.conntable.specs.Refusals.{HasRoom, Refuses};
 
@@ -143,17 +144,36 @@ impl<T, A: Allocator> ConnTable<T, A> {
         }
     }
 
+    fn entry_by_token(&self, token: u64) -> Option<&Entry<T>>
+        ensures { option_copied result ≡ entry_with_token token self.now.entries }
+    {
+        for entry in self.entries.as_slice() {
+            if entry.token == token {
+                return Some(entry);
+            }
+        }
+        None
+    }
+
     /// The value of the entry with this token, or `None`: a token whose entry was removed names
     /// nothing, also once another entry has its key.
     pub fn by_token(&self, token: u64) -> Option<&T>
         ensures { option_copied result ≡ value_with_token token self.now.entries }
     {
-        for entry in self.entries.as_slice() {
-            if entry.token == token {
-                return Some(&entry.value);
-            }
+        match self.entry_by_token(token) {
+            Some(entry) => Some(&entry.value),
+            None => None,
         }
-        None
+    }
+
+    /// The id of the entry with this token, or `None`, as for `by_token`.
+    pub fn id_by_token(&self, token: u64) -> Option<u64>
+        ensures { result ≡ id_with_token token self.now.entries }
+    {
+        match self.entry_by_token(token) {
+            Some(entry) => Some(entry.id),
+            None => None,
+        }
     }
 
     /// The value of the entry with this id, or `None`.

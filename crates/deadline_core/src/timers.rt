@@ -57,8 +57,8 @@ impl Timers {
 }
 
 impl<A: Allocator> Timers<A> {
-    // As `new`, over any allocator.
-    pub(crate) fn new_in(alloc: A) -> Timers<A>
+    /// No timer is armed, over any allocator.
+    pub fn new_in(alloc: A) -> Timers<A>
         ensures empty { result ≡ map.empty }
     {
         Timers {

@@ -73,7 +73,9 @@ impl<X: Resource, A: Allocator> FdHandle<X, A> {
         answer
     }
 
-    /// Shuts the write half, after the writer before it; it waits for no deadline.
+    /// Shuts the write half, after the writer before it, and where the connection isn't made yet after
+    /// that. A deadline refuses no shut: one that passes while the connection is being made ends the
+    /// wait, and gives the connection up.
     pub fn close_write<T: Wait>(&mut self, rt: &T) -> Result<(), Fault>
     where
         X::W: HalfClose,

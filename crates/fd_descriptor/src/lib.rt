@@ -15,3 +15,10 @@ mod transfer;
 pub use descriptor::{Fd, FdHandle};
 pub use poll_cell::{CellWaits, PollCell};
 pub use resource::{Alarms, HalfClose, Resource};
+
+// What callers of the above speak of, so that they need this crate alone.
+pub use deadline_core::{Deadline, Dirs};
+pub use rwloops::{
+    AcceptOutcome, DevKind, Fault, Outcome, TryAccept, TryRead, TryWrite, WriteFault,
+};
+pub use stream_base::{Dir, OutOfMemory};

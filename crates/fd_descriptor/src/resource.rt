@@ -20,6 +20,12 @@ pub trait Resource {
 
 /// A half that can be shut while the other goes on, as `CloseWrite` of Go's `net.TCPConn`.
 pub trait HalfClose {
+    /// Whether the connection that it belongs to isn't made yet. Shutting it now would give the
+    /// connection up, so a descriptor waits until the half is ready to be written, and asks again.
+    fn is_connecting(&mut self) -> bool {
+        false
+    }
+
     /// Shuts it for good.
     fn shut(&mut self) -> Result<(), DevKind>;
 }

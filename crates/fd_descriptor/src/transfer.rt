@@ -16,9 +16,10 @@ use crate::poll_cell::CellWaits;
 use crate::resource::{Alarms, HalfClose, Resource};
 use fdmutex::{decref, incref, read_lock, read_unlock, write_lock, write_unlock};
 use lockword::Seat;
-use rwloops::{Fault, TryAccept, TryRead, TryWrite, WriteFault};
+use rwloops::{DevKind, Fault, TryAccept, TryRead, TryWrite, Waits, WriteFault};
 use std::alloc::Allocator;
 use std::sync::Wait;
+use stream_base::Dir;
 
 pub(crate) fn read_by<X: Resource, A: Allocator, T: Wait>(
     rt: &T,
@@ -104,6 +105,21 @@ where
     (leave::<X>(word, write_unlock(rt, word, held)), answer)
 }
 
+// Shuts a half once its connection is made. A deadline or a close ends the wait, and then the half
+// is shut as it is.
+fn shut_connected<H: HalfClose, W: Waits>(
+    rt: &impl Wait,
+    half: &mut H,
+    waits: &mut W,
+) -> Result<(), DevKind> {
+    for _ in rt.forever() {
+        if !half.is_connecting() || waits.wait(Dir::Write).is_err() {
+            return half.shut();
+        }
+    }
+    unreachable!()
+}
+
 pub(crate) fn shut_by<X: Resource, A: Allocator, T: Wait>(
     rt: &T,
     fd: &Fd<X, A>,
@@ -123,7 +139,8 @@ where
         Ok(held) => held,
         Err((seat, refusal)) => return (seat, Err(fault_of(refusal))),
     };
-    let answer = match held.half(word).shut() {
+    let mut waits = CellWaits::new(&fd.cell, rt);
+    let answer = match shut_connected(rt, held.half(word), &mut waits) {
         Ok(()) => Ok(()),
         Err(kind) => Err(Fault::Device(kind)),
     };

@@ -1,2 +1,1 @@
 pub mod ExitStatus
-pub mod Job

@@ -4,6 +4,7 @@ ghost use Rattle.std.specs.Prelude.{◌≡◌};
 ghost use Rattle.pollrelay.specs.ExitStatus.{status_of_fault, fault_of_trace};
 
 use lockword_script::TraceFault;
+use relay::ServeFault;
 use thiserror::Error;
 
 /// Why the program ends without doing its job. The texts are the lines on standard error.
@@ -17,10 +18,13 @@ pub enum Fault {
     TraceWrite,
     #[error("trace fault: memory")]
     TraceMemory,
-    /// Memory was refused while the command line was read.
-    #[error("relay fault: memory")]
-    Memory,
+    /// A relay doesn't run, or a rules file can't be read.
+    #[error("{0}")]
+    Relay(ServeFault),
 }
+
+/// Memory was refused while the command line was read.
+pub const NO_MEMORY: Fault = Fault::Relay(ServeFault::Memory);
 
 impl Fault {
     /// The exit status: 2 for a command line, 3 for a device or memory.
@@ -29,7 +33,9 @@ impl Fault {
     {
         match self {
             Fault::BadCommandLine => 2,
-            Fault::TraceRead | Fault::TraceWrite | Fault::TraceMemory | Fault::Memory => 3,
+            Fault::TraceRead | Fault::TraceWrite | Fault::TraceMemory => 3,
+            Fault::Relay(ServeFault::BadRules(_)) => 1,
+            Fault::Relay(_) => 3,
         }
     }
 

@@ -1,51 +1,64 @@
 //! The command line.
 
-ghost use Rattle.std.specs.Prelude.{◌≡◌, IfOk, Some, map};
-ghost use Rattle.clap.specs.Words.{app_of, subcommand_name_of};
-ghost use Rattle.pollrelay.specs.Job.{AsksForTrace, job_named, program};
-ghost use Rattle.pollrelay.specs.declared.job.Job.TheVariants.{Trace};
-
 use clap::error::ErrorKind;
-use clap::{ArgMatches, Command};
+use clap::{Arg, ArgAction, ArgMatches, Command};
 use std::alloc::Global;
 use stream_base::OutOfMemory;
 
 /// What the program is asked to do.
-#[derive(Clone, Copy, Debug, PartialEq, Eq, Drop)]
+#[derive(Debug, PartialEq, Eq, Drop)]
 pub enum Job {
     /// Run a trace script on standard input and output.
     Trace,
+    /// Say whether a rules file is good.
+    Check { rules: String },
+    /// Run the relay.
+    Serve { rules: String, admin: String },
 }
 
-fn command<'a>(alloc: Global) -> Result<Command<'a>, OutOfMemory>
-    ensures { IfOk result (λ command. app_of command ≡ program) }
-{
+fn option<'a>(alloc: Global, name: &'a str) -> Arg<'a> {
+    Arg::new(alloc, name)
+        .long(name)
+        .required(true)
+        .action(ArgAction::Set)
+}
+
+fn command<'a>(alloc: Global) -> Result<Command<'a>, OutOfMemory> {
+    let check = Command::new(alloc, "check").arg(option(alloc, "rules"))?;
+    let serve = Command::new(alloc, "serve")
+        .arg(option(alloc, "rules"))?
+        .arg(option(alloc, "admin"))?;
     Command::new(alloc, "pollrelay")
         .no_binary_name(true)
-        .subcommand(Command::new(alloc, "trace"))
+        .subcommand(Command::new(alloc, "trace"))?
+        .subcommand(check)?
+        .subcommand(serve)
 }
 
-fn job_in(matches: &ArgMatches<'_>) -> Option<Job>
-    ensures { result ≡ job_named (subcommand_name_of matches.now) }
-{
+fn value(alloc: Global, matches: &ArgMatches<'_>, id: &str) -> Result<String, OutOfMemory> {
+    String::from_str(alloc, matches.get_str(id).unwrap_or(""))
+}
+
+fn job_in(alloc: Global, matches: &ArgMatches<'_>) -> Result<Option<Job>, OutOfMemory> {
     match matches.subcommand() {
-        None | Some(("trace", _)) => Some(Job::Trace),
-        Some(_) => None,
+        None | Some(("trace", _)) => Ok(Some(Job::Trace)),
+        Some(("check", inner)) => {
+            let rules = value(alloc, inner, "rules")?;
+            Ok(Some(Job::Check { rules }))
+        }
+        Some(("serve", inner)) => {
+            let rules = value(alloc, inner, "rules")?;
+            let admin = value(alloc, inner, "admin")?;
+            Ok(Some(Job::Serve { rules, admin }))
+        }
+        Some(_) => Ok(None),
     }
 }
 
-/// The job that the words after the program's name ask for: no word and the word `trace` ask for
-/// [`Job::Trace`], and anything else is `None`.
-pub fn job_of(alloc: Global, words: &[&str]) -> Result<Option<Job>, OutOfMemory>
-    ensures trace { AsksForTrace (map (λ word. word.now) words.now)
-        → IfOk result (λ job. job ≡ Some Trace) }
-{
-    // `clap` takes this word for the end of options, of which there are none to end.
-    if words.contains(&"--") {
-        return Ok(None);
-    }
+/// The job that the words after the program's name ask for.
+pub fn job_of(alloc: Global, words: &[&str]) -> Result<Option<Job>, OutOfMemory> {
     match command(alloc)?.try_get_matches_from(words) {
-        Ok(matches) => Ok(job_in(&matches)),
+        Ok(matches) => job_in(alloc, &matches),
         Err(error) if error.kind() == ErrorKind::OutOfMemory => Err(OutOfMemory),
         Err(_) => Ok(None),
     }

@@ -1,17 +1,25 @@
-//! `pollrelay`: runs a trace script of the lock word on standard input and output.
+//! `pollrelay`: a relay of TCP and Unix-socket connections; it also runs trace scripts of the lock word.
 #![tactic(auto)]
 
+mod check;
 mod fault;
 mod job;
 mod status;
 
-use crate::fault::Fault;
+use crate::check::check_status;
+use crate::fault::{Fault, NO_MEMORY};
 use crate::job::{Job, job_of};
 use crate::status::trace_status;
+use relay::{serve, text_of};
+use relay_ledger::PARTS;
 use std::alloc::Global;
 use std::env;
+use std::fs::Files;
+use std::io;
 use std::io::ErrorKind;
+use std::marker::Brand;
 use std::process::ExitCode;
+use std::sync::ledger::Blank;
 use stream_base::OutOfMemory;
 
 /// Tells a fault on standard error. Where that cannot be written either, nobody is left to tell.
@@ -29,13 +37,21 @@ fn job_of_words(alloc: Global, words: &[String]) -> Result<Option<Job>, OutOfMem
     job_of(alloc, texts.as_slice())
 }
 
+/// Prints the verdict on a rules file.
+fn check_file<R: Files + Print + Eprint + AllocGlobal>(rt: &R, rules: &str) -> ExitCode {
+    match text_of(rt, rt.alloc(), rules) {
+        Ok(text) => ExitCode::from(check_status(text.as_slice(), &mut io::writer(rt))),
+        Err(fault) => told(rt, Fault::Relay(fault)),
+    }
+}
+
 fn main(rt: HostRuntime) -> ExitCode {
     let words: Vec<String> = match env::args(&rt) {
         Ok(args) => match args.collect(rt.alloc()) {
             Ok(words) => words,
-            Err(_) => return told(&rt, Fault::Memory),
+            Err(_) => return told(&rt, NO_MEMORY),
         },
-        Err(error) if error.kind() == ErrorKind::OutOfMemory => return told(&rt, Fault::Memory),
+        Err(error) if error.kind() == ErrorKind::OutOfMemory => return told(&rt, NO_MEMORY),
         // A word that isn't UTF-8.
         Err(_) => return told(&rt, Fault::BadCommandLine),
     };
@@ -45,8 +61,17 @@ fn main(rt: HostRuntime) -> ExitCode {
             let status = trace_status(rt.alloc(), &mut input, &mut output, &mut errors);
             ExitCode::from(status)
         }
+        Ok(Some(Job::Check { rules })) => check_file(&rt, rules.as_str()),
+        Ok(Some(Job::Serve { rules, admin })) => {
+            let (up, down) = (Blank::new(PARTS), Blank::new(PARTS));
+            let mut output = rt.stdout();
+            match serve::<Brand, Brand, HostRuntime, _>(rt, &rules, &admin, up, down, &mut output) {
+                Ok(()) => ExitCode::from(0),
+                Err(fault) => told(&rt, Fault::Relay(fault)),
+            }
+        }
         Ok(None) => told(&rt, Fault::BadCommandLine),
-        Err(_) => told(&rt, Fault::Memory),
+        Err(_) => told(&rt, NO_MEMORY),
     }
 }
 

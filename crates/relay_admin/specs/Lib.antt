@@ -2,6 +2,7 @@ pub mod Addr
 pub mod RulesGrammar
 pub mod RulesFault
 pub mod RulesLoop
+pub mod Verdict
 pub mod RulesReading
 pub mod TextReading
 pub mod Command

@@ -21,6 +21,7 @@ mod rules;
 mod rules_fault;
 mod session;
 mod text;
+mod verdict;
 
 pub use addr::Addr;
 pub use command::Command;
@@ -32,3 +33,4 @@ pub use rule::Rule;
 pub use rules::Rules;
 pub use rules_fault::RulesFault;
 pub use session::{serve_admin, serve_on};
+pub use verdict::{Verdict, check_status};

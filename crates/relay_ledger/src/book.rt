@@ -1,13 +1,14 @@
-//! The book: the total of all credits, and how many shares were opened.
+//! The book: the total of all credits, and how many shares are open.
 //!
-//! One ledger stands behind it, cut into `PARTS` parts. Each opened share holds one part, and the
-//! book keeps the rest, with an amount of 0. So the shares' parts and the rest are all parts, and
-//! where as many shares come back as were opened, the ledger itself tells that their amounts are
-//! the total. At run time a ledger's tokens take no bytes.
+//! One ledger stands behind it, cut into `PARTS` parts. Each open share holds one part, and the
+//! book keeps the rest, with the amounts of the shares that were settled. So the open shares' parts
+//! and the rest are all parts, and where as many shares come back as are open, the ledger itself
+//! tells that their amounts and the settled ones are the total. At run time a ledger's tokens take no
+//! bytes.
 
 ghost use Rattle.std.specs.Prelude.{◌≡◌, ◌+◌, ◌^◌, ◌<◌, ◌↔◌, false, true, sum};
 ghost use Rattle.std.specs.Prelude.{IsOk, IfOk, OnOk, IfErr, OnErr};
-ghost use Rattle.relay_ledger.specs.Book.{OpensOne, Adds, MayOpen, CannotOpen, AreAllShares};
+ghost use Rattle.relay_ledger.specs.Book.{OpensOne, Adds, Settles, Gathers, MayOpen, CannotOpen, AreAllShares};
 
 use crate::gathering;
 use crate::share::Share;
@@ -15,14 +16,14 @@ use std::marker::{Model, PhantomData};
 use std::sync::ledger;
 use std::sync::ledger::{Blank, Ledger};
 
-/// The parts of the ledger that `Book::new` takes: one for each share that may be opened, and one
+/// The parts of the ledger that `Book::new` takes: one for each share that may be open, and one
 /// that stays with the book.
 pub const PARTS: u64 = 4_294_967_296;
 
-/// The most shares that a book opens.
+/// The most shares of a book that are open at once.
 pub const MAX_SHARES: u32 = 4_294_967_295;
 
-/// The total would pass the greatest `u64`, or no more shares may be opened.
+/// The total would pass the greatest `u64`, or no more shares may be open.
 #[derive(Clone, Copy, Debug, PartialEq, Eq, Drop)]
 pub struct Full;
 
@@ -35,7 +36,8 @@ struct WholeLedger<L: Ledger> {
 
 /// The total of all credits. `L` names the book, so a share fits its own book alone.
 ///
-/// Contracts see the total, how many shares were opened, and whether it was gathered.
+/// Contracts see the total, how many shares are open, what the settled ones were credited, and
+/// whether it was gathered.
 #[derive(Drop)]
 pub struct Book<L: Ledger> {
     total: u64,
@@ -47,16 +49,17 @@ pub struct Book<L: Ledger> {
 }
 
 impl<L: Ledger> Model for Book<L> {
-    ghost use Rattle.std.specs.Prelude.{◌≡◌, ◌+◌, ◌^◌, ◌<◌, false};
+    ghost use Rattle.std.specs.Prelude.{◌≡◌, ◌+◌, ◌^◌, ◌<◌, false, true};
     ghost use Rattle.relay_ledger.specs.Book.{Account};
 
     ghost Value = { Account };
 
-    ghost view = { λ b. record { total = b.total; opened = b.opened; gathered = b.gathered } };
+    ghost view = { λ b. record { total = b.total; opened = b.opened; settled = b.rest.amount;
+        gathered = b.gathered } };
 
     ghost invariant = { λ b. (b.total ≡ b.book.total) × (b.total < 2 ^ 64) × (b.opened < 2 ^ 32)
         × (b.gathered ≡ false → b.rest.parts + b.opened ≡ 4294967296)
-        × (b.gathered ≡ false → b.rest.amount ≡ 0) };
+        × (b.gathered ≡ true → b.rest.parts ≡ 4294967296) };
 }
 
 impl<L: Ledger> Book<L> {
@@ -67,6 +70,7 @@ impl<L: Ledger> Book<L> {
         requires all { blank.parts ≡ 4294967296 }
         ensures total { result.total ≡ 0 }
         ensures opened { result.opened ≡ 0 }
+        ensures settled { result.settled ≡ 0 }
         ensures gathered { result.gathered ≡ false }
     {
         let (book, rest) = blank.open::<L>();
@@ -87,14 +91,14 @@ impl<L: Ledger> Book<L> {
         self.total
     }
 
-    /// How many shares were opened, also after `gather`.
+    /// How many shares were opened and not settled, also after `gather`.
     pub fn opened(&self) -> u32
         ensures { result ≡ self.now.opened }
     {
         self.opened
     }
 
-    /// A share of amount 0. Refused where 4,294,967,295 were opened or the book was gathered.
+    /// A share of amount 0. Refused where 4,294,967,295 are open or the book was gathered.
     pub fn open_share(&mut self) -> Result<Share<L>, Full>
         ensures amount { IfOk result (λ share. share ≡ 0) }
         ensures opened { OnOk result (OpensOne self.old self.new) }
@@ -129,13 +133,26 @@ impl<L: Ledger> Book<L> {
         Ok(())
     }
 
-    /// The total, which is the sum of the amounts of these shares. It takes all shares that were
-    /// opened, once; else the same shares come back, and nothing changed.
+    /// Takes one share back: its amount stays in the total, and one share less is open. So a book
+    /// whose shares are settled as their workers end serves any number of workers.
+    pub fn settle(&mut self, share: Share<L>)
+        ensures settled { Settles self.old self.new share }
+        ensures was_open { (0 < self.old.opened) × (self.old.gathered ≡ false) }
+    {
+        let Share { amount: _, token } = share;
+        self.rest.merge(token);
+        self.book.audit(&mut self.rest);
+        self.opened -= 1;
+    }
+
+    /// The total, which is the sum of the amounts of these shares and of those that were settled
+    /// before. It takes all shares that are open, once; else the same shares come back, and nothing
+    /// changed.
     pub fn gather(&mut self, shares: Vec<Share<L>>) -> Result<u64, Vec<Share<L>>>
         ensures exactly { IsOk result ↔ AreAllShares self.old shares.items }
         ensures total { IfOk result (λ total. total ≡ self.old.total) }
-        ensures sum { IfOk result (λ total. total ≡ sum shares.items) }
-        ensures gathered { OnOk result (self.new ≡ record self.old { gathered = true }) }
+        ensures sum { IfOk result (λ total. total ≡ self.old.settled + sum shares.items) }
+        ensures gathered { OnOk result (Gathers self.old self.new) }
         ensures returned { IfErr result (λ back. back ≡ shares) }
         ensures kept { OnErr result (self.new ≡ self.old) }
     {

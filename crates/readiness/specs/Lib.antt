@@ -1,0 +1,6 @@
+pub mod SystemErrors
+pub mod Sockets
+pub mod Batch
+pub mod PollTimeout
+pub mod Poller
+pub mod Alarms

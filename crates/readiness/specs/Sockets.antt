@@ -1,0 +1,40 @@
+-- Sockets and halves, as callers see them.
+use Rattle.std.specs.Prelude.{Bool, true, false}
+use Rattle.std.specs.Arc.{arc_value}
+use Rattle.readiness.specs.declared.addr.Addr.{Addr}
+use Rattle.readiness.specs.declared.addr.Addr.TheVariants.{Tcp as TcpAddr, Unix as UnixAddr}
+use Rattle.readiness.specs.declared.sock.Sock.{Sock}
+use Rattle.readiness.specs.declared.sock.Sock.TheVariants.{Tcp as TcpSock, Unix as UnixSock}
+use Rattle.readiness.specs.declared.sock.Listen.{Listen}
+use Rattle.readiness.specs.declared.sock.Listen.TheVariants.{Tcp as TcpListen, Unix as UnixListen}
+use Rattle.readiness.specs.declared.resources.ReadHalf.{ReadHalf}
+use Rattle.readiness.specs.declared.resources.WriteHalf.{WriteHalf}
+use Rattle.readiness.specs.declared.resources.Acceptor.{Acceptor}
+
+-- the address is one of TCP
+abbrev pub is_tcp_addr : Addr → Bool
+is_tcp_addr (TcpAddr bytes port) = true
+is_tcp_addr (UnixAddr path) = false
+
+-- the connection is one of TCP
+abbrev pub is_tcp : Sock → Bool
+is_tcp (TcpSock stream) = true
+is_tcp (UnixSock stream) = false
+
+-- the listener is one of TCP
+abbrev pub is_tcp_listener : Listen → Bool
+is_tcp_listener (TcpListen listener) = true
+is_tcp_listener (UnixListen listener) = false
+
+-- what an acceptor accepts from
+abbrev pub listener_of : Acceptor → Listen
+listener_of acceptor = acceptor.listen
+
+module _ {A : Type 0} where
+  -- the socket that a half reads from
+  abbrev pub read_from : ReadHalf A → Sock
+  read_from half = arc_value half.sock
+
+  -- the socket that a half writes to
+  abbrev pub written_to : WriteHalf A → Sock
+  written_to half = arc_value half.sock

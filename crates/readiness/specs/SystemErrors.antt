@@ -1,0 +1,51 @@
+-- What callers are told of the system's errors, by the kinds of `io::Error`.
+use Rattle.std.specs.Prelude.{◌≡◌, ◌⊎◌, ℕ, Result, Ok, Err}
+use Rattle.std.specs.IoError.{error_kind}
+use Rattle.std.specs.declared.io.Error.{Error}
+use Rattle.std.specs.declared.io.ErrorKind.{ErrorKind}
+use Rattle.std.specs.declared.io.ErrorKind.TheVariants.{ConnectionReset, ConnectionAborted, ConnectionRefused, NotConnected, BrokenPipe as PipeIsBroken, WouldBlock as WaitIsNeeded, Interrupted as SignalCame}
+use Rattle.rwloops.specs.declared.outcome.DevKind.{DevKind}
+use Rattle.rwloops.specs.declared.outcome.DevKind.TheVariants.{Reset, Aborted as WasAborted, BrokenPipe, Refused, Other}
+use Rattle.rwloops.specs.declared.outcome.Outcome.{Outcome}
+use Rattle.rwloops.specs.declared.outcome.Outcome.TheVariants.{Count, Interrupted, Aborted, WouldBlock, Broken}
+use Rattle.rwloops.specs.declared.outcome.AcceptOutcome.{AcceptOutcome}
+use Rattle.rwloops.specs.declared.outcome.AcceptOutcome.TheVariants.{Took, Interrupted as AcceptInterrupted, Aborted as AcceptAborted, WouldBlock as AcceptWouldBlock, Broken as AcceptBroken}
+use Rattle.readiness.specs.declared.sock.Sock.{Sock}
+
+-- the kinds that callers tell apart by name, and one for all others
+abbrev pub kind_told : ErrorKind → DevKind
+kind_told ConnectionReset = Reset
+kind_told ConnectionAborted = WasAborted
+kind_told PipeIsBroken = BrokenPipe
+kind_told ConnectionRefused = Refused
+kind_told _ = Other
+
+-- what comes before there is a connection: nobody listens, or any other error
+abbrev pub IsConnectKind : DevKind → Type 0
+IsConnectKind kind = (kind ≡ Refused) ⊎ (kind ≡ Other)
+
+-- an error of a try to read or to write: a wait, two inconclusive kinds, or a fault
+abbrev pub error_told : ErrorKind → Outcome
+error_told WaitIsNeeded = WouldBlock
+error_told NotConnected = WouldBlock
+error_told SignalCame = Interrupted
+error_told ConnectionAborted = Aborted
+error_told kind = Broken (kind_told kind)
+
+-- what a try to read or to write gave
+abbrev pub outcome_told : Result ℕ Error → Outcome
+outcome_told (Ok count) = Count count
+outcome_told (Err error) = error_told (error_kind error)
+
+-- an error of a try to accept, as one of a read
+abbrev pub accept_error_told : ErrorKind → AcceptOutcome Sock
+accept_error_told WaitIsNeeded = AcceptWouldBlock
+accept_error_told NotConnected = AcceptWouldBlock
+accept_error_told SignalCame = AcceptInterrupted
+accept_error_told ConnectionAborted = AcceptAborted
+accept_error_told kind = AcceptBroken (kind_told kind)
+
+-- what a try to accept gave
+abbrev pub accept_told : Result Sock Error → AcceptOutcome Sock
+accept_told (Ok sock) = Took sock
+accept_told (Err error) = accept_error_told (error_kind error)

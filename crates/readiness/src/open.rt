@@ -1,0 +1,72 @@
+//! How sockets are opened.
+
+ghost use Rattle.std.specs.Prelude.{◌≡◌, IfOk, IfErr};
+ghost use Rattle.readiness.specs.Sockets.{is_tcp, is_tcp_listener, is_tcp_addr};
+ghost use Rattle.readiness.specs.SystemErrors.{IsConnectKind};
+ghost use Rattle.rwloops.specs.declared.outcome.DevKind.{DevKind};
+
+use crate::addr::Addr;
+use crate::sock::{Listen, Sock};
+use crate::system_error::connect_kind_of;
+use mio::net::{TcpListener, TcpStream, UnixListener, UnixStream};
+use rwloops::DevKind;
+use std::fs::Files;
+use std::io;
+use std::net::{Ipv4Addr, Net, SocketAddr};
+
+fn socket_address(bytes: [u8; 4], port: u16) -> SocketAddr {
+    let [a, b, c, d] = bytes;
+    SocketAddr::from((Ipv4Addr::new(a, b, c, d), port))
+}
+
+fn begin<R: Net>(rt: &R, addr: &Addr) -> io::Result<Sock>
+    ensures family { IfOk result (λ sock. is_tcp sock ≡ is_tcp_addr addr.now) }
+{
+    match addr {
+        Addr::Tcp(bytes, port) => {
+            let stream = TcpStream::connect(rt, socket_address(*bytes, *port))?;
+            let _ = stream.set_nodelay(true);
+            Ok(Sock::Tcp(stream))
+        }
+        Addr::Unix(path) => Ok(Sock::Unix(UnixStream::connect(rt, path.as_str())?)),
+    }
+}
+
+/// Begins a connection, and returns at once.
+///
+/// A TCP one is made later: until then its tries would block, and where nobody listens the first try
+/// after that is `Refused`. A Unix one is made at once, or answered `Refused` where nobody listens at
+/// the path any more, and `Other` where there is no such path or the listener's queue is full.
+pub fn connect<R: Net>(rt: &R, addr: &Addr) -> Result<Sock, DevKind>
+    ensures family { IfOk result (λ sock. is_tcp sock ≡ is_tcp_addr addr.now) }
+    ensures kinds { IfErr result IsConnectKind }
+{
+    match begin(rt, addr) {
+        Ok(sock) => Ok(sock),
+        Err(error) => Err(connect_kind_of(&error)),
+    }
+}
+
+fn bind<R: Files + Net>(rt: &R, addr: &Addr) -> io::Result<Listen>
+    ensures family { IfOk result (λ listen. is_tcp_listener listen ≡ is_tcp_addr addr.now) }
+{
+    match addr {
+        Addr::Tcp(bytes, port) => {
+            let address = socket_address(*bytes, *port);
+            Ok(Listen::Tcp(TcpListener::bind(rt, address)?))
+        }
+        Addr::Unix(path) => Ok(Listen::Unix(UnixListener::bind(rt, path.as_str())?)),
+    }
+}
+
+/// Opens a listener. A port that is taken is `Other`, and so is a path that is there already, also one
+/// that a listener which is gone left behind.
+pub fn listen<R: Files + Net>(rt: &R, addr: &Addr) -> Result<Listen, DevKind>
+    ensures family { IfOk result (λ listen. is_tcp_listener listen ≡ is_tcp_addr addr.now) }
+    ensures kinds { IfErr result (λ kind. kind ≡ DevKind.Other) }
+{
+    match bind(rt, addr) {
+        Ok(listen) => Ok(listen),
+        Err(_) => Err(DevKind::Other),
+    }
+}

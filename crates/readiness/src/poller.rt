@@ -1,0 +1,188 @@
+//! The poller: one wait of the system's a turn, and who hears of what it said and of the clock.
+//!
+//! Locks are taken in the order table, cell; the timers' lock is held for a look or a change of the
+//! timers alone, since an alarm takes it with the lock of its cell held.
+
+ghost use Rattle.std.specs.Prelude.{◌≡◌, ◌⊎◌, ◌≤◌, length, IfOk, IfErr};
+ghost use Rattle.std.specs.Arc.{arc_value};
+ghost use Rattle.rwloops.specs.declared.fault.Fault.{Fault};
+ghost use Rattle.rwloops.specs.declared.outcome.DevKind.{DevKind};
+ghost use Rattle.readiness.specs.Poller.{waker_of};
+
+use crate::batch::{Ev, batch_of};
+use crate::heard::Heard;
+use crate::poll_timeout::{MAX_WAIT_MS, wait_ms};
+use crate::sock::{Listen, Sock};
+use conntable::ConnTable;
+use deadline_core::Timers;
+use fd_descriptor::PollCell;
+use mio::{Poll, Token, Waker};
+use rwloops::{DevKind, Fault};
+use std::alloc::{Allocator, Global};
+use std::net::Net;
+use std::sync::{Arc, Mutex, Wait};
+use std::thread::yield_now;
+use stream_base::{Dir, OutOfMemory};
+
+/// The turns without an event that don't block, before one does. Under load a poller then sleeps less
+/// often than it is woken.
+const QUIET_TURNS: u32 = 50;
+
+const DEVICE: Fault = Fault::Device(DevKind::Other);
+
+/// What has a cell that is told of readiness and of the clock.
+pub trait HasCell {
+    /// The cell of the entry's descriptor.
+    fn cell(&self) -> &PollCell;
+}
+
+/// A poller with its waker, whose token is the greatest there is and names no entry.
+#[derive(Drop)]
+pub struct Poller<A: Allocator = Global> {
+    poll: Poll,
+    heard: Heard<A>,
+    waker: Arc<Waker, A>,
+    quiet: u32,
+}
+
+// Tells the entries what the events make ready, while the table is held.
+fn notify_entries<R: Wait, T: HasCell, B: Allocator>(rt: &R, events: &[Ev], table: &ConnTable<T, B>)
+    requires few { length events.now ≤ 256 }
+{
+    for ready in batch_of(events, table).as_slice() {
+        if let Some(entry) = table.by_id(ready.id) {
+            if ready.read {
+                entry.cell().notify(rt, Dir::Read);
+            }
+            if ready.write {
+                entry.cell().notify(rt, Dir::Write);
+            }
+        }
+    }
+}
+
+// Whether the moment has come.
+fn has_come(now: u64, next: Option<u64>) -> bool {
+    match next {
+        None => false,
+        Some(at) => at <= now,
+    }
+}
+
+// Shows the clock to the entries whose timers are due, and gives the earliest moment that is left. A
+// key whose entry is gone is passed over.
+fn tick_due<R: Wait, T: HasCell, B: Allocator, C: Allocator>(
+    rt: &R,
+    now: u64,
+    table: &Mutex<ConnTable<T, B>>,
+    timers: &Mutex<Timers<C>>,
+) -> Option<u64> {
+    let next = timers.lock(rt).next();
+    if !has_come(now, next) {
+        return next;
+    }
+    let due = timers.lock(rt).due(now);
+    {
+        let table = table.lock(rt);
+        for (id, _) in due.as_slice() {
+            if let Some(entry) = table.by_id(*id) {
+                entry.cell().tick(rt, now);
+            }
+        }
+    }
+    timers.lock(rt).next()
+}
+
+impl<A: Allocator> Poller<A> {
+    /// A poller with nothing registered but its waker. Its memory is taken here, and by no turn.
+    pub fn new<R: Net>(rt: &R, alloc: A) -> Result<Poller<A>, Fault>
+    where
+        A: Copy,
+        ensures faults { IfErr result (λ fault. (fault ≡ Fault.OutOfMemory)
+            ⊎ (fault ≡ Fault.Device DevKind.Other)) }
+    {
+        let Ok(poll) = Poll::new(rt) else {
+            return Err(DEVICE);
+        };
+        let Ok(heard) = Heard::new(alloc) else {
+            return Err(Fault::OutOfMemory);
+        };
+        let Ok(waker) = Waker::new(poll.registry(), Token(usize::MAX)) else {
+            return Err(DEVICE);
+        };
+        let Ok(waker) = Arc::new(alloc, waker) else {
+            return Err(Fault::OutOfMemory);
+        };
+        Ok(Poller {
+            poll,
+            heard,
+            waker,
+            quiet: 0,
+        })
+    }
+
+    /// Has turns tell of a connection under this token, until the connection is dropped.
+    pub fn register(&self, sock: &mut Sock, token: u64) -> Result<(), DevKind>
+        ensures same { sock.new ≡ sock.old }
+        ensures kinds { IfErr result (λ kind. kind ≡ DevKind.Other) }
+    {
+        sock.register(self.poll.registry(), token)
+    }
+
+    /// Has turns tell of a listener under this token, until the listener is dropped.
+    pub fn register_listener(&self, listen: &mut Listen, token: u64) -> Result<(), DevKind>
+        ensures same { listen.new ≡ listen.old }
+        ensures kinds { IfErr result (λ kind. kind ≡ DevKind.Other) }
+    {
+        listen.register(self.poll.registry(), token)
+    }
+
+    /// What ends a turn early, from any thread. It takes no memory; refused is only a waker that is
+    /// held too often.
+    pub fn waker(&self) -> Result<Arc<Waker, A>, OutOfMemory>
+        ensures own { IfOk result (λ waker. arc_value waker ≡ waker_of self.now) }
+    {
+        match Arc::try_clone(&self.waker) {
+            Ok(waker) => Ok(waker),
+            Err(_) => Err(OutOfMemory),
+        }
+    }
+
+    /// Waits until anything is ready, also the waker, at most [`MAX_WAIT_MS`]: for who has a poller
+    /// without a table.
+    pub fn wait_any(&mut self) -> Result<(), Fault>
+        ensures faults { IfErr result (λ fault. fault ≡ Fault.Device DevKind.Other) }
+    {
+        self.heard.hear(&mut self.poll, MAX_WAIT_MS)
+    }
+
+    /// One turn: ticks what is due at `now`, then waits once for the system, at most until the next
+    /// moment, and tells the entries what is ready.
+    ///
+    /// `now` is in nanoseconds of the clock of the deadlines, read just before the call. A deadline
+    /// that comes while the turn waits is ticked by the next turn, with a later `now`. The keys of the
+    /// timers are the ids of the entries.
+    pub fn turn<R: Wait, T: HasCell, B: Allocator, C: Allocator>(
+        &mut self,
+        rt: &R,
+        now: u64,
+        table: &Mutex<ConnTable<T, B>>,
+        timers: &Mutex<Timers<C>>,
+    ) -> Result<(), Fault>
+        ensures faults { IfErr result (λ fault. fault ≡ Fault.Device DevKind.Other) }
+    {
+        let next = tick_due(rt, now, table, timers);
+        let may_block = self.quiet >= QUIET_TURNS;
+        let ms = if may_block { wait_ms(now, next) } else { 0 };
+        self.heard.hear(&mut self.poll, ms)?;
+        let evs = self.heard.evs();
+        if evs.is_empty() {
+            self.quiet = self.quiet.saturating_add(1);
+            yield_now();
+        } else {
+            self.quiet = 0;
+            notify_entries(rt, evs, &table.lock(rt));
+        }
+        Ok(())
+    }
+}

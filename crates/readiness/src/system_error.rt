@@ -1,0 +1,65 @@
+//! What callers are told of the system's errors.
+
+ghost use Rattle.std.specs.Prelude.{◌≡◌, ◌⊎◌};
+ghost use Rattle.std.specs.IoError.{error_kind};
+ghost use Rattle.readiness.specs.SystemErrors.{kind_told, outcome_told, accept_told, IsConnectKind};
+ghost use Rattle.rwloops.specs.declared.outcome.DevKind.{DevKind};
+
+use crate::sock::Sock;
+use rwloops::{AcceptOutcome, DevKind, Outcome};
+use std::io;
+use std::io::ErrorKind;
+
+/// What is told of an error of a connection.
+pub(crate) fn kind_of(error: &io::Error) -> DevKind
+    ensures { result ≡ kind_told (error_kind error.now) }
+{
+    match error.kind() {
+        ErrorKind::ConnectionReset => DevKind::Reset,
+        ErrorKind::ConnectionAborted => DevKind::Aborted,
+        ErrorKind::BrokenPipe => DevKind::BrokenPipe,
+        ErrorKind::ConnectionRefused => DevKind::Refused,
+        _ => DevKind::Other,
+    }
+}
+
+/// What is told of an error that comes before there is a connection.
+pub(crate) fn connect_kind_of(error: &io::Error) -> DevKind
+    ensures kind { IsConnectKind result }
+    ensures told { kind_told (error_kind error.now) ≡ DevKind.Refused → result ≡ DevKind.Refused }
+{
+    match kind_of(error) {
+        DevKind::Refused => DevKind::Refused,
+        _ => DevKind::Other,
+    }
+}
+
+/// What one system call to read or to write gave. A socket that isn't connected yet would block.
+pub(crate) fn outcome_of(done: io::Result<usize>) -> Outcome
+    ensures { result ≡ outcome_told done }
+{
+    match done {
+        Ok(count) => Outcome::Count(count),
+        Err(error) => match error.kind() {
+            ErrorKind::WouldBlock | ErrorKind::NotConnected => Outcome::WouldBlock,
+            ErrorKind::Interrupted => Outcome::Interrupted,
+            ErrorKind::ConnectionAborted => Outcome::Aborted,
+            _ => Outcome::Broken(kind_of(&error)),
+        },
+    }
+}
+
+/// What one system call to accept gave.
+pub(crate) fn accepted_of(done: io::Result<Sock>) -> AcceptOutcome<Sock>
+    ensures { result ≡ accept_told done }
+{
+    match done {
+        Ok(sock) => AcceptOutcome::Took(sock),
+        Err(error) => match error.kind() {
+            ErrorKind::WouldBlock | ErrorKind::NotConnected => AcceptOutcome::WouldBlock,
+            ErrorKind::Interrupted => AcceptOutcome::Interrupted,
+            ErrorKind::ConnectionAborted => AcceptOutcome::Aborted,
+            _ => AcceptOutcome::Broken(kind_of(&error)),
+        },
+    }
+}

@@ -1,0 +1,177 @@
+//! The admin thread: sessions one after the other, over a poller of its own. So the admin socket and
+//! its sessions are in no list of connections, and a relay that has stopped for a fault ends them too.
+
+use crate::clock::Moments;
+use crate::desk::RelayDesk;
+use crate::shared::Shared;
+use deadline_core::Refusal;
+use readiness::{Acceptor, Poller, ReadHalf, Sock, WriteHalf};
+use relay_admin::{AdminEnd, serve_admin};
+use relay_core::{AcceptEnded, AcceptGate, accept_worker};
+use rwloops::{Fault, Waits};
+use std::alloc::Global;
+use std::io;
+use std::io::{ErrorKind, Read, Write};
+use std::sync::ledger::Ledger;
+use std::sync::{Arc, Mutex, Wait};
+use std::thread::sleep;
+use std::time::{Clock, Duration};
+use stream_base::Dir;
+
+/// The token of a session's socket. Only one stands at once.
+const SESSION_TOKEN: u64 = 2;
+
+/// The admin socket with its poller.
+#[derive(Drop)]
+pub(crate) struct Door {
+    pub(crate) acceptor: Acceptor,
+    pub(crate) poller: Arc<Mutex<Poller>>,
+}
+
+/// Waits on the admin poller, until the relay stops. The admin thread alone takes the poller's lock.
+#[derive(Drop)]
+pub(crate) struct DoorWaits<U: Ledger, D: Ledger, R: Wait + Copy> {
+    pub(crate) rt: R,
+    pub(crate) poller: Arc<Mutex<Poller>>,
+    pub(crate) shared: Arc<Shared<U, D>>,
+}
+
+impl<U: Ledger, D: Ledger, R: Wait + Copy> DoorWaits<U, D, R> {
+    // The same waits once more. It takes no memory.
+    fn again(&self) -> Option<DoorWaits<U, D, R>> {
+        let poller = Arc::try_clone(&self.poller).ok()?;
+        let shared = Arc::try_clone(&self.shared).ok()?;
+        let rt = self.rt;
+        Some(DoorWaits { rt, poller, shared })
+    }
+}
+
+impl<U: Ledger, D: Ledger, R: Wait + Copy> Waits for DoorWaits<U, D, R> {
+    ghost tells = { λ _ _. ⊥ };
+
+    fn prepare(&mut self, _dir: Dir) -> Result<(), Refusal> {
+        if self.shared.is_stopped() {
+            return Err(Refusal::Closed);
+        }
+        Ok(())
+    }
+
+    fn wait(&mut self, dir: Dir) -> Result<(), Refusal> {
+        if self.poller.lock(&self.rt).wait_any().is_err() {
+            return Err(Refusal::Closed);
+        }
+        self.prepare(dir)
+    }
+}
+
+#[derive(Drop)]
+struct SessionReader<U: Ledger, D: Ledger, R: Wait + Copy> {
+    half: ReadHalf,
+    waits: DoorWaits<U, D, R>,
+}
+
+#[derive(Drop)]
+struct SessionWriter<U: Ledger, D: Ledger, R: Wait + Copy> {
+    half: WriteHalf,
+    waits: DoorWaits<U, D, R>,
+}
+
+impl<U: Ledger, D: Ledger, R: Wait + Copy> Read for SessionReader<U, D, R> {
+    fn read(&mut self, buf: &mut [u8]) -> io::Result<usize> {
+        let rt = self.waits.rt;
+        match rwloops::read(&rt, &mut self.half, buf, &mut self.waits) {
+            Ok(count) => Ok(count),
+            Err(Fault::EndOfFile) => Ok(0),
+            Err(_) => Err(ErrorKind::Other.into()),
+        }
+    }
+}
+
+impl<U: Ledger, D: Ledger, R: Wait + Copy> Write for SessionWriter<U, D, R> {
+    fn write(&mut self, bytes: &[u8]) -> io::Result<usize> {
+        let rt = self.waits.rt;
+        match rwloops::write(&rt, &mut self.half, bytes, &mut self.waits) {
+            Ok(count) => Ok(count),
+            Err(_) => Err(ErrorKind::BrokenPipe.into()),
+        }
+    }
+
+    fn flush(&mut self) -> io::Result<()> {
+        Ok(())
+    }
+}
+
+/// Accepts sessions, and serves each before it accepts the next.
+#[derive(Drop)]
+pub(crate) struct AdminGate<U: Ledger, D: Ledger, R: Wait + Clock + Copy, C: Moments + Drop> {
+    pub(crate) alloc: Global,
+    pub(crate) acceptor: Acceptor,
+    pub(crate) waits: DoorWaits<U, D, R>,
+    pub(crate) clock: C,
+}
+
+impl<U: Ledger, D: Ledger, R: Wait + Clock + Copy, C: Moments + Drop> AdminGate<U, D, R, C> {
+    // One session; a socket that can't be served is dropped.
+    fn session(&self, sock: Sock) -> Option<AdminEnd> {
+        let mut sock = sock;
+        let rt = self.waits.rt;
+        let registered = self
+            .waits
+            .poller
+            .lock(&rt)
+            .register(&mut sock, SESSION_TOKEN);
+        if registered.is_err() {
+            return None;
+        }
+        let (read, write) = sock.split(self.alloc).ok()?;
+        let mut reader = SessionReader {
+            half: read,
+            waits: self.waits.again()?,
+        };
+        let mut writer = SessionWriter {
+            half: write,
+            waits: self.waits.again()?,
+        };
+        let mut desk = RelayDesk::new(rt, &self.clock, &self.waits.shared);
+        serve_admin(self.alloc, &mut reader, &mut writer, &mut desk).ok()
+    }
+}
+
+impl<U, D, R, C> AcceptGate for AdminGate<U, D, R, C>
+where
+    U: Ledger,
+    D: Ledger,
+    R: Wait + Clock + Copy,
+    C: Moments + Drop,
+{
+    type T = Sock;
+
+    ghost tells = { λ _ _. ⊥ };
+
+    fn accept(&mut self) -> Result<Sock, Fault> {
+        let rt = self.waits.rt;
+        rwloops::accept(&rt, &mut self.acceptor, &mut self.waits)
+    }
+
+    // A session that says stop has the main thread stop the relay; the next accept is then refused.
+    fn deliver(&mut self, taken: Sock) {
+        if self.session(taken) == Some(AdminEnd::Stop) {
+            self.waits.shared.stop();
+        }
+    }
+
+    fn pause(&mut self, ms: u64) {
+        sleep(&self.waits.rt, Duration::from_millis(ms));
+    }
+}
+
+/// Serves sessions until the relay stops. However many accepts in a row fail, it goes on: without it
+/// nobody could stop the relay.
+pub(crate) fn serve_sessions<G: AcceptGate, R: Wait>(rt: &R, gate: &mut G) {
+    for _ in rt.forever() {
+        if accept_worker(rt, gate) == AcceptEnded::Closed {
+            return;
+        }
+    }
+    unreachable!()
+}

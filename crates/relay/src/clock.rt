@@ -1,0 +1,32 @@
+//! Moments of a clock that starts with the relay.
+
+use std::time::{Clock, Instant};
+
+/// What tells the moment, in nanoseconds from a start of its own.
+pub trait Moments {
+    /// The moment now.
+    fn now(&self) -> u64;
+}
+
+/// The nanoseconds since a start. Where the clock can't be read it tells the greatest moment, so that
+/// what hangs on time ends and doesn't stay for ever.
+#[derive(Clone, Copy)]
+pub struct RelayClock<R: Clock + Copy> {
+    rt: R,
+    start: Instant,
+}
+
+impl<R: Clock + Copy> RelayClock<R> {
+    pub fn new(rt: R, start: Instant) -> RelayClock<R> {
+        RelayClock { rt, start }
+    }
+}
+
+impl<R: Clock + Copy> Moments for RelayClock<R> {
+    fn now(&self) -> u64 {
+        match self.start.elapsed(&self.rt) {
+            Ok(passed) => u64::try_from(passed.as_nanos()).unwrap_or(u64::MAX),
+            Err(_) => u64::MAX,
+        }
+    }
+}

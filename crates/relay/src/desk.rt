@@ -1,0 +1,96 @@
+//! What an admin session asks, over the relay's table and books.
+
+ghost use Rattle.std.specs.Prelude.{None};
+
+use crate::clock::Moments;
+use crate::entry::Handle;
+use crate::shared::Shared;
+use deadline_core::Deadline;
+use relay_admin::{Desk, DeskAnswer};
+use relay_core::idle_deadline;
+use rwloops::Fault;
+use std::alloc::Global;
+use std::sync::ledger::Ledger;
+use std::sync::Wait;
+
+/// A desk for one session.
+#[derive(Drop)]
+pub(crate) struct RelayDesk<'a, U: Ledger, D: Ledger, R: Wait + Copy, C: Moments> {
+    rt: R,
+    clock: &'a C,
+    shared: &'a Shared<U, D>,
+}
+
+// What a close or a deadline that ended so is to the session. A device's fault while the descriptor
+// was destroyed doesn't change that it is closed.
+fn answer_of(done: Result<(), Fault>) -> DeskAnswer {
+    match done {
+        Ok(()) | Err(Fault::Device(_)) => DeskAnswer::Fine,
+        Err(Fault::TooMany) => DeskAnswer::Busy,
+        Err(Fault::OutOfMemory) => DeskAnswer::NoMemory,
+        Err(_) => DeskAnswer::Closed,
+    }
+}
+
+impl<'a, U: Ledger, D: Ledger, R: Wait + Copy, C: Moments> RelayDesk<'a, U, D, R, C> {
+    pub(crate) fn new(rt: R, clock: &'a C, shared: &'a Shared<U, D>) -> RelayDesk<'a, U, D, R, C> {
+        RelayDesk { rt, clock, shared }
+    }
+
+    // A handle of its own on the connection or listener with this id, so that the table's lock is
+    // given back before a deadline is set.
+    fn handle(&self, id: u64) -> Result<Handle, DeskAnswer> {
+        let table = self.shared.table.lock(&self.rt);
+        let Some(entry) = table.by_id(id) else {
+            return Err(DeskAnswer::Unknown);
+        };
+        match entry.share(&self.rt) {
+            Ok(handle) => Ok(handle),
+            Err(fault) => Err(answer_of(Err(fault))),
+        }
+    }
+
+    fn set_deadline(&self, handle: &mut Handle, after_ms: Option<u32>) -> DeskAnswer {
+        let Some(alarms) = self.shared.alarms(self.rt) else {
+            return DeskAnswer::NoMemory;
+        };
+        let now = self.clock.now();
+        let deadline = match after_ms {
+            Some(ms) => Deadline::At(idle_deadline(now, ms)),
+            None => Deadline::Never,
+        };
+        answer_of(handle.set_deadline(&self.rt, deadline, now, &alarms))
+    }
+}
+
+impl<'a, U: Ledger, D: Ledger, R: Wait + Copy, C: Moments> Desk for RelayDesk<'a, U, D, R, C> {
+    // What other threads do to the table and the books in between isn't known.
+    ghost exchanges = { λ _. None };
+
+    fn ids(&mut self, alloc: Global) -> DeskAnswer {
+        match self.shared.table.lock(&self.rt).ids(alloc) {
+            Ok(ids) => DeskAnswer::Ids(ids),
+            Err(_) => DeskAnswer::NoMemory,
+        }
+    }
+
+    fn totals(&mut self) -> DeskAnswer {
+        let up = self.shared.up.lock(&self.rt).total();
+        let down = self.shared.down.lock(&self.rt).total();
+        DeskAnswer::Totals(up, down)
+    }
+
+    fn close(&mut self, id: u64) -> DeskAnswer {
+        match self.shared.close(&self.rt, id) {
+            Some(done) => answer_of(done),
+            None => DeskAnswer::Unknown,
+        }
+    }
+
+    fn deadline(&mut self, _alloc: Global, id: u64, after_ms: Option<u32>) -> DeskAnswer {
+        match self.handle(id) {
+            Ok(mut handle) => self.set_deadline(&mut handle, after_ms),
+            Err(answer) => answer,
+        }
+    }
+}

@@ -1,0 +1,97 @@
+//! The two workers of a connection, on threads of their own.
+
+use relay_core::{BUFFER_BYTES, CopyGate, Ended, copy_worker};
+use relay_ledger::{Book, CarriedShare, Full};
+use std::sync::ledger::Ledger;
+use std::sync::{Arc, Mutex, Wait};
+use std::thread::{Builder, JoinHandle, Threads};
+
+/// The stack of a worker's thread, in bytes: the least that the system gives, with the buffer on it.
+pub(crate) const STACK_BYTES: usize = 131_072;
+
+/// What a worker leaves: how it ended, and its share. There is none only where the book opened none,
+/// and then it ended by `BookFull(0)`.
+#[derive(Drop)]
+pub struct Done<L: Ledger> {
+    pub ended: Ended,
+    pub share: Option<CarriedShare<L>>,
+}
+
+/// Has the book take back the share of a worker that was joined, so that none piles up.
+pub(crate) fn settle<L: Ledger, R: Wait>(rt: &R, book: &Mutex<Book<L>>, done: Done<L>) {
+    let Done { ended: _, share } = done;
+    if let Some(share) = share {
+        book.lock(rt).settle(share.into_share());
+    }
+}
+
+/// Who is told, on the worker's own thread, how it ended.
+pub trait AtEnd {
+    fn ended(&self, ended: Ended);
+}
+
+// A worker from its first read to its end. Its buffer lies on the stack of its thread.
+fn work<G: CopyGate, L: Ledger, R: Wait>(rt: &R, gate: &mut G, book: &Mutex<Book<L>>) -> Done<L> {
+    let opened = book.lock(rt).open_share();
+    match opened {
+        Ok(mut share) => {
+            let mut buf = [0u8; BUFFER_BYTES];
+            let ended = copy_worker(rt, gate, book, &mut share, &mut buf);
+            let share = Some(CarriedShare::new(share));
+            Done { ended, share }
+        }
+        Err(Full) => Done {
+            ended: Ended::BookFull(0),
+            share: None,
+        },
+    }
+}
+
+fn start<G, L, E, R>(
+    rt: R,
+    gate: G,
+    book: Arc<Mutex<Book<L>>>,
+    at_end: E,
+) -> Option<JoinHandle<Done<L>>>
+where
+    G: CopyGate + Drop + Send + 'static,
+    L: Ledger + Send + Sync + 'static,
+    E: AtEnd + Drop + Send + 'static,
+    R: Wait + Threads + Copy + Send + 'static,
+{
+    let job = move || {
+        let mut gate = gate;
+        let done = work(&rt, &mut gate, &book);
+        at_end.ended(done.ended);
+        done
+    };
+    Builder::new().stack_size(STACK_BYTES).spawn(&rt, job).ok()
+}
+
+/// Starts both workers. Where a thread is refused it gives the join of the one that was started, if
+/// any; the caller ends that worker and joins it.
+pub fn start_pair<GU, GD, U, D, E, R>(
+    rt: R,
+    up: GU,
+    down: GD,
+    up_book: Arc<Mutex<Book<U>>>,
+    down_book: Arc<Mutex<Book<D>>>,
+    up_end: E,
+    down_end: E,
+) -> Result<(JoinHandle<Done<U>>, JoinHandle<Done<D>>), Option<JoinHandle<Done<U>>>>
+where
+    GU: CopyGate + Drop + Send + 'static,
+    GD: CopyGate + Drop + Send + 'static,
+    U: Ledger + Send + Sync + 'static,
+    D: Ledger + Send + Sync + 'static,
+    E: AtEnd + Drop + Send + 'static,
+    R: Wait + Threads + Copy + Send + 'static,
+{
+    let Some(up) = start(rt, up, up_book, up_end) else {
+        return Err(None);
+    };
+    match start(rt, down, down_book, down_end) {
+        Some(down) => Ok((up, down)),
+        None => Err(Some(up)),
+    }
+}

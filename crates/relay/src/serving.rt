@@ -1,0 +1,192 @@
+//! A relay from its rules file to its end.
+
+ghost use Rattle.std.specs.Prelude.{◌≡◌};
+
+use crate::bound_paths::BoundPaths;
+use crate::entry::Entry;
+use crate::fault::ServeFault;
+use crate::opening::{Opened, open};
+use crate::relay::Relay;
+use crate::rules_file::text_of;
+use crate::shared::Shared;
+use crate::threads::{Helpers, Unstarted};
+use conntable::ConnTable;
+use deadline_core::Timers;
+use readiness::Waker;
+use relay_admin::{Rule, Rules};
+use relay_ledger::Book;
+use std::alloc::{AllocError, Global};
+use std::fs::Files;
+use std::io::Write;
+use std::net::Net;
+use std::sync::atomic::{AtomicBool, AtomicU64};
+use std::sync::ledger::{Blank, Ledger};
+use std::sync::{Arc, Mutex, Wait};
+use std::thread::Threads;
+use std::time::{Clock, Instant};
+
+// What the threads share, over an opened relay's table.
+fn shared_of<U: Ledger, D: Ledger>(
+    alloc: Global,
+    table: ConnTable<Entry>,
+    waker: Arc<Waker>,
+    up: Book<U>,
+    down: Book<D>,
+) -> Result<Arc<Shared<U, D>>, AllocError> {
+    let timers = Arc::new(alloc, Mutex::new(Timers::new(alloc)))?;
+    let up = Arc::new(alloc, Mutex::new(up))?;
+    let down = Arc::new(alloc, Mutex::new(down))?;
+    let shared = Shared {
+        table: Mutex::new(table),
+        timers,
+        inbox: Mutex::new(Vec::new(alloc)),
+        up,
+        down,
+        waker,
+        ended: AtomicU64::new(0),
+        stop: AtomicBool::new(false),
+    };
+    let shared = Arc::new(alloc, shared)?;
+    Ok(shared)
+}
+
+// Opens the relay's sockets, and gives it what its threads share.
+fn opened<'a, U: Ledger, D: Ledger, R: Net + Files + Clock>(
+    rt: &R,
+    alloc: Global,
+    rules: &'a [Rule],
+    admin: &str,
+    up: Book<U>,
+    down: Book<D>,
+    bound: &mut BoundPaths<'_>,
+) -> Result<(Relay<'a, U, D>, Unstarted), ServeFault> {
+    let Ok(start) = Instant::now(rt) else {
+        return Err(ServeFault::Device);
+    };
+    let Opened {
+        poller,
+        waker,
+        table,
+        unstarted,
+    } = open(rt, alloc, rules, admin, bound)?;
+    let Ok(shared) = shared_of(alloc, table, waker, up, down) else {
+        return Err(ServeFault::Memory);
+    };
+    let relay = Relay {
+        alloc,
+        rules,
+        start,
+        poller,
+        shared,
+        pairs: Vec::new(alloc),
+        taken: Vec::new(alloc),
+        seen_ended: 0,
+    };
+    Ok((relay, unstarted))
+}
+
+// Says that the relay listens, and runs it until it is stopped.
+fn run<U, D, R, W: Write>(
+    rt: R,
+    relay: &mut Relay<'_, U, D>,
+    writer: &mut W,
+) -> Result<(), ServeFault>
+where
+    U: Ledger + Send + Sync + 'static,
+    D: Ledger + Send + Sync + 'static,
+    R: Wait + Threads + Net + Clock + Copy + Send + Sync + 'static,
+{
+    let rules = relay.rules.len();
+    if writeln!(writer, "listening {rules}").is_err() || writer.flush().is_err() {
+        return Err(ServeFault::Device);
+    }
+    relay.turn_until_stop(rt)
+}
+
+// The relay from its opening to its end. Its threads are started before it says that it listens, so
+// that nothing which is refused after that ends it.
+fn relayed<U, D, R, W: Write>(
+    rt: R,
+    alloc: Global,
+    rules: &[Rule],
+    admin: &str,
+    up: Book<U>,
+    down: Book<D>,
+    bound: &mut BoundPaths<'_>,
+    writer: &mut W,
+) -> Result<(u64, u64), ServeFault>
+where
+    U: Ledger + Send + Sync + 'static,
+    D: Ledger + Send + Sync + 'static,
+    R: Wait + Threads + Net + Clock + Files + Copy + Send + Sync + 'static,
+{
+    let (relay, unstarted) = opened(&rt, alloc, rules, admin, up, down, bound)?;
+    let mut relay = relay;
+    let Unstarted {
+        listeners,
+        door,
+        door_waker,
+    } = unstarted;
+    let mut helpers = Helpers::none(alloc, door_waker);
+    let started = helpers.start(rt, &relay, listeners, door);
+    let ran = match started {
+        Ok(()) => run(rt, &mut relay, writer),
+        Err(fault) => Err(fault),
+    };
+    let gathered = relay.end(&rt, helpers);
+    match ran {
+        Ok(()) => gathered,
+        Err(fault) => Err(fault),
+    }
+}
+
+/// Runs a relay by the rules file at the path `rules`, with its admin socket at the path `admin`,
+/// until an admin session says stop. It writes `listening N` once all sockets are open, and at the end
+/// `up U down D`, the bytes copied to the targets and to the clients. A fault at the start is the
+/// first of: the rules file can't be read, its rules are bad, the poller, the listeners in the rules'
+/// order, the admin socket. Whatever comes, no thread, no socket and no path that it bound is left.
+pub fn serve<U, D, R, W: Write>(
+    rt: R,
+    rules: &String,
+    admin: &String,
+    up: Blank,
+    down: Blank,
+    writer: &mut W,
+) -> Result<(), ServeFault>
+where
+    U: Ledger + Send + Sync + 'static,
+    D: Ledger + Send + Sync + 'static,
+    R: Wait + Threads + Net + Clock + Files + AllocGlobal + Copy + Send + Sync + 'static,
+    requires up_name { up.name ≡ U.name }
+    requires up_parts { up.parts ≡ U.parts }
+    requires up_all { up.parts ≡ 4294967296 }
+    requires down_name { down.name ≡ D.name }
+    requires down_parts { down.parts ≡ D.parts }
+    requires down_all { down.parts ≡ 4294967296 }
+{
+    let alloc = rt.alloc();
+    let (up, down) = (Book::<U>::new(up), Book::<D>::new(down));
+    let text = text_of(&rt, alloc, rules.as_str())?;
+    let rules = match Rules::parse(text.as_slice()) {
+        Ok(rules) => rules,
+        Err(fault) => return Err(ServeFault::BadRules(fault)),
+    };
+    drop(text);
+    let mut bound = BoundPaths::new(rules.as_slice(), admin.as_str());
+    let relayed = relayed(
+        rt,
+        alloc,
+        rules.as_slice(),
+        admin.as_str(),
+        up,
+        down,
+        &mut bound,
+        writer,
+    );
+    bound.remove_all(&rt);
+    let (up, down) = relayed?;
+    if writeln!(writer, "up {up} down {down}").is_err() || writer.flush().is_err() {
+        return Err(ServeFault::Device);
+    }
+    Ok(())
+}

@@ -1,0 +1,3 @@
+pub mod CopyTraceLemmas
+pub mod AcceptTraceLemmas
+pub mod LawsLemmas

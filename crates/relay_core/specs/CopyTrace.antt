@@ -1,0 +1,71 @@
+-- What a worker does through its gate, and how its share grows. Lists are newest first.
+use Rattle.std.specs.Prelude.{◌≡◌, ◌≢◌, ◌+◌, ℕ, List, [], ◌∷◌, ◌++◌, length, take, Result, Ok, Err}
+use Rattle.rwloops.specs.Waits.{Tells}
+use Rattle.rwloops.specs.declared.fault.Fault.{Fault}
+use Rattle.rwloops.specs.declared.fault.Fault.TheVariants.{EndOfFile}
+use Rattle.rwloops.specs.declared.fault.WriteFault.{WriteFault}
+use Rattle.relay_core.specs.declared.copying.Ended.{Ended}
+use Rattle.relay_core.specs.declared.copying.Ended.TheVariants.{Eof, ReadFault, WriteFault as Unwritten, CloseFault, BookFull}
+
+-- a call of a gate, with its bytes and its answer
+pub data GateCall : Type 0 where
+  Read : (answer : Result (List ℕ) Fault) → GateCall
+  Wrote : (bytes : List ℕ) (answer : Result ℕ WriteFault) → GateCall
+  ClosedWrite : (answer : Result (Unit {0}) Fault) → GateCall
+
+-- a read that left the buffer so: the bytes that it gave are the first ones, as many as it counted
+abbrev pub read_call : List ℕ → Result ℕ Fault → GateCall
+read_call buffer (Ok count) = Read (Ok (take count buffer))
+read_call buffer (Err fault) = Read (Err fault)
+
+-- how many bytes a write reported to be written
+abbrev pub reported : Result ℕ WriteFault → ℕ
+reported (Ok count) = count
+reported (Err failed) = failed.count
+
+-- how many bytes a call wrote
+abbrev pub written_by : GateCall → ℕ
+written_by (Wrote bytes answer) = reported answer
+written_by _ = 0
+
+-- how many bytes a gate wrote
+abbrev pub written : List GateCall → ℕ
+written [] = 0
+written (call ∷ earlier) = written earlier + written_by call
+
+-- rounds that went well: each read is directly followed by one write of exactly its bytes, which takes them all
+abbrev pub round_calls : List (List ℕ) → List GateCall
+round_calls [] = []
+round_calls (bytes ∷ earlier) = Wrote bytes (Ok (length bytes)) ∷ Read (Ok bytes) ∷ round_calls earlier
+
+-- the last calls of a worker that ended so
+pub data EndsBy : List GateCall → Ended → Type 0 where
+  -- the reader's end, which the writer was told
+  AtEnd : EndsBy (ClosedWrite (Ok tt) ∷ Read (Err EndOfFile) ∷ []) Eof
+  -- the reader's end, which the writer couldn't be told
+  AtClose : (fault : Fault) → EndsBy (ClosedWrite (Err fault) ∷ Read (Err EndOfFile) ∷ []) (CloseFault fault)
+  -- a read that failed
+  AtRead : (fault : Fault) → fault ≢ EndOfFile → EndsBy (Read (Err fault) ∷ []) (ReadFault fault)
+  -- a write of exactly the bytes that were read, which failed
+  AtWrite : (bytes : List ℕ) (failed : WriteFault) → EndsBy (Wrote bytes (Err failed) ∷ Read (Ok bytes) ∷ []) (Unwritten failed)
+  -- such a write, whose count found no room in the book
+  AtCredit : (bytes : List ℕ) (answer : Result ℕ WriteFault) → EndsBy (Wrote bytes answer ∷ Read (Ok bytes) ∷ []) (BookFull (reported answer))
+
+-- the calls of a worker from its beginning to its end: rounds, and the last calls
+pub record CopyTrace (calls : List GateCall) (ended : Ended) : Type 0 where
+  pub rounds : List (List ℕ)
+  pub last : List GateCall
+  pub in_order : calls ≡ last ++ round_calls rounds
+  pub ends : EndsBy last ended
+
+-- how many bytes were written without a credit
+abbrev pub uncredited : Ended → ℕ
+uncredited (BookFull n) = n
+uncredited _ = 0
+
+-- a worker's run: what its gate tells of it, and by how much the share grew
+pub record IsCopied (before after : List GateCall → Type 0) (old new : ℕ) (ended : Ended) : Type 0 where
+  pub calls : List GateCall
+  pub trace : CopyTrace calls ended
+  pub told : Tells before after calls
+  pub grew : new + uncredited ended ≡ old + written calls

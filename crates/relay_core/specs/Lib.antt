@@ -1,0 +1,4 @@
+pub mod CopyTrace
+pub mod AcceptTrace
+pub mod Pair
+pub mod Laws

@@ -1,0 +1,76 @@
+//! The worker that copies: it reads, writes what it read, and credits what the write reported.
+
+ghost use Rattle.std.specs.Prelude.{◌≡◌, ◌+◌, ◌<◌, length, OnOk, OnErr};
+ghost use Rattle.relay_core.specs.CopyTrace.{IsCopied};
+
+use crate::gate::CopyGate;
+use relay_ledger::{Book, Full, Share};
+use rwloops::{Fault, WriteFault};
+use std::sync::ledger::Ledger;
+use std::sync::{Mutex, Wait};
+
+/// The bytes of a worker's buffer.
+pub const BUFFER_BYTES: usize = 16_384;
+
+/// How a worker ended. This project's own rule.
+#[derive(Clone, Copy, Debug, PartialEq, Eq, Drop)]
+pub enum Ended {
+    /// The reader's end came, and `close_write` said so on the other side.
+    Eof,
+    /// A read failed, and not because the reader's end came.
+    ReadFault(Fault),
+    /// A write failed. The bytes that it took are credited.
+    WriteFault(WriteFault),
+    /// The reader's end came, and `close_write` failed.
+    CloseFault(Fault),
+    /// The book had no room for the last write: so many bytes were written and not credited.
+    BookFull(u64),
+}
+
+/// Copies from the gate's reader to its writer until something ends it. The share is credited what
+/// each write reported, also what a write took that failed.
+pub fn copy_worker<G: CopyGate, L: Ledger, R: Wait>(
+    rt: &R,
+    gate: &mut G,
+    book: &Mutex<Book<L>>,
+    share: &mut Share<L>,
+    buf: &mut [u8],
+) -> Ended
+    requires room { 0 < length buf.old }
+    ensures copied { IsCopied (G.tells gate.old) (G.tells gate.new) share.old share.new result }
+{
+    for _ in rt.forever() {
+        let count = match gate.read(buf) {
+            Ok(count) => count,
+            Err(Fault::EndOfFile) => match gate.close_write() {
+                Ok(()) => return Ended::Eof,
+                Err(fault) => return Ended::CloseFault(fault),
+            },
+            Err(fault) => return Ended::ReadFault(fault),
+        };
+        match gate.write(&buf[..count]) {
+            Ok(written) => match credited(rt, book, share, written as u64) {
+                Ok(()) => {}
+                Err(Full) => return Ended::BookFull(written as u64),
+            },
+            Err(failed) => match credited(rt, book, share, failed.count as u64) {
+                Ok(()) => return Ended::WriteFault(failed),
+                Err(Full) => return Ended::BookFull(failed.count as u64),
+            },
+        }
+    }
+    unreachable!()
+}
+
+// A credit under the book's lock. The lock is held for nothing else.
+fn credited<L: Ledger, R: Wait>(
+    rt: &R,
+    book: &Mutex<Book<L>>,
+    share: &mut Share<L>,
+    n: u64,
+) -> Result<(), Full>
+    ensures amount { OnOk result (share.new ≡ share.old + n) }
+    ensures kept { OnErr result (share.new ≡ share.old) }
+{
+    book.lock(rt).credit(share, n)
+}

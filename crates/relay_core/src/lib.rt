@@ -1,0 +1,19 @@
+//! What a relay does with bytes, connections and pairs, as far as it can be said without a socket or
+//! a thread: the worker that copies, the worker that accepts, and the decisions about pairs. What
+//! they copy and accept through are traits.
+#![tactic(auto)]
+
+mod accepting;
+mod copying;
+mod gate;
+mod idle;
+pub mod laws;
+mod pair;
+#[cfg(test)]
+mod tests;
+
+pub use accepting::{AcceptEnded, AcceptGate, MAX_FAULTS_IN_A_ROW, accept_worker, next_pause_ms};
+pub use copying::{BUFFER_BYTES, Ended, copy_worker};
+pub use gate::CopyGate;
+pub use idle::idle_deadline;
+pub use pair::{InsertedSides, MAX_PAIRS, end_closes_pair, has_room_for_pair};
