@@ -96,7 +96,7 @@ def exchange(lane, rng, outcome):
 
 def stall(lane, rng, outcome):
     """Both send all and hold open. The relay ends the connection at the idle time, and not before."""
-    client, target = ends_of(lane, rng, rng.randint(1, 9_999), rng.randint(0, 9_999))
+    client, target = ends_of(lane, rng, rng.choice((0, rng.randint(1, 9_999))), rng.choice((0, rng.randint(1, 9_999))))
     client.holds_open = target.holds_open = True
     pump((client, target), lambda: client.has_all() and target.has_all(), SECONDS)
     began = time.monotonic()

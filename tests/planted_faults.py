@@ -23,7 +23,7 @@ PLANTED = [
     ("misses_a_worker_that_failed", "whole", "whole: totals after stop"),
     ("misses_a_worker_that_failed", "rough", "rough: total"),
     ("prints_other_totals", "whole", "whole: totals after stop"),
-    ("idle_on_the_wrong_direction", "whole", "whole: bytes"),
+    ("idle_on_the_wrong_direction", "rows", "idle: the silent way"),
     ("idle_is_never_set", "rows", "idle: a silent connection"),
     ("idle_is_never_set", "rough", "rough: bytes"),
     ("deadlines_fire_late", "rows", "deadline: within 150 ms"),
