@@ -180,7 +180,7 @@ class Meddler(threading.Thread):
     """Asks `list` and `totals`, and gives random ids a command now and then, until it is told to end."""
 
     def __init__(self, relay, rng, commands):
-        super().__init__()
+        super().__init__(daemon=True)
         self.relay, self.rng, self.commands = relay, rng, commands
         self.is_over, self.faults, self.asked = threading.Event(), [], 0
 
@@ -400,7 +400,10 @@ def main():
     for name in chosen.stages or STAGES:
         began = time.monotonic()
         with tempfile.TemporaryDirectory(prefix="conserve-") as folder:
-            STAGES[name](checks, 100 if chosen.small else 1_000, chosen.seed, folder)
+            try:
+                STAGES[name](checks, 100 if chosen.small else 1_000, chosen.seed, folder)
+            except (OSError, EOFError, RuntimeError, TypeError) as fault:
+                checks.holds(name, False, f"cut short by {fault!r}")
         print(f"{name}: {time.monotonic() - began:.1f} s", flush=True)
     return checks.end()
 

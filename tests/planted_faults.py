@@ -1,12 +1,16 @@
 #!/usr/bin/env python3
-"""Shows that the checks of byte_conservation.py fail where they should: runs its stages on wrong_relay.py, right at first
-and then wrong in one way after the other, and looks for the check that has to fail.
+"""Shows that the checks of byte_conservation.py and relay_program.py fail where they should.
+
+The stages of the first run on wrong_relay.py, right at first and then wrong in one way after the other; the second runs on the
+built program behind doctored_program.py. Each time the check that has to fail is looked for. It takes some minutes.
 
     python3 tests/planted_faults.py [FAULT..]
 """
 import os
 import subprocess
 import sys
+
+from relay_process import PROGRAM
 
 HERE = os.path.dirname(os.path.abspath(__file__))
 
@@ -42,11 +46,30 @@ PLANTED = [
     ("ends_with_1", "whole", "whole: status"),
 ]
 
+# What doctored_program.py does wrong, and the beginnings of the checks that fail.
+DOCTORED = [
+    ("status", ["words frob", "words trace", "check: 64", "check: a full output", "start: bad rules", "start: the admin", "serve: its last line and", "no rule: its end", "sample web"]),
+    ("lines", ["words frob", "check: 64", "start: bad rules", "start: a listener", "start: the admin", "serve: its last line and", "sample web"]),
+    ("replies", ["session: list", "session: totals", "session: 65 bytes", "session: 65,536", "session: stop", "no rule: list", "sample first"]),
+    ("reads_first", ["words frob: what was read", "words --help: what was read"]),
+    ("paths", ["serve: paths after a fault", "start: what was at", "start: an earlier path"]),
+]
+
 
 def lines_of(fault, stages):
     """What byte_conservation.py prints about a relay with that fault."""
     words = [sys.executable, f"{HERE}/byte_conservation.py", "--small", "--seed", "5", *stages]
-    env = {**os.environ, "POLLRELAY": f"{HERE}/wrong_relay.py", "RELAY_FAULT": fault}
+    return ran_with(words, {"POLLRELAY": f"{HERE}/wrong_relay.py", "RELAY_FAULT": fault})
+
+
+def doctored_lines(fault):
+    """What relay_program.py prints about the built program with that fault."""
+    words = [sys.executable, f"{HERE}/relay_program.py"]
+    return ran_with(words, {"POLLRELAY": f"{HERE}/doctored_program.py", "REAL": PROGRAM, "DOCTORED": fault})
+
+
+def ran_with(words, variables):
+    env = {**os.environ, **variables}
     ran = subprocess.run(words, env=env, stdout=subprocess.PIPE, stderr=subprocess.STDOUT, text=True, timeout=600)
     return ran.returncode, ran.stdout
 
@@ -69,6 +92,13 @@ def main():
         if status == 0 or not found:
             missed.append(fault)
             print(said)
+    for fault, wanted in DOCTORED:
+        if chosen and fault not in chosen:
+            continue
+        said = doctored_lines(fault)[1].replace("['", "").replace("']", "")
+        unseen = [check for check in wanted if f"FAILED {check}" not in said]
+        print(f"{fault}: {said.splitlines()[-1]}{f', NOT SEEN {unseen}' if unseen else ''}", flush=True)
+        missed += [fault] if unseen else []
     print(f"{len(missed)} not seen {missed}")
     return 1 if missed else 0
 

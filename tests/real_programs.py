@@ -73,7 +73,7 @@ class Asking(threading.Thread):
     """Asks `totals` and `list` every 100 ms, and keeps what was wrong and how long a reply took."""
 
     def __init__(self, relay):
-        super().__init__()
+        super().__init__(daemon=True)
         self.relay, self.is_over = relay, threading.Event()
         self.faults, self.slowest, self.asked, self.most_ids = [], 0.0, 0, 0
 

@@ -337,10 +337,33 @@ def sample_sessions(checks, _):
             checks.expect(f"sample {os.path.basename(path)}", wanted.encode(), session(relay.admin, sent.encode()))
 
 
+def sample_metrics(checks, folder):
+    """The script for Prometheus counts one connection and its bytes, and a relay that doesn't answer is down."""
+    output = f"{folder}/relay.prom"
+    accepts, target = listener()
+    port = free_port()
+    rules = f"# one\n\nrelay one tcp:127.0.0.1:{port} {target} never\nrelay two tcp:127.0.0.1:{free_port()} {target} 9\n"
+    words = [sys.executable, f"{ROOT}/examples/prometheus/pollrelay_textfile.py", "--output", output]
+    with accepts, Relay(rules) as relay, connect(f"tcp:127.0.0.1:{port}") as client:
+        client.sendall(b"twelve bytes")
+        wait_until(lambda: relay.totals() == (12, 0), 5)
+        words += ["--admin", relay.admin, "--rules", f"{relay.folder}/rules"]
+        for ends in (False, True):
+            if ends:
+                relay.stop()
+            checks.expect("metrics: status", 0, subprocess.run(words, timeout=20, check=False).returncode)
+            with open(output, encoding="ascii") as file:
+                values = [line for line in file.read().splitlines() if not line.startswith("#")]
+            bytes_total = ['pollrelay_bytes_total{direction="up"} 12', 'pollrelay_bytes_total{direction="down"} 0']
+            wanted = ["pollrelay_up 0"] if ends else ["pollrelay_up 1", *bytes_total, "pollrelay_connections 1"]
+            checks.expect("metrics: values", wanted, values)
+            checks.expect("metrics: other files", ["relay.prom"], os.listdir(folder))
+
+
 def main():
     checks = Checks()
     stages = [command_lines, verdicts, outputs, start_faults, poller_fault, refused_paths, admin_sessions, no_rule]
-    for stage in [*stages, sample_rules, sample_sessions]:
+    for stage in [*stages, sample_rules, sample_sessions, sample_metrics]:
         with tempfile.TemporaryDirectory(prefix="program-") as folder:
             try:
                 stage(checks, folder)

@@ -208,7 +208,7 @@ class Relay:
         if last:
             self.close_pair(side)
             for it in (side, side.other):
-                if FAULT == "leaves_a_descriptor":
+                if FAULT == "leaves_a_descriptor" and it.id % 20 == 0:
                     leaked.append(it)
                 else:
                     it.give_back()
