@@ -1,16 +1,23 @@
 #!/usr/bin/env python3
 """Shows that the checks of byte_conservation.py and relay_program.py fail where they should.
 
-The stages of the first run on wrong_relay.py, right at first and then wrong in one way after the other; the second runs on the
-built program behind doctored_program.py. Each time the check that has to fail is looked for. It takes some minutes.
+The stages of the first run on wrong_relay.py, right at first and then wrong in one way after the other, and each time the
+check that has to fail is looked for. The second runs on the built program, while what it sees of it is changed in one way after
+the other: each of its checks has to fail at least once. It takes some minutes.
 
     python3 tests/planted_faults.py [FAULT..]
 """
+import contextlib
+import glob
+import io
 import os
+import re
 import subprocess
 import sys
+from unittest import mock
 
-from relay_process import PROGRAM
+import relay_program
+from relay_process import Checks, Relay
 
 HERE = os.path.dirname(os.path.abspath(__file__))
 
@@ -46,32 +53,66 @@ PLANTED = [
     ("ends_with_1", "whole", "whole: status"),
 ]
 
-# What doctored_program.py does wrong, and the beginnings of the checks that fail.
-DOCTORED = [
-    ("status", ["words frob", "words trace", "check: 64", "check: a full output", "start: bad rules", "start: the admin", "serve: its last line and", "no rule: its end", "sample web"]),
-    ("lines", ["words frob", "check: 64", "start: bad rules", "start: a listener", "start: the admin", "serve: its last line and", "sample web"]),
-    ("replies", ["session: list", "session: totals", "session: 65 bytes", "session: 65,536", "session: stop", "no rule: list", "sample first"]),
-    ("reads_first", ["words frob: what was read", "words --help: what was read"]),
-    ("paths", ["serve: paths after a fault", "start: what was at", "start: an earlier path"]),
-]
-
 
 def lines_of(fault, stages):
     """What byte_conservation.py prints about a relay with that fault."""
     words = [sys.executable, f"{HERE}/byte_conservation.py", "--small", "--seed", "5", *stages]
-    return ran_with(words, {"POLLRELAY": f"{HERE}/wrong_relay.py", "RELAY_FAULT": fault})
-
-
-def doctored_lines(fault):
-    """What relay_program.py prints about the built program with that fault."""
-    words = [sys.executable, f"{HERE}/relay_program.py"]
-    return ran_with(words, {"POLLRELAY": f"{HERE}/doctored_program.py", "REAL": PROGRAM, "DOCTORED": fault})
-
-
-def ran_with(words, variables):
-    env = {**os.environ, **variables}
+    env = {**os.environ, "POLLRELAY": f"{HERE}/wrong_relay.py", "RELAY_FAULT": fault}
     ran = subprocess.run(words, env=env, stdout=subprocess.PIPE, stderr=subprocess.STDOUT, text=True, timeout=600)
     return ran.returncode, ran.stdout
+
+
+def of_any_folder(name):
+    """A check's name without the temporary folder."""
+    return re.sub(r"/tmp/program-\w+", "..", name)
+
+
+class WrongProcess(subprocess.Popen):
+    """A process that writes a byte more, and whose status is one more."""
+
+    def communicate(self, *words, **named):
+        said = super().communicate(*words, **named)
+        self.returncode += 1
+        return tuple(text and text + b"x" if text != b"" else b"x" for text in said)
+
+    def wait(self, *words, **named):
+        return super().wait(*words, **named) + 1
+
+
+class WrongRelay(Relay):
+    """A relay whose first line has a space more."""
+
+    def __init__(self, rules):
+        super().__init__(rules)
+        self.said += " "
+
+
+def never_failed():
+    """The checks of relay_program.py that passed, whatever was changed."""
+    session, rest_of, text_of = relay_program.session, relay_program.rest_of, relay_program.text_of
+    lexists = os.path.lexists
+    wrong = [
+        mock.patch.object(subprocess, "Popen", WrongProcess),
+        mock.patch.object(relay_program, "Relay", WrongRelay),
+        mock.patch.object(relay_program, "session", lambda *words: session(*words).replace(b"\n", b" \n") or b"x"),
+        mock.patch.object(relay_program, "rest_of", lambda sock: rest_of(sock) + b"x"),
+        mock.patch.object(relay_program, "received", lambda sock: b""),
+        mock.patch.object(relay_program, "text_of", lambda path: text_of(path) + "\nx"),
+        mock.patch.object(os.path, "lexists", lambda path: not lexists(path)),
+        mock.patch.object(os.path, "isfile", lambda path: False),
+        mock.patch.object(os, "listdir", lambda path: []),
+        mock.patch.object(os, "lseek", lambda *_: 1),
+        mock.patch.object(glob, "glob", lambda *_: []),
+    ]
+    every, failed = set(), set()
+    for change in wrong:
+        checks = Checks()
+        with change, contextlib.redirect_stdout(io.StringIO()):
+            relay_program.all_stages(checks)
+        every |= set(map(of_any_folder, checks.passed + checks.failed))
+        failed |= set(map(of_any_folder, checks.failed))
+    print(f"relay_program.py: {len(failed)} of {len(every)} checks were seen to fail, not {sorted(every - failed)}", flush=True)
+    return sorted(every - failed)
 
 
 def main():
@@ -92,13 +133,8 @@ def main():
         if status == 0 or not found:
             missed.append(fault)
             print(said)
-    for fault, wanted in DOCTORED:
-        if chosen and fault not in chosen:
-            continue
-        said = doctored_lines(fault)[1].replace("['", "").replace("']", "")
-        unseen = [check for check in wanted if f"FAILED {check}" not in said]
-        print(f"{fault}: {said.splitlines()[-1]}{f', NOT SEEN {unseen}' if unseen else ''}", flush=True)
-        missed += [fault] if unseen else []
+    if not chosen:
+        missed += never_failed()
     print(f"{len(missed)} not seen {missed}")
     return 1 if missed else 0
 

@@ -175,7 +175,7 @@ class Checks:
     """Counts what was checked, and prints what failed."""
 
     def __init__(self):
-        self.passed = 0
+        self.passed = []
         self.failed = []
 
     def expect(self, name, wanted, got):
@@ -183,7 +183,7 @@ class Checks:
 
     def holds(self, name, is_so, otherwise):
         if is_so:
-            self.passed += 1
+            self.passed.append(name)
         else:
             self.failed.append(name)
             if self.failed.count(name) <= 5:
@@ -191,5 +191,5 @@ class Checks:
 
     def end(self):
         """The exit status, after a last line."""
-        print(f"{self.passed} passed, {len(self.failed)} failed", flush=True)
+        print(f"{len(self.passed)} passed, {len(self.failed)} failed", flush=True)
         return 1 if self.failed else 0

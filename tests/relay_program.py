@@ -37,6 +37,11 @@ def write(path, text):
     return path
 
 
+def text_of(path):
+    with open(path, encoding="ascii") as file:
+        return file.read()
+
+
 def command_lines(checks, folder):
     """Refused words end with 2. Nothing is read: the rules are a pipe that nobody writes, and the script stays unread."""
     pipe = f"{folder}/pipe"
@@ -188,7 +193,7 @@ def poller_fault(checks, folder):
         if serves:
             break
         seen.append(said)
-        checks.expect(f"start with {most} descriptors: status of {said!r}", 3, process.returncode)
+        checks.expect(f"start with {most} descriptors: status", 3, process.returncode)
     places = [order.index(it) if it in order else -1 for it in seen]
     checks.holds("start: faults by descriptors, in their order", places == sorted(places) and -1 not in places, f"{seen}")
     checks.holds("start: the poller's fault", "relay fault: device" in seen, f"{seen}")
@@ -207,8 +212,7 @@ def refused_paths(checks, folder):
         checks.expect(f"start: a rule's path that is there, {path}", (3, "", "cannot listen late\n"), said)
         checks.expect(f"start: what was at {path}", True, os.path.lexists(path))
         checks.expect("start: an earlier path is removed", False, os.path.lexists(f"{folder}/early"))
-    with open(file, encoding="ascii") as kept:
-        checks.expect("start: the file's text", "kept", kept.read())
+    checks.expect("start: the file's text", "kept", text_of(file))
 
 
 def session(path, sent):
@@ -216,9 +220,7 @@ def session(path, sent):
     with connect(f"unix:{path}") as sock:
         sender = threading.Thread(target=send_all, args=(sock, sent))
         sender.start()
-        replies = b""
-        while data := received(sock):
-            replies += data
+        replies = rest_of(sock)
         sender.join()
         return replies
 
@@ -229,6 +231,14 @@ def send_all(sock, sent):
         sock.shutdown(socket.SHUT_WR)
     except OSError:
         pass  # the session ended before
+
+
+def rest_of(sock):
+    """All that comes until the end."""
+    rest = b""
+    while data := received(sock):
+        rest += data
+    return rest
 
 
 def received(sock):
@@ -275,7 +285,7 @@ def admin_sessions(checks, _):
         in_pieces(checks, relay)
         gone_without_reading(checks, relay)
         checks.expect("session: a deadline of 0", b"ok\n", session(relay.admin, b"deadline 3 0\n"))
-        checks.expect("session: the client sees the end", b"", received(client))
+        checks.expect("session: the client sees the end", b"", rest_of(client))
         wait_until(lambda: relay.ids() == [1, 2], 5)
         checks.expect("session: a listener's id", b"ok\nids 2\n" + UNKNOWN, session(relay.admin, b"close 1\nlist\nclose 1\n"))
         checks.expect("session: stop, and more", b"ok\n", session(relay.admin, b"stop\nlist\n"))
@@ -290,9 +300,9 @@ def in_pieces(checks, relay):
     with connect(f"unix:{relay.admin}") as sock:
         for byte in b"list\n":
             sock.sendall(bytes([byte]))
-        checks.expect("session: byte by byte", b"ids 1 2 3 4\n", sock.recv(100))
+        checks.expect("session: byte by byte", b"ids 1 2 3 4\n", received(sock))
         sock.sendall(b"quit\n")
-        checks.expect("session: the next line", (b"ok\n", b""), (sock.recv(100), received(sock)))
+        checks.expect("session: the next line", b"ok\n", rest_of(sock))
 
 
 def gone_without_reading(checks, relay):
@@ -315,8 +325,7 @@ def sample_rules(checks, _):
     samples = sorted(glob.glob(f"{ROOT}/examples/rules/*.rules"))
     checks.holds("samples: rules", len(samples) >= 6, f"{len(samples)} files")
     for path in samples:
-        with open(path, encoding="ascii") as file:
-            said = [line.split(": ", 1)[1] for line in file if line.startswith("# It prints: ")]
+        said = [line.split(": ", 1)[1] for line in text_of(path).splitlines(True) if line.startswith("# It prints: ")]
         verdict = said[0] if said else ""
         wanted = (0 if verdict.startswith("rules ") else 1, verdict.encode(), b"")
         checks.expect(f"sample {os.path.basename(path)}", wanted, run(["check", "--rules", path]))
@@ -327,8 +336,7 @@ def sample_sessions(checks, _):
     samples = sorted(glob.glob(f"{ROOT}/examples/admin/*.session"))
     checks.holds("samples: sessions", len(samples) >= 3, f"{len(samples)} files")
     for path in samples:
-        with open(path, encoding="ascii") as file:
-            lines = file.read().splitlines()
+        lines = text_of(path).splitlines()
         count = next(int(line.split()[-1]) for line in lines if line.startswith("# Rules: "))
         sent = "".join(f"{line[2:]}\n" for line in lines if line.startswith("> "))
         wanted = "".join(f"{line[2:]}\n" for line in lines if line.startswith("< "))
@@ -352,23 +360,31 @@ def sample_metrics(checks, folder):
             if ends:
                 relay.stop()
             checks.expect("metrics: status", 0, subprocess.run(words, timeout=20, check=False).returncode)
-            with open(output, encoding="ascii") as file:
-                values = [line for line in file.read().splitlines() if not line.startswith("#")]
+            values = [line for line in text_of(output).splitlines() if not line.startswith("#")]
             bytes_total = ['pollrelay_bytes_total{direction="up"} 12', 'pollrelay_bytes_total{direction="down"} 0']
             wanted = ["pollrelay_up 0"] if ends else ["pollrelay_up 1", *bytes_total, "pollrelay_connections 1"]
             checks.expect("metrics: values", wanted, values)
             checks.expect("metrics: other files", ["relay.prom"], os.listdir(folder))
 
 
-def main():
-    checks = Checks()
-    stages = [command_lines, verdicts, outputs, start_faults, poller_fault, refused_paths, admin_sessions, no_rule]
-    for stage in [*stages, sample_rules, sample_sessions, sample_metrics]:
+STAGES = [
+    command_lines, verdicts, outputs, start_faults, poller_fault, refused_paths, admin_sessions, no_rule,
+    sample_rules, sample_sessions, sample_metrics,
+]
+
+
+def all_stages(checks):
+    for stage in STAGES:
         with tempfile.TemporaryDirectory(prefix="program-") as folder:
             try:
                 stage(checks, folder)
-            except (OSError, RuntimeError, subprocess.TimeoutExpired) as fault:
+            except (OSError, RuntimeError, EOFError, StopIteration, subprocess.TimeoutExpired) as fault:
                 checks.holds(stage.__name__, False, f"cut short by {fault!r}")
+
+
+def main():
+    checks = Checks()
+    all_stages(checks)
     return checks.end()
 
 
