@@ -154,12 +154,15 @@ def lifted(checks, _):
 def idle(checks, _):
     """A silent connection ends at its idle time, and so does one whose traffic goes one way only."""
     with Served(400) as served:
+        for first in (False, True):
+            client, target = served.open()
+            if first:
+                passes(client, target)
+            took = seconds_until_end(client, 3)
+            name = "idle: silent after its first byte" if first else "idle: silent from its start"
+            checks.holds(name, took is not None and 0.3 <= took <= 0.9, f"{took} s for 0.4 s")
+        # Nothing ever comes back: what goes up must not move the deadline of the way down.
         client, target = served.open()
-        passes(client, target)
-        took = seconds_until_end(client, 3)
-        checks.holds("idle: a silent connection", took is not None and 0.3 <= took <= 0.9, f"{took} s for 0.4 s")
-        client, target = served.open()
-        passes(client, target)
         began = time.monotonic()
         took = None
         while took is None and time.monotonic() - began < 3:
