@@ -56,7 +56,7 @@ PLANTED = [
 
 def lines_of(fault, stages):
     """What byte_conservation.py prints about a relay with that fault."""
-    words = [sys.executable, f"{HERE}/byte_conservation.py", "--small", "--seed", "5", *stages]
+    words = [sys.executable, f"{HERE}/byte_conservation.py", "--small", "--all", "--seed", "5", *stages]
     env = {**os.environ, "POLLRELAY": f"{HERE}/wrong_relay.py", "RELAY_FAULT": fault}
     ran = subprocess.run(words, env=env, stdout=subprocess.PIPE, stderr=subprocess.STDOUT, text=True, timeout=600)
     return ran.returncode, ran.stdout
@@ -115,26 +115,32 @@ def never_failed():
     return sorted(every - failed)
 
 
+def names_of(said, verdict):
+    """The checks with that verdict in what byte_conservation.py printed."""
+    return {line.removeprefix(verdict).strip() for line in re.findall(rf"^{verdict}[^:]*:[^:]*", said, re.M)}
+
+
 def main():
     chosen = sys.argv[1:]
-    missed = []
+    missed, every, failed = [], set(), set()
     if not chosen:
         status, said = lines_of("", [])
         print(f"a right relay: status {status}, {said.splitlines()[-1]}", flush=True)
-        if status:
-            missed.append("a right relay")
-            print(said)
+        every |= names_of(said, "PASSED")
+        missed += ["a right relay"] if status else []
     for fault, stage, check in PLANTED:
         if chosen and fault not in chosen:
             continue
         status, said = lines_of(fault, [stage])
         found = [line for line in said.splitlines() if line.startswith(f"FAILED {check}")]
         print(f"{fault}, {stage}: {found[0][:110] if found else 'NOT SEEN'}", flush=True)
+        failed |= names_of(said, "FAILED")
         if status == 0 or not found:
             missed.append(fault)
             print(said)
     if not chosen:
-        missed += never_failed()
+        print(f"byte_conservation.py: {len(every & failed)} of {len(every)} checks were seen to fail, not {sorted(every - failed)}", flush=True)
+        missed += sorted(every - failed) + never_failed()
     print(f"{len(missed)} not seen {missed}")
     return 1 if missed else 0
 

@@ -174,7 +174,8 @@ def allow_descriptors():
 class Checks:
     """Counts what was checked, and prints what failed."""
 
-    def __init__(self):
+    def __init__(self, tells_all=False):
+        self.tells_all = tells_all
         self.passed = []
         self.failed = []
 
@@ -184,6 +185,8 @@ class Checks:
     def holds(self, name, is_so, otherwise):
         if is_so:
             self.passed.append(name)
+            if self.tells_all:
+                print(f"PASSED {name}:", flush=True)
         else:
             self.failed.append(name)
             if self.failed.count(name) <= 5:
