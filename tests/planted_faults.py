@@ -21,36 +21,53 @@ from relay_process import Checks, Relay
 
 HERE = os.path.dirname(os.path.abspath(__file__))
 
-# What wrong_relay.py does wrong, the stage that sees it, and the beginning of the check that fails.
+# What wrong_relay.py does wrong, the stages and rows that are run on it, and the beginning of a check that has to fail.
 PLANTED = [
     ("drops_a_byte", "whole", "whole: bytes"),
     ("turns_bytes_round", "whole", "whole: bytes"),
     ("repeats_a_front", "whole", "whole: bytes"),
     ("sends_other_bytes", "rough", "rough: bytes"),
+    ("spoils_short_messages", "many hello", "many: short connections"),
+    ("adds_a_byte_at_the_end", "hello", "hello: the end at the target"),
     ("closes_at_the_first_end", "whole", "whole: bytes"),
-    ("keeps_the_other_half_open", "rows", "hello"),
+    ("keeps_the_other_half_open", "hello", "hello"),
     ("credits_what_it_read", "whole", "whole: totals after stop"),
     ("misses_a_credit", "whole", "whole: totals after stop"),
-    ("misses_a_worker_that_failed", "whole", "whole: totals after stop"),
-    ("misses_a_worker_that_failed", "rough", "rough: total"),
-    ("prints_other_totals", "whole", "whole: totals after stop"),
-    ("idle_on_the_wrong_direction", "rows", "idle: silent from its start"),
-    ("idle_is_never_set", "rows", "idle: silent after"),
-    ("idle_is_never_set", "rough", "rough: bytes"),
-    ("deadlines_fire_late", "rows", "deadline: within 150 ms"),
-    ("never_lifts_nothing", "rows", "deadline: lifted"),
-    ("listener_dies_at_a_deadline", "rows", "listener: serves again"),
-    ("keeps_the_other_side", "rows", "close: both ids go"),
-    ("lists_backwards", "rows", "list: listeners"),
-    ("takes_too_many_pairs", "rows", "pairs: one more is dropped"),
-    ("leaves_a_thread", "whole", "whole: threads"),
-    ("leaves_a_descriptor", "whole", "whole: descriptors"),
-    ("leaves_a_thread", "many", "many: threads"),
-    ("leaves_a_descriptor", "many", "many: descriptors"),
+    ("misses_a_worker_that_failed", "whole rough", "rough: total up"),
+    ("prints_other_totals", "whole many hello pairs", "whole: totals after stop"),
+    ("idle_on_the_wrong_direction", "idle", "idle: silent from its start"),
+    ("idle_is_never_set", "idle rough", "idle: silent after"),
+    ("idle_counts_from_the_start", "idle", "idle: two-way traffic"),
+    ("idle_of_either_way", "idle", "idle: the silent way"),
+    ("deadlines_fire_late", "deadlines", "deadline: within 150 ms"),
+    ("deadlines_fire_early", "deadlines", "deadline: not early"),
+    ("never_lifts_nothing", "lifted", "deadline: lifted"),
+    ("never_lifts_nothing", "lifted", "idle: lifted"),
+    ("admin_deadline_stays", "lifted", "idle: set again"),
+    ("listener_dies_at_a_deadline", "listeners", "listener: serves again"),
+    ("listener_ignores_deadlines", "listeners", "listener: with a deadline"),
+    ("one_listener_stops_all", "listeners", "listener: another rule"),
+    ("closed_listener_accepts", "listeners", "listener: refuses"),
+    ("closes_all_listeners", "listeners", "listener: the other one"),
+    ("keeps_ids", "whole rough ids listeners pairs", "listener: out of the list"),
+    ("keeps_the_other_side", "ids", "close: both ids go"),
+    ("close_only_forgets", "ids", "close: the target sees"),
+    ("dies_after_a_close", "ids", "list: after a close"),
+    ("uses_ids_again", "ids", "list: ids don't come again"),
+    ("skips_ids", "ids", "list: a connection"),
+    ("replies_otherwise", "ids lifted listeners", "close: again"),
+    ("lists_backwards", "whole rough ids", "whole: what the admin session saw"),
+    ("sessions_at_once", "sessions", "sessions: the next one waits"),
+    ("drops_waiting_sessions", "sessions", "sessions: the next one is served"),
+    ("takes_too_many_pairs", "pairs", "pairs: one more is dropped"),
+    ("stalls_when_full", "pairs", "pairs: a full relay"),
+    ("counts_pairs_up_alone", "pairs", "pairs: room again"),
+    ("leaves_a_thread", "whole rough many", "many: threads"),
+    ("leaves_a_descriptor", "whole rough many", "many: descriptors"),
     ("leaves_memory", "many", "many: memory"),
-    ("leaves_its_paths", "whole", "whole: Unix paths"),
-    ("stops_late", "whole", "whole: stopped within 2 s"),
-    ("ends_with_1", "whole", "whole: status"),
+    ("leaves_its_paths", "whole rough many", "whole: Unix paths"),
+    ("stops_late", "whole rough many pairs", "whole: stopped within 2 s"),
+    ("ends_with_1", "whole rough many", "whole: status"),
 ]
 
 
@@ -128,12 +145,12 @@ def main():
         print(f"a right relay: status {status}, {said.splitlines()[-1]}", flush=True)
         every |= names_of(said, "PASSED")
         missed += ["a right relay"] if status else []
-    for fault, stage, check in PLANTED:
+    for fault, stages, check in PLANTED:
         if chosen and fault not in chosen:
             continue
-        status, said = lines_of(fault, [stage])
+        status, said = lines_of(fault, stages.split())
         found = [line for line in said.splitlines() if line.startswith(f"FAILED {check}")]
-        print(f"{fault}, {stage}: {found[0][:110] if found else 'NOT SEEN'}", flush=True)
+        print(f"{fault}, {stages}: {found[0][:110] if found else 'NOT SEEN'}", flush=True)
         failed |= names_of(said, "FAILED")
         if status == 0 or not found:
             missed.append(fault)

@@ -28,6 +28,7 @@ class Side:
 
     def __init__(self, sock, idle=NEVER):
         self.sock, self.idle, self.closed, self.other = sock, idle, False, None
+        self.by_admin = False
         self.deadline = {"read": NEVER, "write": NEVER}
         self.bell = {"read": os.eventfd(0), "write": os.eventfd(0)}
         sock.setblocking(False)
@@ -46,24 +47,39 @@ class Side:
             self.bell = {}
 
     def set_deadline(self, moment):
+        self.by_admin = True
         self.deadline = {"read": moment, "write": moment}
         self.ring()
 
     def begin(self, way):
+        other = "write" if way == "read" else "read"
         if FAULT == "idle_on_the_wrong_direction":
-            way = "write" if way == "read" else "read"
-        if self.idle != NEVER and FAULT != "idle_is_never_set":
-            self.deadline[way] = time.monotonic() + self.idle
+            way = other
+        if self.idle == NEVER or FAULT == "idle_is_never_set":
+            return
+        if FAULT == "idle_counts_from_the_start" and self.deadline[way] != NEVER:
+            return
+        if FAULT == "admin_deadline_stays" and self.by_admin:
+            return
+        self.deadline[way] = time.monotonic() + self.idle
+        if FAULT == "idle_of_either_way":
+            for side in (self, self.other):
+                side.deadline = {"read": self.deadline[way], "write": self.deadline[way]}
+                side.ring()
 
     def refuse(self, way):
-        late = 0.4 if FAULT == "deadlines_fire_late" else 0
-        if self.closed or self.deadline[way] + late <= time.monotonic():
+        if self.closed or self.moment(way) <= time.monotonic():
             raise Ended
+
+    def moment(self, way):
+        """When this way's deadline fires."""
+        if FAULT == "listener_ignores_deadlines" and self.other is None:
+            return NEVER
+        return self.deadline[way] + {"deadlines_fire_late": 0.4, "deadlines_fire_early": -0.05}.get(FAULT, 0)
 
     def wait(self, way, event):
         """Waits for readiness, a deadline, or the bell."""
-        late = 0.4 if FAULT == "deadlines_fire_late" else 0
-        left = self.deadline[way] + late - time.monotonic()
+        left = self.moment(way) - time.monotonic()
         poll = select.poll()
         poll.register(self.sock, event)
         poll.register(self.bell[way], select.POLLIN)
@@ -99,6 +115,7 @@ class Relay:
         self.total = {"up": 0, "down": 0}
         self.missed = {"up": 0, "down": 0}
         self.stopped = False
+        self.closes = 0
         self.paths = []
         for name, listen, target, idle in rules:
             side = Side(self.bound(name, listen), NEVER)
@@ -126,11 +143,15 @@ class Relay:
 
     def insert(self, side):
         with self.lock:
-            side.id, self.next_id = self.next_id, self.next_id + 1
+            if FAULT == "uses_ids_again":
+                self.next_id = min(set(range(1, len(self.sides) + 2)) - set(self.sides))
+            side.id, self.next_id = self.next_id, self.next_id + (2 if FAULT == "skips_ids" else 1)
             self.sides[side.id] = side
 
     def accept(self, listening, target, idle):
-        while not listening.closed:
+        while not listening.closed or FAULT == "closed_listener_accepts":
+            while FAULT == "one_listener_stops_all" and self.is_one_stopped():
+                time.sleep(0.05)
             try:
                 client, _ = listening.call("read", select.POLLIN, listening.sock.accept)
             except (Ended, OSError):
@@ -138,11 +159,17 @@ class Relay:
                     return
                 time.sleep(0.02)
                 continue
+            if FAULT == "dies_after_a_close" and self.closes:
+                client.close()
+                continue
             most = MOST_PAIRS + (40 if FAULT == "takes_too_many_pairs" else 0)
             if self.pairs >= most:
                 client.close()
             else:
                 self.set_up(client, target, idle)
+
+    def is_one_stopped(self):
+        return any(side.other is None and side.deadline["read"] != NEVER for side in list(self.sides.values()))
 
     def set_up(self, client, target, idle):
         kind, _, rest = target.partition(":")
@@ -179,6 +206,8 @@ class Relay:
         own = 0
         try:
             while data := source.read():
+                while FAULT == "stalls_when_full" and self.pairs >= MOST_PAIRS and not self.stopped:
+                    time.sleep(0.05)
                 for count in sink.write(spoiled(data)):
                     own += count
                     with self.lock:
@@ -186,6 +215,8 @@ class Relay:
                     if FAULT == "misses_a_credit" and own > 100_000:
                         self.total[way] -= 1
                         own = 0
+            if FAULT == "adds_a_byte_at_the_end":
+                sink.sock.send(b"!")
             if FAULT != "keeps_the_other_half_open":
                 sink.sock.shutdown(socket.SHUT_WR)
             if FAULT == "closes_at_the_first_end":
@@ -213,17 +244,23 @@ class Relay:
                 else:
                     it.give_back()
             with self.lock:
-                self.pairs -= 1
+                self.pairs -= FAULT != "counts_pairs_up_alone"
 
     def remove(self, id):
         with self.lock:
+            if FAULT == "keeps_ids" and (id == 1 or id % 20 == 0):
+                return self.sides.get(id)
             return self.sides.pop(id, None)
 
     def close_side(self, id):
         side = self.remove(id)
         if side is None:
             return False
-        side.closed = True
+        if FAULT == "close_only_forgets":
+            return True
+        side.closed = FAULT != "closed_listener_accepts" or side.other is not None
+        if FAULT == "closed_listener_accepts" and side.other is None:
+            return True
         try:
             side.sock.shutdown(socket.SHUT_RDWR)
         except OSError:
@@ -243,17 +280,36 @@ class Relay:
 
     def admin(self):
         while not self.stopped:
+            if not select.select([self.desk], [], [], 0.05)[0]:
+                continue
             sock, _ = self.desk.accept()
-            with sock, sock.makefile("rw", newline="\n") as lines:
-                try:
-                    for line in lines:
-                        reply, is_end = self.reply(line.rstrip("\n").split(" "))
-                        lines.write(reply + "\n")
-                        lines.flush()
-                        if is_end:
-                            break
-                except OSError:
-                    pass
+            if FAULT == "sessions_at_once":
+                self.start(self.session, sock)
+            else:
+                self.session(sock)
+            if FAULT == "drops_waiting_sessions":
+                self.drop_who_waits()
+
+    def drop_who_waits(self):
+        while select.select([self.desk], [], [], 0)[0]:
+            self.desk.accept()[0].close()
+
+    def session(self, sock):
+        with sock, sock.makefile("rw", newline="\n") as lines:
+            try:
+                for line in lines:
+                    reply, is_end = self.reply(line.rstrip("\n").split(" "))
+                    lines.write(self.replied(reply, is_end) + "\n")
+                    lines.flush()
+                    if is_end:
+                        break
+            except OSError:
+                pass
+
+    def replied(self, reply, is_end):
+        if FAULT == "replies_otherwise" and not is_end:
+            return {"ok": "OK", "error 404 no such connection": "error 404"}.get(reply, reply)
+        return reply
 
     def reply(self, words):
         if words == ["list"]:
@@ -262,6 +318,9 @@ class Relay:
         if words == ["totals"]:
             return f"totals {self.said()}", False
         if words[0] == "close":
+            self.closes += 1
+            if FAULT == "closes_all_listeners" and words[1] == "1":
+                self.close_side(2)
             found = self.close_side(int(words[1]))
             return ("ok" if found else "error 404 no such connection"), False
         if words[0] == "deadline":
@@ -311,6 +370,8 @@ def spoiled(data):
         return data[8192:] + data[:8192]
     if FAULT == "repeats_a_front" and now_and_then:
         return data + data[:10]
+    if FAULT == "spoils_short_messages" and data == b"hello":
+        return b"jello"
     if FAULT == "sends_other_bytes" and now_and_then:
         return bytes(len(data))
     return data
