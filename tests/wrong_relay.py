@@ -150,8 +150,6 @@ class Relay:
 
     def accept(self, listening, target, idle):
         while not listening.closed or FAULT == "closed_listener_accepts":
-            while FAULT == "one_listener_stops_all" and self.is_one_stopped():
-                time.sleep(0.05)
             try:
                 client, _ = listening.call("read", select.POLLIN, listening.sock.accept)
             except (Ended, OSError):
@@ -159,6 +157,8 @@ class Relay:
                     return
                 time.sleep(0.02)
                 continue
+            while FAULT == "one_listener_stops_all" and self.is_one_stopped():
+                time.sleep(0.05)
             if FAULT == "dies_after_a_close" and self.closes:
                 client.close()
                 continue

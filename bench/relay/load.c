@@ -3,7 +3,7 @@
  * It prints `target PORT`, and then answers each line of standard input by one line:
  *
  *     bulk PORT CONNECTIONS SECONDS      bulk SECONDS BYTES
- *     turns PORT CONNECTIONS SECONDS     turns SECONDS TURNS P50 P99     (nanoseconds)
+ *     turns PORT CONNECTIONS SECONDS     turns SECONDS TURNS P50 P99 MOST     (nanoseconds)
  *     connects PORT AT_ONCE SECONDS      connects SECONDS COUNT
  *     hold PORT CONNECTIONS              hold CONNECTIONS                (they stay open)
  *     drop                               drop                            (closes them)
@@ -137,7 +137,7 @@ static int start_target(void) {
 struct job {
     int port, connections;
     uint64_t last; /* the moment from which nothing new is begun */
-    uint64_t bytes, turns;
+    uint64_t bytes, turns, longest;
     uint32_t buckets[BUCKETS];
 };
 
@@ -198,6 +198,7 @@ static int end_turn(struct job *job, struct player *player) {
     uint64_t moment = now();
     if (back != player->turn) fail("another byte than was sent");
     job->buckets[bucket_of(moment - player->began)]++;
+    if (moment - player->began > job->longest) job->longest = moment - player->began;
     job->turns++;
     if (moment >= job->last) return 1;
     player->turn++;
@@ -256,6 +257,7 @@ static double run(struct job *sum, void *(*work)(void *), int threads, double se
         pthread_join(made[at], NULL);
         sum->bytes += jobs[at].bytes;
         sum->turns += jobs[at].turns;
+        if (jobs[at].longest > sum->longest) sum->longest = jobs[at].longest;
         for (int bucket = 0; bucket < BUCKETS; bucket++) sum->buckets[bucket] += jobs[at].buckets[bucket];
     }
     double took = (double)(now() - began) / 1e9;
@@ -298,7 +300,7 @@ static void command(const char *line) {
         printf("bulk %.6f %lu\n", took, job.bytes);
     } else if (sscanf(line, "turns %d %d %lf", &job.port, &job.connections, &seconds) == 3) {
         took = run(&job, turns, job.connections < TURN_THREADS ? job.connections : TURN_THREADS, seconds);
-        printf("turns %.6f %lu %lu %lu\n", took, job.turns, percentile(&job, 0.5), percentile(&job, 0.99));
+        printf("turns %.6f %lu %lu %lu %lu\n", took, job.turns, percentile(&job, 0.5), percentile(&job, 0.99), job.longest);
     } else if (sscanf(line, "connects %d %d %lf", &job.port, &job.connections, &seconds) == 3) {
         took = run(&job, connects, job.connections, seconds);
         printf("connects %.6f %lu\n", took, job.turns);

@@ -188,12 +188,13 @@ def bulk_row(started, load, connections, seconds):
 
 def turns_row(started, load, connections, seconds):
     before = started.processor_ns()
-    took, count, half, most = load.ask(f"turns {started.port} {connections} {seconds}")
+    took, count, half, most, longest = load.ask(f"turns {started.port} {connections} {seconds}")
     spent = started.processor_ns() - before
     return {
         f"turns over {connections}, 1/s": count / took,
         f"p50 of a turn over {connections}, us": half / 1e3,
         f"p99 of a turn over {connections}, us": most / 1e3,
+        f"longest turn over {connections}, us": longest / 1e3,
         f"processor for a turn over {connections}, us": spent / count / 1e3,
     }
 
@@ -246,8 +247,11 @@ def table(results):
             print(f"  {name:10} {median:12.3f}  {min(values[name]):12.3f} to {max(values[name]):12.3f}  {ratio}" + (" best peer" if name == best else ""))
 
 
-def build(folder):
+def build_load(folder):
     subprocess.run(["cc", "-O2", "-Wall", "-Wextra", "-o", f"{folder}/load", f"{HERE}/load.c", "-pthread"], check=True)
+
+
+def build_go_relay(folder):
     env = {**os.environ, "GOCACHE": f"{folder}/go-cache", "GOFLAGS": "-mod=mod", "GO111MODULE": "off"}
     subprocess.run(["go", "build", "-o", f"{folder}/go_relay", f"{HERE}/go_relay.go"], check=True, env=env)
 
@@ -278,7 +282,8 @@ def main():
     machine()
     results = {name: [] for name in names}
     with tempfile.TemporaryDirectory(prefix="bench-") as folder:
-        build(folder)
+        build_load(folder)
+        build_go_relay(folder)
         for turn in range(chosen.rounds):
             first = turn % len(names)
             for name in names[first:] + names[:first]:
