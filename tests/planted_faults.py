@@ -46,6 +46,8 @@ PLANTED = [
     ("admin_deadline_stays", "lifted", "idle: set again"),
     ("listener_dies_at_a_deadline", "listeners", "listener: serves again"),
     ("listener_ignores_deadlines", "listeners", "listener: with a deadline"),
+    ("dies_without_descriptors", "descriptors", "descriptors: served again"),
+    ("ends_with_1", "descriptors", "descriptors: status"),
     ("one_listener_stops_all", "listeners", "listener: another rule"),
     ("closed_listener_accepts", "listeners", "listener: refuses"),
     ("closes_all_listeners", "listeners", "listener: the other one"),

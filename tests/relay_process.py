@@ -98,14 +98,14 @@ class Session:
 class Relay:
     """A relay that serves a text of rules until stop() or the end of the with block."""
 
-    def __init__(self, rules, program=PROGRAM):
+    def __init__(self, rules, program=PROGRAM, descriptors=DESCRIPTORS):
         self.folder = tempfile.mkdtemp(prefix="relay-")
         self.admin = f"{self.folder}/admin.sock"
         with open(f"{self.folder}/rules", "w", encoding="ascii") as file:
             file.write(rules)
         words = [program, "serve", "--rules", f"{self.folder}/rules", "--admin", self.admin]
         self.process = subprocess.Popen(
-            words, stdin=subprocess.DEVNULL, stdout=subprocess.PIPE, preexec_fn=allow_descriptors
+            words, stdin=subprocess.DEVNULL, stdout=subprocess.PIPE, preexec_fn=lambda: allow_descriptors(descriptors)
         )
         said = self.process.stdout.readline().decode()
         if not said.startswith("listening "):
@@ -165,9 +165,9 @@ def totals_of(text):
     return int(words[1]), int(words[3])
 
 
-def allow_descriptors():
+def allow_descriptors(count=DESCRIPTORS):
     hard = resource.getrlimit(resource.RLIMIT_NOFILE)[1]
-    most = DESCRIPTORS if hard == resource.RLIM_INFINITY else min(DESCRIPTORS, hard)
+    most = count if hard == resource.RLIM_INFINITY else min(count, hard)
     resource.setrlimit(resource.RLIMIT_NOFILE, (most, hard))
 
 

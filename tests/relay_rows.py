@@ -15,7 +15,7 @@ WAIT_SECONDS = 5
 class Served:
     """A relay with one rule for each given idle time, and the listening socket of each target."""
 
-    def __init__(self, *idles):
+    def __init__(self, *idles, **limits):
         self.folder = tempfile.TemporaryDirectory(prefix="rows-")
         self.listens = [f"tcp:127.0.0.1:{free_port()}" for _ in idles]
         pairs = [listener(f"{self.folder.name}/target-{at}" if at % 2 else None) for at in range(len(idles))]
@@ -24,7 +24,7 @@ class Served:
             sock.settimeout(WAIT_SECONDS)
         lines = zip(self.listens, pairs, idles)
         rules = [f"relay r{at} {listen} {target} {idle}\n" for at, (listen, (_, target), idle) in enumerate(lines)]
-        self.relay = Relay("".join(rules))
+        self.relay = Relay("".join(rules), **limits)
 
     def open(self, at=0):
         client = connect(self.listens[at], WAIT_SECONDS)
@@ -258,6 +258,33 @@ def pairs(checks, _):
             sock.close()
 
 
+def end_targets(accepts):
+    """Ends the connections that wait for the target to accept them."""
+    accepts.settimeout(0.3)
+    try:
+        while True:
+            accepts.accept()[0].close()
+    except TimeoutError:
+        accepts.settimeout(WAIT_SECONDS)
+
+
+def descriptors(checks, _):
+    """Where descriptors ran out, the listener serves again once some are free."""
+    # A connection takes two: with one of these limits the last is left for an accept, with the other none is.
+    for limit in (99, 100):
+        with Served("never", descriptors=limit) as served:
+            clients = [connect(served.listens[0]) for _ in range(100)]
+            # Longer than 1,024 faults take where an accept thread waits 1 ms after each.
+            time.sleep(3)
+            for client in clients:
+                client.close()
+            # What went through before comes to the target first.
+            answer = wait_until(lambda: end_targets(served.accepts[0]) or opens(served, 0), 8)
+            checks.holds("descriptors: served again", answer, f"no byte came back, at a limit of {limit}")
+            status, _, _ = served.relay.stop()
+            checks.expect("descriptors: status", 0, status)
+
+
 def sessions(checks, _):
     """Admin sessions are served one after the other: an idle one keeps the next waiting."""
     with Served("never") as served:
@@ -271,11 +298,14 @@ def sessions(checks, _):
             except TimeoutError:
                 checks.holds("sessions: the next one waits", True, "")
         second.settimeout(3)
-        checks.expect("sessions: the next one is served", b"ids 1\n", second.recv(100))
+        try:
+            checks.expect("sessions: the next one is served", b"ids 1\n", second.recv(100))
+        except OSError as fault:
+            checks.holds("sessions: the next one is served", False, repr(fault))
         second.close()
 
 
-ROWS = [hello, ids, deadlines, lifted, idle, listeners, sessions, pairs]
+ROWS = [hello, ids, deadlines, lifted, idle, listeners, descriptors, sessions, pairs]
 
 
 def run(checks, is_small):

@@ -4,6 +4,7 @@ byte_conservation.py fail where they should. Nobody should use it for anything e
 
     RELAY_FAULT=drops_a_byte POLLRELAY=tests/wrong_relay.py python3 tests/byte_conservation.py --small
 """
+import io
 import os
 import select
 import socket
@@ -30,20 +31,20 @@ class Side:
         self.sock, self.idle, self.closed, self.other = sock, idle, False, None
         self.by_admin = False
         self.deadline = {"read": NEVER, "write": NEVER}
-        self.bell = {"read": os.eventfd(0), "write": os.eventfd(0)}
+        self.bell = {way: io.FileIO(os.eventfd(0), "r+") for way in self.deadline}
         sock.setblocking(False)
 
     def ring(self):
         with bells:
             for bell in self.bell.values():
-                os.eventfd_write(bell, 1)
+                os.eventfd_write(bell.fileno(), 1)
 
     def give_back(self):
         """Closes the socket and the bells, which nobody rings from then on."""
         self.sock.close()
         with bells:
             for bell in self.bell.values():
-                os.close(bell)
+                bell.close()
             self.bell = {}
 
     def set_deadline(self, moment):
@@ -84,8 +85,9 @@ class Side:
         poll.register(self.sock, event)
         poll.register(self.bell[way], select.POLLIN)
         ready = poll.poll(None if left == NEVER else max(0, left * 1000) + 1)
-        if any(fd == self.bell[way] for fd, _ in ready):
-            os.eventfd_read(self.bell[way])
+        bell = self.bell[way].fileno()
+        if any(number == bell for number, _ in ready):
+            os.eventfd_read(bell)
         self.refuse(way)
 
     def call(self, way, event, once):
@@ -152,10 +154,15 @@ class Relay:
         while not listening.closed or FAULT == "closed_listener_accepts":
             try:
                 client, _ = listening.call("read", select.POLLIN, listening.sock.accept)
-            except (Ended, OSError):
+            except Ended:
                 if FAULT == "listener_dies_at_a_deadline":
                     return
                 time.sleep(0.02)
+                continue
+            except OSError:
+                if FAULT == "dies_without_descriptors":
+                    return
+                time.sleep(0.1)
                 continue
             while FAULT == "one_listener_stops_all" and self.is_one_stopped():
                 time.sleep(0.05)
@@ -166,7 +173,12 @@ class Relay:
             if self.pairs >= most:
                 client.close()
             else:
-                self.set_up(client, target, idle)
+                try:
+                    self.set_up(client, target, idle)
+                except OSError:
+                    client.close()  # no descriptor is left
+                    if FAULT == "dies_without_descriptors":
+                        return
 
     def is_one_stopped(self):
         return any(side.other is None and side.deadline["read"] != NEVER for side in list(self.sides.values()))
