@@ -1,0 +1,298 @@
+#!/usr/bin/env python3
+"""Measures pollrelay beside the relays that operators use today, in turn, on the loopback.
+
+    python3 bench/relay/run.py [--rounds 5] [--seconds 2] [--only NAME,..] [--small]
+
+A round starts each relay once, with the first one changing from round to round, runs all rows through it, and stops it. One
+load generator (load.c) is both the clients and the target and compares the counts of both ends. POLLRELAY names another
+program than crates/pollrelay/out/pollrelay. Needs cc, haproxy, nginx-light with libnginx-mod-stream, socat and golang-go.
+"""
+import argparse
+import os
+import shutil
+import statistics
+import subprocess
+import sys
+import tempfile
+import time
+
+HERE = os.path.dirname(os.path.abspath(__file__))
+sys.path.insert(0, f"{HERE}/../../tests")
+from relay_process import PROGRAM, Relay, connect, free_port, wait_until  # noqa: E402
+
+# Those that copy through user space, as pollrelay does; the best of them is what each ratio is to.
+PEERS = ["haproxy", "nginx", "socat", "go-copy"]
+OTHERS = ["go-splice", "direct"]
+TICK_NS = 1_000_000_000 // os.sysconf("SC_CLK_TCK")
+
+HAPROXY = """global
+  nbthread {processors}
+  maxconn 4096
+defaults
+  mode tcp
+  timeout connect 5s
+  timeout client 1h
+  timeout server 1h
+listen relay
+  bind 127.0.0.1:{port}
+  server target 127.0.0.1:{target}
+"""
+
+NGINX = """daemon off;
+pid {folder}/nginx.pid;
+error_log {folder}/error.log;
+worker_processes {processors};
+load_module /usr/lib/nginx/modules/ngx_stream_module.so;
+events {{ worker_connections 4096; }}
+stream {{ server {{ listen 127.0.0.1:{port}; proxy_pass 127.0.0.1:{target}; proxy_timeout 1h; proxy_half_close on; }} }}
+"""
+
+
+class Started:
+    """A relay that runs, with the processes that belong to it."""
+
+    def __init__(self, name, folder, target):
+        self.name, self.port, self.relay, self.process = name, free_port(), None, None
+        if name == "direct":
+            self.port = target
+        elif name == "pollrelay":
+            self.relay = Relay(f"relay bench tcp:127.0.0.1:{self.port} tcp:127.0.0.1:{target} never\n")
+            self.process = self.relay.process
+        else:
+            quiet = {"stdin": subprocess.DEVNULL, "stdout": subprocess.DEVNULL, "stderr": subprocess.DEVNULL}
+            self.process = subprocess.Popen(words_of(name, folder, self.port, target), **quiet)
+        if not wait_until(self.accepts, 10):
+            self.stop()
+            raise RuntimeError(f"{name} doesn't accept connections")
+
+    def accepts(self):
+        try:
+            connect(f"tcp:127.0.0.1:{self.port}").close()
+            return True
+        except ConnectionError:
+            return False
+
+    def pids(self):
+        """The process and all below it."""
+        found = [self.process.pid] if self.process else []
+        for pid in found:
+            try:
+                for task in os.listdir(f"/proc/{pid}/task"):
+                    found += map(int, text_of(f"/proc/{pid}/task/{task}/children").split())
+            except OSError:
+                pass  # it ended
+        return found
+
+    def processor_ns(self):
+        """Processor time of all its processes, and of those that it has waited for."""
+        total = 0
+        for pid in self.pids():
+            try:
+                total += time.clock_gettime_ns((~pid << 3) | 2)
+                after_name = text_of(f"/proc/{pid}/stat").rpartition(")")[2].split()
+                total += (int(after_name[13]) + int(after_name[14])) * TICK_NS
+            except OSError:
+                pass
+        return total
+
+    def resident_mib(self):
+        """Resident memory; a page that several of its processes have counts once."""
+        kib = 0
+        for pid in self.pids():
+            lines = text_of(f"/proc/{pid}/smaps_rollup").splitlines()
+            kib += next(int(line.split()[1]) for line in lines if line.startswith("Pss:"))
+        return kib / 1024
+
+    def stop(self):
+        if self.relay:
+            status, totals, _ = self.relay.stop()
+            self.relay.close()
+            if status != 0 or totals is None:
+                raise RuntimeError(f"pollrelay ended with {status}, totals {totals}")
+        elif self.process:
+            # Those of nginx and socat are told by their first.
+            below = self.pids()[1:]
+            self.process.terminate()
+            self.process.wait(10)
+            wait_until(lambda: not any(os.path.exists(f"/proc/{pid}") for pid in below), 5)
+
+
+def words_of(name, folder, port, target):
+    """The command that runs a peer in the foreground."""
+    values = {"port": port, "target": target, "folder": folder, "processors": len(os.sched_getaffinity(0))}
+    if name == "haproxy":
+        return ["haproxy", "-q", "-db", "-f", written(f"{folder}/haproxy.cfg", HAPROXY.format(**values))]
+    if name == "nginx":
+        return ["nginx", "-p", folder, "-c", written(f"{folder}/nginx.conf", NGINX.format(**values))]
+    if name == "socat":
+        listen = f"TCP-LISTEN:{port},bind=127.0.0.1,fork,reuseaddr,nodelay,backlog=1024"
+        return ["socat", "-b16384", listen, f"TCP:127.0.0.1:{target},nodelay"]
+    return [f"{folder}/go_relay", f"127.0.0.1:{port}", f"127.0.0.1:{target}", name.removeprefix("go-")]
+
+
+def text_of(path):
+    with open(path, encoding="utf-8", errors="replace") as file:
+        return file.read()
+
+
+def written(path, text):
+    with open(path, "w", encoding="ascii") as file:
+        file.write(text)
+    return path
+
+
+class Load:
+    """The load generator: one command, one answer."""
+
+    def __init__(self, folder):
+        pipes = {"stdin": subprocess.PIPE, "stdout": subprocess.PIPE, "text": True, "bufsize": 1}
+        self.process = subprocess.Popen([f"{folder}/load"], **pipes)
+        self.target = int(self.process.stdout.readline().split()[1])
+
+    def ask(self, command):
+        self.process.stdin.write(f"{command}\n")
+        answer = self.process.stdout.readline().split()
+        if not answer or answer[0] != command.split()[0]:
+            raise RuntimeError(f"{command}: {' '.join(answer) or 'the load generator ended'}")
+        return [float(word) for word in answer[1:]]
+
+    def stop(self):
+        self.process.stdin.close()
+        self.process.wait(10)
+
+
+def idle_row(started, load, connections, seconds):
+    load.ask(f"hold {started.port} {connections}")
+    time.sleep(min(1, seconds))
+    before, began = started.processor_ns(), time.monotonic()
+    time.sleep(seconds)
+    spent = started.processor_ns() - before
+    found = {
+        f"memory with {connections} idle, MiB": started.resident_mib(),
+        f"processor with {connections} idle, %": spent / (time.monotonic() - began) / 1e7,
+    }
+    load.ask("drop")
+    time.sleep(0.5)
+    return found
+
+
+def bulk_row(started, load, connections, seconds):
+    before = started.processor_ns()
+    took, count = load.ask(f"bulk {started.port} {connections} {seconds}")
+    spent = started.processor_ns() - before
+    return {
+        f"bytes one way over {connections}, MB/s": count / took / 1e6,
+        f"processor for a GB over {connections}, s": spent / count,
+    }
+
+
+def turns_row(started, load, connections, seconds):
+    before = started.processor_ns()
+    took, count, half, most, longest = load.ask(f"turns {started.port} {connections} {seconds}")
+    spent = started.processor_ns() - before
+    return {
+        f"turns over {connections}, 1/s": count / took,
+        f"p50 of a turn over {connections}, us": half / 1e3,
+        f"p99 of a turn over {connections}, us": most / 1e3,
+        f"longest turn over {connections}, us": longest / 1e3,
+        f"processor for a turn over {connections}, us": spent / count / 1e3,
+    }
+
+
+def connects_row(started, load, at_once, seconds):
+    before = started.processor_ns()
+    took, count = load.ask(f"connects {started.port} {at_once} {seconds}")
+    time.sleep(0.3)  # what ended a moment ago is waited for
+    spent = started.processor_ns() - before
+    return {
+        f"connections, {at_once} at a time, 1/s": count / took,
+        f"processor for a connection, {at_once} at a time, us": spent / count / 1e3,
+    }
+
+
+ROWS = [(bulk_row, 1), (bulk_row, 16), (turns_row, 1), (turns_row, 16), (turns_row, 64), (connects_row, 8)]
+
+
+def measure(name, folder, seconds, idle_seconds, idle):
+    """One life of one relay: all rows, and the idle one first, before the others leave anything behind."""
+    load = Load(folder)
+    started = Started(name, folder, load.target)
+    found = {}
+    try:
+        if name != "direct":
+            found |= idle_row(started, load, idle, idle_seconds)
+        for row, connections in ROWS:
+            found |= row(started, load, connections, seconds)
+    finally:
+        started.stop()
+        load.stop()
+    return {key: value for key, value in found.items() if name != "direct" or "processor" not in key}
+
+
+def is_rate(row):
+    return row.endswith("/s")
+
+
+def table(results):
+    """Medians, least and greatest of each row, with the ratio of medians to the best peer's."""
+    rows = next(lives[0] for name, lives in results.items() if name != "direct")
+    for row in rows:
+        print(f"\n{row} ({'higher' if is_rate(row) else 'lower'} is better)")
+        values = {name: [life[row] for life in lives if row in life] for name, lives in results.items()}
+        medians = {name: statistics.median(found) for name, found in values.items() if found}
+        peers = {name: it for name, it in medians.items() if name in PEERS}
+        best = (max if is_rate(row) else min)(peers, key=peers.get) if peers else None
+        for name, median in medians.items():
+            ratio = f"{median / peers[best]:6.2f}" if best and peers[best] else "     -"
+            print(f"  {name:10} {median:12.3f}  {min(values[name]):12.3f} to {max(values[name]):12.3f}  {ratio}" + (" best peer" if name == best else ""))
+
+
+def build_load(folder):
+    subprocess.run(["cc", "-O2", "-Wall", "-Wextra", "-o", f"{folder}/load", f"{HERE}/load.c", "-pthread"], check=True)
+
+
+def build_go_relay(folder):
+    env = {**os.environ, "GOCACHE": f"{folder}/go-cache", "GOFLAGS": "-mod=mod", "GO111MODULE": "off"}
+    subprocess.run(["go", "build", "-o", f"{folder}/go_relay", f"{HERE}/go_relay.go"], check=True, env=env)
+
+
+def machine():
+    model = next((line.split(": ")[1] for line in text_of("/proc/cpuinfo").splitlines() if line.startswith("model name")), "unknown")
+    version = lambda *words: subprocess.run(words, capture_output=True, text=True, check=False)
+    said = [version("haproxy", "-v").stdout, version("nginx", "-v").stderr, version("go", "version").stdout]
+    print(f"{len(os.sched_getaffinity(0))} processors of {model}, Linux {os.uname().release}, load {os.getloadavg()[0]:.1f}")
+    print("; ".join(text.splitlines()[0] for text in said if text), flush=True)
+
+
+def main():
+    words = argparse.ArgumentParser(description=__doc__, formatter_class=argparse.RawDescriptionHelpFormatter)
+    words.add_argument("--rounds", type=int, default=5)
+    words.add_argument("--seconds", type=float, default=2)
+    words.add_argument("--idle-seconds", type=float, default=5)
+    words.add_argument("--idle", type=int, default=500)
+    words.add_argument("--only", default=",".join(["pollrelay", *PEERS, *OTHERS]))
+    words.add_argument("--small", action="store_true", help="one round of 0.2 s a row: whether it runs")
+    chosen = words.parse_args()
+    if chosen.small:
+        chosen.rounds, chosen.seconds, chosen.idle_seconds, chosen.idle = 1, 0.2, 0.5, 50
+    names = chosen.only.split(",")
+    missing = [it for it in ("cc", "haproxy", "nginx", "socat", "go", PROGRAM) if not shutil.which(it)]
+    if missing:
+        return f"not there: {', '.join(missing)} (apt-get install gcc haproxy nginx-light libnginx-mod-stream socat golang-go)"
+    machine()
+    results = {name: [] for name in names}
+    with tempfile.TemporaryDirectory(prefix="bench-") as folder:
+        build_load(folder)
+        build_go_relay(folder)
+        for turn in range(chosen.rounds):
+            first = turn % len(names)
+            for name in names[first:] + names[:first]:
+                print(f"round {turn + 1}: {name}", file=sys.stderr, flush=True)
+                results[name].append(measure(name, folder, chosen.seconds, chosen.idle_seconds, chosen.idle))
+    print(f"\n{chosen.rounds} rounds of {chosen.seconds} s a row, interleaved: median, least to greatest, ratio to the best of {', '.join(PEERS)}")
+    table(results)
+    return 0
+
+
+if __name__ == "__main__":
+    sys.exit(main())

@@ -1,0 +1,414 @@
+#!/usr/bin/env python3
+"""Starts the built relay and counts bytes at both ends of its connections.
+
+    python3 tests/byte_conservation.py [--small] [--all] [--seed N] [whole | rough | many | rows | ROW]..
+
+whole   700 connections of 0 to 4 MB both ways at once, half-closed first from either side; targets that refuse, peers
+        that stall past the idle time, admin closes and deadlines on quiet connections. The totals are exact.
+rough   300 connections, some of which are reset, stalled with full buffers, closed or given a deadline in mid-stream.
+        What arrives is a front of what was sent, and the totals lie between what was received and what was sent.
+many    20,000 short connections beside 500 idle ones: no growth of memory, threads or descriptors.
+rows    single rows of `list`, `close`, `deadline`, idle times, listeners and limits (relay_rows.py).
+
+POLLRELAY names another program. With --small all is a tenth or less. The gate doesn't run this.
+"""
+import argparse
+import multiprocessing
+import os
+import random
+import socket
+import sys
+import tempfile
+import threading
+import time
+
+import relay_rows
+from connection_ends import End, pump, stream
+from relay_process import Checks, Relay, allow_descriptors, connect, free_port, listener, wait_until
+
+SECONDS = 30
+STALL_MS = 300
+# What memory may grow by between the first thousand short connections and the last.
+GROWTH_KIB = 256
+MEGABYTE = 1 << 20
+
+
+class Lane:
+    """A rule, with the listening socket of its target: one connection after the other goes through it."""
+
+    def __init__(self, folder, number, kind, listen, target, idle):
+        self.kind, self.idle, self.name = kind, idle, f"{kind}-{number}"
+        self.listen = f"unix:{folder}/{self.name}.in" if listen == "unix" else f"tcp:127.0.0.1:{free_port()}"
+        if kind == "refused":
+            self.target = f"unix:{folder}/nobody" if target == "unix" else f"tcp:127.0.0.1:{free_port()}"
+        else:
+            self.accepts, self.target = listener(f"{folder}/{self.name}.out" if target == "unix" else None)
+        self.rule = f"relay {self.name} {self.listen} {self.target} {idle}\n"
+
+    def open(self):
+        client = connect(self.listen)
+        target, _ = self.accepts.accept()
+        return client, target
+
+    def small_buffers(self):
+        self.accepts.setsockopt(socket.SOL_SOCKET, socket.SO_RCVBUF, 65_536)
+
+
+class Outcome:
+    """What a lane's connections sent and received, and what was wrong with them."""
+
+    def __init__(self):
+        self.up = self.down = self.sent_up = self.sent_down = 0
+        self.faults = []
+
+    def add(self, client, target, faults):
+        self.up += target.received
+        self.down += client.received
+        self.sent_up += client.sent
+        self.sent_down += target.sent
+        self.faults += faults + target.faults(client) + client.faults(target)
+        client.sock.close()
+        target.sock.close()
+
+
+def some_size(rng):
+    most = rng.choice((0, 100, 65_536, 4 * MEGABYTE, 4 * MEGABYTE))
+    return rng.randint(0, most)
+
+
+def ends_of(lane, rng, up, down):
+    client, target = lane.open()
+    up, down = stream(rng, up), stream(rng, down)
+    return End(client, up, down, rng), End(target, down, up, rng)
+
+
+def exchange(lane, rng, outcome):
+    """Both send all; either half-closes first, or both as they come."""
+    client, target = ends_of(lane, rng, some_size(rng), some_size(rng))
+    waiting = rng.choice((client, target, None))
+    if waiting:
+        waiting.waits = True
+    is_done = pump((client, target), lambda: client.is_done() and target.is_done(), SECONDS)
+    is_whole = client.has_all() and target.has_all() and not (client.was_cut or target.was_cut)
+    said = f"up {target.received} of {len(client.sends)}, down {client.received} of {len(target.sends)}"
+    outcome.add(client, target, [] if is_done and is_whole else [f"an exchange isn't whole: {said}"])
+
+
+def stall(lane, rng, outcome):
+    """Both send all and hold open. The relay ends the connection at the idle time, and not before."""
+    client, target = ends_of(lane, rng, rng.choice((0, rng.randint(1, 9_999))), rng.choice((0, rng.randint(1, 9_999))))
+    client.holds_open = target.holds_open = True
+    pump((client, target), lambda: client.has_all() and target.has_all(), SECONDS)
+    began = time.monotonic()
+    faults = [] if client.has_all() and target.has_all() else ["bytes before a stall are lost"]
+    is_over = pump((client, target), lambda: client.is_over and target.is_over, 5)
+    took = (time.monotonic() - began) * 1000
+    if not is_over or not STALL_MS - 100 <= took <= STALL_MS + 1_000:
+        faults.append(f"a stall of {STALL_MS} ms was ended after {took:.0f} ms")
+    outcome.add(client, target, faults)
+
+
+def refused(lane, rng, outcome):
+    """Nobody is at the target: the client sees an end, and nothing counts."""
+    client = End(connect(lane.listen), stream(rng, rng.choice((0, 1, 9_999))), b"", rng)
+    is_over = pump((client,), lambda: client.is_done(), SECONDS)
+    client.sent = 0
+    nobody = End(socket.socket(), b"", b"", rng)
+    outcome.add(client, nobody, [] if is_over else ["a refused target left its client waiting"])
+
+
+def cut(lane, rng, outcome):
+    """An exchange that one end resets, or stops to read, or that goes through if the admin session lets it."""
+    client, target = ends_of(lane, rng, some_size(rng), some_size(rng))
+    one, other = rng.sample((client, target), 2)
+    if rng.random() < 0.7:
+        one.resets_at = rng.randint(0, len(one.sends))
+    is_done = pump((client, target), lambda: one.is_done() and other.is_done(), SECONDS)
+    outcome.add(client, target, [] if is_done else ["a connection that was cut didn't end"])
+
+
+def stop_reading(lane, rng, outcome):
+    """The target reads nothing until the idle time is over; then what it finds is a front of what was sent."""
+    client, target = ends_of(lane, rng, rng.randint(8, 16) * MEGABYTE, 0)
+    target.reads, target.holds_open, client.reads = False, True, True
+    began = time.monotonic()
+    faults = [] if pump((client, target), lambda: client.is_over, SECONDS) else ["a full connection didn't end"]
+    if time.monotonic() - began < STALL_MS / 1000 - 0.1:
+        faults.append("a full connection was ended before its idle time")
+    target.reads = True
+    pump((client, target), lambda: target.is_over, SECONDS)
+    outcome.add(client, target, faults)
+
+
+WORK = {"whole": exchange, "stall": stall, "refused": refused, "rough": cut, "full": stop_reading}
+
+
+def work(lane, count, seed):
+    rng, outcome = random.Random(seed), Outcome()
+    for _ in range(count):
+        WORK[lane.kind](lane, rng, outcome)
+    return outcome
+
+
+LANES = []
+
+
+def work_at(at, count, seed):
+    return work(LANES[at], count, seed)
+
+
+def run_lanes(kinds, count, seed):
+    """Shares connections out over the lanes of some kinds, each in a process of its own, and gives the outcomes."""
+    chosen = [at for at, lane in enumerate(LANES) if lane.kind in kinds]
+    counts = [count // len(chosen) + (place < count % len(chosen)) for place in range(len(chosen))]
+    with multiprocessing.get_context("fork").Pool(len(chosen)) as pool:
+        begun = [pool.apply_async(work_at, (at, each, f"{seed} {at}")) for at, each in zip(chosen, counts)]
+        return [it.get(600) for it in begun]
+
+
+def make_lanes(folder, plan):
+    """One lane for each kind, idle time and pair of address families."""
+    LANES.clear()
+    pairs = [(a, b) for a in ("tcp", "unix") for b in ("tcp", "unix")]
+    for kind, idle, copies in plan:
+        for listen, target in pairs * copies:
+            LANES.append(Lane(folder, len(LANES), kind, listen, target, idle))
+    return "".join(lane.rule for lane in LANES)
+
+
+class Meddler(threading.Thread):
+    """Asks `list` and `totals`, and gives random ids a command now and then, until it is told to end."""
+
+    def __init__(self, relay, rng, commands):
+        super().__init__(daemon=True)
+        self.relay, self.rng, self.commands = relay, rng, commands
+        self.is_over, self.faults, self.asked = threading.Event(), [], 0
+
+    def run(self):
+        before = (0, 0)
+        while not self.is_over.wait(0.02):
+            try:
+                before = self.look(before)
+            except (OSError, EOFError, ValueError) as fault:
+                self.faults.append(f"the admin socket failed: {fault!r}")
+                return
+
+    def look(self, before):
+        ids, totals = self.relay.ids(), self.relay.totals()
+        if ids != sorted(set(ids)):
+            self.faults.append(f"ids that don't rise: {ids}")
+        if totals < before and (totals[0] < before[0] or totals[1] < before[1]):
+            self.faults.append(f"totals went from {before} to {totals}")
+        others = [id for id in ids if id > len(LANES)]
+        if others and self.commands:
+            reply = self.relay.ask(self.rng.choice(self.commands).format(id=self.rng.choice(others)))
+            if reply not in ("ok", "error 404 no such connection", "error 409 closed"):
+                self.faults.append(f"a command was answered {reply!r}")
+        self.asked += 1
+        return totals
+
+    def end(self, checks, name):
+        self.is_over.set()
+        self.join()
+        if not self.asked:
+            self.faults.append("no answer at all")
+        checks.expect(f"{name}: what the admin session saw", [], self.faults[:3])
+
+
+def told(checks, name, outcomes):
+    """Takes the outcomes of a run into the checks, and gives their sums."""
+    faults = [fault for it in outcomes for fault in it.faults]
+    checks.holds(f"{name}: bytes", not faults, f"{len(faults)} times, first {faults[:1]}")
+    return [sum(getattr(it, field) for it in outcomes) for field in ("up", "down", "sent_up", "sent_down")]
+
+
+def is_quiet(relay):
+    return wait_until(lambda: relay.ids() == list(range(1, len(LANES) + 1)), 5)
+
+
+def warm_up(relay):
+    """As many connections at once as there are lanes, so that what is kept for reuse is there before it is counted."""
+    ends = [lane.open() for lane in LANES if lane.kind != "refused"]
+    for sock in [sock for pair in ends for sock in pair]:
+        sock.close()
+    is_quiet(relay)
+    time.sleep(0.2)
+    return relay.threads(), relay.descriptors()
+
+
+def expect_nothing_left(checks, name, relay, before):
+    checks.holds(f"{name}: every connection left the table", is_quiet(relay), f"ids {relay.ids()}")
+    wait_until(lambda: relay.threads() <= before[0] and relay.descriptors() <= before[1], 5)
+    checks.holds(f"{name}: threads", relay.threads() <= before[0], f"{relay.threads()}, at first {before[0]}")
+    checks.holds(f"{name}: descriptors", relay.descriptors() <= before[1], f"{relay.descriptors()}, at first {before[1]}")
+
+
+def expect_end(checks, name, relay):
+    """Stops the relay and gives its last totals."""
+    status, totals, seconds = relay.stop()
+    checks.expect(f"{name}: status", 0, status)
+    checks.holds(f"{name}: stopped within 2 s", seconds <= 2, f"{seconds:.2f} s")
+    bound = [lane.listen for lane in LANES if lane.listen.startswith("unix:")]
+    left = [it for it in [relay.admin, *(path[5:] for path in bound)] if os.path.lexists(it)]
+    checks.expect(f"{name}: Unix paths that are left", [], left)
+    return totals
+
+
+def admin_ends(relay, checks, rng, times):
+    """Connections that the admin session ends once all their bytes arrived. Gives what arrived."""
+    # With an idle time the next read could set a deadline of its own after the admin session's.
+    outcome, lanes = Outcome(), [lane for lane in LANES if lane.kind == "whole" and lane.idle == "never"]
+    for turn in range(times):
+        client, target = ends_of(rng.choice(lanes), rng, some_size(rng), some_size(rng))
+        client.holds_open = target.holds_open = True
+        faults = []
+        if not pump((client, target), lambda: client.has_all() and target.has_all(), SECONDS):
+            faults.append("an exchange isn't whole before its close")
+        wait_until(lambda: len(relay.ids()) == len(LANES) + 2, 5)
+        ids = relay.ids()[-2:]
+        id = rng.choice(ids)
+        relay.ask(f"close {id}" if turn % 2 else f"deadline {id} {rng.choice((0, 1, 100))}")
+        if not pump((client, target), lambda: client.is_over and target.is_over, 1):
+            faults.append("an admin close or deadline didn't end both sides within a second")
+        if not wait_until(lambda: not set(ids) & set(relay.ids()), 0.5):
+            faults.append("a side's id stays after the connection's end")
+        if relay.ask(f"close {id}") != "error 404 no such connection":
+            faults.append("a closed id can be closed again")
+        outcome.add(client, target, faults)
+        if faults:
+            break
+    return outcome
+
+
+def whole(checks, size, seed, folder):
+    rules = make_lanes(folder, [("whole", "never", 2), ("whole", 60_000, 2), ("stall", STALL_MS, 1), ("refused", "never", 1)])
+    with Relay(rules) as relay:
+        before = warm_up(relay)
+        meddler = Meddler(relay, random.Random(seed), ["deadline {id} never", "deadline {id} 86400000"])
+        meddler.start()
+        outcomes = run_lanes(["whole"], size * 7 // 10, seed)
+        meddler.end(checks, "whole")
+        outcomes += run_lanes(["stall", "refused"], size // 10, seed)
+        outcomes.append(admin_ends(relay, checks, random.Random(seed), size // 20))
+        sums = told(checks, "whole", outcomes)
+        expect_nothing_left(checks, "whole", relay, before)
+        checks.expect("whole: totals before the end", tuple(sums[:2]), relay.totals())
+        checks.expect("whole: totals after stop", tuple(sums[:2]), expect_end(checks, "whole", relay))
+
+
+def rough(checks, size, seed, folder):
+    rules = make_lanes(folder, [("rough", "never", 2), ("rough", 60_000, 2), ("full", STALL_MS, 1)])
+    for lane in LANES:
+        if lane.kind == "full":
+            lane.small_buffers()
+    with Relay(rules) as relay:
+        before = warm_up(relay)
+        meddler = Meddler(relay, random.Random(seed), ["close {id}", "deadline {id} 20", "deadline {id} never"])
+        meddler.start()
+        outcomes = run_lanes(["rough"], size * 3 // 10, seed)
+        meddler.end(checks, "rough")
+        outcomes += run_lanes(["full"], size // 25, seed)
+        expect_nothing_left(checks, "rough", relay, before)
+        open_ends = open_at_stop(seed, size // 25)
+        totals = expect_end(checks, "rough", relay)
+        outcomes.append(after_stop(open_ends))
+        up, down, sent_up, sent_down = told(checks, "rough", outcomes)
+        checks.holds("rough: total up", up <= totals[0] <= sent_up, f"received {up}, total {totals[0]}, sent {sent_up}")
+        checks.holds("rough: total down", down <= totals[1] <= sent_down, f"received {down}, total {totals[1]}, sent {sent_down}")
+
+
+def open_at_stop(seed, count):
+    """Connections in mid-stream, whose targets read nothing yet."""
+    rng, lanes = random.Random(seed), [it for it in LANES if it.kind == "rough"]
+    ends = []
+    for at in range(count):
+        client, target = ends_of(lanes[at % len(lanes)], rng, 16 * MEGABYTE, 0)
+        target.reads, client.holds_open, target.holds_open = False, True, True
+        pump((client, target), lambda: False, 0.02)
+        ends.append((client, target))
+    return ends
+
+
+def after_stop(ends):
+    outcome = Outcome()
+    for client, target in ends:
+        target.reads = True
+        is_over = pump((client, target), lambda: client.is_over and target.is_over, SECONDS)
+        outcome.add(client, target, [] if is_over else ["a connection outlived the relay"])
+    return outcome
+
+
+def short(lane):
+    """One connection that sends five bytes and gets them back."""
+    client, target = lane.open()
+    with client, target:
+        client.sendall(b"hello")
+        target.sendall(target.recv(5, socket.MSG_WAITALL))
+        return client.recv(5, socket.MSG_WAITALL) == b"hello"
+
+
+def resources(relay, idle):
+    """Threads, descriptors and memory, once the short connections are gone."""
+    wait_until(lambda: len(relay.ids()) == len(LANES) + 2 * idle, 5)
+    time.sleep(0.5)
+    return relay.threads(), relay.descriptors(), relay.resident_kib()
+
+
+def many(checks, size, _seed, folder):
+    shorts, window, idle = size * 20, size, size // 2
+    rules = make_lanes(folder, [("short", "never", 1)])
+    with Relay(rules) as relay:
+        empty = warm_up(relay)
+        held = [LANES[at % len(LANES)].open() for at in range(idle)]
+        done = sum(short(LANES[0]) for _ in range(window))
+        first = resources(relay, idle)
+        done += sum(short(LANES[at % 2]) for at in range(shorts - 2 * window))
+        done += sum(short(LANES[0]) for _ in range(window))
+        last = resources(relay, idle)
+        checks.expect("many: short connections that were answered", shorts, done)
+        checks.holds("many: threads", last[0] <= first[0], f"{first[0]} after the first {window}, {last[0]} at the end")
+        checks.holds("many: descriptors", last[1] <= first[1], f"{first[1]} after the first {window}, {last[1]} at the end")
+        checks.holds("many: memory", last[2] <= first[2] + GROWTH_KIB, f"{first[2]} KiB, then {last[2]} KiB")
+        print(f"many: threads, descriptors and KiB {first} after the first {window}, {last} after {shorts}", flush=True)
+        for sock in [sock for pair in held for sock in pair]:
+            sock.close()
+        is_quiet(relay)
+        wait_until(lambda: relay.descriptors() <= empty[1], 5)
+        checks.holds("many: descriptors in the end", relay.descriptors() <= empty[1], f"{relay.descriptors()}, at first {empty[1]}")
+        checks.expect("many: totals", (5 * shorts, 5 * shorts), expect_end(checks, "many", relay))
+
+
+def rows(checks, size, _seed, _folder):
+    relay_rows.run(checks, is_small=size < 1_000)
+
+
+STAGES = {"whole": whole, "rough": rough, "many": many, "rows": rows}
+# A single row is a stage too.
+SINGLE = {row.__name__: lambda checks, _size, _seed, _folder, row=row: row(checks, True) for row in relay_rows.ROWS}
+
+
+def main():
+    words = argparse.ArgumentParser(description=__doc__, formatter_class=argparse.RawDescriptionHelpFormatter)
+    words.add_argument("--small", action="store_true")
+    words.add_argument("--all", action="store_true", help="names the checks that passed, too")
+    words.add_argument("--seed", type=int, default=random.randrange(1 << 32))
+    words.add_argument("stages", nargs="*")
+    chosen = words.parse_args()
+    if unknown := set(chosen.stages) - {*STAGES, *SINGLE}:
+        words.error(f"no stage {unknown}")
+    allow_descriptors()
+    checks = Checks(chosen.all)
+    print(f"seed {chosen.seed}", flush=True)
+    for name in chosen.stages or STAGES:
+        began = time.monotonic()
+        with tempfile.TemporaryDirectory(prefix="conserve-") as folder:
+            try:
+                (STAGES | SINGLE)[name](checks, 100 if chosen.small else 1_000, chosen.seed, folder)
+            except (OSError, EOFError, RuntimeError, TypeError) as fault:
+                checks.holds(name, False, f"cut short by {fault!r}")
+        print(f"{name}: {time.monotonic() - began:.1f} s", flush=True)
+    return checks.end()
+
+
+if __name__ == "__main__":
+    sys.exit(main())

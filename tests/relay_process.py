@@ -1,0 +1,198 @@
+"""A relay as a process: starts it, asks its admin socket, and looks at its threads, descriptors and memory.
+
+The program is the one that POLLRELAY names, or else crates/pollrelay/out/pollrelay.
+"""
+import os
+import random
+import resource
+import shutil
+import socket
+import subprocess
+import tempfile
+import time
+
+ROOT = os.path.dirname(os.path.dirname(os.path.abspath(__file__)))
+PROGRAM = os.path.abspath(os.environ.get("POLLRELAY", f"{ROOT}/crates/pollrelay/out/pollrelay"))
+START_SECONDS = 20
+REPLY_SECONDS = 20
+# 512 pairs and 64 listeners take more descriptors than the 1,024 that a shell often gives.
+DESCRIPTORS = 4096
+
+# Ports below the range from which the system takes those of outgoing connections, so that none of these takes ours.
+_ports = random.sample(range(10_000, 32_000), 22_000)
+
+
+def free_port():
+    """A port of the loopback that nobody has, for a program that cannot take a listening socket."""
+    while True:
+        port = _ports.pop()
+        with socket.socket() as probe:
+            try:
+                probe.bind(("127.0.0.1", port))
+                return port
+            except OSError:
+                continue
+
+
+def wait_until(is_so, seconds):
+    """Asks until the answer is true or the time is over, and gives the last answer."""
+    end = time.monotonic() + seconds
+    while not (answer := is_so()) and time.monotonic() < end:
+        time.sleep(0.005)
+    return answer
+
+
+def connect(address, timeout=REPLY_SECONDS):
+    """A connection to an address as a rule spells it."""
+    if address.startswith("unix:"):
+        sock = socket.socket(socket.AF_UNIX)
+        where = address[len("unix:"):]
+    else:
+        sock = socket.socket()
+        host, port = address[len("tcp:"):].split(":")
+        where = (host, int(port))
+    sock.settimeout(timeout)
+    sock.connect(where)
+    if sock.family == socket.AF_INET:
+        sock.setsockopt(socket.IPPROTO_TCP, socket.TCP_NODELAY, 1)
+    return sock
+
+
+def listener(path=None):
+    """A listening socket with its address as a rule spells it: TCP, or a Unix socket at a path."""
+    if path:
+        sock = socket.socket(socket.AF_UNIX)
+        sock.bind(path)
+        address = f"unix:{path}"
+    else:
+        sock = socket.socket()
+        sock.bind(("127.0.0.1", 0))
+        address = f"tcp:127.0.0.1:{sock.getsockname()[1]}"
+    sock.listen(1024)
+    sock.settimeout(REPLY_SECONDS)
+    return sock, address
+
+
+class Session:
+    """One admin session: a line, its reply, and so on."""
+
+    def __init__(self, path):
+        self.sock = connect(f"unix:{path}")
+        self.replies = self.sock.makefile("r", encoding="ascii", newline="\n")
+
+    def ask(self, line):
+        self.sock.sendall(f"{line}\n".encode())
+        reply = self.replies.readline()
+        if not reply.endswith("\n"):
+            raise EOFError(f"no whole reply to {line!r}: {reply!r}")
+        return reply[:-1]
+
+    def __enter__(self):
+        return self
+
+    def __exit__(self, *_):
+        self.replies.close()
+        self.sock.close()
+
+
+class Relay:
+    """A relay that serves a text of rules until stop() or the end of the with block."""
+
+    def __init__(self, rules, program=PROGRAM, descriptors=DESCRIPTORS):
+        self.folder = tempfile.mkdtemp(prefix="relay-")
+        self.admin = f"{self.folder}/admin.sock"
+        with open(f"{self.folder}/rules", "w", encoding="ascii") as file:
+            file.write(rules)
+        words = [program, "serve", "--rules", f"{self.folder}/rules", "--admin", self.admin]
+        self.process = subprocess.Popen(
+            words, stdin=subprocess.DEVNULL, stdout=subprocess.PIPE, preexec_fn=lambda: allow_descriptors(descriptors)
+        )
+        said = self.process.stdout.readline().decode()
+        if not said.startswith("listening "):
+            self.close()
+            raise RuntimeError(f"the relay didn't start: it said {said!r}")
+        self.said = said
+
+    def ask(self, line):
+        """The reply to one line, in a session of its own."""
+        with Session(self.admin) as session:
+            return session.ask(line)
+
+    def ids(self):
+        return [int(word) for word in self.ask("list").split()[1:]]
+
+    def totals(self):
+        return totals_of(self.ask("totals").removeprefix("totals "))
+
+    def stop(self):
+        """Stops the relay, and gives its status, its last totals and the seconds that it took."""
+        began = time.monotonic()
+        reply = self.ask("stop")
+        if reply != "ok":
+            raise RuntimeError(f"stop was answered {reply!r}")
+        last, _ = self.process.communicate(timeout=REPLY_SECONDS)
+        return self.process.returncode, totals_of(last.decode()), time.monotonic() - began
+
+    def threads(self):
+        return len(os.listdir(f"/proc/{self.process.pid}/task"))
+
+    def descriptors(self):
+        return len(os.listdir(f"/proc/{self.process.pid}/fd"))
+
+    def resident_kib(self):
+        with open(f"/proc/{self.process.pid}/status", encoding="ascii") as file:
+            return next(int(line.split()[1]) for line in file if line.startswith("VmRSS"))
+
+    def close(self):
+        if self.process.poll() is None:
+            self.process.kill()
+        self.process.wait()
+        self.process.stdout.close()
+        shutil.rmtree(self.folder, ignore_errors=True)
+
+    def __enter__(self):
+        return self
+
+    def __exit__(self, *_):
+        self.close()
+
+
+def totals_of(text):
+    """The two numbers of `up U down D`, or None where the text is another."""
+    words = text.split()
+    if len(words) != 4 or words[0] != "up" or words[2] != "down":
+        return None
+    return int(words[1]), int(words[3])
+
+
+def allow_descriptors(count=DESCRIPTORS):
+    hard = resource.getrlimit(resource.RLIMIT_NOFILE)[1]
+    most = count if hard == resource.RLIM_INFINITY else min(count, hard)
+    resource.setrlimit(resource.RLIMIT_NOFILE, (most, hard))
+
+
+class Checks:
+    """Counts what was checked, and prints what failed."""
+
+    def __init__(self, tells_all=False):
+        self.tells_all = tells_all
+        self.passed = []
+        self.failed = []
+
+    def expect(self, name, wanted, got):
+        self.holds(name, wanted == got, f"wanted {wanted!r}, got {got!r}")
+
+    def holds(self, name, is_so, otherwise):
+        if is_so:
+            self.passed.append(name)
+            if self.tells_all:
+                print(f"PASSED {name}:", flush=True)
+        else:
+            self.failed.append(name)
+            if self.failed.count(name) <= 5:
+                print(f"FAILED {name}: {otherwise}", flush=True)
+
+    def end(self):
+        """The exit status, after a last line."""
+        print(f"{len(self.passed)} passed, {len(self.failed)} failed", flush=True)
+        return 1 if self.failed else 0

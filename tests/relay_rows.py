@@ -1,0 +1,316 @@
+"""Single rows of the running relay: ids, closes, deadlines, idle times, listeners, limits. byte_conservation.py runs them."""
+import random
+import socket
+import tempfile
+import time
+
+from relay_process import Relay, Session, connect, free_port, listener, wait_until
+
+# How much later than its moment a deadline may end a connection.
+LATE_SECONDS = 0.15
+MOST_PAIRS = 512
+WAIT_SECONDS = 5
+
+
+class Served:
+    """A relay with one rule for each given idle time, and the listening socket of each target."""
+
+    def __init__(self, *idles, **limits):
+        self.folder = tempfile.TemporaryDirectory(prefix="rows-")
+        self.listens = [f"tcp:127.0.0.1:{free_port()}" for _ in idles]
+        pairs = [listener(f"{self.folder.name}/target-{at}" if at % 2 else None) for at in range(len(idles))]
+        self.accepts = [sock for sock, _ in pairs]
+        for sock in self.accepts:
+            sock.settimeout(WAIT_SECONDS)
+        lines = zip(self.listens, pairs, idles)
+        rules = [f"relay r{at} {listen} {target} {idle}\n" for at, (listen, (_, target), idle) in enumerate(lines)]
+        self.relay = Relay("".join(rules), **limits)
+
+    def open(self, at=0):
+        client = connect(self.listens[at], WAIT_SECONDS)
+        target, _ = self.accepts[at].accept()
+        target.settimeout(WAIT_SECONDS)
+        return client, target
+
+    def __enter__(self):
+        return self
+
+    def __exit__(self, *_):
+        self.relay.close()
+        for sock in self.accepts:
+            sock.close()
+        self.folder.cleanup()
+
+
+def passes(client, target):
+    """Whether a byte goes through and comes back."""
+    try:
+        client.sendall(b"x")
+        arrived = target.recv(1)
+        target.sendall(arrived)
+        return client.recv(1) == b"x"
+    except OSError:
+        return False
+
+
+def opens(served, at):
+    """Whether a new connection goes through."""
+    try:
+        return passes(*served.open(at))
+    except OSError:
+        return False
+
+
+def seconds_until_end(sock, most):
+    """How long it takes until the other side ends or resets, or None where it takes longer."""
+    began = time.monotonic()
+    sock.settimeout(most)
+    try:
+        while sock.recv(65_536):
+            pass
+    except TimeoutError:
+        return None
+    except OSError:
+        pass
+    return time.monotonic() - began
+
+
+def is_answered(client, seconds):
+    """Whether a byte comes back in so much time."""
+    client.settimeout(seconds)
+    try:
+        return client.recv(1) == b"x"
+    except OSError:
+        return False
+
+
+def hello(checks, _):
+    """A client half-closes, and has its bytes and the end back."""
+    with Served("never") as served:
+        client, target = served.open()
+        client.sendall(b"hello")
+        client.shutdown(socket.SHUT_WR)
+        arrived = target.recv(5, socket.MSG_WAITALL)
+        checks.expect("hello: the end at the target", b"", target.recv(1))
+        target.sendall(arrived)
+        target.close()
+        checks.expect("hello: what comes back", b"hello", client.recv(6, socket.MSG_WAITALL))
+        status, totals, _ = served.relay.stop()
+        checks.expect("hello: status and totals", (0, (5, 5)), (status, totals))
+
+
+def ids(checks, _):
+    """Listeners first, then the client's side and the target's; ids never come again."""
+    with Served("never", "never") as served:
+        relay = served.relay
+        checks.expect("list: listeners", "ids 1 2", relay.ask("list"))
+        first = served.open(0)
+        passes(*first)
+        checks.expect("list: a connection", "ids 1 2 3 4", relay.ask("list"))
+        second = served.open(1)
+        passes(*second)
+        checks.expect("close: the client's side", "ok", relay.ask("close 3"))
+        checks.holds("close: the target sees the end", seconds_until_end(first[1], 1) is not None, "not in 1 s")
+        checks.holds("close: both ids go", wait_until(lambda: relay.ids() == [1, 2, 5, 6], 0.5), relay.ask("list"))
+        checks.expect("close: again", "error 404 no such connection", relay.ask("close 3"))
+        checks.expect("deadline: of an id that went", "error 404 no such connection", relay.ask("deadline 4 never"))
+        checks.expect("close: the target's side", "ok", relay.ask("close 6"))
+        checks.holds("close: the client sees the end", seconds_until_end(second[0], 1) is not None, "not in 1 s")
+        try:
+            third = served.open(0)
+            checks.holds("list: after a close the next connection", passes(*third), "no byte came back")
+        except OSError as fault:
+            checks.holds("list: after a close the next connection", False, repr(fault))
+        checks.expect("list: ids don't come again", "ids 1 2 7 8", relay.ask("list"))
+
+
+def deadlines(checks, is_small):
+    """A deadline ends the connection not before its moment, and soon after it, at either side's id."""
+    late = []
+    with Served("never") as served:
+        for turn, milliseconds in enumerate([0, 1, 60, 130, 250, 400] * (1 if is_small else 3)):
+            client, target = served.open()
+            passes(client, target)
+            # At any phase of a poll that lasts up to a second.
+            time.sleep(random.random() * 0.3)
+            id = served.relay.ids()[1 + turn % 2]
+            asked = time.monotonic()
+            served.relay.ask(f"deadline {id} {milliseconds}")
+            answered = time.monotonic()
+            if seconds_until_end(client, 3) is None:
+                late.append("never")
+                continue
+            ended = time.monotonic()
+            checks.holds("deadline: not early", ended - asked >= milliseconds / 1000, f"{ended - asked:.3f} s for {milliseconds} ms")
+            if ended - answered > milliseconds / 1000 + LATE_SECONDS:
+                late.append(f"{ended - answered:.3f} s for {milliseconds} ms")
+            target.close()
+    checks.holds("deadline: within 150 ms, but for one on a loaded machine", len(late) <= 1, f"late {late}")
+
+
+def lifted(checks, _):
+    """`never` takes a deadline away, and a read or write of a rule with an idle time sets its own."""
+    with Served("never", 400) as served:
+        client, target = served.open(0)
+        passes(client, target)
+        served.relay.ask("deadline 3 300")
+        checks.expect("deadline: never", "ok", served.relay.ask("deadline 3 never"))
+        time.sleep(0.6)
+        checks.holds("deadline: lifted", passes(client, target), "the connection ended")
+        client, target = served.open(1)
+        passes(client, target)
+        ids = served.relay.ids()[-2:]
+        for id in ids:
+            served.relay.ask(f"deadline {id} never")
+        time.sleep(0.9)
+        checks.holds("idle: lifted by the admin session", passes(client, target), "the connection ended")
+        took = seconds_until_end(client, 3)
+        checks.holds("idle: set again by the next read", took is not None and 0.3 <= took <= 0.9, f"{took} s for 0.4 s")
+
+
+def idle(checks, _):
+    """A silent connection ends at its idle time, and so does one whose traffic goes one way only."""
+    with Served(400) as served:
+        for first in (False, True):
+            client, target = served.open()
+            if first:
+                passes(client, target)
+            took = seconds_until_end(client, 3)
+            name = "idle: silent after its first byte" if first else "idle: silent from its start"
+            checks.holds(name, took is not None and 0.3 <= took <= 0.9, f"{took} s for 0.4 s")
+        # Nothing ever comes back: what goes up must not move the deadline of the way down.
+        client, target = served.open()
+        began = time.monotonic()
+        took = None
+        while took is None and time.monotonic() - began < 3:
+            try:
+                client.sendall(b"one way")
+                time.sleep(0.02)
+                took = time.monotonic() - began if target.recv(100) == b"" else None
+            except OSError:
+                took = time.monotonic() - began
+        checks.holds("idle: the silent way of one-way traffic", took is not None and 0.3 <= took <= 0.9, f"{took} s for 0.4 s")
+        client, target = served.open()
+        for _ in range(8):
+            time.sleep(0.2)
+            checks.holds("idle: two-way traffic goes on", passes(client, target), "the connection ended")
+
+
+def listeners(checks, _):
+    """A deadline on a listener's id keeps it from accepting until it is lifted; a close ends it alone."""
+    with Served("never", "never") as served:
+        relay = served.relay
+        checks.expect("listener: a deadline", "ok", relay.ask("deadline 1 0"))
+        time.sleep(0.1)
+        client = connect(served.listens[0])
+        client.sendall(b"x")
+        # Longer than 1,024 faults take where an accept thread waits 1 ms after each.
+        served.accepts[0].settimeout(3)
+        try:
+            served.accepts[0].accept()
+            checks.holds("listener: with a deadline", False, "it accepted")
+        except TimeoutError:
+            checks.holds("listener: with a deadline", True, "")
+        checks.holds("listener: another rule goes on", opens(served, 1), "no byte came back")
+        relay.ask("deadline 1 never")
+        try:
+            with served.accepts[0].accept()[0] as target:
+                target.settimeout(3)
+                target.sendall(target.recv(1))
+        except OSError:
+            pass
+        checks.holds("listener: serves again once its deadline is lifted", is_answered(client, 3), "no byte came back in 3 s")
+        client.close()
+        checks.holds("listener: its connections go", wait_until(lambda: relay.ids() == [1, 2], 1), relay.ask("list"))
+        checks.expect("listener: close", "ok", relay.ask("close 1"))
+        checks.holds("listener: out of the list", 1 not in relay.ids(), relay.ask("list"))
+        checks.holds("listener: refuses", wait_until(lambda: is_refused(served.listens[0]), 1.5), "it still accepts")
+        checks.holds("listener: the other one still accepts", opens(served, 1), "no byte came back")
+
+
+def is_refused(address):
+    try:
+        connect(address).close()
+        return False
+    except ConnectionError:
+        return True
+
+
+def pairs(checks, _):
+    """512 pairs stand at once; the next client is dropped, and served once a pair is gone."""
+    with Served("never", "never") as served:
+        relay = served.relay
+        held = [served.open(at % 2) for at in range(MOST_PAIRS)]
+        all_ids = 2 + 2 * MOST_PAIRS
+        checks.holds("pairs: ids", wait_until(lambda: len(relay.ids()) == all_ids, 2), f"{len(relay.ids())} of {all_ids}")
+        one_more = connect(served.listens[0])
+        checks.holds("pairs: one more is dropped", seconds_until_end(one_more, 3) is not None, "it stays open")
+        checks.holds("pairs: a full relay goes on", passes(*held[-1]), "no byte came back")
+        for sock in held[0]:
+            sock.close()
+        wait_until(lambda: len(relay.ids()) < all_ids, 2)
+        time.sleep(0.1)
+        checks.holds("pairs: room again", opens(served, 0), "no byte came back")
+        status, totals, seconds = relay.stop()
+        checks.expect("pairs: status and totals", (0, (2, 2)), (status, totals))
+        checks.holds("pairs: stopped within 2 s", seconds <= 2, f"{seconds:.2f} s")
+        for sock in [sock for pair in held for sock in pair]:
+            sock.close()
+
+
+def end_targets(accepts):
+    """Ends the connections that wait for the target to accept them."""
+    accepts.settimeout(0.3)
+    try:
+        while True:
+            accepts.accept()[0].close()
+    except TimeoutError:
+        accepts.settimeout(WAIT_SECONDS)
+
+
+def descriptors(checks, _):
+    """Where descriptors ran out, the listener serves again once some are free."""
+    # A connection takes two: with one of these limits the last is left for an accept, with the other none is.
+    for limit in (99, 100):
+        with Served("never", descriptors=limit) as served:
+            clients = [connect(served.listens[0]) for _ in range(100)]
+            # Longer than 1,024 faults take where an accept thread waits 1 ms after each.
+            time.sleep(3)
+            for client in clients:
+                client.close()
+            # What went through before comes to the target first.
+            answer = wait_until(lambda: end_targets(served.accepts[0]) or opens(served, 0), 8)
+            checks.holds("descriptors: served again", answer, f"no byte came back, at a limit of {limit}")
+            status, _, _ = served.relay.stop()
+            checks.expect("descriptors: status", 0, status)
+
+
+def sessions(checks, _):
+    """Admin sessions are served one after the other: an idle one keeps the next waiting."""
+    with Served("never") as served:
+        with Session(served.relay.admin) as first:
+            first.ask("list")
+            second = connect(f"unix:{served.relay.admin}")
+            second.sendall(b"list\n")
+            second.settimeout(0.3)
+            try:
+                checks.holds("sessions: the next one waits", False, repr(second.recv(100)))
+            except TimeoutError:
+                checks.holds("sessions: the next one waits", True, "")
+        second.settimeout(3)
+        try:
+            checks.expect("sessions: the next one is served", b"ids 1\n", second.recv(100))
+        except OSError as fault:
+            checks.holds("sessions: the next one is served", False, repr(fault))
+        second.close()
+
+
+ROWS = [hello, ids, deadlines, lifted, idle, listeners, descriptors, sessions, pairs]
+
+
+def run(checks, is_small):
+    for row in ROWS:
+        try:
+            row(checks, is_small)
+        except (OSError, EOFError, RuntimeError) as fault:
+            checks.holds(row.__name__, False, f"cut short by {fault!r}")
