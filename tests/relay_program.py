@@ -139,12 +139,15 @@ def outputs(checks, folder):
 def last_line_lost(checks, words, paths):
     """The reader of the output goes away before the last line."""
     process = subprocess.Popen([PROGRAM, *words], stdout=subprocess.PIPE, stderr=subprocess.PIPE)
-    checks.expect("serve: its first line", b"listening 1\n", process.stdout.readline())
-    process.stdout.close()
-    said = session(paths[1], b"stop\n")
-    errors = process.stderr.read()
-    checks.expect("serve: the last line lost", (b"ok\n", 3, b"relay fault: device\n"), (said, process.wait(20), errors))
-    checks.expect("serve: paths after a lost line", [], [it for it in paths if os.path.lexists(it)])
+    try:
+        checks.expect("serve: its first line", b"listening 1\n", process.stdout.readline())
+        process.stdout.close()
+        said = session(paths[1], b"stop\n")
+        status, errors = process.wait(20), process.stderr.read()
+        checks.expect("serve: the last line lost", (b"ok\n", 3, b"relay fault: device\n"), (said, status, errors))
+        checks.expect("serve: paths after a lost line", [], [it for it in paths if os.path.lexists(it)])
+    finally:
+        process.kill()
 
 
 def serve_fault(rules, admin, before=None):

@@ -223,7 +223,7 @@ class Relay:
                 for count in sink.write(spoiled(data)):
                     own += count
                     with self.lock:
-                        self.total[way] += count
+                        self.total[way] += 2 * count if FAULT == "counts_down_twice" and way == "down" else count
                     if FAULT == "misses_a_credit" and own > 100_000:
                         self.total[way] -= 1
                         own = 0
@@ -260,7 +260,7 @@ class Relay:
 
     def remove(self, id):
         with self.lock:
-            if FAULT == "keeps_ids" and (id == 1 or id % 20 == 0):
+            if FAULT == "keeps_ids" and (id == 1 or id % 5 == 0):
                 return self.sides.get(id)
             return self.sides.pop(id, None)
 
@@ -326,6 +326,8 @@ class Relay:
     def reply(self, words):
         if words == ["list"]:
             order = sorted(self.sides, reverse=FAULT == "lists_backwards")
+            if FAULT == "lists_a_thousand":
+                order = order[:1000]
             return " ".join(["ids", *map(str, order)]), False
         if words == ["totals"]:
             return f"totals {self.said()}", False
