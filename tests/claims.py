@@ -118,7 +118,8 @@ class Row:
         if parts[0] in self.all:
             self.crates, parts = [self.all[parts[0]]], parts[1:]
         name = "::".join(it for it in parts if it not in ("laws",)) or "laws"
-        holders = [it for it in self.crates if it.has(name)]
+        # (a method may be of a lower crate's type)
+        holders = [it for it in self.crates if it.has(name)] or [it for it in self.all.values() if "::" in name and it.has(name)]
         if not holders:
             # (a fact may be a lower crate's)
             return [] if any(name in it.names for it in self.all.values()) else None

@@ -4,3 +4,4 @@ pub mod Batch
 pub mod PollTimeout
 pub mod Poller
 pub mod Alarms
+pub mod Laws

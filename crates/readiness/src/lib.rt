@@ -9,6 +9,7 @@
 mod addr;
 mod batch;
 mod heard;
+pub mod laws;
 mod open;
 mod poll_timeout;
 mod poller;

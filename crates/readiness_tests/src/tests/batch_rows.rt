@@ -1,0 +1,70 @@
+//! Worked rows of batches and of waits.
+
+use super::or_fail;
+use readiness::{ConnTable, Ev, Ready, batch_of, wait_ms};
+use std::test::Fail;
+
+fn ready(id: u64, read: bool, write: bool) -> Ready {
+    Ready { id, read, write }
+}
+
+#[test]
+fn a_batch_names_what_is_there(rt: HostRuntime) -> Result<(), Fail> {
+    let mut table = ConnTable::new(rt.alloc());
+    let (_, gone) = or_fail(table.insert('a'), "first")?;
+    let (_, token) = or_fail(table.insert('b'), "second")?;
+    assert!(rt; table.remove(1) == Ok('a'));
+    let none = Ev::default();
+    let events = [
+        Ev {
+            token,
+            readable: true,
+            ..none
+        },
+        Ev {
+            token: gone,
+            writable: true,
+            ..none
+        },
+        Ev {
+            token,
+            write_closed: true,
+            ..none
+        },
+        Ev {
+            token,
+            error: true,
+            ..none
+        },
+        Ev { token, ..none },
+        Ev {
+            token: u64::MAX,
+            readable: true,
+            ..none
+        },
+    ];
+    let wanted = [
+        ready(2, true, false),
+        ready(2, false, true),
+        ready(2, true, true),
+        ready(2, false, false),
+    ];
+    assert!(rt; batch_of(&events, &table).as_slice() == wanted.as_slice());
+    Ok(())
+}
+
+#[test]
+fn waits_come_to_their_moment(rt: HostRuntime) -> Result<(), Fail> {
+    for (now, next, ms) in [
+        (0, Some(1_500_000), 2),
+        (0, Some(5_000_000_000), 1_000),
+        (7, Some(7), 0),
+        (7, Some(6), 0),
+        (7, None, 1_000),
+        (0, Some(1), 1),
+        (0, Some(u64::MAX), 1_000),
+    ] {
+        assert_eq!(rt; wait_ms(now, next), ms);
+    }
+    Ok(())
+}
