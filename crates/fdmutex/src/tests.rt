@@ -10,7 +10,7 @@ mod waits;
 ghost use Rattle.std.specs.Prelude.{◌≡◌};
 ghost use Rattle.stream_base.specs.declared.direction.Dir.TheVariants.{Read, Write};
 ghost use Rattle.lockword.specs.Marks.{SameMarks, NowClosed};
-ghost use Rattle.lockword.specs.Places.{seat_place, ref_place, read_lock_place, write_lock_place, closing_place, last_place, owed_by};
+ghost use Rattle.lockword.specs.Places.{seat_place, ref_place, lock_place, closing_place, last_place, owed_by};
 ghost use Rattle.lockword.specs.TransitionOutcomes.{IsSeatOf, HasNotTaken};
 
 use crate::{
@@ -62,7 +62,7 @@ fn unwanted_read<U, R: Wait + Abort>(
     word: &LockWord<u64, u64>,
     held: ReadLock<u64, u64>,
 ) -> U
-    requires seat { IsSeatOf word.now (read_lock_place held) }
+    requires seat { IsSeatOf word.now (lock_place held) }
     ensures never { ⊥ }
 {
     match read_unlock(rt, word, held) {
@@ -77,7 +77,7 @@ fn unwanted_write<U, R: Wait + Abort>(
     word: &LockWord<u64, u64>,
     held: WriteLock<u64, u64>,
 ) -> U
-    requires seat { IsSeatOf word.now (write_lock_place held) }
+    requires seat { IsSeatOf word.now (lock_place held) }
     ensures never { ⊥ }
 {
     match write_unlock(rt, word, held) {
@@ -125,7 +125,7 @@ fn reading<R: Wait + Abort>(
     seat: Seat<u64, u64>,
 ) -> ReadLock<u64, u64>
     requires seat { IsSeatOf word.now (seat_place seat) }
-    ensures marks { SameMarks (seat_place seat) (read_lock_place result) }
+    ensures marks { SameMarks (seat_place seat) (lock_place result) }
 {
     match read_lock(rt, word, seat) {
         Ok(held) => held,
@@ -140,7 +140,7 @@ fn writing<R: Wait + Abort>(
     seat: Seat<u64, u64>,
 ) -> WriteLock<u64, u64>
     requires seat { IsSeatOf word.now (seat_place seat) }
-    ensures marks { SameMarks (seat_place seat) (write_lock_place result) }
+    ensures marks { SameMarks (seat_place seat) (lock_place result) }
 {
     match write_lock(rt, word, seat) {
         Ok(held) => held,

@@ -106,13 +106,19 @@ impl<R: Drop, W: Drop> Unwanted for WriteLock<R, W> {
 
 impl<R: Drop, W: Drop> Unwanted for ReadWait<R, W> {
     fn end(self) {
-        let ReadWait { place: _ } = self;
+        let ReadWait {
+            place: _,
+            marker: _,
+        } = self;
     }
 }
 
 impl<R: Drop, W: Drop> Unwanted for WriteWait<R, W> {
     fn end(self) {
-        let WriteWait { place: _ } = self;
+        let WriteWait {
+            place: _,
+            marker: _,
+        } = self;
     }
 }
 
