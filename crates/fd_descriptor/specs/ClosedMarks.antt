@@ -59,9 +59,9 @@ fault_of (refusal.TooMany w) = fault.TooMany
 abbrev pub IsTooMany : Marks → Marks → Type 0
 IsTooMany before after = SameMarks before after × (before.closed ≡ false)
 
--- which faults a read of nothing tells: those of the lock
-abbrev pub lock_shows : Marks → Marks → Result ℕ Fault → Type 0
-lock_shows before after (Ok count) = Unit {0}
+-- which faults a lock that is refused tells
+abbrev pub lock_shows : {T : Type 0} → Marks → Marks → Result T Fault → Type 0
+lock_shows before after (Ok x) = Unit {0}
 lock_shows before after (Err fault.Closed) = after.closed ≡ true
 lock_shows before after (Err fault.TooMany) = IsTooMany before after
 lock_shows before after (Err _) = ⊥

@@ -2,4 +2,5 @@ pub mod CellKey
 pub mod ClosedMarks
 pub mod Deadlines
 pub mod FdHandle
+pub mod HalfUse
 pub mod Parking

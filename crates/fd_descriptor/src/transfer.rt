@@ -8,18 +8,50 @@ ghost use Rattle.lockword.specs.Marks.{saw_closed};
 ghost use Rattle.lockword.specs.Places.{seat_place};
 ghost use Rattle.lockword.specs.TransitionOutcomes.{IsSeatOf};
 ghost use Rattle.fd_descriptor.specs.ClosedMarks.{KeepsMarks, marks_at, lock_shows, read_shows, accept_shows, write_shows, shut_shows, set_shows};
+ghost use Rattle.fd_descriptor.specs.HalfUse.{Did};
 
 use crate::close::{fault_of, leave};
 use crate::deadlines::Setting;
 use crate::descriptor::Fd;
 use crate::poll_cell::CellWaits;
 use crate::resource::{Alarms, HalfClose, Resource};
-use fdmutex::{decref, incref, read_lock, read_unlock, write_lock, write_unlock};
-use lockword::Seat;
+use fdmutex::{decref, incref, lock, unlock};
+use lockword::{Guards, Reading, Seat, Writing};
 use rwloops::{DevKind, Fault, TryAccept, TryRead, TryWrite, Waits, WriteFault};
 use std::alloc::Allocator;
 use std::sync::Wait;
 use stream_base::Dir;
+
+/// Takes the lock of a direction, lends its half to `act`, and gives the lock back. It answers what
+/// `act` did, or why there was no lock.
+fn with_half<D, X, A, T, Y, F>(
+    rt: &T,
+    fd: &Fd<X, A>,
+    seat: Seat<X::R, X::W>,
+    act: F,
+) -> (Seat<X::R, X::W>, Result<Y, Fault>)
+where
+    D: Guards<X::R, X::W>,
+    X: Resource,
+    A: Allocator,
+    T: Wait,
+    F: FnOnce(&mut D::Guarded) -> Y,
+    requires seat { IsSeatOf fd.now.word (seat_place seat) }
+    requires act { F.IsAlwaysCallable act }
+    ensures seat { IsSeatOf fd.now.word (seat_place result.0) }
+    ensures marks { KeepsMarks (marks_at (seat_place seat)) (marks_at (seat_place result.0)) }
+    ensures closed { saw_closed (seat_place seat) ≡ true → result.1 ≡ Err Fault.Closed }
+    ensures did { IfOk result.1 (λ answer. Did F.FnOnce act answer) }
+    ensures no_lock { lock_shows (marks_at (seat_place seat)) (marks_at (seat_place result.0)) result.1 }
+{
+    let word = &fd.word;
+    let mut held = match lock::<D, X::R, X::W, T>(rt, word, seat) {
+        Ok(held) => held,
+        Err((seat, refusal)) => return (seat, Err(fault_of(refusal))),
+    };
+    let answer = act(held.half(word));
+    (leave::<X>(word, unlock(rt, word, held)), Ok(answer))
+}
 
 pub(crate) fn read_by<X: Resource, A: Allocator, T: Wait>(
     rt: &T,
@@ -40,14 +72,14 @@ where
     ensures shows { read_shows (marks_at (seat_place seat)) (marks_at (seat_place result.0))
         result.1 }
 {
-    let word = &fd.word;
-    let mut held = match read_lock(rt, word, seat) {
-        Ok(held) => held,
-        Err((seat, refusal)) => return (seat, Err(fault_of(refusal))),
-    };
-    let mut waits = CellWaits::new(&fd.cell, rt);
-    let answer = rwloops::read(rt, held.half(word), buf, &mut waits);
-    (leave::<X>(word, read_unlock(rt, word, held)), answer)
+    let (seat, answer) = with_half::<Reading, X, A, T, _, _>(rt, fd, seat, |half| {
+        let mut waits = CellWaits::new(&fd.cell, rt);
+        rwloops::read(rt, half, buf, &mut waits)
+    });
+    match answer {
+        Ok(answer) => (seat, answer),
+        Err(fault) => (seat, Err(fault)),
+    }
 }
 
 pub(crate) fn accept_by<X: Resource, A: Allocator, T: Wait>(
@@ -64,14 +96,14 @@ where
     ensures shows { accept_shows (marks_at (seat_place seat)) (marks_at (seat_place result.0))
         result.1 }
 {
-    let word = &fd.word;
-    let mut held = match read_lock(rt, word, seat) {
-        Ok(held) => held,
-        Err((seat, refusal)) => return (seat, Err(fault_of(refusal))),
-    };
-    let mut waits = CellWaits::new(&fd.cell, rt);
-    let answer = rwloops::accept(rt, held.half(word), &mut waits);
-    (leave::<X>(word, read_unlock(rt, word, held)), answer)
+    let (seat, answer) = with_half::<Reading, X, A, T, _, _>(rt, fd, seat, |half| {
+        let mut waits = CellWaits::new(&fd.cell, rt);
+        rwloops::accept(rt, half, &mut waits)
+    });
+    match answer {
+        Ok(answer) => (seat, answer),
+        Err(fault) => (seat, Err(fault)),
+    }
 }
 
 pub(crate) fn write_by<X: Resource, A: Allocator, T: Wait>(
@@ -92,17 +124,14 @@ where
     ensures shows { write_shows (marks_at (seat_place seat)) (marks_at (seat_place result.0))
         result.1 }
 {
-    let word = &fd.word;
-    let mut held = match write_lock(rt, word, seat) {
-        Ok(held) => held,
-        Err((seat, refusal)) => {
-            let fault = fault_of(refusal);
-            return (seat, Err(WriteFault { fault, count: 0 }));
-        }
-    };
-    let mut waits = CellWaits::new(&fd.cell, rt);
-    let answer = rwloops::write(rt, held.half(word), bytes, &mut waits);
-    (leave::<X>(word, write_unlock(rt, word, held)), answer)
+    let (seat, answer) = with_half::<Writing, X, A, T, _, _>(rt, fd, seat, |half| {
+        let mut waits = CellWaits::new(&fd.cell, rt);
+        rwloops::write(rt, half, bytes, &mut waits)
+    });
+    match answer {
+        Ok(answer) => (seat, answer),
+        Err(fault) => (seat, Err(WriteFault { fault, count: 0 })),
+    }
 }
 
 // Shuts a half once its connection is made. A deadline or a close ends the wait, and then the half
@@ -134,17 +163,15 @@ where
     ensures shows { shut_shows (marks_at (seat_place seat)) (marks_at (seat_place result.0))
         result.1 }
 {
-    let word = &fd.word;
-    let mut held = match write_lock(rt, word, seat) {
-        Ok(held) => held,
-        Err((seat, refusal)) => return (seat, Err(fault_of(refusal))),
-    };
-    let mut waits = CellWaits::new(&fd.cell, rt);
-    let answer = match shut_connected(rt, held.half(word), &mut waits) {
-        Ok(()) => Ok(()),
-        Err(kind) => Err(Fault::Device(kind)),
-    };
-    (leave::<X>(word, write_unlock(rt, word, held)), answer)
+    let (seat, answer) = with_half::<Writing, X, A, T, _, _>(rt, fd, seat, |half| {
+        let mut waits = CellWaits::new(&fd.cell, rt);
+        shut_connected(rt, half, &mut waits)
+    });
+    match answer {
+        Ok(Ok(())) => (seat, Ok(())),
+        Ok(Err(kind)) => (seat, Err(Fault::Device(kind))),
+        Err(fault) => (seat, Err(fault)),
+    }
 }
 
 pub(crate) fn set_by<X: Resource, A: Allocator, T: Wait, L: Alarms>(

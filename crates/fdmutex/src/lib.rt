@@ -6,11 +6,11 @@
 mod answers;
 mod close;
 mod done;
-mod lock;
+mod locks;
 mod reference;
 
 pub use answers::{Freed, Refusal};
 pub use close::{close_mark, drop_closing};
 pub use done::wait_done;
-pub use lock::{read_lock, read_unlock, write_lock, write_unlock};
+pub use locks::{lock, read_lock, read_unlock, unlock, write_lock, write_unlock};
 pub use reference::{decref, incref};

@@ -8,49 +8,51 @@ use Rattle.stream_base.specs.declared.direction.Dir.{Dir}
 use Rattle.stream_base.specs.declared.direction.Dir.TheVariants.{Read, Write}
 use Rattle.lockword_core.specs.declared.stake.Stake.{Stake}
 use Rattle.lockword_core.specs.declared.stake.Stake.TheVariants as stake
-use Rattle.lockword_core.specs.declared.signals.Signals.{Signals}
 use Rattle.lockword_core.specs.Word.{bit}
-use Rattle.lockword_core.specs.LockState.{locks, lasts, part, count}
-use Rattle.lockword_core.proofs.CountLemmas.{Totals, totals, shifts}
+use Rattle.lockword_core.specs.LockState.{Census, locks, lasts, part, count, number}
+use Rattle.lockword_core.specs.LockInvariant.{ChangesOneStake}
+use Rattle.lockword_core.proofs.CountLemmas.{count-within}
 use Rattle.lockword_core.proofs.BalanceLemmas.{IsBalanced, destroy_keeps}
 use Rattle.lockword.specs.declared.local_view.LocalView.{LocalView}
 use Rattle.lockword.specs.declared.shared_rule.Half.TheVariants as half
-use Rattle.lockword.specs.LocalView.{stakes_of, taken_by, takers}
+use Rattle.lockword.specs.declared.shared_rule.TheConstants.{STATE, DONE}
+use Rattle.lockword.specs.LocalView.{newcomer, stakes_of, taken_by, takers}
 use Rattle.lockword.specs.Directions.{Guarded, half_of, half_home}
 use Rattle.lockword.specs.SharedInvariant.{Represents}
 use Rattle.lockword.specs.Steps.{emptied, marked}
 use Rattle.lockword.proofs.ViewLemmas.{one_changes, same_stakes, counted_at, takers-set, takers-le}
-use Rattle.lockword.proofs.Representation.{both, fits, represents, on_done}
+use Rattle.lockword.proofs.Representation.{both, seated, present, fits, represents, on_done}
 use Rattle.lockword.proofs.LookSteps.{is_over}
 use Rattle.lockword.proofs.Exchanges.{H, M}
 
 module _ (R W : Type 0) where
   -- a half at home
-  pub has_half : (d : Dir) (x : Option (Option (H R W))) → half_home d x ≡ 1 → (h : Guarded R W d) × (x ≡ some (some (half_of d h)))
+  pub has_half : (d : Dir) (x : Option (Option (H R W))) → half_home d x ≡ 1
+      → (h : Guarded R W d) × (x ≡ some (some (half_of d h)))
   has_half Read (some (some (half.Read r))) e = (r, refl)
   has_half Write (some (some (half.Write w))) e = (w, refl)
   has_half d _ e = absurd (omega arith)
 
   -- what is so where a seat is the last: no lock is held, nobody destroyed, and nobody else took the halves
-  record IsAlone (views : List LocalView) (destroyed : ℕ) (mine : ℕ) : Type 0 where
-    no_reader : count (locks Read) (stakes_of views) ≡ 0
-    no_writer : count (locks Write) (stakes_of views) ≡ 0
-    not_destroyed : destroyed ≡ 0
+  record IsAlone (views : List LocalView) (c : Census) (mine : ℕ) : Type 0 where
+    no_reader : number (locks Read) c ≡ 0
+    no_writer : number (locks Write) c ≡ 0
+    not_destroyed : bit c.destroyed ≡ 0
     takers_are : takers views ≡ mine
 
-  alone : (views : List LocalView) (closed destroyed : ℕ) (signals : Signals) (n id : ℕ) (v : LocalView) → IsBalanced (totals (stakes_of views)) closed destroyed signals n
-      → get_elem? views id ≡ some v → part lasts v.stake ≡ 1 → taken_by v ≤ 1 → IsAlone views destroyed (taken_by v)
-  alone views closed destroyed signals n id v b at last small =
-      let t : Totals = totals (stakes_of views) in
+  alone : (views : List LocalView) (c : Census) (n id : ℕ) (v : LocalView) → c.stakes ≡ stakes_of views → IsBalanced c n
+      → get_elem? views id ≡ some v → part lasts v.stake ≡ 1 → taken_by v ≤ 1 → IsAlone views c (taken_by v)
+  alone views c n id v stakes b at last small =
+      let same : number lasts c ≡ count lasts (stakes_of views) = ap (count lasts) stakes in
       let mine : part lasts v.stake ≤ count lasts (stakes_of views) = counted_at views id v at lasts in
-      let over = is_over t closed destroyed signals n b (omega arith) in
-      let w : LocalView = record { stake = stake.Free; took = false; saw_closed = false; saw_done = false } in
+      let over = is_over c n b (omega arith) in
+      let w : LocalView = newcomer in
       let one = one_changes views id v w at in
       let before = one.counted_before lasts in
       let now = one.counted_after lasts in
       let took : takers (set views id w) + taken_by v ≡ takers views + 0 = takers-set views id v w at in
       let others : takers (set views id w) ≤ count lasts (stakes_of (set views id w)) = takers-le (set views id w) in
-      let held = b.locked in
+      let held = count-within c.stakes in
       let unused = over.unused in let ends = over.one in
       record { no_reader = omega arith; no_writer = omega arith; not_destroyed = omega arith; takers_are = omega arith }
 
@@ -62,17 +64,18 @@ module _ (R W : Type 0) where
   taken_last v false e f = rw (e, f) refl
 
   -- the last holder takes both halves
-  pub empties : (slots id : ℕ) (me : M R W) → me.0.stake ≡ stake.Last → me.0.took ≡ false → Allows Represents slots id me 3 (λ n. n) (emptied (step slots 3 0 0 none) me)
+  pub empties : (slots id : ℕ) (me : M R W) → me.0.stake ≡ stake.Last → me.0.took ≡ false
+      → Allows Represents slots id me DONE (λ n. n) (emptied (step slots DONE 0 0 none) me)
   empties slots id me last untaken s r _ at small =
-      let n : ℕ = get_or s.words 3 0 in
+      let n : ℕ = get_or s.words DONE 0 in
       let f = fits s r in
-      let closed = r.census.closed in let destroyed = r.census.destroyed in let signals = r.census.signals in
-      let state : ℕ = get_or s.words 0 0 in
+      let c : Census = present s r in
+      let state : ℕ = get_or s.words STATE 0 in
       let w : LocalView = record me.0 { took = true } in
       let views : List LocalView = set s.views id w in
       let mine : taken_by me.0 ≡ 0 = taken_last me.0 false last untaken in
       let then : taken_by w ≡ 1 = taken_last w true last refl in
-      let so = alone s.views (bit closed) (bit destroyed) signals state id me.0 f.balance at (last_part me.0.stake last) (omega arith) in
+      let so = alone s.views c state id me.0 f.stakes f.balance at (last_part me.0.stake last) (omega arith) in
       let no_reader = so.no_reader in let no_writer = so.no_writer in let not_destroyed = so.not_destroyed in let none_took = so.takers_are in
       let same : stakes_of views ≡ stakes_of s.views = same_stakes s.views id me.0 w at refl in
       let took : takers views + taken_by me.0 ≡ takers s.views + taken_by w = takers-set s.views id me.0 w at in
@@ -85,34 +88,36 @@ module _ (R W : Type 0) where
       let long : length (set s.homes 0 none) ≡ 2 = length-set s.homes 0 none ∙ f.deep in
       let read_now : half_home Read (get_elem? homes 0) ≡ 0 = ap (half_home Read) (set_else (set s.homes 0 none) 1 0 none (omega arith) ∙ set_here s.homes 0 none (omega arith)) in
       let write_now : half_home Write (get_elem? homes 1) ≡ 0 = ap (half_home Write) (set_here (set s.homes 0 none) 1 none (omega arith)) in
-      let done_is : n ≡ bit destroyed = f.done in
-      let next = on_done s.words s.homes homes s.views closed destroyed destroyed signals state id w f (length-set (set s.homes 0 none) 1 none ∙ long)
-      (subst (λ ys. IsBalanced (totals ys) (bit closed) (bit destroyed) signals state) (sym same) f.balance)
+      let done_is : n ≡ bit c.destroyed = f.done in
+      let saw = f.seen id me.0 at in
+      let next = on_done s.words s.homes homes s.views c c.destroyed state id w f (length-set (set s.homes 0 none) 1 none ∙ long)
+      (subst (λ (ys : List Stake). IsBalanced (record c { stakes = ys }) state) (sym same) f.balance)
       (both _ (omega arith) (omega arith))
-      (λ e. f.closed_seen id me.0 at e) (λ e. e) (λ e. f.done_seen id me.0 at e) in (
+      (λ e. e) record { closed = saw.closed; done = saw.done } in (
         w,
         chain (takes 0 (half.Read a.0)) (takes 1 (half.Write b.0)),
         (a.1, set_else s.homes 0 1 none (omega arith) ∙ b.1),
-        subst (λ (x : ℕ). Represents record { words = set s.words 3 x; homes = homes; views = views }) (sym done_is) (represents (set s.words 3 (bit destroyed)) homes views closed destroyed signals state next),
+        subst (λ (x : ℕ). Represents record { words = set s.words DONE x; homes = homes; views = views }) (sym done_is) (represents (set s.words DONE (bit c.destroyed)) homes views (seated views c) state next),
         (refl, (a.0, b.0, refl)),
       )
 
   -- the last holder marks that it destroyed
-  pub marks : (slots id : ℕ) (me : M R W) → me.0.stake ≡ stake.Last → me.0.took ≡ true → me.0.saw_closed ≡ true → me.1 ≡ (1, half.Away) ∷ (0, half.Away) ∷ []
-      → Allows Represents slots id me 3 (λ _. 1) (λ _. marked (step slots 3 1 0 none) me 1)
+  pub marks : (slots id : ℕ) (me : M R W) → me.0.stake ≡ stake.Last → me.0.took ≡ true → me.0.saw.closed ≡ true
+      → me.1 ≡ (1, half.Away) ∷ (0, half.Away) ∷ []
+      → Allows Represents slots id me DONE (λ _. 1) (λ _. marked (step slots DONE 1 0 none) me 1)
   marks slots id me last taken saw holds =
-      subst (λ (slots' : List (ℕ × H R W)). Allows Represents slots id (me.0, slots') 3 (λ _. 1) (λ _. marked (step slots 3 1 0 none) (me.0, slots') 1)) (sym holds)
+      subst (λ (slots' : List (ℕ × H R W)). Allows Represents slots id (me.0, slots') DONE (λ _. 1) (λ _. marked (step slots DONE 1 0 none) (me.0, slots') 1)) (sym holds)
       (λ s r _ at small.
       let f = fits s r in
-      let closed = r.census.closed in let destroyed = r.census.destroyed in let signals = r.census.signals in
-      let state : ℕ = get_or s.words 0 0 in
-      let w : LocalView = record { stake = stake.Free; took = false; saw_closed = me.0.saw_closed; saw_done = true } in
+      let c : Census = present s r in
+      let state : ℕ = get_or s.words STATE 0 in
+      let w : LocalView = record { stake = stake.Free; took = false; saw = record { closed = me.0.saw.closed; done = true } } in
       let views : List LocalView = set s.views id w in
       let mine : taken_by me.0 ≡ 1 = taken_last me.0 true last taken in
-      let so = alone s.views (bit closed) (bit destroyed) signals state id me.0 f.balance at (last_part me.0.stake last) (omega arith) in
+      let so = alone s.views c state id me.0 f.stakes f.balance at (last_part me.0.stake last) (omega arith) in
       let no_reader = so.no_reader in let no_writer = so.no_writer in let not_destroyed = so.not_destroyed in let i_took = so.takers_are in
       let one = one_changes s.views id me.0 w at in
-      let from_last = subst (λ (x : Stake). Rattle.lockword_core.specs.LockInvariant.ChangesOneStake (stakes_of s.views) x (stakes_of views) stake.Free) last one in
+      let from_last = subst (λ (x : Stake). ChangesOneStake (stakes_of s.views) x (stakes_of views) stake.Free) last one in
       let readers_before = from_last.counted_before (locks Read) in let readers_after = from_last.counted_after (locks Read) in
       let writers_before = from_last.counted_before (locks Write) in let writers_after = from_last.counted_after (locks Write) in
       let took : takers views + taken_by me.0 ≡ takers s.views + 0 = takers-set s.views id me.0 w at in
@@ -122,13 +127,13 @@ module _ (R W : Type 0) where
       let long : length (set s.homes 1 x) ≡ 2 = length-set s.homes 1 x ∙ f.deep in
       let read_now : half_home Read (get_elem? homes 0) ≡ 0 = ap (half_home Read) (set_here (set s.homes 1 x) 0 x (omega arith)) in
       let write_now : half_home Write (get_elem? homes 1) ≡ 0 = ap (half_home Write) (set_else (set s.homes 1 x) 0 1 x (omega arith) ∙ set_here s.homes 1 x (omega arith)) in
-      let next = on_done s.words s.homes homes s.views closed destroyed true signals state id w f (length-set (set s.homes 1 x) 0 x ∙ long)
-      (destroy_keeps _ _ _ _ _ _ f.balance (shifts _ _ _ _ from_last))
+      let next = on_done s.words s.homes homes s.views c true state id w f (length-set (set s.homes 1 x) 0 x ∙ long)
+      (destroy_keeps c (stakes_of views) state f.balance from_last)
       (both _ (omega arith) (omega arith))
-      (λ e. f.closed_seen id me.0 at e) (λ e. refl) (λ e. refl) in (
+      (λ e. refl) record { closed = (f.seen id me.0 at).closed; done = λ e. refl } in (
         w,
         chain gives gives,
         (tt, tt),
-        represents (set s.words 3 1) homes views closed true signals state next,
+        represents (set s.words DONE 1) homes views (record c { stakes = stakes_of views; destroyed = true }) state next,
         (refl, refl),
       ))

@@ -10,6 +10,8 @@ use Rattle.atomic_table.specs.Table.{State, Me, Act, keeps, stepped, carried_aft
 use Rattle.atomic_table.proofs.Lists.{set_again}
 use Rattle.lockword.specs.declared.local_view.LocalView.{LocalView}
 use Rattle.lockword.specs.declared.shared_rule.Half.{Half}
+use Rattle.stream_base.specs.declared.direction.Dir.{Dir}
+use Rattle.lockword.specs.Directions.{slot_of, Guarded, half_of, IsHalf}
 use Rattle.lockword.specs.SharedInvariant.{Represents}
 
 module _ (R W : Type 0) where
@@ -23,8 +25,10 @@ module _ (R W : Type 0) where
   M = Me H LocalView
 
   -- a step that writes what was there
-  pub unmoved : (s : St) (i id : ℕ) (v : LocalView) → Represents s → get_elem? s.views id ≡ some v → Represents record { words = set s.words i (get_or s.words i 0); homes = s.homes; views = set s.views id v }
-  unmoved s i id v r at = subst (λ (z : List ℕ × List LocalView). Represents record { words = z.0; homes = s.homes; views = z.1 }) (λ c. (sym (set-get_or s.words i 0) c, sym (set_again s.views id v at) c)) r
+  pub unmoved : (s : St) (i id : ℕ) (v : LocalView) → Represents s → get_elem? s.views id ≡ some v
+      → Represents record { words = set s.words i (get_or s.words i 0); homes = s.homes; views = set s.views id v }
+  unmoved s i id v r at =
+      subst (λ (z : List ℕ × List LocalView). Represents record { words = z.0; homes = s.homes; views = z.1 }) (λ c. (sym (set-get_or s.words i 0) c, sym (set_again s.views id v at) c)) r
 
   -- where it finds what it looks for, the seat has a view and an act that keep the rule; else nothing changes
   pub swaps : (slots id i old new : ℕ) (me : M) (T : M → Type 0)
@@ -38,5 +42,11 @@ module _ (R W : Type 0) where
       (λ ne. (me.0, keeps, tt, subst (λ b. Represents (stepped s i (either b new x) id me.1 me.0 keeps)) (sym (ne_eqb x old ne)) (unmoved s i id me.0 r at), ((λ e. absurd (ne e)), λ _. refl)))
 
   -- what an exchange of a slot asks
-  pub has_old : (cs : List (ℕ × H)) (k : ℕ) (y : H) (more : List (ℕ × H)) → cs ≡ (k, y) ∷ more → (old : H) × (cs ≡ (k, old) ∷ rest cs)
+  pub has_old : (cs : List (ℕ × H)) (k : ℕ) (y : H) (more : List (ℕ × H)) → cs ≡ (k, y) ∷ more
+      → (old : H) × (cs ≡ (k, old) ∷ rest cs)
   has_old cs k y more e = (y, e ∙ ap (λ (l : List (ℕ × H)). (k, y) ∷ rest l) (sym e))
+
+  -- what an exchange finds where the half of a direction is
+  pub found_half : (d : Dir) (h : Guarded R W d) (cs more : List (ℕ × H)) (k : ℕ) (found : H)
+      → cs ≡ (slot_of d, half_of d h) ∷ more → cs ≡ (k, found) ∷ rest cs → IsHalf d found
+  found_half d h cs more k found e f = (h, ap (λ (l : List (ℕ × H)). (get_or l 0 (k, found)).1) (sym f ∙ e))

@@ -1,31 +1,38 @@
 -- A new word meets the rule.
-use Rattle.std.proofs.Common.{◌≡◌, ℕ, ◌+◌, ◌∙◌, false, [], ◌∷◌, ◌++◌, zero, suc, refl, sym, ap, arith}
+use Rattle.std.proofs.Common.{◌≡◌, ℕ, ◌+◌, ◌∙◌, false, [], ◌∷◌, ◌++◌, zero, suc, refl, sym, subst, arith}
 use mathlib.Core.Option.{some, some-injective, some-ne-none}
 use lib.ListN.{get_elem?}
 use Rattle.atomic_table.specs.Table.{opening}
 use Rattle.stream_base.specs.declared.direction.Dir.TheVariants.{Read, Write}
 use Rattle.lockword_core.specs.declared.stake.Stake.TheVariants as stake
-use Rattle.lockword_core.specs.LockState.{references, locks, queued, owed, closers, lasts, count}
-use Rattle.lockword_core.proofs.CountLemmas.{totals, count-nil, count-push}
+use Rattle.lockword_core.specs.LockState.{Census, references, locks, queued, owed, closers, lasts, count}
+use Rattle.lockword_core.proofs.CountLemmas.{count-nil, count-push}
 use Rattle.lockword_core.proofs.BalanceLemmas.{IsBalanced}
 use Rattle.lockword.specs.declared.local_view.LocalView.{LocalView}
 use Rattle.lockword.specs.declared.shared_rule.Half.TheVariants as half
 use Rattle.lockword.specs.LocalView.{takers, newcomer}
-use Rattle.lockword.specs.SharedInvariant.{Represents}
+use Rattle.lockword.specs.SharedInvariant.{SawRightly, Represents}
 use Rattle.lockword.proofs.ViewLemmas.{takers-nil, takers-push}
 use Rattle.lockword.proofs.Representation.{both, represents}
 
 none_counted : (what : Rattle.lockword_core.specs.LockState.Counted) → count what (stake.Free ∷ []) ≡ 0
-none_counted what = let pushed : count what ([] ++ stake.Free ∷ []) ≡ count what [] = count-push what [] in omega (arith, count-nil what)
+none_counted what =
+    let pushed : count what ([] ++ stake.Free ∷ []) ≡ count what [] = count-push what [] in omega (arith, count-nil what)
 
 none_took : takers (newcomer ∷ []) ≡ 0
-none_took = let pushed : takers ([] ++ newcomer ∷ []) ≡ takers [] + 0 = takers-push [] newcomer in omega (arith, takers-nil)
+none_took =
+    let pushed : takers ([] ++ newcomer ∷ []) ≡ takers [] + 0 = takers-push [] newcomer in omega (arith, takers-nil)
 
 saw_nothing : (i : ℕ) (v : LocalView) → get_elem? (newcomer ∷ []) i ≡ some v → newcomer ≡ v
 saw_nothing zero v at = some-injective newcomer v at
 saw_nothing (suc i) v at = absurd (some-ne-none v (sym at))
 
-starts : IsBalanced (totals (stake.Free ∷ [])) 0 0 (record { read = 0; write = 0 }) 0
+-- the abstract state of one seat that has nothing
+abbrev first_census : Census
+first_census =
+    record { stakes = stake.Free ∷ []; closed = false; signals = record { read = 0; write = 0 }; destroyed = false }
+
+starts : IsBalanced first_census 0
 starts =
     omega (
       arith,
@@ -43,15 +50,15 @@ starts =
 module _ (R W : Type 0) where
   pub begins : (r : R) (w : W) → Represents (opening (0 ∷ 0 ∷ 0 ∷ 0 ∷ []) (half.Read r ∷ half.Write w ∷ []) newcomer)
   begins r w =
-      represents (0 ∷ 0 ∷ 0 ∷ 0 ∷ []) (some (half.Read r) ∷ some (half.Write w) ∷ []) (newcomer ∷ []) false false (record { read = 0; write = 0 }) 0
+      represents (0 ∷ 0 ∷ 0 ∷ 0 ∷ []) (some (half.Read r) ∷ some (half.Write w) ∷ []) (newcomer ∷ []) first_census 0
       record {
         wide = refl;
         deep = refl;
         state = refl;
         semaphores = both _ refl refl;
         done = refl;
+        stakes = refl;
         balance = starts;
         halves = both _ (omega (arith, none_counted (locks Read), none_took)) (omega (arith, none_counted (locks Write), none_took));
-        closed_seen = λ i v at saw. ap (λ (y : LocalView). y.saw_closed) (saw_nothing i v at) ∙ saw;
-        done_seen = λ i v at saw. ap (λ (y : LocalView). y.saw_done) (saw_nothing i v at) ∙ saw;
+        seen = λ i v at. subst (λ (y : LocalView). SawRightly first_census y) (saw_nothing i v at) record { closed = λ e. e; done = λ e. e };
       }

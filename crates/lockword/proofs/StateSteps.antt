@@ -1,5 +1,5 @@
 -- Exchanges of the state word: each kind of step keeps the rule.
-use Rattle.std.proofs.Common.{◌≡◌, ℕ, ◌+◌, ◌≤◌, ◌∙◌, eqb, Bool, true, false, List, [], ◌∷◌, length, length-set, get_or, set, refl, sym, ap, subst, arith, Result, Ok}
+use Rattle.std.proofs.Common.{◌≡◌, ℕ, ◌+◌, ◌≤◌, ◌∙◌, eqb, Bool, true, false, List, [], ◌∷◌, length, length-set, get_or, set, refl, sym, ap, subst, arith, Result, Ok, Err}
 use Rattle.std.specs.Prelude.{◌==◌, ◌&&◌, if◌then◌else◌}
 use mathlib.Core.Option.{Option, none, some}
 use lib.ListN.{get_elem?}
@@ -9,24 +9,20 @@ use Rattle.stream_base.specs.declared.direction.Dir.{Dir}
 use Rattle.stream_base.specs.declared.direction.Dir.TheVariants.{Read, Write}
 use Rattle.lockword_core.specs.declared.stake.Stake.{Stake}
 use Rattle.lockword_core.specs.declared.stake.Stake.TheVariants as stake
-use Rattle.lockword_core.specs.declared.stake.Answer.{Answer}
-use Rattle.lockword_core.specs.declared.word.TheConstants.{MAX_REFERENCES, MAX_WAITERS}
 use Rattle.lockword_core.specs.declared.transition.Kind.{Kind}
 use Rattle.lockword_core.specs.declared.transition.Kind.TheVariants as kind
 use Rattle.lockword_core.specs.declared.transition.After.{After}
 use Rattle.lockword_core.specs.declared.transition.After.TheVariants as after
-use Rattle.lockword_core.specs.declared.transition.Refused.{Refused}
 use Rattle.lockword_core.specs.Word.{bit}
 use Rattle.lockword_core.specs.declared.stake.Op.TheVariants as op
-use Rattle.lockword_core.specs.LockState.{Census, is_same, references, locks, lasts, part, count, number, pending}
-use Rattle.lockword_core.specs.LockInvariant.{IsCounted, ChangesOneStake}
-use Rattle.lockword_core.specs.Transition.{lock_stake, Change, nothing, closes, Outcome, refused, moved, allows, outcome, allowed_outcome, drop_outcome, changed}
+use Rattle.lockword_core.specs.LockState.{Census, is_same, locks, lasts, part, count, number}
+use Rattle.lockword_core.specs.LockInvariant.{ChangesOneStake}
+use Rattle.lockword_core.specs.Transition.{lock_stake, allows, changed}
 use Rattle.lockword_core.specs.WordStep.{op_of, gained}
-use Rattle.lockword_core.specs.WordArithmetic.{stepped_word}
-use Rattle.lockword_core.proofs.CountLemmas.{totals}
+use Rattle.lockword_core.specs.FieldStep.{stepped_word}
+use Rattle.lockword_core.proofs.CountLemmas.{count-within}
 use Rattle.lockword_core.proofs.BalanceLemmas.{IsBalanced}
-use Rattle.lockword_core.proofs.InvariantPreserved.{Balance}
-use Rattle.lockword_core.proofs.WordRefines.{StepIs, step_is}
+use Rattle.lockword_core.proofs.WordRefines.{change_of, same_pair, stepped_keeps}
 use Rattle.lockword.specs.declared.local_view.LocalView.{LocalView}
 use Rattle.lockword.specs.declared.shared_rule.Half.{Half}
 use Rattle.lockword.specs.declared.shared_rule.Half.TheVariants as half
@@ -36,63 +32,18 @@ use Rattle.lockword.proofs.DestroySteps.{has_half}
 use Rattle.lockword.specs.LocalView.{stakes_of, taken_by, takers}
 use Rattle.lockword.specs.Directions.{slot_of, Guarded, half_of, half_home}
 use Rattle.lockword.specs.SharedInvariant.{Represents}
+use Rattle.lockword.specs.declared.shared_rule.TheConstants.{STATE}
 use Rattle.lockword.specs.Steps.{saw_after, moved_view, Carries, HasSlots}
 use Rattle.lockword.specs.Steps as steps
 use Rattle.lockword.proofs.ViewLemmas.{one_changes, counted_at, takers-set, taken-le, takers-le}
-use Rattle.lockword.proofs.Representation.{census_of, IsInOnePlace, fits, recounted, represents, on_state}
+use Rattle.lockword.proofs.Representation.{seated, present, IsInOnePlace, fits, recounted, represents, on_state}
 use Rattle.lockword.proofs.Exchanges.{H, St, M, swaps}
-
--- ---- What changes beside the stake
-
-abbrev pub change_of : Kind → Change
-change_of kind.Close = closes
-change_of _ = nothing
-
-abbrev HasChange : Change → Outcome → Type 0
-HasChange ch (refused a) = Unit {0}
-HasChange ch (moved a new x) = x ≡ ch
-
-by_if : (ch : Change) (b : Bool) (x y : Outcome) → HasChange ch x → HasChange ch y → HasChange ch (if b then x else y)
-by_if ch true x y p q = p
-by_if ch false x y p q = q
-
-drops : (c : Census) → HasChange nothing (drop_outcome c)
-drops c = by_if nothing (c.closed && (number references c == 1)) _ _ refl refl
-
-allowed_change : (c : Census) (own : Stake) (k : Kind) → HasChange (change_of k) (allowed_outcome c own (op_of k))
-allowed_change c own kind.Incref = by_if nothing c.closed _ _ tt (by_if nothing (number references c == MAX_REFERENCES) _ _ tt refl)
-allowed_change c own kind.Decref = drops c
-allowed_change c own (kind.Lock d) =
-    by_if nothing c.closed _ _ tt
-    (by_if nothing (number (locks d) c == 0) _ _ (by_if nothing (number references c == MAX_REFERENCES) _ _ tt refl) (by_if nothing (pending d c == MAX_WAITERS) _ _ tt refl))
-allowed_change c own (kind.Unlock d) = by_if nothing (pending d c == 0) _ _ (drops c) refl
-allowed_change c own kind.Close = by_if closes c.closed _ _ tt (by_if closes (number references c == MAX_REFERENCES) _ _ tt refl)
-
-changes : (c : Census) (own : Stake) (k : Kind) → HasChange (change_of k) (outcome c own (op_of k))
-changes c own k = by_if (change_of k) (allows own (op_of k)) _ _ (allowed_change c own k) tt
 
 -- ---- The balance after a step
 
-abbrev ok_of : ℕ × After → Result (ℕ × After) Refused
-ok_of x = Ok x
-
-same_pair : (x y : ℕ × After) → ok_of x ≡ ok_of y → x ≡ y
-same_pair x y e = cc
-
-kept_balance : (c : Census) (own : Stake) (k : Kind) (a : After) (n m : ℕ) (ys : List Stake) → Balance c n → IsCounted c own → allows own (op_of k) ≡ true → stepped_word n k ≡ Ok (m, a)
-    → ChangesOneStake c.stakes own ys (gained k a).1 → Balance (changed c ys (change_of k)) m
-kept_balance c own k a n m ys b counted may is one = by (outcome c own (op_of k)) (step_is c own k n b counted may) (changes c own k)
-  where
-    by : (o : Outcome) → StepIs c own k o (stepped_word n k) → HasChange (change_of k) o → Balance (changed c ys (change_of k)) m
-    by (refused x) (e, err, same) h = absurd (cc)
-    by (moved x new ch) (l, gain, ok, same, balance) h =
-        let pair : (m, a) ≡ (l, gain) = same_pair (m, a) (l, gain) (sym is ∙ ok) in
-        let new_is : (gained k a).1 ≡ new = ap (λ (p : ℕ × After). (gained k p.1).1) pair ∙ ap (λ (q : Answer × Stake). q.1) same in
-        subst (λ (z : ℕ × Change). Balance (changed c ys z.1) z.0) (λ i. (sym (ap (λ (p : ℕ × After). p.0) pair) i, h i))
-        (balance ys (subst (λ (z : Stake). ChangesOneStake c.stakes own ys z) new_is one))
-
 -- the flag after a step is set by a close alone
-flag_after : (k : Kind) (c : Census) (ys : List Stake) (m : ℕ) → Balance (changed c ys (change_of k)) m → IsBalanced (totals ys) (bit (saw_after k c.closed)) (bit c.destroyed) c.signals m
+flag_after : (k : Kind) (c : Census) (ys : List Stake) (m : ℕ) → IsBalanced (changed c ys (change_of k)) m
+    → IsBalanced (record c { stakes = ys; closed = saw_after k c.closed }) m
 flag_after kind.Incref c ys m b = b
 flag_after kind.Decref c ys m b = b
 flag_after (kind.Lock d) c ys m b = b
@@ -131,7 +82,8 @@ IsQuiet kind.Close a = Unit {0}
 IsQuiet (kind.Lock d) after.Queued = Unit {0}
 IsQuiet _ _ = ⊥
 
-own_lockless : (own : Stake) (k : Kind) (a : After) (d : Dir) → IsQuiet k a → allows own (op_of k) ≡ true → part (locks d) own ≡ 0
+own_lockless : (own : Stake) (k : Kind) (a : After) (d : Dir) → IsQuiet k a → allows own (op_of k) ≡ true
+    → part (locks d) own ≡ 0
 own_lockless stake.Read kind.Incref a d quiet may = absurd (cc)
 own_lockless stake.Read kind.Decref a d quiet may = absurd (cc)
 own_lockless stake.Read kind.Close a d quiet may = absurd (cc)
@@ -156,7 +108,8 @@ new_lockless (kind.Lock e) after.Queued d quiet = refl
 new_lockless (kind.Lock e) _ d quiet = absurd quiet
 new_lockless (kind.Unlock e) _ d quiet = absurd quiet
 
-carries_same : {R W : Type 0} (k : Kind) (a : After) (slots : List (ℕ × Half R W)) → IsQuiet k a → Carries k a slots slots
+carries_same : {R W : Type 0} (k : Kind) (a : After) (slots : List (ℕ × Half R W)) → IsQuiet k a
+    → Carries k a slots slots
 carries_same kind.Incref a slots quiet = refl
 carries_same kind.Decref a slots quiet = refl
 carries_same kind.Close a slots quiet = refl
@@ -203,9 +156,12 @@ one_less : (before now others b p q : ℕ) → before ≡ p + others → now ≡
 one_less before now others b p q e f g h = omega arith
 
 -- whoever has just taken a lock is the only holder of it, and nobody took the halves
-locks_alone : (d : Dir) (c : Census) (m x k : ℕ) → Balance c m → count (locks d) c.stakes ≡ bit (is_same d d) + x → k ≤ count lasts c.stakes → (x ≡ 0) × (k ≡ 0) × (bit c.destroyed ≡ 0)
-locks_alone Read c m x k b locked few = let one = b.one_reader in let held = b.locked in let calm = b.in_use (omega arith) in (omega arith, omega arith, omega arith)
-locks_alone Write c m x k b locked few = let one = b.one_writer in let held = b.locked in let calm = b.in_use (omega arith) in (omega arith, omega arith, omega arith)
+locks_alone : (d : Dir) (c : Census) (m x k : ℕ) → IsBalanced c m → number (locks d) c ≡ bit (is_same d d) + x
+    → k ≤ number lasts c → (x ≡ 0) × (k ≡ 0) × (bit c.destroyed ≡ 0)
+locks_alone Read c m x k b locked few =
+    let one = b.reading.one_holder in let held = count-within c.stakes in let calm = b.in_use (omega arith) in (omega arith, omega arith, omega arith)
+locks_alone Write c m x k b locked few =
+    let one = b.writing.one_holder in let held = count-within c.stakes in let calm = b.in_use (omega arith) in (omega arith, omega arith, omega arith)
 
 module _ {R W : Type 0} where
   -- a slot once another content is in it, or in the other slot
@@ -216,96 +172,111 @@ module _ {R W : Type 0} where
   slot_after Read Write homes x deep = ap (half_home Read) (set_else homes 1 0 x (omega arith))
   slot_after Write Read homes x deep = ap (half_home Write) (set_else homes 0 1 x (omega arith))
 
-  taken_half : (e d : Dir) (homes : List (Option (Half R W))) (ys xs : List Stake) (k j : ℕ) (destroyed : Bool) → length homes ≡ 2 → half_home d (get_elem? homes (slot_of d)) ≡ 1
-      → count (locks e) ys ≡ bit (is_same e d) + count (locks e) xs → k ≡ j → IsInOnePlace e homes xs j destroyed → IsInOnePlace e (set homes (slot_of d) none) ys k destroyed
-  taken_half Read Read homes ys xs k j destroyed deep home locked took was = let now = slot_after Read Read homes none deep in omega arith
-  taken_half Write Write homes ys xs k j destroyed deep home locked took was = let now = slot_after Write Write homes none deep in omega arith
-  taken_half Read Write homes ys xs k j destroyed deep home locked took was = let now = slot_after Read Write homes none deep in omega arith
-  taken_half Write Read homes ys xs k j destroyed deep home locked took was = let now = slot_after Write Read homes none deep in omega arith
+  taken_half : (e d : Dir) (homes : List (Option (Half R W))) (c : Census) (ys : List Stake) (k j : ℕ)
+      → length homes ≡ 2 → half_home d (get_elem? homes (slot_of d)) ≡ 1
+      → count (locks e) ys ≡ bit (is_same e d) + number (locks e) c → k ≡ j → IsInOnePlace e homes c j
+      → IsInOnePlace e (set homes (slot_of d) none) (record c { stakes = ys }) k
+  taken_half Read Read homes c ys k j deep home locked took was =
+      let now = slot_after Read Read homes none deep in omega arith
+  taken_half Write Write homes c ys k j deep home locked took was =
+      let now = slot_after Write Write homes none deep in omega arith
+  taken_half Read Write homes c ys k j deep home locked took was =
+      let now = slot_after Read Write homes none deep in omega arith
+  taken_half Write Read homes c ys k j deep home locked took was =
+      let now = slot_after Write Read homes none deep in omega arith
 
-  given_half : (e d : Dir) (h : Guarded R W d) (homes : List (Option (Half R W))) (ys xs : List Stake) (k j : ℕ) (destroyed : Bool) → length homes ≡ 2
-      → count (locks e) xs ≡ bit (is_same e d) + count (locks e) ys → k ≡ j → IsInOnePlace e homes xs j destroyed → IsInOnePlace e (set homes (slot_of d) (some (half_of d h))) ys k destroyed
-  given_half Read Read h homes ys xs k j destroyed deep locked took was = let now = slot_after Read Read homes (some (half.Read h)) deep in omega arith
-  given_half Write Write h homes ys xs k j destroyed deep locked took was = let now = slot_after Write Write homes (some (half.Write h)) deep in omega arith
-  given_half Read Write h homes ys xs k j destroyed deep locked took was = let now = slot_after Read Write homes (some (half.Write h)) deep in omega arith
-  given_half Write Read h homes ys xs k j destroyed deep locked took was = let now = slot_after Write Read homes (some (half.Read h)) deep in omega arith
+  given_half : (e d : Dir) (h : Guarded R W d) (homes : List (Option (Half R W))) (c : Census) (ys : List Stake) (k j : ℕ) → length homes ≡ 2
+      → number (locks e) c ≡ bit (is_same e d) + count (locks e) ys → k ≡ j → IsInOnePlace e homes c j
+      → IsInOnePlace e (set homes (slot_of d) (some (half_of d h))) (record c { stakes = ys }) k
+  given_half Read Read h homes c ys k j deep locked took was =
+      let now = slot_after Read Read homes (some (half.Read h)) deep in omega arith
+  given_half Write Write h homes c ys k j deep locked took was =
+      let now = slot_after Write Write homes (some (half.Write h)) deep in omega arith
+  given_half Read Write h homes c ys k j deep locked took was =
+      let now = slot_after Read Write homes (some (half.Write h)) deep in omega arith
+  given_half Write Read h homes c ys k j deep locked took was =
+      let now = slot_after Write Read homes (some (half.Read h)) deep in omega arith
 
 pub same_count : (before now others p q : ℕ) → before ≡ p + others → now ≡ q + others → p ≡ 0 → q ≡ 0 → now ≡ before
 same_count before now others p q e f g h = omega arith
 
 module _ (R W : Type 0) where
   -- a step that moves no half keeps the rule
-  quiet_fits : (k : Kind) (a : After) (n m id : ℕ) (me : M R W) (s : St R W) → stepped_word n k ≡ Ok (m, a) → allows me.0.stake (op_of k) ≡ true → IsQuiet k a
+  quiet_fits : (k : Kind) (a : After) (n m id : ℕ) (me : M R W) (s : St R W) → stepped_word n k ≡ Ok (m, a)
+      → allows me.0.stake (op_of k) ≡ true → IsQuiet k a
       → Represents s → get_elem? s.views id ≡ some me.0 → get_or s.words 0 0 ≡ n
       → Represents (stepped s 0 m id me.1 (moved_view k a me.0) keeps)
   quiet_fits k a n m id me s is may quiet r at found =
       let f = fits s r in
-      let closed = r.census.closed in let destroyed = r.census.destroyed in let signals = r.census.signals in
-      let c : Census = census_of s.views closed destroyed signals in
+      let c : Census = present s r in
       let w : LocalView = moved_view k a me.0 in
       let views : List LocalView = set s.views id w in
       let one = one_changes s.views id me.0 w at in
-      let balance : Balance c n = subst (λ (x : ℕ). Balance c x) found f.balance in
-      let next : Balance (changed c (stakes_of views) (change_of k)) m = kept_balance c me.0.stake k a n m (stakes_of views) balance (record { at_least = counted_at s.views id me.0 at }) may is one in
+      let balance : IsBalanced c n = subst (λ (x : ℕ). IsBalanced c x) found f.balance in
+      let next : IsBalanced (changed c (stakes_of views) (change_of k)) m = stepped_keeps c me.0.stake k a n m (stakes_of views) balance may is one in
       let locked : (d : Dir) → count (locks d) (stakes_of views) ≡ count (locks d) (stakes_of s.views) =
       λ d. same_count _ _ _ _ _ (one.counted_before (locks d)) (one.counted_after (locks d)) (own_lockless me.0.stake k a d quiet may) (new_lockless k a d quiet) in
       let took : takers views + taken_by me.0 ≡ takers s.views + 0 = takers-set s.views id me.0 w at in
       let mine : taken_by me.0 ≤ part lasts me.0.stake = taken-le me.0 in
       let last : part lasts me.0.stake ≡ 0 = not_last me.0.stake k may in
       let takers_same : takers views ≡ takers s.views = omega arith in
-      represents (set s.words 0 m) s.homes views (saw_after k closed) destroyed signals m
-      (on_state s.words s.homes s.homes s.views closed (saw_after k closed) destroyed signals (get_or s.words 0 0) m id w f f.deep
+      let saw = f.seen id me.0 at in
+      represents (set s.words STATE m) s.homes views (record c { stakes = stakes_of views; closed = saw_after k c.closed }) m
+      (on_state s.words s.homes s.homes s.views c (saw_after k c.closed) (get_or s.words STATE 0) m id w f f.deep
       (flag_after k c (stakes_of views) m next)
-      (λ d. recounted d s.homes _ _ _ _ destroyed (locked d) takers_same (f.halves d))
-      (flag_grows k closed) (saw_so k me.0.saw_closed closed (f.closed_seen id me.0 at)) (f.done_seen id me.0 at))
+      (λ d. recounted d s.homes c (stakes_of views) _ _ (locked d) takers_same (f.halves d))
+      (flag_grows k c.closed) record { closed = saw_so k me.0.saw.closed c.closed saw.closed; done = saw.done })
 
   abbrev Kept : Kind → After → ℕ → ℕ → M R W → St R W → Type 0
-  Kept k a m id me s = (act : Act (H R W)) × Valid s.homes me.1 act × Represents (stepped s 0 m id me.1 (moved_view k a me.0) act) × Carries k a me.1 (carried_after me.1 act)
+  Kept k a m id me s =
+      (act : Act (H R W)) × Valid s.homes me.1 act × Represents (stepped s 0 m id me.1 (moved_view k a me.0) act) × Carries k a me.1 (carried_after me.1 act)
 
   -- a lock that is taken brings its half
-  takes_half : (d : Dir) (n m id : ℕ) (me : M R W) (s : St R W) → stepped_word n (kind.Lock d) ≡ Ok (m, after.Held) → me.0.stake ≡ stake.Free
-      → Represents s → get_elem? s.views id ≡ some me.0 → get_or s.words 0 0 ≡ n → Kept (kind.Lock d) after.Held m id me s
+  takes_half : (d : Dir) (n m id : ℕ) (me : M R W) (s : St R W) → stepped_word n (kind.Lock d) ≡ Ok (m, after.Held)
+      → me.0.stake ≡ stake.Free
+      → Represents s → get_elem? s.views id ≡ some me.0 → get_or s.words 0 0 ≡ n
+      → Kept (kind.Lock d) after.Held m id me s
   takes_half d n m id me s is free r at found =
       let f = fits s r in
-      let closed = r.census.closed in let destroyed = r.census.destroyed in let signals = r.census.signals in
-      let c : Census = census_of s.views closed destroyed signals in
+      let c : Census = present s r in
       let w : LocalView = moved_view (kind.Lock d) after.Held me.0 in
       let views : List LocalView = set s.views id w in
       let one = one_changes s.views id me.0 w at in
       let from_free = subst (λ (x : Stake). ChangesOneStake (stakes_of s.views) x (stakes_of views) (lock_stake d)) free one in
-      let balance : Balance c n = subst (λ (x : ℕ). Balance c x) found f.balance in
-      let next : Balance (record c { stakes = stakes_of views }) m = kept_balance c me.0.stake (kind.Lock d) after.Held n m (stakes_of views) balance (record { at_least = counted_at s.views id me.0 at }) (ap (λ (x : Stake). allows x (op.Lock d)) free) is one in
+      let balance : IsBalanced c n = subst (λ (x : ℕ). IsBalanced c x) found f.balance in
+      let next : IsBalanced (seated views c) m = stepped_keeps c me.0.stake (kind.Lock d) after.Held n m (stakes_of views) balance (ap (λ (x : Stake). allows x (op.Lock d)) free) is one in
       let locked : (e : Dir) → count (locks e) (stakes_of views) ≡ bit (is_same e d) + count (locks e) (stakes_of s.views) = λ e. one_more _ _ _ _ _ (from_free.counted_before (locks e)) (from_free.counted_after (locks e)) (lock_part e d) in
       let took : takers views + taken_by me.0 ≡ takers s.views + 0 = takers-set s.views id me.0 w at in
       let mine : taken_by me.0 ≤ part lasts me.0.stake = taken-le me.0 in
       let no_last : part lasts me.0.stake ≡ 0 = ap (part lasts) free in
       let takers_same : takers views ≡ takers s.views = omega arith in
-      let alone = locks_alone d (record c { stakes = stakes_of views }) m (count (locks d) (stakes_of s.views)) (takers views) next (locked d) (takers-le views) in
+      let alone = locks_alone d (seated views c) m (count (locks d) (stakes_of s.views)) (takers views) next (locked d) (takers-le views) in
       let was = f.halves d in let lock_free = alone.0 in let none_took = alone.1 in let not_destroyed = alone.2 in
       let home : half_home d (get_elem? s.homes (slot_of d)) ≡ 1 = omega arith in
       let there = has_half R W d (get_elem? s.homes (slot_of d)) home in (
         takes (slot_of d) (half_of d there.0),
         there.1,
-        represents (set s.words 0 m) (set s.homes (slot_of d) none) views closed destroyed signals m
-            (on_state s.words s.homes (set s.homes (slot_of d) none) s.views closed closed destroyed signals (get_or s.words 0 0) m id w f (length-set s.homes (slot_of d) none ∙ f.deep) next
-            (λ e. taken_half e d s.homes _ _ _ _ destroyed f.deep home (locked e) takers_same (f.halves e))
-            (λ e. e) (f.closed_seen id me.0 at) (f.done_seen id me.0 at)),
+        represents (set s.words STATE m) (set s.homes (slot_of d) none) views (seated views c) m
+            (on_state s.words s.homes (set s.homes (slot_of d) none) s.views c c.closed (get_or s.words STATE 0) m id w f (length-set s.homes (slot_of d) none ∙ f.deep) next
+            (λ e. taken_half e d s.homes c (stakes_of views) _ _ f.deep home (locked e) takers_same (f.halves e))
+            (λ e. e) (let saw = f.seen id me.0 at in record { closed = saw.closed; done = saw.done })),
         (there.0, refl),
       )
 
   -- a lock that is given back leaves its half
-  gives_half : (d : Dir) (n m id : ℕ) (a : After) (v : LocalView) (h : Guarded R W d) (s : St R W) → stepped_word n (kind.Unlock d) ≡ Ok (m, a) → v.stake ≡ lock_stake d
-      → Represents s → get_elem? s.views id ≡ some v → get_or s.words 0 0 ≡ n → Kept (kind.Unlock d) a m id (v, (slot_of d, half_of d h) ∷ []) s
+  gives_half : (d : Dir) (n m id : ℕ) (a : After) (v : LocalView) (h : Guarded R W d) (s : St R W)
+      → stepped_word n (kind.Unlock d) ≡ Ok (m, a) → v.stake ≡ lock_stake d
+      → Represents s → get_elem? s.views id ≡ some v → get_or s.words 0 0 ≡ n
+      → Kept (kind.Unlock d) a m id (v, (slot_of d, half_of d h) ∷ []) s
   gives_half d n m id a v h s is holds r at found =
       let f = fits s r in
-      let closed = r.census.closed in let destroyed = r.census.destroyed in let signals = r.census.signals in
-      let c : Census = census_of s.views closed destroyed signals in
+      let c : Census = present s r in
       let w : LocalView = moved_view (kind.Unlock d) a v in
       let views : List LocalView = set s.views id w in
       let one = one_changes s.views id v w at in
       let from_lock = subst (λ (x : Stake). ChangesOneStake (stakes_of s.views) x (stakes_of views) (gained (kind.Unlock d) a).1) holds one in
-      let balance : Balance c n = subst (λ (x : ℕ). Balance c x) found f.balance in
-      let next : Balance (record c { stakes = stakes_of views }) m = kept_balance c v.stake (kind.Unlock d) a n m (stakes_of views) balance (record { at_least = counted_at s.views id v at }) (ap (λ (x : Stake). allows x (op.Unlock d)) holds ∙ holder_may d) is one in
+      let balance : IsBalanced c n = subst (λ (x : ℕ). IsBalanced c x) found f.balance in
+      let next : IsBalanced (seated views c) m = stepped_keeps c v.stake (kind.Unlock d) a n m (stakes_of views) balance (ap (λ (x : Stake). allows x (op.Unlock d)) holds ∙ holder_may d) is one in
       let locked : (e : Dir) → count (locks e) (stakes_of s.views) ≡ bit (is_same e d) + count (locks e) (stakes_of views) = λ e. one_less _ _ _ _ _ _ (from_lock.counted_before (locks e)) (from_lock.counted_after (locks e)) (lock_part e d) (unlocked d a e) in
       let took : takers views + taken_by v ≡ takers s.views + 0 = takers-set s.views id v w at in
       let mine : taken_by v ≤ part lasts v.stake = taken-le v in
@@ -314,29 +285,37 @@ module _ (R W : Type 0) where
       let x : Option (H R W) = some (half_of d h) in (
         gives,
         tt,
-        represents (set s.words 0 m) (set s.homes (slot_of d) x) views closed destroyed signals m
-            (on_state s.words s.homes (set s.homes (slot_of d) x) s.views closed closed destroyed signals (get_or s.words 0 0) m id w f (length-set s.homes (slot_of d) x ∙ f.deep) next
-            (λ e. given_half e d h s.homes _ _ _ _ destroyed f.deep (locked e) takers_same (f.halves e))
-            (λ e. e) (f.closed_seen id v at) (f.done_seen id v at)),
+        represents (set s.words STATE m) (set s.homes (slot_of d) x) views (seated views c) m
+            (on_state s.words s.homes (set s.homes (slot_of d) x) s.views c c.closed (get_or s.words STATE 0) m id w f (length-set s.homes (slot_of d) x ∙ f.deep) next
+            (λ e. given_half e d h s.homes c (stakes_of views) _ _ f.deep (locked e) takers_same (f.halves e))
+            (λ e. e) (let saw = f.seen id v at in record { closed = saw.closed; done = saw.done })),
         refl,
       )
 
   -- every step that the stake allows, with the slots that it needs, keeps the rule
-  kept : (k : Kind) (a : After) (n m id : ℕ) (me : M R W) (s : St R W) → stepped_word n k ≡ Ok (m, a) → allows me.0.stake (op_of k) ≡ true → HasSlots k me.1
+  kept : (k : Kind) (a : After) (n m id : ℕ) (me : M R W) (s : St R W) → stepped_word n k ≡ Ok (m, a)
+      → allows me.0.stake (op_of k) ≡ true → HasSlots k me.1
       → Represents s → get_elem? s.views id ≡ some me.0 → get_or s.words 0 0 ≡ n → Kept k a m id me s
-  kept kind.Incref a n m id me s is may slots r at found = (keeps, tt, quiet_fits kind.Incref a n m id me s is may tt r at found, refl)
-  kept kind.Decref a n m id me s is may slots r at found = (keeps, tt, quiet_fits kind.Decref a n m id me s is may tt r at found, refl)
-  kept kind.Close a n m id me s is may slots r at found = (keeps, tt, quiet_fits kind.Close a n m id me s is may tt r at found, refl)
-  kept (kind.Lock d) after.Queued n m id me s is may slots r at found = (keeps, tt, quiet_fits (kind.Lock d) after.Queued n m id me s is may tt r at found, refl)
-  kept (kind.Lock d) after.Held n m id me s is may slots r at found = takes_half d n m id me s is (is_free me.0.stake d may) r at found
-  kept (kind.Lock d) a n m id me s is may slots r at found = absurd (possible n m (kind.Lock d) a is)
+  kept kind.Incref a n m id me s is may slots r at found =
+      (keeps, tt, quiet_fits kind.Incref a n m id me s is may tt r at found, refl)
+  kept kind.Decref a n m id me s is may slots r at found =
+      (keeps, tt, quiet_fits kind.Decref a n m id me s is may tt r at found, refl)
+  kept kind.Close a n m id me s is may slots r at found =
+      (keeps, tt, quiet_fits kind.Close a n m id me s is may tt r at found, refl)
+  kept (kind.Lock d) after.Queued n m id me s is may slots r at found =
+      (keeps, tt, quiet_fits (kind.Lock d) after.Queued n m id me s is may tt r at found, refl)
+  kept (kind.Lock d) after.Held n m id me s is may slots r at found =
+      takes_half d n m id me s is (is_free me.0.stake d may) r at found
+  kept (kind.Lock d) a n m id me s is may slots r at found = absurd (possible n m (kind.Lock d) a is).1.shows
   kept (kind.Unlock d) a n m id me s is may slots r at found =
       subst (λ (l : List (ℕ × H R W)). Kept (kind.Unlock d) a m id (me.0, l) s) (sym slots.1) (gives_half d n m id a me.0 slots.0 s is (is_holder me.0.stake d may) r at found)
 
   abbrev MovesAs : ℕ → ℕ → ℕ → ℕ → M R W → Kind → Type 0
-  MovesAs slots id n m me k = Allows Represents slots id me 0 (λ x. either (eqb x n) m x) (steps.moved k (step slots 0 n m none) me)
+  MovesAs slots id n m me k =
+      Allows Represents slots id me 0 (λ x. either (eqb x n) m x) (steps.moved k (step slots 0 n m none) me)
 
-  pub moves : (slots id n m : ℕ) (me : M R W) (k j : Kind) (a : After) → k ≡ j → stepped_word n k ≡ Ok (m, a) → allows me.0.stake (op_of k) ≡ true → HasSlots k me.1
+  pub moves : (slots id n m : ℕ) (me : M R W) (k j : Kind) (a : After) → k ≡ j → stepped_word n k ≡ Ok (m, a)
+      → allows me.0.stake (op_of k) ≡ true → HasSlots k me.1
       → Allows Represents slots id me 0 (λ x. either (eqb x n) m x) (steps.moved j (step slots 0 n m none) me)
   moves slots id n m me k j a same_kind is may has =
       subst (λ (z : Kind). MovesAs slots id n m me z) same_kind

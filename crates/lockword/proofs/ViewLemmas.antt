@@ -10,49 +10,54 @@ use Rattle.lockword_core.specs.declared.stake.Stake.{Stake}
 use Rattle.lockword_core.specs.declared.stake.Stake.TheVariants as stake
 use Rattle.lockword_core.specs.LockState.{Counted, lasts, part, count}
 use Rattle.lockword_core.specs.LockInvariant.{ChangesOneStake}
-use Rattle.lockword_core.proofs.CountLemmas.{count-nil, count-push, changes-set, totals, totals_by}
+use Rattle.lockword_core.proofs.CountLemmas.{count-nil, changes-set}
 use Rattle.lockword.specs.declared.local_view.LocalView.{LocalView}
 use Rattle.lockword.specs.LocalView.{stakes_of, taken_by, takers}
 
-at_there : {A : Type 0} (xs : List A) (i : ℕ) (x : A) → get_elem? xs i ≡ some x → (i < length xs) × ((d : A) → get_or xs i d ≡ x)
+at_there : {A : Type 0} (xs : List A) (i : ℕ) (x : A) → get_elem? xs i ≡ some x
+    → (i < length xs) × ((d : A) → get_or xs i d ≡ x)
 at_there [] i x e = absurd (some-ne-none x (sym e))
 at_there (y ∷ ys) zero x e = (omega arith, λ d. some-injective y x e)
 at_there (y ∷ ys) (suc i) x e = let r = at_there ys i x e in let h : i < length ys = r.0 in (omega arith, r.1)
 
 -- ---- Stakes
 
-stakes-set : (views : List LocalView) (i : ℕ) (w : LocalView) → stakes_of (set views i w) ≡ set (stakes_of views) i w.stake
+stakes-set : (views : List LocalView) (i : ℕ) (w : LocalView)
+    → stakes_of (set views i w) ≡ set (stakes_of views) i w.stake
 stakes-set views i w = map-set (λ (v : LocalView). v.stake) views i w
 
-stake_at : (views : List LocalView) (i : ℕ) (v : LocalView) → get_elem? views i ≡ some v → get_elem? (stakes_of views) i ≡ some v.stake
+stake_at : (views : List LocalView) (i : ℕ) (v : LocalView) → get_elem? views i ≡ some v
+    → get_elem? (stakes_of views) i ≡ some v.stake
 stake_at views i v at = at_map (λ (x : LocalView). x.stake) views i v at
 
 -- the change of one seat's view is the change of one stake
-pub one_changes : (views : List LocalView) (i : ℕ) (v w : LocalView) → get_elem? views i ≡ some v → ChangesOneStake (stakes_of views) v.stake (stakes_of (set views i w)) w.stake
+pub one_changes : (views : List LocalView) (i : ℕ) (v w : LocalView) → get_elem? views i ≡ some v
+    → ChangesOneStake (stakes_of views) v.stake (stakes_of (set views i w)) w.stake
 one_changes views i v w at =
     let there = at_there (stakes_of views) i v.stake (stake_at views i v at) in
     subst (λ (ys : List Stake). ChangesOneStake (stakes_of views) v.stake ys w.stake) (sym (stakes-set views i w))
     (subst (λ (x : Stake). ChangesOneStake (stakes_of views) x (set (stakes_of views) i w.stake) w.stake) (there.1 w.stake) (changes-set (stakes_of views) i w.stake there.0))
 
 -- each count has at least the part of each seat
-pub counted_at : (views : List LocalView) (i : ℕ) (v : LocalView) → get_elem? views i ≡ some v → (what : Counted) → part what v.stake ≤ count what (stakes_of views)
+pub counted_at : (views : List LocalView) (i : ℕ) (v : LocalView) → get_elem? views i ≡ some v → (what : Counted)
+    → part what v.stake ≤ count what (stakes_of views)
 counted_at views i v at what = let before = (one_changes views i v v at).counted_before what in omega arith
 
 -- a view with the same stake changes no stake
-pub same_stakes : (views : List LocalView) (i : ℕ) (v w : LocalView) → get_elem? views i ≡ some v → w.stake ≡ v.stake → stakes_of (set views i w) ≡ stakes_of views
-same_stakes views i v w at e = stakes-set views i w ∙ ap (set (stakes_of views) i) e ∙ set_again (stakes_of views) i v.stake (stake_at views i v at)
+pub same_stakes : (views : List LocalView) (i : ℕ) (v w : LocalView) → get_elem? views i ≡ some v → w.stake ≡ v.stake
+    → stakes_of (set views i w) ≡ stakes_of views
+same_stakes views i v w at e =
+    stakes-set views i w ∙ ap (set (stakes_of views) i) e ∙ set_again (stakes_of views) i v.stake (stake_at views i v at)
 
-pub stakes_push : (views : List LocalView) (w : LocalView) → stakes_of (views ++ w ∷ []) ≡ stakes_of views ++ w.stake ∷ []
+pub stakes_push : (views : List LocalView) (w : LocalView)
+    → stakes_of (views ++ w ∷ []) ≡ stakes_of views ++ w.stake ∷ []
 stakes_push [] w = refl
 stakes_push (v ∷ vs) w = ap (λ (ys : List Stake). v.stake ∷ ys) (stakes_push vs w)
 
--- a seat without a stake counts nothing
-pub totals_push : (stakes : List Stake) → totals (stakes ++ stake.Free ∷ []) ≡ totals stakes
-totals_push stakes = λ i. totals_by (λ (what : Counted). count-push what stakes i)
-
 -- ---- Takers
 
-pub takers-set : (views : List LocalView) (i : ℕ) (v w : LocalView) → get_elem? views i ≡ some v → takers (set views i w) + taken_by v ≡ takers views + taken_by w
+pub takers-set : (views : List LocalView) (i : ℕ) (v w : LocalView) → get_elem? views i ≡ some v
+    → takers (set views i w) + taken_by v ≡ takers views + taken_by w
 unfolding takers
 takers-set views i v w at =
     let there = at_there views i v at in

@@ -10,21 +10,21 @@ use Rattle.stream_base.specs.declared.direction.Dir.TheVariants.{Read, Write}
 use Rattle.lockword_core.specs.declared.stake.Stake.{Stake}
 use Rattle.lockword_core.specs.declared.stake.Stake.TheVariants as stake
 use Rattle.lockword_core.specs.declared.stake.Op.TheVariants as op
-use Rattle.lockword_core.specs.declared.signals.Signals.{Signals}
 use Rattle.lockword_core.specs.declared.signals.TheConstants.{MAX_SIGNALS}
 use Rattle.lockword_core.specs.Signals.{signals_in, with_signals}
-use Rattle.lockword_core.specs.LockState.{locks, lasts, part, count, owed_part}
+use Rattle.lockword_core.specs.LockState.{Census, locks, lasts, part, count, owed_part}
+use Rattle.lockword_core.specs.LockInvariant.{ChangesOneStake}
 use Rattle.lockword_core.specs.Transition.{allows, stake_after_signal}
-use Rattle.lockword_core.proofs.CountLemmas.{Totals, parts, Shifts, shifts}
 use Rattle.lockword_core.proofs.BalanceLemmas as laws
 use Rattle.lockword_core.proofs.BalanceLemmas.{IsBalanced}
 use Rattle.lockword.specs.declared.local_view.LocalView.{LocalView}
+use Rattle.lockword.specs.declared.shared_rule.TheConstants.{STATE}
 use Rattle.lockword.specs.LocalView.{stakes_of, taken_by, takers}
 use Rattle.lockword.specs.Directions.{semaphore}
 use Rattle.lockword.specs.SharedInvariant.{Represents}
 use Rattle.lockword.specs.Steps.{way_of, signalled_view, counted, signalled}
 use Rattle.lockword.proofs.ViewLemmas.{one_changes, takers-set, taken-le}
-use Rattle.lockword.proofs.Representation.{fits, recounted, represents, on_signals}
+use Rattle.lockword.proofs.Representation.{present, fits, recounted, represents, on_signals}
 use Rattle.lockword.proofs.StateSteps.{same_count}
 use Rattle.lockword.proofs.Exchanges.{M, swaps, unmoved}
 
@@ -33,8 +33,9 @@ pub record IsRung (d : Dir) (n m : ℕ) (own new : Stake) : Type 0 where
   own_lockless : (e : Dir) → part (locks e) own ≡ 0
   new_lockless : (e : Dir) → part (locks e) new ≡ 0
   not_last : part lasts own ≡ 0
-  balances : (t u : Totals) (closed destroyed : ℕ) (signals : Signals) (word : ℕ) → IsBalanced t closed destroyed signals word → Shifts t u (parts own) (parts new) → signals_in d signals ≡ n
-      → IsBalanced u closed destroyed (with_signals d m signals) word
+  balances : (c : Census) (ys : List Stake) (word : ℕ) → IsBalanced c word → ChangesOneStake c.stakes own ys new
+      → signals_in d c.signals ≡ n
+      → IsBalanced (record c { stakes = ys; signals = with_signals d m c.signals }) word
 
 some_owed : (k : ℕ) → nat_lt 0 k ≡ true → 0 < k
 some_owed k e = grind (arith, nat_tests)
@@ -68,9 +69,11 @@ closer_lockless : (d e : Dir) (r w : ℕ) → part (locks e) (stake_after_signal
 closer_lockless Read e r w = refl
 closer_lockless Write e r w = refl
 
-with_count : (d : Dir) (u : Totals) (closed destroyed : ℕ) (signals : Signals) (word n : ℕ) (change : ℕ → ℕ) → signals_in d signals ≡ n
-    → IsBalanced u closed destroyed (with_signals d (change (signals_in d signals)) signals) word → IsBalanced u closed destroyed (with_signals d (change n) signals) word
-with_count d u closed destroyed signals word n change e b = subst (λ (x : ℕ). IsBalanced u closed destroyed (with_signals d (change x) signals) word) e b
+with_count : (d : Dir) (c : Census) (ys : List Stake) (word n : ℕ) (change : ℕ → ℕ) → signals_in d c.signals ≡ n
+    → IsBalanced (record c { stakes = ys; signals = with_signals d (change (signals_in d c.signals)) c.signals }) word
+    → IsBalanced (record c { stakes = ys; signals = with_signals d (change n) c.signals }) word
+with_count d c ys word n change e b =
+    subst (λ (x : ℕ). IsBalanced (record c { stakes = ys; signals = with_signals d (change x) c.signals }) word) e b
 
 gives_owed : (d : Dir) (n : ℕ) → n ≢ MAX_SIGNALS → IsRung d n (n + 1) (stake.Owes d) stake.Free
 gives_owed d n room =
@@ -78,17 +81,19 @@ gives_owed d n room =
       own_lockless = λ e. refl;
       new_lockless = λ e. refl;
       not_last = refl;
-      balances = λ t u closed destroyed signals word b s e. with_count d u closed destroyed signals word n (λ x. x + 1) e (laws.signal_keeps d t u closed destroyed signals word b s (λ full. room (sym e ∙ full)));
+      balances = λ c ys word b one e. with_count d c ys word n (λ x. x + 1) e (laws.signal_keeps c ys word b d one (λ full. room (sym e ∙ full)));
     }
 
-pub gives_signal : (d : Dir) (n : ℕ) (own : Stake) → allows own (op.Signal d) ≡ true → n ≢ MAX_SIGNALS → IsRung d n (n + 1) own (stake_after_signal d own)
-gives_signal d n (stake.Owes e) may room = subst (λ (z : Stake × Stake). IsRung d n (n + 1) z.0 z.1) (λ i. (stake.Owes (sym (owes_that_way d e may) i), sym (owed_is_given d e) i)) (gives_owed d n room)
+pub gives_signal : (d : Dir) (n : ℕ) (own : Stake) → allows own (op.Signal d) ≡ true → n ≢ MAX_SIGNALS
+    → IsRung d n (n + 1) own (stake_after_signal d own)
+gives_signal d n (stake.Owes e) may room =
+    subst (λ (z : Stake × Stake). IsRung d n (n + 1) z.0 z.1) (λ i. (stake.Owes (sym (owes_that_way d e may) i), sym (owed_is_given d e) i)) (gives_owed d n room)
 gives_signal d n (stake.Closing r w) may room =
     record {
       own_lockless = λ e. refl;
       new_lockless = λ e. closer_lockless d e r w;
       not_last = refl;
-      balances = λ t u closed destroyed signals word b s e. with_count d u closed destroyed signals word n (λ x. x + 1) e (laws.pay_keeps d t u r w closed destroyed signals word b s (closer_owes d r w may) (λ full. room (sym e ∙ full)));
+      balances = λ c ys word b one e. with_count d c ys word n (λ x. x + 1) e (laws.pay_keeps c ys word b d r w one (closer_owes d r w may) (λ full. room (sym e ∙ full)));
     }
 gives_signal d n _ may room = absurd (cc)
 
@@ -98,28 +103,34 @@ takes_waited d n more =
       own_lockless = λ e. refl;
       new_lockless = λ e. refl;
       not_last = refl;
-      balances = λ t u closed destroyed signals word b s e. with_count d u closed destroyed signals word n (λ x. x - 1) e (laws.wake_keeps d t u closed destroyed signals word b s (λ none. more (sym e ∙ none)));
+      balances = λ c ys word b one e. with_count d c ys word n (λ x. x - 1) e (laws.wake_keeps c ys word b d one (λ none. more (sym e ∙ none)));
     }
 
-pub takes_signal : (d : Dir) (n : ℕ) (own : Stake) → allows own (op.Wake d) ≡ true → n ≢ 0 → IsRung d n (n - 1) own (stake_after_signal d own)
-takes_signal d n (stake.Waits e) may more = subst (λ (z : Stake × Stake). IsRung d n (n - 1) z.0 z.1) (λ i. (stake.Waits (sym (waits_that_way d e may) i), sym (wait_is_over d e) i)) (takes_waited d n more)
+pub takes_signal : (d : Dir) (n : ℕ) (own : Stake) → allows own (op.Wake d) ≡ true → n ≢ 0
+    → IsRung d n (n - 1) own (stake_after_signal d own)
+takes_signal d n (stake.Waits e) may more =
+    subst (λ (z : Stake × Stake). IsRung d n (n - 1) z.0 z.1) (λ i. (stake.Waits (sym (waits_that_way d e may) i), sym (wait_is_over d e) i)) (takes_waited d n more)
 takes_signal d n _ may more = absurd (cc)
 
 -- a semaphore with room
-pub gives_one : (d : Dir) (n m : ℕ) (own : Stake) → allows own (op.Signal d) ≡ true → n < MAX_SIGNALS → m ≡ n + 1 → IsRung d n m own (stake_after_signal d own)
-gives_one d n m own may room more = subst (λ (x : ℕ). IsRung d n x own (stake_after_signal d own)) (sym more) (gives_signal d n own may (λ full. absurd (omega arith)))
+pub gives_one : (d : Dir) (n m : ℕ) (own : Stake) → allows own (op.Signal d) ≡ true → n < MAX_SIGNALS → m ≡ n + 1
+    → IsRung d n m own (stake_after_signal d own)
+gives_one d n m own may room more =
+    subst (λ (x : ℕ). IsRung d n x own (stake_after_signal d own)) (sym more) (gives_signal d n own may (λ full. absurd (omega arith)))
 
 -- a semaphore with a signal
-pub takes_one : (d : Dir) (n m : ℕ) (own : Stake) → allows own (op.Wake d) ≡ true → 0 < n → m ≡ n - 1 → IsRung d n m own (stake_after_signal d own)
-takes_one d n m own may any less = subst (λ (x : ℕ). IsRung d n x own (stake_after_signal d own)) (sym less) (takes_signal d n own may (λ none. absurd (omega arith)))
+pub takes_one : (d : Dir) (n m : ℕ) (own : Stake) → allows own (op.Wake d) ≡ true → 0 < n → m ≡ n - 1
+    → IsRung d n m own (stake_after_signal d own)
+takes_one d n m own may any less =
+    subst (λ (x : ℕ). IsRung d n x own (stake_after_signal d own)) (sym less) (takes_signal d n own may (λ none. absurd (omega arith)))
 
 way_back : (d : Dir) → way_of (semaphore d) ≡ d
 way_back Read = refl
 way_back Write = refl
 
-few_signals : (d : Dir) (t : Totals) (closed destroyed : ℕ) (signals : Signals) (word : ℕ) → IsBalanced t closed destroyed signals word → signals_in d signals ≤ MAX_SIGNALS
-few_signals Read t closed destroyed signals word b = b.read_signals_fit
-few_signals Write t closed destroyed signals word b = b.write_signals_fit
+few_signals : (d : Dir) (c : Census) (word : ℕ) → IsBalanced c word → signals_in d c.signals ≤ MAX_SIGNALS
+few_signals Read c word b = b.reading.signals_fit
+few_signals Write c word b = b.writing.signals_fit
 
 module _ (R W : Type 0) where
   -- an exchange of a semaphore, by which a seat's stake changes, keeps the rule
@@ -129,11 +140,11 @@ module _ (R W : Type 0) where
       swaps R W slots id (semaphore d) n m me (λ me'. me' ≡ (signalled_view (way_of (semaphore d)) me.0, me.1))
       (λ s r at found.
       let f = fits s r in
-      let closed = r.census.closed in let destroyed = r.census.destroyed in let signals = r.census.signals in
+      let c : Census = present s r in
       let w : LocalView = signalled_view d me.0 in
       let views : List LocalView = set s.views id w in
       let one = one_changes s.views id me.0 w at in
-      let here : signals_in d signals ≡ n = sym (f.semaphores d) ∙ found in
+      let here : signals_in d c.signals ≡ n = sym (f.semaphores d) ∙ found in
       let locked : (e : Dir) → count (locks e) (stakes_of views) ≡ count (locks e) (stakes_of s.views) = λ e. same_count _ _ _ _ _ (one.counted_before (locks e)) (one.counted_after (locks e)) (rung.own_lockless e) (rung.new_lockless e) in
       let took : takers views + taken_by me.0 ≡ takers s.views + 0 = takers-set s.views id me.0 w at in
       let mine : taken_by me.0 ≤ part lasts me.0.stake = taken-le me.0 in
@@ -142,23 +153,29 @@ module _ (R W : Type 0) where
         w,
         keeps,
         tt,
-        represents (set s.words (semaphore d) m) s.homes views closed destroyed (with_signals d m signals) (get_or s.words 0 0)
-            (on_signals d s.words s.homes s.views closed destroyed signals (get_or s.words 0 0) m id w f
-            (rung.balances _ _ _ _ _ _ f.balance (shifts _ _ _ _ one) here)
-            (λ e. recounted e s.homes _ _ _ _ destroyed (locked e) takers_same (f.halves e))
-            (f.closed_seen id me.0 at) (f.done_seen id me.0 at)),
+        represents (set s.words (semaphore d) m) s.homes views (record c { stakes = stakes_of views; signals = with_signals d m c.signals }) (get_or s.words STATE 0)
+            (on_signals d s.words s.homes s.views c (get_or s.words STATE 0) m id w f
+            (rung.balances c (stakes_of views) _ f.balance one here)
+            (λ e. recounted e s.homes c (stakes_of views) _ _ (locked e) takers_same (f.halves e))
+            (let saw = f.seen id me.0 at in record { closed = saw.closed; done = saw.done })),
         ap (λ (x : Dir). (signalled_view x me.0, me.1)) (sym (way_back d)),
       ))
 
   -- a load of a semaphore
-  counts_there : (d : Dir) (slots id : ℕ) (me : M R W) → Allows Represents slots id me (semaphore d) (λ n. n) (counted (step slots (semaphore d) 0 0 none) me)
+  counts_there : (d : Dir) (slots id : ℕ) (me : M R W)
+      → Allows Represents slots id me (semaphore d) (λ n. n) (counted (step slots (semaphore d) 0 0 none) me)
   counts_there d slots id me s r deep at small =
-      let few = few_signals d _ _ _ _ _ (fits s r).balance in
+      let few = few_signals d (present s r) _ (fits s r).balance in
       let here = (fits s r).semaphores d in
       (me.0, keeps, tt, unmoved R W s (semaphore d) id me.0 r at, (omega arith, refl))
 
-  pub rings : (d : Dir) (slots id i n m : ℕ) (me : M R W) → i ≡ semaphore d → IsRung d n m me.0.stake (stake_after_signal d me.0.stake) → Allows Represents slots id me i (λ x. either (eqb x n) m x) (signalled (step slots i n m none) me)
-  rings d slots id i n m me e rung = subst (λ (j : ℕ). Allows Represents slots id me j (λ x. either (eqb x n) m x) (signalled (step slots j n m none) me)) (sym e) (rings_there d slots id n m me rung)
+  pub rings : (d : Dir) (slots id i n m : ℕ) (me : M R W) → i ≡ semaphore d
+      → IsRung d n m me.0.stake (stake_after_signal d me.0.stake)
+      → Allows Represents slots id me i (λ x. either (eqb x n) m x) (signalled (step slots i n m none) me)
+  rings d slots id i n m me e rung =
+      subst (λ (j : ℕ). Allows Represents slots id me j (λ x. either (eqb x n) m x) (signalled (step slots j n m none) me)) (sym e) (rings_there d slots id n m me rung)
 
-  pub counts : (d : Dir) (slots id i : ℕ) (me : M R W) → i ≡ semaphore d → Allows Represents slots id me i (λ n. n) (counted (step slots i 0 0 none) me)
-  counts d slots id i me e = subst (λ (j : ℕ). Allows Represents slots id me j (λ n. n) (counted (step slots j 0 0 none) me)) (sym e) (counts_there d slots id me)
+  pub counts : (d : Dir) (slots id i : ℕ) (me : M R W) → i ≡ semaphore d
+      → Allows Represents slots id me i (λ n. n) (counted (step slots i 0 0 none) me)
+  counts d slots id i me e =
+      subst (λ (j : ℕ). Allows Represents slots id me j (λ n. n) (counted (step slots j 0 0 none) me)) (sym e) (counts_there d slots id me)

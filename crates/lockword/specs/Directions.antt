@@ -1,5 +1,5 @@
 -- The semaphore, the slot and the half of a direction.
-use Rattle.std.specs.Prelude.{ℕ}
+use Rattle.std.specs.Prelude.{◌≡◌, ℕ}
 use mathlib.Core.Option.{Option, some}
 use Rattle.stream_base.specs.declared.direction.Dir.{Dir}
 use Rattle.stream_base.specs.declared.direction.Dir.TheVariants.{Read, Write}
@@ -27,6 +27,10 @@ module _ {R W : Type 0} where
   abbrev pub half_of : (d : Dir) → Guarded R W d → Half R W
   half_of Read r = half.Read r
   half_of Write w = half.Write w
+
+  -- a slot's content is the half of the direction
+  abbrev pub IsHalf : Dir → Half R W → Type 0
+  IsHalf d x = (h : Guarded R W d) × (x ≡ half_of d h)
 
   -- 1 where a slot is at home with the half of the direction in it
   abbrev pub half_home : Dir → Option (Option (Half R W)) → ℕ

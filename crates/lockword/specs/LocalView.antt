@@ -7,11 +7,12 @@ use Rattle.lockword.specs.declared.local_view.LocalView.{LocalView}
 
 -- the first seat has nothing, and has seen nothing
 abbrev pub newcomer : LocalView
-newcomer = record { stake = stake.Free; took = false; saw_closed = false; saw_done = false }
+newcomer =
+    record { stake = stake.Free; took = false; saw = record { closed = false; done = false } }
 
 -- a seat that has nothing, and has seen what another has
 abbrev pub without_stake : LocalView → LocalView
-without_stake v = record { stake = stake.Free; took = false; saw_closed = v.saw_closed; saw_done = v.saw_done }
+without_stake v = record { stake = stake.Free; took = false; saw = v.saw }
 
 -- the stakes of all seats
 abbrev pub stakes_of : List LocalView → List Stake

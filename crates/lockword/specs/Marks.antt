@@ -3,9 +3,13 @@ use Rattle.std.specs.Prelude.{◌≡◌, ◌⊎◌, Bool, true, false}
 use Rattle.atomic_table.specs.declared.shared.Seat as table
 use Rattle.atomic_table.specs.Seated.{TableId}
 use Rattle.stream_base.specs.declared.direction.Dir.{Dir}
+use Rattle.lockword_core.specs.declared.transition.Kind.{Kind}
+use Rattle.lockword_core.specs.declared.transition.Kind.TheVariants as kind
+use Rattle.lockword_core.specs.declared.transition.After.{After}
+use Rattle.lockword_core.specs.declared.transition.After.TheVariants as after
 use Rattle.lockword_core.specs.declared.word.Word.{Word}
 use Rattle.lockword_core.specs.declared.word.TheConstants.{MAX_REFERENCES, MAX_WAITERS}
-use Rattle.lockword_core.specs.WordStep.{lock_of, waiters_of}
+use Rattle.lockword_core.specs.FieldStep.{lock_of, waiters_of}
 use Rattle.lockword.specs.declared.local_view.LocalView.{LocalView}
 use Rattle.lockword.specs.declared.shared_rule.Half.{Half}
 
@@ -24,23 +28,33 @@ module _ {R W : Type 0} where
 
   -- whether the seat saw the closed flag
   abbrev pub saw_closed : Place R W → Bool
-  saw_closed p = p.me.0.saw_closed
+  saw_closed p = p.me.0.saw.closed
 
   -- whether the seat saw the mark
   abbrev pub saw_done : Place R W → Bool
-  saw_done p = p.me.0.saw_done
+  saw_done p = p.me.0.saw.done
 
   -- the same word and the same marks
   abbrev pub SameMarks : Place R W → Place R W → Type 0
-  SameMarks p q = (word_of q ≡ word_of p) × (saw_closed q ≡ saw_closed p) × (saw_done q ≡ saw_done p)
+  SameMarks p q =
+      (word_of q ≡ word_of p) × (saw_closed q ≡ saw_closed p) × (saw_done q ≡ saw_done p)
 
   -- the same word, and saw closed is not taken back
   abbrev pub Later : Place R W → Place R W → Type 0
-  Later p q = (word_of q ≡ word_of p) × (saw_closed p ≡ true → saw_closed q ≡ true) × (saw_done q ≡ saw_done p)
+  Later p q =
+      (word_of q ≡ word_of p) × (saw_closed p ≡ true → saw_closed q ≡ true) × (saw_done q ≡ saw_done p)
 
   -- the same word, and now the seat has seen it closed
   abbrev pub NowClosed : Place R W → Place R W → Type 0
   NowClosed p q = (word_of q ≡ word_of p) × (saw_closed q ≡ true) × (saw_done q ≡ saw_done p)
+
+  -- whether a `Last` has taken the halves
+  abbrev pub HasTaken : Place R W → Type 0
+  HasTaken p = p.me.0.took ≡ true
+
+  -- a `Last` has not yet taken the halves
+  abbrev pub HasNotTaken : Place R W → Type 0
+  HasNotTaken p = p.me.0.took ≡ false
 
   -- the seat has not seen the word closed
   abbrev pub IsOpen : Place R W → Type 0
@@ -48,4 +62,37 @@ module _ {R W : Type 0} where
 
 -- nobody has the lock and the references are at their limit, or somebody has it and its waiters are
 abbrev pub IsFullWay : Dir → Word → Type 0
-IsFullWay d w = ((lock_of d w ≡ false) × (w.refs ≡ MAX_REFERENCES)) ⊎ ((lock_of d w ≡ true) × (waiters_of d w ≡ MAX_WAITERS))
+IsFullWay d w =
+    ((lock_of d w ≡ false) × (w.refs ≡ MAX_REFERENCES)) ⊎ ((lock_of d w ≡ true) × (waiters_of d w ≡ MAX_WAITERS))
+
+-- a reference, or the lock of the direction, is at its limit
+abbrev pub IsFull : Kind → Word → Type 0
+IsFull kind.Incref w = w.refs ≡ MAX_REFERENCES
+IsFull kind.Close w = w.refs ≡ MAX_REFERENCES
+IsFull (kind.Lock d) w = IsFullWay d w
+IsFull _ w = ⊥
+
+module _ {R W : Type 0} where
+  -- the marks once a step of this kind came to this: what takes was found open, and the last return
+  -- was found closed
+  abbrev pub Marked : Kind → After → Place R W → Place R W → Type 0
+  Marked kind.Incref after.Held p q = SameMarks p q × IsOpen p
+  Marked kind.Decref after.Kept p q = Later p q
+  Marked kind.Close (after.Closing r w) p q = NowClosed p q × IsOpen p
+  Marked (kind.Lock d) after.Held p q = SameMarks p q × IsOpen p
+  Marked (kind.Lock d) after.Queued p q = SameMarks p q × IsOpen p
+  Marked (kind.Unlock d) after.Owes p q = SameMarks p q × IsOpen p
+  Marked (kind.Unlock d) after.Kept p q = Later p q
+  Marked kind.Decref after.Last p q = NowClosed p q × HasNotTaken q
+  Marked (kind.Unlock d) after.Last p q = NowClosed p q × HasNotTaken q
+  Marked _ _ p q = ⊥
+
+  -- the marks once the exchange of a step was lost
+  abbrev pub LostMarks : Kind → Place R W → Place R W → Type 0
+  LostMarks kind.Decref p q = Later p q
+  LostMarks (kind.Unlock d) p q = Later p q
+  LostMarks _ p q = SameMarks p q × IsOpen p
+
+  -- the marks once a step was refused by this word, which is not closed and is at a limit
+  abbrev pub FullMarks : Kind → Place R W → Place R W → Word → Type 0
+  FullMarks k p q w = SameMarks p q × IsOpen p × (w.closed ≡ false) × IsFull k w

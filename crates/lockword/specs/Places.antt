@@ -2,14 +2,13 @@
 use Rattle.std.specs.Prelude.{ℕ}
 use Rattle.stream_base.specs.declared.direction.Dir.{Dir}
 use Rattle.lockword_core.specs.LockState.{owed_part}
+use Rattle.lockword.specs.declared.directions.Direction.{Ghosts}
 use Rattle.lockword.specs.declared.holders.Seat.{Seat}
 use Rattle.lockword.specs.declared.holders.Ref.{Ref}
 use Rattle.lockword.specs.declared.holders.Closing.{Closing}
 use Rattle.lockword.specs.declared.holders.Last.{Last}
-use Rattle.lockword.specs.declared.holders.ReadLock.{ReadLock}
-use Rattle.lockword.specs.declared.holders.WriteLock.{WriteLock}
-use Rattle.lockword.specs.declared.holders.ReadWait.{ReadWait}
-use Rattle.lockword.specs.declared.holders.WriteWait.{WriteWait}
+use Rattle.lockword.specs.declared.holders.Held.{Held}
+use Rattle.lockword.specs.declared.holders.Waiting.{Waiting}
 use Rattle.lockword.specs.declared.holders.Owing.{Owing}
 use Rattle.lockword.specs.Marks.{Place}
 
@@ -34,21 +33,13 @@ module _ {R W : Type 0} where
   abbrev pub last_place : Last R W → Place R W
   last_place l = l.place
 
-  -- a read lock's place
-  abbrev pub read_lock_place : ReadLock R W → Place R W
-  read_lock_place l = l.place
+  -- a lock's place
+  abbrev pub lock_place : {D G : Type 0} {way : Ghosts D} → Held D R W G way → Place R W
+  lock_place l = l.place
 
-  -- a write lock's place
-  abbrev pub write_lock_place : WriteLock R W → Place R W
-  write_lock_place l = l.place
-
-  -- the place of one that waits to read
-  abbrev pub read_wait_place : ReadWait R W → Place R W
-  read_wait_place w = w.place
-
-  -- the place of one that waits to write
-  abbrev pub write_wait_place : WriteWait R W → Place R W
-  write_wait_place w = w.place
+  -- the place of one that waits for a lock
+  abbrev pub wait_place : {D : Type 0} {way : Ghosts D} → Waiting D R W way → Place R W
+  wait_place w = w.place
 
   -- the place of one that owes a signal
   abbrev pub owing_place : Owing R W → Place R W

@@ -16,8 +16,8 @@ use Rattle.lockword.specs.LocalView.{stakes_of, takers}
 
 -- what a seat saw is so
 pub record SawRightly (c : Census) (v : LocalView) : Type 0 where
-  pub closed : v.saw_closed ≡ true → c.closed ≡ true
-  pub done : v.saw_done ≡ true → c.destroyed ≡ true
+  pub closed : v.saw.closed ≡ true → c.closed ≡ true
+  pub done : v.saw.done ≡ true → c.destroyed ≡ true
 
 module _ {R W : Type 0} where
   -- words, seats and halves stand for a consistent abstract state
@@ -31,7 +31,9 @@ module _ {R W : Type 0} where
     pub state_word : slice_index s.words STATE ≡ encoded census
     pub semaphores : (d : Dir) → slice_index s.words (semaphore d) ≡ signals_in d census.signals
     pub done_word : slice_index s.words DONE ≡ bit census.destroyed
-    -- each half is in one place: at home, with the holder of its lock, with the `Last` that took it, or given away for good
-    pub halves : (d : Dir) → half_home d (get_elem? s.homes (slot_of d)) + number (locks d) census + takers s.views + bit census.destroyed ≡ 1
+    -- each half is in one place: at home, with the holder of its lock, with the `Last` that took
+    -- it, or given away for good
+    pub halves : (d : Dir)
+        → half_home d (get_elem? s.homes (slot_of d)) + number (locks d) census + takers s.views + bit census.destroyed ≡ 1
     -- whoever saw the closed flag or the done word set, saw what is so
     pub seen : (i : ℕ) (v : LocalView) → get_elem? s.views i ≡ some v → SawRightly census v

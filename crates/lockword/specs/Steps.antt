@@ -13,7 +13,7 @@ use Rattle.lockword_core.specs.declared.transition.After.{After}
 use Rattle.lockword_core.specs.declared.transition.After.TheVariants as after
 use Rattle.lockword_core.specs.Word.{closed_in, lock_in, references_in, waiters_in}
 use Rattle.lockword_core.specs.WordStep.{gained}
-use Rattle.lockword_core.specs.WordArithmetic.{stepped_word}
+use Rattle.lockword_core.specs.FieldStep.{stepped_word}
 use Rattle.lockword.specs.declared.local_view.LocalView.{LocalView}
 use Rattle.lockword_core.specs.declared.word.Word.{Word}
 use Rattle.lockword_core.specs.Transition.{lock_stake, stake_after_signal}
@@ -22,7 +22,7 @@ use Rattle.lockword.specs.declared.transitions.Advance.TheVariants as advance
 use Rattle.lockword.specs.declared.signals.Rung.{Rung}
 use Rattle.lockword.specs.declared.signals.Rung.TheVariants as rung
 use Rattle.lockword.specs.Directions.{slot_of, Guarded, half_of}
-use Rattle.lockword.specs.Marks.{Place, SameMarks, Later, NowClosed, IsOpen, IsFullWay}
+use Rattle.lockword.specs.Marks.{Place, SameMarks, NowClosed, Marked, LostMarks, FullMarks}
 use Rattle.lockword.specs.declared.shared_rule.Half.{Half}
 use Rattle.lockword.specs.declared.shared_rule.Half.TheVariants as half
 use Rattle.lockword.specs.declared.shared_rule.TheConstants.{READ_HALF, WRITE_HALF, READ_SIGNALS}
@@ -39,15 +39,15 @@ Shows _ n = Unit {0}
 -- what a load of the state tells a seat with this view
 pub record Told (n : ℕ) (v : LocalView) : Type 0 where
   pub is_word : n < NO_WORD
-  pub saw_closed : v.saw_closed ≡ true → closed_in n ≡ true
-  pub saw_done : v.saw_done ≡ true → n ≡ CLOSED
+  pub saw_closed : v.saw.closed ≡ true → closed_in n ≡ true
+  pub saw_done : v.saw.done ≡ true → n ≡ CLOSED
   pub shows : Shows v.stake n
   -- nobody waits for a signal once the word is closed
   pub none_waits : (d : Dir) → closed_in n ≡ true → waiters_in d n ≡ 0
 
 -- the view once the state word was seen
 abbrev pub seen_in : ℕ → LocalView → LocalView
-seen_in n v = record v { saw_closed = closed_in n }
+seen_in n v = record v { saw = record { closed = closed_in n; done = v.saw.done } }
 
 -- whether a seat saw the flag once it made a step
 abbrev pub saw_after : Kind → Bool → Bool
@@ -56,7 +56,8 @@ saw_after _ c = c
 
 -- the view once the seat made a step
 abbrev pub moved_view : Kind → After → LocalView → LocalView
-moved_view k a v = record { stake = (gained k a).1; took = false; saw_closed = saw_after k v.saw_closed; saw_done = v.saw_done }
+moved_view k a v =
+    record { stake = (gained k a).1; took = false; saw = record { closed = saw_after k v.saw.closed; done = v.saw.done } }
 
 module _ {S : Type 0} where
   abbrev pub looked : Step S → Me S LocalView → ℕ → Me S LocalView → Type 0
@@ -64,37 +65,39 @@ module _ {S : Type 0} where
 
   -- a load of the done word
   abbrev pub asked : Step S → Me S LocalView → ℕ → Me S LocalView → Type 0
-  asked st me n me' = (n ≤ 1) × (me.0.saw_done ≡ true → n ≡ 1) × (me' ≡ (record me.0 { saw_done = n == 1 }, me.1))
+  asked st me n me' =
+      (n ≤ 1) × (me.0.saw.done ≡ true → n ≡ 1) × (me' ≡ (record me.0 { saw = record { closed = me.0.saw.closed; done = n == 1 } }, me.1))
 
 module _ {R W : Type 0} where
-  -- the slots that a seat holds once it made a step: a lock that is taken brings its half, one given back leaves it
+  -- the slots that a seat holds once it made a step: a lock that is taken brings its half, one
+  -- given back leaves it
   abbrev pub Carries : Kind → After → List (ℕ × Half R W) → List (ℕ × Half R W) → Type 0
-  Carries (kind.Lock d) after.Held before now = (h : Guarded R W d) × (now ≡ (slot_of d, half_of d h) ∷ before)
+  Carries (kind.Lock d) after.Held before now =
+      (h : Guarded R W d) × (now ≡ (slot_of d, half_of d h) ∷ before)
   Carries (kind.Unlock d) _ before now = now ≡ rest before
   Carries _ _ before now = now ≡ before
 
-  -- an exchange of the state word that finds what it looks for makes the step, and else nothing changes
-  abbrev pub moved : Kind → Step (Half R W) → Me (Half R W) LocalView → ℕ → Me (Half R W) LocalView → Type 0
+  -- an exchange of the state word that finds what it looks for makes the step, and else nothing
+  -- changes
+  abbrev pub moved : Kind → Step (Half R W) → Me (Half R W) LocalView → ℕ → Me (Half R W) LocalView
+      → Type 0
   moved k st me n me' =
       (n ≡ st.first → (a : After) → stepped_word st.first k ≡ Ok (st.second, a) → (me'.0 ≡ moved_view k a me.0) × Carries k a me.1 me'.1)
       × (n ≢ st.first → me' ≡ me)
 
   -- the last holder takes both halves
-  abbrev pub emptied : Step (Half R W) → Me (Half R W) LocalView → ℕ → Me (Half R W) LocalView → Type 0
-  emptied st me n me' = (me'.0 ≡ record me.0 { took = true }) × ((r : R) × (w : W) × (me'.1 ≡ (WRITE_HALF, half.Write w) ∷ (READ_HALF, half.Read r) ∷ me.1))
+  abbrev pub emptied : Step (Half R W) → Me (Half R W) LocalView → ℕ → Me (Half R W) LocalView
+      → Type 0
+  emptied st me n me' =
+      (me'.0 ≡ record me.0 { took = true }) × ((r : R) × (w : W) × (me'.1 ≡ (WRITE_HALF, half.Write w) ∷ (READ_HALF, half.Read r) ∷ me.1))
 
   -- the last holder marks that it destroyed, and the slots go home
-  abbrev pub marked : Step (Half R W) → Me (Half R W) LocalView → ℕ → Me (Half R W) LocalView → Type 0
-  marked st me n me' = (me'.0 ≡ record { stake = stake.Free; took = false; saw_closed = me.0.saw_closed; saw_done = true }) × (me'.1 ≡ rest (rest me.1))
+  abbrev pub marked : Step (Half R W) → Me (Half R W) LocalView → ℕ → Me (Half R W) LocalView
+      → Type 0
+  marked st me n me' =
+      (me'.0 ≡ record { stake = stake.Free; took = false; saw = record { closed = me.0.saw.closed; done = true } }) × (me'.1 ≡ rest (rest me.1))
 
 -- ---- A try at a step on the state word
-
--- a reference, or the lock of the direction, is at its limit
-abbrev pub IsFull : Kind → Word → Type 0
-IsFull kind.Incref w = w.refs ≡ MAX_REFERENCES
-IsFull kind.Close w = w.refs ≡ MAX_REFERENCES
-IsFull (kind.Lock d) w = IsFullWay d w
-IsFull _ w = ⊥
 
 -- the steps that a closed or full word refuses
 abbrev pub IsTaking : Kind → Type 0
@@ -108,43 +111,22 @@ module _ {R W : Type 0} where
   abbrev pub Keeps : Place R W → Place R W → Type 0
   Keeps p q = (q.me.0.stake ≡ p.me.0.stake) × (q.me.0.took ≡ p.me.0.took) × (q.me.1 ≡ p.me.1)
 
-  -- the seat has this stake, and holds the slots that it held
-  abbrev pub Becomes : Stake → Place R W → Place R W → Type 0
-  Becomes own p q = (q.me.0.stake ≡ own) × (q.me.1 ≡ p.me.1)
-
-  -- the seat has this stake, and has left one slot
-  abbrev pub Leaves : Stake → Place R W → Place R W → Type 0
-  Leaves own p q = (q.me.0.stake ≡ own) × (q.me.1 ≡ rest p.me.1)
-
   -- what a step of this kind came to
   abbrev pub Came : Kind → After → Place R W → Place R W → Type 0
-  Came kind.Incref after.Held p q = Becomes stake.Ref p q × SameMarks p q × IsOpen p
-  Came kind.Decref after.Kept p q = Becomes stake.Free p q × Later p q
-  Came kind.Decref after.Last p q = Becomes stake.Last p q × (q.me.0.took ≡ false) × NowClosed p q
-  Came kind.Close (after.Closing r w) p q = Becomes (stake.Closing r w) p q × NowClosed p q × IsOpen p
-  Came (kind.Lock d) after.Held p q = (q.me.0.stake ≡ lock_stake d) × Carries (kind.Lock d) after.Held p.me.1 q.me.1 × SameMarks p q × IsOpen p
-  Came (kind.Lock d) after.Queued p q = Becomes (stake.Waits d) p q × SameMarks p q × IsOpen p
-  Came (kind.Unlock d) after.Owes p q = Leaves (stake.Owes d) p q × SameMarks p q × IsOpen p
-  Came (kind.Unlock d) after.Kept p q = Leaves stake.Free p q × Later p q
-  Came (kind.Unlock d) after.Last p q = Leaves stake.Last p q × (q.me.0.took ≡ false) × NowClosed p q
-  Came _ _ p q = ⊥
-
-  -- the marks once an exchange was lost
-  abbrev pub LostMarks : Kind → Place R W → Place R W → Type 0
-  LostMarks kind.Decref p q = Later p q
-  LostMarks (kind.Unlock d) p q = Later p q
-  LostMarks _ p q = SameMarks p q × IsOpen p
+  Came k a p q = (q.me.0.stake ≡ (gained k a).1) × Carries k a p.me.1 q.me.1 × Marked k a p q
 
   -- what a try at a step of this kind did to its seat
   abbrev pub Advanced : Kind → Place R W → Place R W → Advance → Type 0
   Advanced k p q (advance.Done a) = Came k a p q
   Advanced k p q advance.Closed = IsTaking k × Keeps p q × NowClosed p q
-  Advanced k p q (advance.TooMany w) = IsFull k w × (w.closed ≡ false) × Keeps p q × SameMarks p q × IsOpen p
+  Advanced k p q (advance.TooMany w) = Keeps p q × FullMarks k p q w
   Advanced k p q advance.Lost = Keeps p q × LostMarks k p q
 
--- the slots that a seat has to hold before it makes a step: a lock that is given back needs its half
+-- the slots that a seat has to hold before it makes a step: a lock that is given back needs its
+-- half
 abbrev pub HasSlots : {R W : Type 0} → Kind → List (ℕ × Half R W) → Type 0
-HasSlots {R} {W} (kind.Unlock d) slots = (h : Guarded R W d) × (slots ≡ (slot_of d, half_of d h) ∷ [])
+HasSlots {R} {W} (kind.Unlock d) slots =
+    (h : Guarded R W d) × (slots ≡ (slot_of d, half_of d h) ∷ [])
 HasSlots _ slots = Unit {0}
 
 -- ---- Signals
@@ -155,7 +137,7 @@ way_of i = if i == READ_SIGNALS then Read else Write
 
 -- the view once the seat gave or took a signal
 abbrev pub signalled_view : Dir → LocalView → LocalView
-signalled_view d v = record { stake = stake_after_signal d v.stake; took = false; saw_closed = v.saw_closed; saw_done = v.saw_done }
+signalled_view d v = record { stake = stake_after_signal d v.stake; took = false; saw = v.saw }
 
 module _ {S : Type 0} where
   -- a load of a semaphore
@@ -164,10 +146,12 @@ module _ {S : Type 0} where
 
   -- an exchange of a semaphore, by which a signal is given or taken
   abbrev pub signalled : Step S → Me S LocalView → ℕ → Me S LocalView → Type 0
-  signalled st me n me' = (n ≡ st.first → me' ≡ (signalled_view (way_of st.word) me.0, me.1)) × (n ≢ st.first → me' ≡ me)
+  signalled st me n me' =
+      (n ≡ st.first → me' ≡ (signalled_view (way_of st.word) me.0, me.1)) × (n ≢ st.first → me' ≡ me)
 
 -- what a try at a semaphore did to its seat
 abbrev pub Signalled : {R W : Type 0} → Dir → Place R W → Place R W → Rung → Type 0
-Signalled d p q rung.Done = (q.me.0.stake ≡ stake_after_signal d p.me.0.stake) × (q.me.1 ≡ p.me.1) × SameMarks p q
+Signalled d p q rung.Done =
+    (q.me.0.stake ≡ stake_after_signal d p.me.0.stake) × (q.me.1 ≡ p.me.1) × SameMarks p q
 Signalled d p q rung.Refused = Keeps p q × SameMarks p q
 Signalled d p q rung.Lost = Keeps p q × SameMarks p q

@@ -2,17 +2,19 @@
 //! their fields are private, so that each goes into exactly one call that ends its stake.
 
 ghost use Rattle.std.specs.Prelude.{◌≡◌, [], ◌∷◌, true};
-ghost use Rattle.stream_base.specs.declared.direction.Dir.TheVariants.{Read, Write};
 ghost use Rattle.lockword.specs.declared.shared_rule.Half.TheVariants as content;
-ghost use Rattle.lockword.specs.declared.shared_rule.TheConstants.{READ_HALF, WRITE_HALF};
 ghost use Rattle.lockword_core.specs.declared.stake.Stake.TheVariants as stake;
+ghost use Rattle.lockword_core.specs.Transition.{lock_stake};
+ghost use Rattle.lockword.specs.Directions.{slot_of};
 ghost use Rattle.lockword.specs.Slots.{slots_of};
 
+use crate::directions::{Direction, Guards, Reading, Writing};
 use crate::local_view::LocalView;
 use crate::shared_rule::{Half, LockRule};
 use atomic_table::Table;
 use lockword_core::Word;
 use std::alloc::Global;
+use std::marker::PhantomData;
 use stream_base::Dir;
 
 /// A seat of the table below, in any stake. It has no bytes.
@@ -49,7 +51,7 @@ pub struct Closing<R, W> {
     pub(crate) owed_read: u32,
     pub(crate) owed_write: u32,
     ghost stake: { place.me.0.stake ≡ stake.Closing owed_read owed_write },
-    ghost saw: { place.me.0.saw_closed ≡ true },
+    ghost saw: { place.me.0.saw.closed ≡ true },
     ghost slots: { place.me.1 ≡ [] },
 }
 
@@ -58,7 +60,7 @@ pub struct Closing<R, W> {
 pub struct Last<R, W> {
     pub(crate) place: Place<R, W>,
     ghost stake: { place.me.0.stake ≡ stake.Last },
-    ghost saw: { place.me.0.saw_closed ≡ true },
+    ghost saw: { place.me.0.saw.closed ≡ true },
     ghost slots: { place.me.1 ≡ slots_of place.me.0.took },
 }
 
@@ -106,35 +108,31 @@ pub enum DropClosing<R, W> {
     Lost(Closing<R, W>),
 }
 
-/// The read lock, with a reference and the read half. It goes into `try_unlock_read`.
-pub struct ReadLock<R, W> {
+/// The lock of a direction, with a reference and the half that it guards. It goes into `try_unlock`.
+pub struct Held<D: Guards<R, W>, R, W> {
     pub(crate) place: Place<R, W>,
-    pub(crate) half: R,
-    ghost stake: { place.me.0.stake ≡ stake.Read },
-    ghost slots: { place.me.1 ≡ (READ_HALF, content.Away) ∷ [] },
+    pub(crate) half: D::Guarded,
+    ghost stake: { place.me.0.stake ≡ lock_stake D.dir },
+    ghost slots: { place.me.1 ≡ (slot_of D.dir, content.Away) ∷ [] },
 }
 
-/// The write lock, with a reference and the write half. It goes into `try_unlock_write`.
-pub struct WriteLock<R, W> {
-    pub(crate) place: Place<R, W>,
-    pub(crate) half: W,
-    ghost stake: { place.me.0.stake ≡ stake.Write },
-    ghost slots: { place.me.1 ≡ (WRITE_HALF, content.Away) ∷ [] },
-}
+/// The read lock.
+pub type ReadLock<R, W> = Held<Reading, R, W>;
+/// The write lock.
+pub type WriteLock<R, W> = Held<Writing, R, W>;
 
-/// A place in the queue of the read lock. It goes into `try_wake_read`.
-pub struct ReadWait<R, W> {
+/// A place in the queue of a direction's lock. It goes into `try_wake`.
+pub struct Waiting<D: Direction, R, W> {
     pub(crate) place: Place<R, W>,
-    ghost stake: { place.me.0.stake ≡ stake.Waits Read },
+    pub(crate) marker: PhantomData<D>,
+    ghost stake: { place.me.0.stake ≡ stake.Waits D.dir },
     ghost slots: { place.me.1 ≡ [] },
 }
 
-/// A place in the queue of the write lock. It goes into `try_wake_write`.
-pub struct WriteWait<R, W> {
-    pub(crate) place: Place<R, W>,
-    ghost stake: { place.me.0.stake ≡ stake.Waits Write },
-    ghost slots: { place.me.1 ≡ [] },
-}
+/// A place in the queue of the read lock.
+pub type ReadWait<R, W> = Waiting<Reading, R, W>;
+/// A place in the queue of the write lock.
+pub type WriteWait<R, W> = Waiting<Writing, R, W>;
 
 /// A signal that is owed to a waiter of a direction. It goes into `try_signal`.
 pub struct Owing<R, W> {
@@ -144,12 +142,12 @@ pub struct Owing<R, W> {
     ghost slots: { place.me.1 ≡ [] },
 }
 
-/// What `try_lock_read` answers.
-pub enum LockRead<R, W> {
+/// What `try_lock` answers.
+pub enum Lock<D: Guards<R, W>, R, W> {
     /// The lock.
-    Held(ReadLock<R, W>),
+    Held(Held<D, R, W>),
     /// A place in the queue: somebody has the lock.
-    Queued(ReadWait<R, W>),
+    Queued(Waiting<D, R, W>),
     /// The word is closed, and the seat has seen it.
     Closed(Seat<R, W>),
     /// The references, or where somebody has the lock its waiters, are at their limit.
@@ -158,43 +156,27 @@ pub enum LockRead<R, W> {
     Lost(Seat<R, W>),
 }
 
+/// What `try_lock_read` answers.
+pub type LockRead<R, W> = Lock<Reading, R, W>;
 /// What `try_lock_write` answers.
-pub enum LockWrite<R, W> {
-    /// The lock.
-    Held(WriteLock<R, W>),
-    /// A place in the queue: somebody has the lock.
-    Queued(WriteWait<R, W>),
-    /// The word is closed, and the seat has seen it.
-    Closed(Seat<R, W>),
-    /// The references, or where somebody has the lock its waiters, are at their limit.
-    TooMany(Seat<R, W>, Word),
+pub type LockWrite<R, W> = Lock<Writing, R, W>;
+
+/// What `try_unlock` answers.
+pub enum Unlock<D: Guards<R, W>, R, W> {
+    /// The lock is given back, and nobody waits.
+    Free(Seat<R, W>),
+    /// The lock is given back, and a waiter has to be signalled.
+    Owes(Owing<R, W>),
+    /// It was the last reference of a closed word.
+    Last(Last<R, W>),
     /// Another step came between; nothing changed.
-    Lost(Seat<R, W>),
+    Lost(Held<D, R, W>),
 }
 
 /// What `try_unlock_read` answers.
-pub enum UnlockRead<R, W> {
-    /// The lock is given back, and nobody waits.
-    Free(Seat<R, W>),
-    /// The lock is given back, and a waiter has to be signalled.
-    Owes(Owing<R, W>),
-    /// It was the last reference of a closed word.
-    Last(Last<R, W>),
-    /// Another step came between; nothing changed.
-    Lost(ReadLock<R, W>),
-}
-
+pub type UnlockRead<R, W> = Unlock<Reading, R, W>;
 /// What `try_unlock_write` answers.
-pub enum UnlockWrite<R, W> {
-    /// The lock is given back, and nobody waits.
-    Free(Seat<R, W>),
-    /// The lock is given back, and a waiter has to be signalled.
-    Owes(Owing<R, W>),
-    /// It was the last reference of a closed word.
-    Last(Last<R, W>),
-    /// Another step came between; nothing changed.
-    Lost(WriteLock<R, W>),
-}
+pub type UnlockWrite<R, W> = Unlock<Writing, R, W>;
 
 /// What `try_signal` answers.
 pub enum Signal<R, W> {
@@ -216,22 +198,17 @@ pub enum SignalClosing<R, W> {
     Lost(Closing<R, W>),
 }
 
-/// What `try_wake_read` answers.
-pub enum WakeRead<R, W> {
+/// What `try_wake` answers.
+pub enum Wake<D: Direction, R, W> {
     /// A signal is taken. The holder has nothing, and contends again.
     Woken(Seat<R, W>),
     /// No signal is there; nothing changed.
-    NotYet(ReadWait<R, W>),
+    NotYet(Waiting<D, R, W>),
     /// Another step came between; nothing changed.
-    Lost(ReadWait<R, W>),
+    Lost(Waiting<D, R, W>),
 }
 
+/// What `try_wake_read` answers.
+pub type WakeRead<R, W> = Wake<Reading, R, W>;
 /// What `try_wake_write` answers.
-pub enum WakeWrite<R, W> {
-    /// A signal is taken. The holder has nothing, and contends again.
-    Woken(Seat<R, W>),
-    /// No signal is there; nothing changed.
-    NotYet(WriteWait<R, W>),
-    /// Another step came between; nothing changed.
-    Lost(WriteWait<R, W>),
-}
+pub type WakeWrite<R, W> = Wake<Writing, R, W>;

@@ -4,21 +4,22 @@
 
 mod closing;
 mod destroy;
+mod directions;
 mod holders;
 mod local_view;
+mod locking;
 mod look;
-mod read_lock;
 mod references;
 mod shared_rule;
 mod signals;
 mod transitions;
-mod write_lock;
 
+pub use directions::{Direction, Guards, Reading, Writing};
 pub use holders::{
-    Close, Closing, DropClosing, DropRef, Incref, Last, LockRead, LockWord, LockWrite, Owing,
-    Place, ReadLock, ReadWait, Ref, Seat, Signal, SignalClosing, UnlockRead, UnlockWrite, WakeRead,
-    WakeWrite, WriteLock, WriteWait,
+    Close, Closing, DropClosing, DropRef, Held, Incref, Last, Lock, LockRead, LockWord, LockWrite,
+    Owing, Place, ReadLock, ReadWait, Ref, Seat, Signal, SignalClosing, Unlock, UnlockRead,
+    UnlockWrite, Waiting, Wake, WakeRead, WakeWrite, WriteLock, WriteWait,
 };
-pub use local_view::LocalView;
+pub use local_view::{LocalView, Marks};
 pub use look::Holder;
 pub use shared_rule::Half;

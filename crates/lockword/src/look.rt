@@ -1,8 +1,7 @@
 //! Loads of the state, through any value that holds a seat.
 
-use crate::holders::{
-    Closing, Last, LockWord, Owing, ReadLock, ReadWait, Ref, Seat, WriteLock, WriteWait,
-};
+use crate::directions::{Direction, Guards};
+use crate::holders::{Closing, Held, Last, LockWord, Owing, Ref, Seat, Waiting};
 use lockword_core::Word;
 
 /// A value that holds a seat, and can look through it.
@@ -72,40 +71,20 @@ impl<R: Drop, W: Drop> Holder<R, W> for Last<R, W> {
     }
 }
 
-impl<R: Drop, W: Drop> Holder<R, W> for ReadLock<R, W> {
-    ghost use Rattle.lockword.specs.Places.{read_lock_place};
+impl<D: Guards<R, W>, R: Drop, W: Drop> Holder<R, W> for Held<D, R, W> {
+    ghost use Rattle.lockword.specs.Places.{lock_place};
 
-    ghost place = { read_lock_place };
-
-    fn look_in(&mut self, word: &LockWord<R, W>) -> Word {
-        word.look_at(&mut self.place)
-    }
-}
-
-impl<R: Drop, W: Drop> Holder<R, W> for WriteLock<R, W> {
-    ghost use Rattle.lockword.specs.Places.{write_lock_place};
-
-    ghost place = { write_lock_place };
+    ghost place = { lock_place };
 
     fn look_in(&mut self, word: &LockWord<R, W>) -> Word {
         word.look_at(&mut self.place)
     }
 }
 
-impl<R: Drop, W: Drop> Holder<R, W> for ReadWait<R, W> {
-    ghost use Rattle.lockword.specs.Places.{read_wait_place};
+impl<D: Direction, R: Drop, W: Drop> Holder<R, W> for Waiting<D, R, W> {
+    ghost use Rattle.lockword.specs.Places.{wait_place};
 
-    ghost place = { read_wait_place };
-
-    fn look_in(&mut self, word: &LockWord<R, W>) -> Word {
-        word.look_at(&mut self.place)
-    }
-}
-
-impl<R: Drop, W: Drop> Holder<R, W> for WriteWait<R, W> {
-    ghost use Rattle.lockword.specs.Places.{write_wait_place};
-
-    ghost place = { write_wait_place };
+    ghost place = { wait_place };
 
     fn look_in(&mut self, word: &LockWord<R, W>) -> Word {
         word.look_at(&mut self.place)

@@ -11,8 +11,12 @@
 //! | `READ_HALF` | `Half::Read`, or `Half::Away` once the resource was destroyed |
 //! | `WRITE_HALF` | `Half::Write`, or `Half::Away` once the resource was destroyed |
 
+ghost use Rattle.std.specs.Prelude.{◌≡◌, ◌<◌};
+ghost use Rattle.lockword.specs.Directions.{semaphore, slot_of};
+
 use crate::local_view::LocalView;
 use atomic_table::TableRule;
+use stream_base::Dir;
 
 /// The word with the flag, the locks and the counts.
 pub const STATE: usize = 0;
@@ -27,6 +31,28 @@ pub const DONE: usize = 3;
 pub const READ_HALF: usize = 0;
 /// The slot of the write half.
 pub const WRITE_HALF: usize = 1;
+
+/// The word of a direction's semaphore.
+pub(crate) fn semaphore(dir: Dir) -> usize
+    ensures value { result ≡ semaphore dir }
+    ensures is_word { result < 4 }
+{
+    match dir {
+        Dir::Read => READ_SIGNALS,
+        Dir::Write => WRITE_SIGNALS,
+    }
+}
+
+/// The slot of a direction's half.
+pub(crate) fn slot(dir: Dir) -> usize
+    ensures value { result ≡ slot_of dir }
+    ensures is_slot { result < 2 }
+{
+    match dir {
+        Dir::Read => READ_HALF,
+        Dir::Write => WRITE_HALF,
+    }
+}
 
 /// What a slot holds.
 #[derive(Drop)]

@@ -3,16 +3,16 @@
 ghost use Rattle.std.specs.Prelude.{◌≡◌, ◌<◌, true};
 ghost use Rattle.lockword_core.specs.declared.stake.Op.TheVariants as op;
 ghost use Rattle.lockword_core.specs.Transition.{allows};
-ghost use Rattle.lockword.specs.Directions.{semaphore};
 ghost use Rattle.lockword.specs.Steps.{Signalled};
-ghost use Rattle.lockword.specs.TransitionOutcomes.{IsSeatOf, signal_answers, signal_closing_answers, wake_read_answers, wake_write_answers};
-ghost use Rattle.lockword.specs.Places.{owing_place, closing_place, owed_by, read_wait_place, write_wait_place};
+ghost use Rattle.lockword.specs.TransitionOutcomes.{IsSeatOf, signal_answers, signal_closing_answers, wake_answers};
+ghost use Rattle.lockword.specs.Places.{owing_place, closing_place, owed_by, wait_place};
 
+use crate::directions::Direction;
 use crate::holders::{
-    Closing, LockWord, Owing, Place, ReadWait, Seat, Signal, SignalClosing, WakeRead, WakeWrite,
-    WriteWait,
+    Closing, LockWord, Owing, Place, ReadWait, Seat, Signal, SignalClosing, Waiting, Wake,
+    WakeRead, WakeWrite, WriteWait,
 };
-use crate::shared_rule::{READ_SIGNALS, WRITE_SIGNALS};
+use crate::shared_rule::semaphore;
 use crate::transitions::{Count, Ring};
 use lockword_core::{signal_add, signal_take};
 use std::sync::Wait;
@@ -23,16 +23,6 @@ pub(crate) enum Rung {
     Done,
     Refused,
     Lost,
-}
-
-fn semaphore(dir: Dir) -> usize
-    ensures value { result ≡ semaphore dir }
-    ensures is_word { result < 4 }
-{
-    match dir {
-        Dir::Read => READ_SIGNALS,
-        Dir::Write => WRITE_SIGNALS,
-    }
 }
 
 impl<R: Drop, W: Drop> LockWord<R, W> {
@@ -128,30 +118,33 @@ impl<R: Drop, W: Drop> LockWord<R, W> {
         }
     }
 
-    /// Takes a signal to a reader, after which its holder has nothing and contends again.
-    pub fn try_wake_read(&self, wait: ReadWait<R, W>) -> WakeRead<R, W>
-        requires { IsSeatOf self.now (read_wait_place wait) }
-        ensures { wake_read_answers wait result }
+    /// Takes a signal to a waiter of a direction, after which its holder has nothing and contends again.
+    pub fn try_wake<D: Direction>(&self, wait: Waiting<D, R, W>) -> Wake<D, R, W>
+        requires { IsSeatOf self.now (wait_place wait) }
+        ensures { wake_answers wait result }
     {
-        let ReadWait { mut place } = wait;
-        match self.try_take(&mut place, Dir::Read) {
-            Rung::Done => WakeRead::Woken(Seat { place }),
-            Rung::Refused => WakeRead::NotYet(ReadWait { place }),
-            Rung::Lost => WakeRead::Lost(ReadWait { place }),
+        let Waiting { mut place, marker } = wait;
+        match self.try_take(&mut place, D::dir()) {
+            Rung::Done => Wake::Woken(Seat { place }),
+            Rung::Refused => Wake::NotYet(Waiting { place, marker }),
+            Rung::Lost => Wake::Lost(Waiting { place, marker }),
         }
     }
 
-    /// Takes a signal to a writer, after which its holder has nothing and contends again.
-    pub fn try_wake_write(&self, wait: WriteWait<R, W>) -> WakeWrite<R, W>
-        requires { IsSeatOf self.now (write_wait_place wait) }
-        ensures { wake_write_answers wait result }
+    /// Takes a signal to a reader.
+    pub fn try_wake_read(&self, wait: ReadWait<R, W>) -> WakeRead<R, W>
+        requires { IsSeatOf self.now (wait_place wait) }
+        ensures { wake_answers wait result }
     {
-        let WriteWait { mut place } = wait;
-        match self.try_take(&mut place, Dir::Write) {
-            Rung::Done => WakeWrite::Woken(Seat { place }),
-            Rung::Refused => WakeWrite::NotYet(WriteWait { place }),
-            Rung::Lost => WakeWrite::Lost(WriteWait { place }),
-        }
+        self.try_wake(wait)
+    }
+
+    /// Takes a signal to a writer.
+    pub fn try_wake_write(&self, wait: WriteWait<R, W>) -> WakeWrite<R, W>
+        requires { IsSeatOf self.now (wait_place wait) }
+        ensures { wake_answers wait result }
+    {
+        self.try_wake(wait)
     }
 
     /// Sleeps while no signal is there for this direction, or returns for no reason. It changes nothing

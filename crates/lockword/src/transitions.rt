@@ -7,10 +7,10 @@ ghost use Rattle.lockword_core.specs.Transition.{allows};
 ghost use Rattle.lockword_core.specs.WordStep.{op_of};
 ghost use Rattle.lockword.specs.Steps.{looked, moved, asked, emptied, marked, counted, signalled, HasSlots, Keeps, Advanced};
 ghost use Rattle.lockword.specs.TransitionOutcomes.{Looks};
-ghost use Rattle.stream_base.specs.declared.direction.Dir.TheVariants.{Read, Write};
 ghost use Rattle.lockword_core.specs.declared.transition.Kind.{Kind};
 ghost use Rattle.lockword_core.specs.declared.transition.Kind.TheVariants as kind;
 
+use crate::directions::Direction;
 use crate::holders::{LockWord, Place};
 use crate::local_view::LocalView;
 use crate::shared_rule::{Half, STATE};
@@ -57,28 +57,22 @@ impl StateStep for SetClosed {
     ghost kind = { kind.Close };
 }
 
-pub(crate) struct LockForReading;
-
-impl StateStep for LockForReading {
-    ghost kind = { kind.Lock Read };
+/// The lock of the direction `D`.
+pub(crate) struct Locking<D: Direction> {
+    marker: PhantomData<D>,
 }
 
-pub(crate) struct LockForWriting;
-
-impl StateStep for LockForWriting {
-    ghost kind = { kind.Lock Write };
+impl<D: Direction> StateStep for Locking<D> {
+    ghost kind = { kind.Lock D.dir };
 }
 
-pub(crate) struct UnlockReading;
-
-impl StateStep for UnlockReading {
-    ghost kind = { kind.Unlock Read };
+/// The unlock of the direction `D`.
+pub(crate) struct Unlocking<D: Direction> {
+    marker: PhantomData<D>,
 }
 
-pub(crate) struct UnlockWriting;
-
-impl StateStep for UnlockWriting {
-    ghost kind = { kind.Unlock Write };
+impl<D: Direction> StateStep for Unlocking<D> {
+    ghost kind = { kind.Unlock D.dir };
 }
 
 /// A load of a semaphore.

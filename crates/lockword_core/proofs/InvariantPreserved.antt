@@ -1,17 +1,14 @@
--- A consistent census is one whose totals balance, and each operation keeps the balance.
+-- A consistent census is one that balances.
 use Rattle.std.proofs.Common.{◌≡◌, ◌≢◌, ℕ, ◌+◌, ◌≤◌, ◌<◌, Bool, true, false, refl, ap, arith}
 use Rattle.std.specs.Prelude.{◌==◌, ◌&&◌}
 use Rattle.std.proofs.lemmas.Bool.Decides.{nat_tests}
+use Rattle.stream_base.specs.declared.direction.Dir.{Dir}
+use Rattle.stream_base.specs.declared.direction.Dir.TheVariants.{Read, Write}
 use Rattle.lockword_core.specs.declared.word.TheConstants.{NO_WORD}
 use Rattle.lockword_core.specs.Word.{bit}
 use Rattle.lockword_core.specs.LockState.{Census, references, lasts, number, encoded}
-use Rattle.lockword_core.specs.LockInvariant.{IsConsistentCensus}
-use Rattle.lockword_core.proofs.CountLemmas.{totals, count-within}
-use Rattle.lockword_core.proofs.BalanceLemmas.{IsBalanced, reads}
-
--- the totals of a census balance, and this is its word
-abbrev pub Balance : Census → ℕ → Type 0
-Balance c n = IsBalanced (totals c.stakes) (bit c.closed) (bit c.destroyed) c.signals n
+use Rattle.lockword_core.specs.LockInvariant.{IsConsistentWay, IsConsistentCensus}
+use Rattle.lockword_core.proofs.BalanceLemmas.{IsBalancedWay, IsBalanced, reads_as}
 
 pub bit-le : (b : Bool) → bit b ≤ 1
 bit-le true = omega arith
@@ -32,10 +29,13 @@ end-arith false refs ends e = record { ended = λ c r. absurd (omega arith); unc
 end-arith true refs ends e = by (refs == 0) refl e
   where
     by : (t : Bool) → (refs == 0) ≡ t → ends ≡ bit t → IsEnd 1 refs ends
-    by true h e = let zero_refs : refs ≡ 0 = grind (arith, nat_tests) in record { ended = λ c r. e; unclosed = λ c. absurd (omega arith); in_use = λ r. absurd (omega arith) }
-    by false h e = let some_refs : refs ≢ 0 = grind (arith, nat_tests) in record { ended = λ c r. absurd (some_refs r); unclosed = λ c. absurd (omega arith); in_use = λ r. e }
+    by true h e =
+        let zero_refs : refs ≡ 0 = grind (arith, nat_tests) in record { ended = λ c r. e; unclosed = λ c. absurd (omega arith); in_use = λ r. absurd (omega arith) }
+    by false h e =
+        let some_refs : refs ≢ 0 = grind (arith, nat_tests) in record { ended = λ c r. absurd (some_refs r); unclosed = λ c. absurd (omega arith); in_use = λ r. e }
 
-arith-end : (b : Bool) (refs ends : ℕ) → (bit b ≡ 1 → refs ≡ 0 → ends ≡ 1) → (bit b ≡ 0 → ends ≡ 0) → (0 < refs → ends ≡ 0) → ends ≡ bit (b && (refs == 0))
+arith-end : (b : Bool) (refs ends : ℕ) → (bit b ≡ 1 → refs ≡ 0 → ends ≡ 1) → (bit b ≡ 0 → ends ≡ 0)
+    → (0 < refs → ends ≡ 0) → ends ≡ bit (b && (refs == 0))
 arith-end false refs ends ended unclosed in_use = unclosed refl
 arith-end true refs ends ended unclosed in_use = by (refs == 0) refl
   where
@@ -43,24 +43,25 @@ arith-end true refs ends ended unclosed in_use = by (refs == 0) refl
     by true h = let zero_refs : refs ≡ 0 = grind (arith, nat_tests) in ended refl zero_refs
     by false h = let some_refs : refs ≢ 0 = grind (arith, nat_tests) in in_use (omega arith)
 
-pub balance_of : (c : Census) → IsConsistentCensus c → Balance c (encoded c)
+way_balances : (d : Dir) (c : Census) → IsConsistentWay c d → IsBalancedWay d c
+way_balances d c good =
+    record {
+      one_holder = good.one_lock;
+      signals_have_waiters = good.signals_have_waiters;
+      waiters_fit = let fit = good.waiters_fit in omega arith;
+      signals_fit = good.signals_fit;
+      none_pending = λ e. let none = good.none_pending_when_closed (bit-true c.closed e) in let have = good.signals_have_waiters in omega arith;
+    }
+
+pub balance_of : (c : Census) → IsConsistentCensus c → IsBalanced c (encoded c)
 balance_of c good =
     let end = end-arith c.closed (number references c) (number lasts c + bit c.destroyed) good.one_last in
     record {
       closed_bit = bit-le c.closed;
       destroyed_bit = bit-le c.destroyed;
-      one_reader = good.reading.one_lock;
-      one_writer = good.writing.one_lock;
-      locked = count-within c.stakes;
+      reading = way_balances Read c good.reading;
+      writing = way_balances Write c good.writing;
       references_fit = good.references_fit;
-      read_signals_have_waiters = good.reading.signals_have_waiters;
-      write_signals_have_waiters = good.writing.signals_have_waiters;
-      read_waiters_fit = let fit = good.reading.waiters_fit in omega arith;
-      write_waiters_fit = let fit = good.writing.waiters_fit in omega arith;
-      read_signals_fit = good.reading.signals_fit;
-      write_signals_fit = good.writing.signals_fit;
-      no_reader_pending = λ e. let none = good.reading.none_pending_when_closed (bit-true c.closed e) in let have = good.reading.signals_have_waiters in omega arith;
-      no_writer_pending = λ e. let none = good.writing.none_pending_when_closed (bit-true c.closed e) in let have = good.writing.signals_have_waiters in omega arith;
       one_closer = good.one_closer;
       ended = end.ended;
       unclosed = end.unclosed;
@@ -68,30 +69,28 @@ balance_of c good =
       word_is = let reading = good.reading.signals_have_waiters in let writing = good.writing.signals_have_waiters in omega arith;
     }
 
-pub consistent_of : (c : Census) (n : ℕ) → Balance c n → IsConsistentCensus c
+way_consistent : (d : Dir) (c : Census) → IsBalancedWay d c → IsConsistentWay c d
+way_consistent d c b =
+    record {
+      one_lock = b.one_holder;
+      signals_have_waiters = b.signals_have_waiters;
+      waiters_fit = let fit = b.waiters_fit in omega arith;
+      signals_fit = b.signals_fit;
+      none_pending_when_closed = λ e. let told = b.none_pending (ap bit e) in omega arith;
+    }
+
+pub consistent_of : (c : Census) (n : ℕ) → IsBalanced c n → IsConsistentCensus c
 consistent_of c n b =
     record {
-      reading = record {
-        one_lock = b.one_reader;
-        signals_have_waiters = b.read_signals_have_waiters;
-        waiters_fit = omega arith;
-        signals_fit = b.read_signals_fit;
-        none_pending_when_closed = λ e. let told = b.no_reader_pending (ap bit e) in omega arith;
-      };
-      writing = record {
-        one_lock = b.one_writer;
-        signals_have_waiters = b.write_signals_have_waiters;
-        waiters_fit = omega arith;
-        signals_fit = b.write_signals_fit;
-        none_pending_when_closed = λ e. let told = b.no_writer_pending (ap bit e) in omega arith;
-      };
+      reading = way_consistent Read c b.reading;
+      writing = way_consistent Write c b.writing;
       references_fit = b.references_fit;
       one_closer = b.one_closer;
       one_last = arith-end c.closed (number references c) (number lasts c + bit c.destroyed) b.ended b.unclosed b.in_use;
     }
 
-pub encoded_of : (c : Census) (n : ℕ) → Balance c n → n ≡ encoded c
+pub encoded_of : (c : Census) (n : ℕ) → IsBalanced c n → n ≡ encoded c
 encoded_of c n b = omega arith
 
 pub encoded-small : (c : Census) → IsConsistentCensus c → encoded c < NO_WORD
-encoded-small c good = (reads (totals c.stakes) (bit c.closed) (bit c.destroyed) c.signals (encoded c) (balance_of c good)).is_word
+encoded-small c good = (reads_as c (encoded c) (balance_of c good)).is_word

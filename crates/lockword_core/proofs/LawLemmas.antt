@@ -29,30 +29,31 @@ use Rattle.lockword_core.specs.LockState.{LockState, empty, Census, census, stak
 use Rattle.lockword_core.specs.LockInvariant.{IsConsistent, IsConsistentCensus, IsCounted, ChangesOneStake}
 use Rattle.lockword_core.specs.Transition.{Change, nothing, closes, adds_signal, takes_signal, destroys, Outcome, refused, moved, allows, outcome, allowed_outcome, drop_outcome, changed, with_stake, with_change, carried_out, transition, stake_after_signal, lock_stake}
 use Rattle.lockword_core.specs.WordStep.{op_of}
-use Rattle.lockword_core.specs.WordArithmetic.{stepped_word}
+use Rattle.lockword_core.specs.FieldStep.{stepped_word}
 use Rattle.lockword_core.specs.Replay.{state_after, answers_of}
 use Rattle.lockword_core.specs.Laws.{CountsStakes, is_done, is_last, ReturnedTheLast}
-use Rattle.lockword_core.proofs.BalanceLemmas.{reads}
-use Rattle.lockword_core.proofs.CountLemmas.{totals, changes-insert}
-use Rattle.lockword_core.proofs.InvariantPreserved.{Balance, balance_of, encoded_of}
-use Rattle.lockword_core.proofs.WordRefines.{ReadsAs, reads_as, StepIs, step_is}
-use Rattle.lockword_core.proofs.WordLemmas.{reads_fields, bit-same}
+use Rattle.lockword_core.proofs.BalanceLemmas.{IsBalanced, ReadsAs, reads_as}
+use Rattle.lockword_core.proofs.CountLemmas.{changes-insert}
+use Rattle.lockword_core.proofs.InvariantPreserved.{balance_of, encoded_of}
+use Rattle.lockword_core.proofs.WordRefines.{StepIs, step_is, same_pair}
+use Rattle.lockword_core.proofs.WordFields.{reads_fields, bit-same}
 use Rattle.lockword_core.proofs.StateLemmas.{counted_in, transition_consistent, stays_consistent, KeepsConsistent, names-change, empty_consistent}
 use Rattle.lockword_core.proofs.ReplayLemmas.{state_after-append, always_consistent}
 
 -- ---- The word counts the stakes
 
-pub counts_stakes : (f : Word) (s : LockState) → IsConsistent s → IsWord f → packed f ≡ encoded (census s) → CountsStakes f s
+pub counts_stakes : (f : Word) (s : LockState) → IsConsistent s → IsWord f → packed f ≡ encoded (census s)
+    → CountsStakes f s
 counts_stakes f s good fits e =
     let r = reads_fields f (encoded (census s)) fits e in
-    let c = reads (totals (census s).stakes) (bit s.closed) (bit (census s).destroyed) s.signals (encoded (census s)) (balance_of (census s) good.counts) in
+    let c = reads_as (census s) (encoded (census s)) (balance_of (census s) good.counts) in
     record {
       flag = bit-same _ _ (sym r.flag ∙ c.flag);
-      read_lock = sym r.rlock ∙ c.reader;
-      write_lock = sym r.wlock ∙ c.writer;
-      references = sym r.refs ∙ c.references;
-      read_waiters = sym r.rwait ∙ c.readers_pending;
-      write_waiters = sym r.wwait ∙ c.writers_pending;
+      read_lock = sym r.rlock ∙ c.lock Read;
+      write_lock = sym r.wlock ∙ c.lock Write;
+      references = sym r.refs ∙ c.refs;
+      read_waiters = sym r.rwait ∙ c.waiters Read;
+      write_waiters = sym r.wwait ∙ c.waiters Write;
     }
 
 pub one_lock : (s : LockState) (d : Dir) → IsConsistent s → number (locks d) (census s) ≤ 1
@@ -69,52 +70,55 @@ record IsAlike (b c : Census) : Type 0 where
   waiters : (d : Dir) → pending d b ≡ pending d c
 
 alike : (b c : Census) (n : ℕ) → ReadsAs b n → ReadsAs c n → IsAlike b c
-alike b c n r s = record { flag = r.flag ∙ sym s.flag; refs = r.refs ∙ sym s.refs; lock = λ d. r.lock d ∙ sym (s.lock d); waiters = λ d. r.waiters d ∙ sym (s.waiters d) }
+alike b c n r s =
+    record { flag = bit-same _ _ (sym r.flag ∙ s.flag); refs = sym r.refs ∙ s.refs; lock = λ d. sym (r.lock d) ∙ s.lock d; waiters = λ d. sym (r.waiters d) ∙ s.waiters d }
 
-same_allowed : (b c : Census) (own : Stake) (k : Kind) → IsAlike b c → allowed_outcome b own (op_of k) ≡ allowed_outcome c own (op_of k)
+same_allowed : (b c : Census) (own : Stake) (k : Kind) → IsAlike b c
+    → allowed_outcome b own (op_of k) ≡ allowed_outcome c own (op_of k)
 same_allowed b c own kind.Incref a = cc (a.flag, a.refs)
 same_allowed b c own kind.Decref a = cc (a.flag, a.refs)
 same_allowed b c own (kind.Lock d) a = cc (a.flag, a.refs, a.lock d, a.waiters d)
 same_allowed b c own (kind.Unlock d) a = cc (a.flag, a.refs, a.waiters d)
 same_allowed b c own kind.Close a = cc (a.flag, a.refs, a.waiters Read, a.waiters Write)
 
-balance_at : (c : Census) (n : ℕ) → IsConsistentCensus c → encoded c ≡ n → Balance c n
-balance_at c n good e = subst (λ (m : ℕ). Balance c m) e (balance_of c good)
+balance_at : (c : Census) (n : ℕ) → IsConsistentCensus c → encoded c ≡ n → IsBalanced c n
+balance_at c n good e = subst (λ (m : ℕ). IsBalanced c m) e (balance_of c good)
 
-pub same_outcome : (b c : Census) (own : Stake) (k : Kind) → IsConsistentCensus b → IsConsistentCensus c → encoded b ≡ encoded c → outcome b own (op_of k) ≡ outcome c own (op_of k)
+pub same_outcome : (b c : Census) (own : Stake) (k : Kind) → IsConsistentCensus b → IsConsistentCensus c
+    → encoded b ≡ encoded c → outcome b own (op_of k) ≡ outcome c own (op_of k)
 same_outcome b c own k good_b good_c e =
     let a = alike b c (encoded c) (reads_as b (encoded c) (balance_at b (encoded c) good_b e)) (reads_as c (encoded c) (balance_of c good_c)) in
     ap (λ (o : Outcome). if allows own (op_of k) then o else refused answer.Misuse) (same_allowed b c own k a)
 
-allowed_move : (t : Bool) (o : Outcome) (a : Answer) (new : Stake) (change : Change) → (if t then o else refused answer.Misuse) ≡ moved a new change → t ≡ true
+allowed_move : (t : Bool) (o : Outcome) (a : Answer) (new : Stake) (change : Change)
+    → (if t then o else refused answer.Misuse) ≡ moved a new change → t ≡ true
 allowed_move true o a new change e = refl
 allowed_move false o a new change e = absurd (cc)
 
-pub counted_by : (c : Census) (own : Stake) (stakes : List Stake) (new : Stake) → ChangesOneStake c.stakes own stakes new → IsCounted c own
+pub counted_by : (c : Census) (own : Stake) (stakes : List Stake) (new : Stake)
+    → ChangesOneStake c.stakes own stakes new → IsCounted c own
 counted_by c own stakes new one = record { at_least = λ what. let before = one.counted_before what in omega arith }
 
 -- the word after a move is what the step on the word gave
 moved_word : (c : Census) (own : Stake) (k : Kind) (r : Result (ℕ × After) Refused) (a : Answer) (new : Stake) (change : Change) (stakes : List Stake)
-    → StepIs c own k (moved a new change) r → ChangesOneStake c.stakes own stakes new → (m : ℕ) × (gain : After) × (r ≡ Ok (m, gain)) × (m ≡ encoded (changed c stakes change))
-moved_word c own k r a new change stakes (m, gain, ok, same, balance) one = (m, gain, ok, encoded_of (changed c stakes change) m (balance stakes one))
+    → StepIs c own k (moved a new change) r → ChangesOneStake c.stakes own stakes new
+    → (m : ℕ) × (gain : After) × (r ≡ Ok (m, gain)) × (m ≡ encoded (changed c stakes change))
+moved_word c own k r a new change stakes (m, gain, ok, same, balance) one =
+    (m, gain, ok, encoded_of (changed c stakes change) m (balance stakes one))
 
 abbrev ok_of : ℕ → After → Result (ℕ × After) Refused
 ok_of n gain = Ok (n, gain)
 
-abbrev ok_pair : ℕ × After → Result (ℕ × After) Refused
-ok_pair p = Ok p
-
-same_pair : (p q : ℕ × After) → ok_pair p ≡ ok_pair q → p ≡ q
-same_pair p q e = cc
-
 same_number : (m n : ℕ) (a b : After) → ok_of m a ≡ ok_of n b → m ≡ n
 same_number m n a b e = ap (λ (p : ℕ × After). p.0) (same_pair (m, a) (n, b) e)
 
-both_words : (r : Result (ℕ × After) Refused) (x y : ℕ) → (m : ℕ) × (gain : After) × (r ≡ Ok (m, gain)) × (m ≡ x) → (m : ℕ) × (gain : After) × (r ≡ Ok (m, gain)) × (m ≡ y) → x ≡ y
+both_words : (r : Result (ℕ × After) Refused) (x y : ℕ) → (m : ℕ) × (gain : After) × (r ≡ Ok (m, gain)) × (m ≡ x)
+    → (m : ℕ) × (gain : After) × (r ≡ Ok (m, gain)) × (m ≡ y) → x ≡ y
 both_words r x y (m, gain, ok, is) (n, gain', ok', is') = sym is ∙ same_number m n gain gain' (sym ok ∙ ok') ∙ is'
 
 pub same_word : (b c : Census) (own : Stake) (k : Kind) (a : Answer) (new : Stake) (change : Change) (of_b of_c : List Stake) → IsConsistentCensus b → IsConsistentCensus c → encoded b ≡ encoded c
-    → outcome b own (op_of k) ≡ moved a new change → ChangesOneStake b.stakes own of_b new → ChangesOneStake c.stakes own of_c new → encoded (changed b of_b change) ≡ encoded (changed c of_c change)
+    → outcome b own (op_of k) ≡ moved a new change → ChangesOneStake b.stakes own of_b new
+    → ChangesOneStake c.stakes own of_c new → encoded (changed b of_b change) ≡ encoded (changed c of_c change)
 same_word b c own k a new change of_b of_c good_b good_c e is one_b one_c =
     let may : allows own (op_of k) ≡ true = allowed_move (allows own (op_of k)) (allowed_outcome b own (op_of k)) a new change is in
     let is_c : outcome c own (op_of k) ≡ moved a new change = sym (same_outcome b c own k good_b good_c e) ∙ is in
@@ -125,7 +129,8 @@ same_word b c own k a new change of_b of_c good_b good_c e is one_b one_c =
 
 pub moves_consistently : (c : Census) (own : Stake) (o : Op) (a : Answer) (new : Stake) (change : Change) (stakes : List Stake) → IsConsistentCensus c → outcome c own o ≡ moved a new change
     → ChangesOneStake c.stakes own stakes new → IsConsistentCensus (changed c stakes change)
-moves_consistently c own o a new change stakes good is one = (subst (λ (x : Outcome). KeepsConsistent c own x) is (stays_consistent c own o good (counted_by c own stakes new one))) stakes one
+moves_consistently c own o a new change stakes good is one =
+    (subst (λ (x : Outcome). KeepsConsistent c own x) is (stays_consistent c own o good (counted_by c own stakes new one))) stakes one
 
 -- ---- Who returned the last reference, and who destroyed
 
@@ -140,9 +145,11 @@ is_destroying _ = false
 -- `done` is answered where a holder with `Last` destroys, and `last` where a holder gets `Last`
 abbrev pub TellsEnds : Stake → Outcome → Type 0
 TellsEnds own (refused a) = (is_done a ≡ false) × (is_last a ≡ false)
-TellsEnds own (moved a new change) = (is_done a ≡ is_destroying change) × (is_last a ≡ is_last_stake new) × (is_last_stake own ≡ is_destroying change)
+TellsEnds own (moved a new change) =
+    (is_done a ≡ is_destroying change) × (is_last a ≡ is_last_stake new) × (is_last_stake own ≡ is_destroying change)
 
-by_test : (b : Bool) (own : Stake) (x y : Outcome) → TellsEnds own x → TellsEnds own y → TellsEnds own (if b then x else y)
+by_test : (b : Bool) (own : Stake) (x y : Outcome) → TellsEnds own x → TellsEnds own y
+    → TellsEnds own (if b then x else y)
 by_test true own x y p q = p
 by_test false own x y p q = q
 
@@ -182,7 +189,8 @@ signal_is_not_last Read _ = refl
 signal_is_not_last Write _ = refl
 
 drop_tells : (c : Census) (own : Stake) → is_last_stake own ≡ false → TellsEnds own (drop_outcome c)
-drop_tells c own other = by_test (c.closed && (number references c == 1)) own _ _ (refl, refl, other) (refl, refl, other)
+drop_tells c own other =
+    by_test (c.closed && (number references c == 1)) own _ _ (refl, refl, other) (refl, refl, other)
 
 allowed_tells : (c : Census) (own : Stake) (o : Op) → allows own o ≡ true → TellsEnds own (allowed_outcome c own o)
 allowed_tells c own op.Incref may =
@@ -223,10 +231,13 @@ part-last : (own : Stake) → part lasts own ≡ bit (is_last_stake own)
 part-last stake.Last = refl
 part-last _ = refl
 
-stakes-change : (s : LockState) (holder : ℕ) (new : Stake) (change : Change) → (census (with_change (with_stake s holder new) holder change)).stakes ≡ values_of (insert_entry nat_cmp s.holders holder new)
+stakes-change : (s : LockState) (holder : ℕ) (new : Stake) (change : Change)
+    → (census (with_change (with_stake s holder new) holder change)).stakes ≡ values_of (insert_entry nat_cmp s.holders holder new)
 stakes-change s holder new change = ap values_of (names-change (with_stake s holder new) holder change)
 
-mark-change : (s : LockState) (holder : ℕ) (change : Change) → bit (is_some s.destroyed_by) ≡ 0 ⊎ (is_destroying change ≡ false) → bit (is_some (with_change s holder change).destroyed_by) ≡ bit (is_some s.destroyed_by) + bit (is_destroying change)
+mark-change : (s : LockState) (holder : ℕ) (change : Change)
+    → bit (is_some s.destroyed_by) ≡ 0 ⊎ (is_destroying change ≡ false)
+    → bit (is_some (with_change s holder change).destroyed_by) ≡ bit (is_some s.destroyed_by) + bit (is_destroying change)
 mark-change s holder nothing may = omega arith
 mark-change s holder closes may = omega arith
 mark-change s holder (adds_signal d) may = omega arith
@@ -239,7 +250,9 @@ bit-le true = omega arith
 bit-le false = omega arith
 
 -- a holder with `Last` is there only before the mark
-no_mark_yet : (s : LockState) (holder : ℕ) (change : Change) → IsConsistent s → is_last_stake (stake_of s holder) ≡ is_destroying change → bit (is_some s.destroyed_by) ≡ 0 ⊎ (is_destroying change ≡ false)
+no_mark_yet : (s : LockState) (holder : ℕ) (change : Change) → IsConsistent s
+    → is_last_stake (stake_of s holder) ≡ is_destroying change
+    → bit (is_some s.destroyed_by) ≡ 0 ⊎ (is_destroying change ≡ false)
 no_mark_yet s holder change good own_last = by (is_destroying change) refl
   where
     by : (t : Bool) → is_destroying change ≡ t → bit (is_some s.destroyed_by) ≡ 0 ⊎ (is_destroying change ≡ false)
@@ -251,7 +264,8 @@ no_mark_yet s holder change good own_last = by (is_destroying change) refl
         let small = bit-le (s.closed && (number references (census s) == 0)) in
         inl (omega arith)
 
-advances_carried : (s : LockState) (holder : ℕ) (o : Outcome) → IsConsistent s → TellsEnds (stake_of s holder) o → Advances s (carried_out s holder o).0 (carried_out s holder o).1
+advances_carried : (s : LockState) (holder : ℕ) (o : Outcome) → IsConsistent s → TellsEnds (stake_of s holder) o
+    → Advances s (carried_out s holder o).0 (carried_out s holder o).1
 advances_carried s holder (refused a) good (done, last) =
     let not_done : bit (is_done a) ≡ 0 = ap bit done in
     let not_last : bit (is_last a) ≡ 0 = ap bit last in
@@ -268,8 +282,10 @@ advances_carried s holder (moved a new change) good (done, last, own_last) =
     let after_change : count lasts (census next).stakes ≡ part lasts new + one.others lasts = ap (count lasts) (stakes-change s holder new change) ∙ one.counted_after lasts in
     record { dones = omega arith; ends = omega arith }
 
-advances : (s : LockState) (holder : ℕ) (o : Op) → IsConsistent s → Advances s (transition s holder o).0 (transition s holder o).1
-advances s holder o good = advances_carried s holder (outcome (census s) (stake_of s holder) o) good (tells_ends (census s) (stake_of s holder) o)
+advances : (s : LockState) (holder : ℕ) (o : Op) → IsConsistent s
+    → Advances s (transition s holder o).0 (transition s holder o).1
+advances s holder o good =
+    advances_carried s holder (outcome (census s) (stake_of s holder) o) good (tells_ends (census s) (stake_of s holder) o)
 
 -- how many answers pass, answer by answer
 abbrev passing : (Answer → Bool) → List Answer → ℕ
@@ -279,14 +295,16 @@ passing p (a ∷ answers) = cond (p a) (1 + passing p answers) (passing p answer
 passing-is : (p : Answer → Bool) (answers : List Answer) → passing p answers ≡ count_by p answers
 passing-is p answers = is_count_by (passing p) p refl (λ x xs. refl) answers
 
-passing-cons : (p : Answer → Bool) (a : Answer) (answers : List Answer) → passing p (a ∷ answers) ≡ bit (p a) + passing p answers
+passing-cons : (p : Answer → Bool) (a : Answer) (answers : List Answer)
+    → passing p (a ∷ answers) ≡ bit (p a) + passing p answers
 passing-cons p a answers = by (p a)
   where
     by : (t : Bool) → cond t (1 + passing p answers) (passing p answers) ≡ bit t + passing p answers
     by true = refl
     by false = omega arith
 
-dones_along : (s : LockState) (events : List Event) → IsConsistent s → bit (is_some s.destroyed_by) + passing is_done (answers_of s events) ≡ bit (is_some (state_after s events).destroyed_by)
+dones_along : (s : LockState) (events : List Event) → IsConsistent s
+    → bit (is_some s.destroyed_by) + passing is_done (answers_of s events) ≡ bit (is_some (state_after s events).destroyed_by)
 dones_along s [] good = omega arith
 dones_along s (e ∷ events) good =
     let step = advances s e.holder e.op good in
@@ -303,8 +321,10 @@ ends_along s (e ∷ events) good =
     let first = passing-cons is_last (transition s e.holder e.op).1 (answers_of (transition s e.holder e.op).0 events) in
     omega (arith, step.ends)
 
-pub done_once : (events : List Event) → count_by is_done (answers_of empty events) ≡ bit (is_some (state_after empty events).destroyed_by)
-done_once events = let along = dones_along empty events empty_consistent in sym (passing-is is_done (answers_of empty events)) ∙ (omega arith)
+pub done_once : (events : List Event)
+    → count_by is_done (answers_of empty events) ≡ bit (is_some (state_after empty events).destroyed_by)
+done_once events =
+    let along = dones_along empty events empty_consistent in sym (passing-is is_done (answers_of empty events)) ∙ (omega arith)
 
 pub last_once : (events : List Event) → count_by is_last (answers_of empty events) ≤ 1
 last_once events =
@@ -322,7 +342,8 @@ same_key k = grind (arith, nat_tests)
 equal_key : (a b : ℕ) → is_eq (nat_cmp a b) ≡ true → a ≡ b
 equal_key a b e = grind (arith, nat_tests)
 
-lookup-at : (k : ℕ) (v : Stake) (es : List (ℕ × Stake)) → lookup (is_at (nat_cmp k)) (insert_entry nat_cmp es k v) ≡ Some v
+lookup-at : (k : ℕ) (v : Stake) (es : List (ℕ × Stake))
+    → lookup (is_at (nat_cmp k)) (insert_entry nat_cmp es k v) ≡ Some v
 lookup-at k v [] = rw (same_key k) refl
 lookup-at k v (e ∷ es) = by (nat_cmp k e.0) refl (lookup-at k v es)
   where
@@ -332,14 +353,17 @@ lookup-at k v (e ∷ es) = by (nat_cmp k e.0) refl (lookup-at k v es)
     by Equal h rest = rw h refl
     by Greater h rest = rw h rest
 
-lookup-other : (k q : ℕ) (v : Stake) (es : List (ℕ × Stake)) → is_eq (nat_cmp q k) ≡ false → lookup (is_at (nat_cmp q)) (insert_entry nat_cmp es k v) ≡ lookup (is_at (nat_cmp q)) es
+lookup-other : (k q : ℕ) (v : Stake) (es : List (ℕ × Stake)) → is_eq (nat_cmp q k) ≡ false
+    → lookup (is_at (nat_cmp q)) (insert_entry nat_cmp es k v) ≡ lookup (is_at (nat_cmp q)) es
 lookup-other k q v [] other = rw other refl
 lookup-other k q v (e ∷ es) other = by (nat_cmp k e.0) refl (lookup-other k q v es other)
   where
     at_key : nat_cmp k e.0 ≡ Equal → is_eq (nat_cmp q e.0) ≡ false
-    at_key h = let same : k ≡ e.0 = equal_key k e.0 (ap is_eq h) in subst (λ (n : ℕ). is_eq (nat_cmp q n) ≡ false) same other
+    at_key h =
+        let same : k ≡ e.0 = equal_key k e.0 (ap is_eq h) in subst (λ (n : ℕ). is_eq (nat_cmp q n) ≡ false) same other
 
-    by : (o : Ordering) → nat_cmp k e.0 ≡ o → lookup (is_at (nat_cmp q)) (insert_entry nat_cmp es k v) ≡ lookup (is_at (nat_cmp q)) es
+    by : (o : Ordering) → nat_cmp k e.0 ≡ o
+        → lookup (is_at (nat_cmp q)) (insert_entry nat_cmp es k v) ≡ lookup (is_at (nat_cmp q)) es
         → lookup (is_at (nat_cmp q)) (match_ordering o ((k, v) ∷ e ∷ es) ((e.0, v) ∷ es) (e ∷ insert_entry nat_cmp es k v)) ≡ cond (is_eq (nat_cmp q e.0)) (Some e.1) (lookup (is_at (nat_cmp q)) es)
     by Less h rest = rw other refl
     by Equal h rest = rw (at_key h) refl
@@ -350,7 +374,8 @@ record KnowsTheEnd (events : List Event) (s : LockState) : Type 0 where
   lasts : (holder : ℕ) → stake_of s holder ≡ stake.Last → ReturnedTheLast events holder
   destroyer : (holder : ℕ) → s.destroyed_by ≡ Some holder → ReturnedTheLast events holder
 
-later_on : (events more : List Event) (holder : ℕ) → ReturnedTheLast events holder → ReturnedTheLast (events ++ more) holder
+later_on : (events more : List Event) (holder : ℕ) → ReturnedTheLast events holder
+    → ReturnedTheLast (events ++ more) holder
 later_on events more holder r =
     record {
       earlier = r.earlier;
@@ -375,7 +400,8 @@ is_zero : (n : ℕ) → (n == 0) ≡ true → n ≡ 0
 is_zero n e = grind (arith, nat_tests)
 
 -- a holder with `Last` stands for a closed descriptor without references
-closed_and_unused : (s : LockState) (holder : ℕ) → IsConsistent s → stake_of s holder ≡ stake.Last → (s.closed ≡ true) × (number references (census s) ≡ 0)
+closed_and_unused : (s : LockState) (holder : ℕ) → IsConsistent s → stake_of s holder ≡ stake.Last
+    → (s.closed ≡ true) × (number references (census s) ≡ 0)
 closed_and_unused s holder good e =
     let counted = (counted_in s holder good).at_least lasts in
     let is_one : part lasts (stake_of s holder) ≡ 1 = ap (part lasts) e in
@@ -408,7 +434,8 @@ last_answer answer.TooMany e = absurd (cc)
 last_answer answer.Full e = absurd (cc)
 last_answer answer.NotYet e = absurd (cc)
 
-marked_by : (s : LockState) (holder : ℕ) (change : Change) (q : ℕ) → (with_change s holder change).destroyed_by ≡ Some q → (s.destroyed_by ≡ Some q) ⊎ ((is_destroying change ≡ true) × (holder ≡ q))
+marked_by : (s : LockState) (holder : ℕ) (change : Change) (q : ℕ) → (with_change s holder change).destroyed_by ≡ Some q
+    → (s.destroyed_by ≡ Some q) ⊎ ((is_destroying change ≡ true) × (holder ≡ q))
 marked_by s holder nothing q e = inl e
 marked_by s holder closes q e = inl e
 marked_by s holder (adds_signal d) q e = inl e
@@ -416,8 +443,10 @@ marked_by s holder (takes_signal d) q e = inl e
 marked_by s holder destroys q e = inr (refl, cc)
 
 -- one event more, by the outcome that it came to
-knows_carried : (events : List Event) (s : LockState) (holder : ℕ) (o : Op) (out : Outcome) → s ≡ state_after empty events → IsConsistent s → outcome (census s) (stake_of s holder) o ≡ out
-    → TellsEnds (stake_of s holder) out → IsConsistent (carried_out s holder out).0 → KnowsTheEnd events s → KnowsTheEnd (events ++ record { holder = holder; op = o } ∷ []) (carried_out s holder out).0
+knows_carried : (events : List Event) (s : LockState) (holder : ℕ) (o : Op) (out : Outcome)
+    → s ≡ state_after empty events → IsConsistent s → outcome (census s) (stake_of s holder) o ≡ out
+    → TellsEnds (stake_of s holder) out → IsConsistent (carried_out s holder out).0 → KnowsTheEnd events s
+    → KnowsTheEnd (events ++ record { holder = holder; op = o } ∷ []) (carried_out s holder out).0
 knows_carried events s holder o (refused a) is good out ends fine known = still_knows events _ s known
 knows_carried events s holder o (moved a new change) is good out (done, last, own_last) fine known =
     record {
@@ -445,7 +474,8 @@ knows_carried events s holder o (moved a new change) is good out (done, last, ow
         ap (λ (es : List (ℕ × Stake)). unwrap_or (lookup (is_at (nat_cmp q)) es) stake.Free) (names-change (with_stake s holder new) holder change)
         ∙ ap (λ (found : Option Stake). unwrap_or found stake.Free) (lookup-other holder q new s.holders e)
 
-    this_event : (q : ℕ) → holder ≡ q → stake_of next q ≡ stake.Last → new ≡ stake.Last → ReturnedTheLast (events ++ record { holder = holder; op = o } ∷ []) q
+    this_event : (q : ℕ) → holder ≡ q → stake_of next q ≡ stake.Last → new ≡ stake.Last
+        → ReturnedTheLast (events ++ record { holder = holder; op = o } ∷ []) q
     this_event q same e is_last_new =
         let ends = closed_and_unused next q fine e in
         let this : ReturnedTheLast (events ++ record { holder = holder; op = o } ∷ []) holder = record {
@@ -459,18 +489,22 @@ knows_carried events s holder o (moved a new change) is good out (done, last, ow
         } in
         subst (λ (h : ℕ). ReturnedTheLast (events ++ record { holder = holder; op = o } ∷ []) h) same this
 
-    by_holder : (q : ℕ) (t : Bool) → is_eq (nat_cmp q holder) ≡ t → stake_of next q ≡ stake.Last → ReturnedTheLast (events ++ record { holder = holder; op = o } ∷ []) q
+    by_holder : (q : ℕ) (t : Bool) → is_eq (nat_cmp q holder) ≡ t → stake_of next q ≡ stake.Last
+        → ReturnedTheLast (events ++ record { holder = holder; op = o } ∷ []) q
     by_holder q true same e = this_event q (sym (equal_key q holder same)) e (sym (new_stake q same) ∙ e)
     by_holder q false other e = later_on events _ q (known.lasts q (sym (old_stake q other) ∙ e))
 
-    by_mark : (q : ℕ) → (s.destroyed_by ≡ Some q) ⊎ ((is_destroying change ≡ true) × (holder ≡ q)) → ReturnedTheLast (events ++ record { holder = holder; op = o } ∷ []) q
+    by_mark : (q : ℕ) → (s.destroyed_by ≡ Some q) ⊎ ((is_destroying change ≡ true) × (holder ≡ q))
+        → ReturnedTheLast (events ++ record { holder = holder; op = o } ∷ []) q
     by_mark q (inl before) = later_on events _ q (known.destroyer q before)
     by_mark q (inr (destroying, same)) =
         subst (λ (h : ℕ). ReturnedTheLast (events ++ record { holder = holder; op = o } ∷ []) h) same (later_on events _ holder (known.lasts holder (last_stake (stake_of s holder) (own_last ∙ destroying))))
 
 -- after more events, known still
-knows_after : (events more : List Event) → KnowsTheEnd events (state_after empty events) → KnowsTheEnd (events ++ more) (state_after empty (events ++ more))
-knows_after events [] known = subst (λ (xs : List Event). KnowsTheEnd xs (state_after empty xs)) (sym (append-nil events)) known
+knows_after : (events more : List Event) → KnowsTheEnd events (state_after empty events)
+    → KnowsTheEnd (events ++ more) (state_after empty (events ++ more))
+knows_after events [] known =
+    subst (λ (xs : List Event). KnowsTheEnd xs (state_after empty xs)) (sym (append-nil events)) known
 knows_after events (e ∷ more) known =
     let s : LockState = state_after empty events in
     let good : IsConsistent s = always_consistent events in
@@ -482,5 +516,6 @@ knows_after events (e ∷ more) known =
 knows_nothing : KnowsTheEnd [] empty
 knows_nothing = record { lasts = λ holder e. absurd (cc); destroyer = λ holder e. absurd (cc) }
 
-pub destroyer_returned : (events : List Event) (holder : ℕ) → (state_after empty events).destroyed_by ≡ Some holder → ReturnedTheLast events holder
+pub destroyer_returned : (events : List Event) (holder : ℕ) → (state_after empty events).destroyed_by ≡ Some holder
+    → ReturnedTheLast events holder
 destroyer_returned events holder e = (knows_after [] events knows_nothing).destroyer holder e

@@ -1,6 +1,8 @@
 pub mod CountLemmas
 pub mod BalanceLemmas
 pub mod InvariantPreserved
+pub mod FieldSteps
+pub mod WordFields
 pub mod WordRefines
 pub mod StateLemmas
 pub mod WordLemmas

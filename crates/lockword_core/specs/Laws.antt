@@ -30,7 +30,8 @@ abbrev pub is_last : Answer → Bool
 is_last answer.Last = true
 is_last _ = false
 
--- one of the events is this holder's, it was answered `last`, and after it the descriptor was closed and had no reference
+-- one of the events is this holder's, it was answered `last`, and after it the descriptor was
+-- closed and had no reference
 pub record ReturnedTheLast (events : List Event) (holder : ℕ) : Type 0 where
   pub earlier : List Event
   pub op : Op

@@ -1,10 +1,10 @@
 pub mod Signals
 pub mod Word
 pub mod LockState
+pub mod FieldStep
 pub mod Transition
 pub mod LockInvariant
 pub mod Replay
 pub mod WordStep
-pub mod WordArithmetic
 pub mod Machine
 pub mod Laws

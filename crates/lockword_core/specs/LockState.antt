@@ -13,7 +13,8 @@ use Rattle.lockword_core.specs.declared.word.TheConstants.{CLOSED, READ_LOCK, WR
 use Rattle.lockword_core.specs.Signals.{signals_in}
 use Rattle.lockword_core.specs.Word.{bit}
 
--- holders by rising names, of whom one that isn't there is `Free`; whether the descriptor is closed; the signals that nobody took yet; and who destroyed, if somebody did
+-- holders by rising names, of whom one that isn't there is `Free`; whether the descriptor is
+-- closed; the signals that nobody took yet; and who destroyed, if somebody did
 pub record LockState : Type 0 where
   pub holders : List (ℕ × Stake)
   pub closed : Bool
@@ -22,7 +23,8 @@ pub record LockState : Type 0 where
 
 -- the state before anything happened
 abbrev pub empty : LockState
-empty = record { holders = []; closed = false; signals = record { read = 0; write = 0 }; destroyed_by = None }
+empty =
+    record { holders = []; closed = false; signals = record { read = 0; write = 0 }; destroyed_by = None }
 
 -- what this holder has
 abbrev pub stake_of : LockState → ℕ → Stake

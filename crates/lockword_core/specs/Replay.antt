@@ -13,4 +13,5 @@ state_after state (e ∷ events) = state_after (transition state e.holder e.op).
 -- the answers to the events
 abbrev pub answers_of : LockState → List Event → List Answer
 answers_of state [] = []
-answers_of state (e ∷ events) = (transition state e.holder e.op).1 ∷ answers_of (transition state e.holder e.op).0 events
+answers_of state (e ∷ events) =
+    (transition state e.holder e.op).1 ∷ answers_of (transition state e.holder e.op).0 events

@@ -54,7 +54,8 @@ stake_after_signal Read (stake.Closing r w) = stake.Closing (r - 1) w
 stake_after_signal Write (stake.Closing r w) = stake.Closing r (w - 1)
 stake_after_signal _ _ = stake.Free
 
--- a reference is given back: the last one after a close leaves `Last`; the holder that acts is itself counted
+-- a reference is given back: the last one after a close leaves `Last`; the holder that acts is
+-- itself counted
 abbrev pub drop_outcome : Census → Outcome
 drop_outcome c =
     if c.closed && (number references c == 1) then moved answer.Last stake.Last nothing
@@ -121,27 +122,34 @@ outcome c own o = if allows own o then allowed_outcome c own o else refused answ
 abbrev pub changed : Census → List Stake → Change → Census
 changed c stakes nothing = record c { stakes = stakes }
 changed c stakes closes = record c { stakes = stakes; closed = true }
-changed c stakes (adds_signal d) = record c { stakes = stakes; signals = with_signals d (signals_in d c.signals + 1) c.signals }
-changed c stakes (takes_signal d) = record c { stakes = stakes; signals = with_signals d (signals_in d c.signals - 1) c.signals }
+changed c stakes (adds_signal d) =
+    record c { stakes = stakes; signals = with_signals d (signals_in d c.signals + 1) c.signals }
+changed c stakes (takes_signal d) =
+    record c { stakes = stakes; signals = with_signals d (signals_in d c.signals - 1) c.signals }
 changed c stakes destroys = record c { stakes = stakes; destroyed = true }
 
 -- the state once this holder has this stake
 abbrev pub with_stake : LockState → ℕ → Stake → LockState
-with_stake state holder own = record state { holders = insert_entry nat_cmp state.holders holder own }
+with_stake state holder own =
+    record state { holders = insert_entry nat_cmp state.holders holder own }
 
 -- the state once this changed beside the stakes, by this holder
 abbrev pub with_change : LockState → ℕ → Change → LockState
 with_change state holder nothing = state
 with_change state holder closes = record state { closed = true }
-with_change state holder (adds_signal d) = record state { signals = with_signals d (signals_in d state.signals + 1) state.signals }
-with_change state holder (takes_signal d) = record state { signals = with_signals d (signals_in d state.signals - 1) state.signals }
+with_change state holder (adds_signal d) =
+    record state { signals = with_signals d (signals_in d state.signals + 1) state.signals }
+with_change state holder (takes_signal d) =
+    record state { signals = with_signals d (signals_in d state.signals - 1) state.signals }
 with_change state holder destroys = record state { destroyed_by = Some holder }
 
 -- the state and the answer that an outcome leads to
 abbrev pub carried_out : LockState → ℕ → Outcome → LockState × Answer
 carried_out state holder (refused a) = (state, a)
-carried_out state holder (moved a own change) = (with_change (with_stake state holder own) holder change, a)
+carried_out state holder (moved a own change) =
+    (with_change (with_stake state holder own) holder change, a)
 
 -- the state and the answer after one operation of one holder
 abbrev pub transition : LockState → ℕ → Op → LockState × Answer
-transition state holder o = carried_out state holder (outcome (census state) (stake_of state holder) o)
+transition state holder o =
+    carried_out state holder (outcome (census state) (stake_of state holder) o)

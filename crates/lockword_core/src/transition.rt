@@ -2,15 +2,15 @@
 //! with no unpacking, since the running word makes one between its load and its exchange. All units
 //! are powers of two, so that the divisions and remainders below are shifts and masks.
 
-ghost use Rattle.std.specs.Prelude.{◌≡◌, ◌<◌, ◌≤◌, ℕ, true, Result, Ok, Err, IfOk};
+ghost use Rattle.std.specs.Prelude.{◌≡◌, ◌≢◌, ◌<◌, ◌≤◌, ℕ, true, Result, Ok, Err, IfOk};
 ghost use Rattle.stream_base.specs.declared.direction.Dir.{Dir};
 ghost use Rattle.lockword_core.specs.declared.stake.Stake.{Stake};
 ghost use Rattle.lockword_core.specs.Word.{IsWord, packed, lock_unit, waiter_unit, closed_in, lock_in, references_in, waiters_in};
 ghost use Rattle.lockword_core.specs.LockState.{LockState, Census, census, stake_of, encoded};
 ghost use Rattle.lockword_core.specs.LockInvariant.{IsConsistent, IsConsistentCensus, IsCounted};
 ghost use Rattle.lockword_core.specs.Transition.{allows, outcome, transition};
-ghost use Rattle.lockword_core.specs.WordStep.{op_of, field_step, packed_result, Tells, TellsTransition};
-ghost use Rattle.lockword_core.specs.WordArithmetic.{reference_refusal, dropped_word, granted_word, queued_word, stepped_word};
+ghost use Rattle.lockword_core.specs.FieldStep.{guards, first_refusal, left, field_step, packed_result, fields_in, stepped_word};
+ghost use Rattle.lockword_core.specs.WordStep.{op_of, Tells, TellsTransition};
 
 use crate::word::{
     CLOSED, MAX_REFERENCES, MAX_WAITERS, NO_WORD, READ_LOCK, READ_WAITER, REFERENCE, WRITE_LOCK,
@@ -112,7 +112,7 @@ fn waiters(word: u64, dir: Dir) -> u64
 
 /// Why no reference can be taken, where none can.
 fn reference_refusal(word: u64) -> Option<Refused>
-    ensures { result ≡ reference_refusal word }
+    ensures { result ≡ first_refusal (guards (fields_in word) Kind.Incref) }
 {
     if is_closed(word) {
         Some(Refused::Closed)
@@ -133,29 +133,32 @@ fn incref(word: u64) -> Result<(u64, After), Refused>
     }
 }
 
-/// A reference is given back, and `rest` is left of the word.
-fn dropped(word: u64, rest: u64) -> Result<(u64, After), Refused>
-    ensures { result ≡ dropped_word word rest }
+/// What a reference that is given back comes to.
+fn left(word: u64) -> After
+    ensures { result ≡ left (fields_in word) }
 {
     if is_closed(word) && references(word) == 1 {
-        Ok((rest, After::Last))
+        After::Last
     } else {
-        Ok((rest, After::Kept))
+        After::Kept
     }
 }
 
 fn decref(word: u64) -> Result<(u64, After), Refused>
+    requires { word < NO_WORD }
     ensures { result ≡ stepped_word word Kind.Decref }
 {
     if references(word) == 0 {
         return Err(Refused::Misuse);
     }
-    dropped(word, word - REFERENCE)
+    Ok((word - REFERENCE, left(word)))
 }
 
+/// The lock is free, and is taken with its reference.
 fn grant(word: u64, dir: Dir) -> Result<(u64, After), Refused>
-    requires { word < NO_WORD }
-    ensures { result ≡ granted_word dir word }
+    requires word { word < NO_WORD }
+    requires free { lock_in dir word ≡ 0 }
+    ensures { result ≡ stepped_word word (Kind.Lock dir) }
 {
     match reference_refusal(word) {
         Some(refused) => Err(refused),
@@ -163,9 +166,11 @@ fn grant(word: u64, dir: Dir) -> Result<(u64, After), Refused>
     }
 }
 
+/// Somebody has the lock, and a place in its queue is taken.
 fn queue(word: u64, dir: Dir) -> Result<(u64, After), Refused>
-    requires { word < NO_WORD }
-    ensures { result ≡ queued_word dir word }
+    requires word { word < NO_WORD }
+    requires held { lock_in dir word ≢ 0 }
+    ensures { result ≡ stepped_word word (Kind.Lock dir) }
 {
     if is_closed(word) {
         Err(Refused::Closed)
@@ -188,6 +193,7 @@ fn lock(word: u64, dir: Dir) -> Result<(u64, After), Refused>
 }
 
 fn unlock(word: u64, dir: Dir) -> Result<(u64, After), Refused>
+    requires { word < NO_WORD }
     ensures { result ≡ stepped_word word (Kind.Unlock dir) }
 {
     if lock_bit(word, dir) == 0 || references(word) == 0 {
@@ -195,12 +201,13 @@ fn unlock(word: u64, dir: Dir) -> Result<(u64, After), Refused>
     }
     let rest = word - REFERENCE - lock_unit(dir);
     if waiters(word, dir) == 0 {
-        return dropped(word, rest);
+        return Ok((rest, left(word)));
     }
     Ok((rest - waiter_unit(dir), After::Owes))
 }
 
 fn close(word: u64) -> Result<(u64, After), Refused>
+    requires { word < NO_WORD }
     ensures { result ≡ stepped_word word Kind.Close }
 {
     match reference_refusal(word) {

@@ -10,15 +10,15 @@
 //! | 43 to 62 | write waiters whom nobody is bound to signal | 1,048,575 |
 //! | 63 | unused, always 0 | |
 //!
-//! The two widths below are the only numbers of the layout: all else is computed from them.
+//! The width of the references is the one number of the layout: all else is computed from it.
 
 ghost use Rattle.std.specs.Prelude.{◌≡◌, ◌≤◌, ◌<◌, IfNone, IfSome};
 ghost use Rattle.lockword_core.specs.Word.{bit, IsWord, packed};
 
 /// Bits of the count of references.
 const REFERENCES_WIDTH: u32 = 20;
-/// Bits of each count of waiters.
-const WAITERS_WIDTH: u32 = 20;
+/// Bits of each count of waiters: half of what the flag, the locks and the references leave below bit 63.
+const WAITERS_WIDTH: u32 = (63 - 3 - REFERENCES_WIDTH) / 2;
 
 /// The word of a closed descriptor without holders.
 pub const CLOSED: u64 = 1;

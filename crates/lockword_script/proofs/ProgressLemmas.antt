@@ -7,6 +7,7 @@ use Rattle.stream_base.proofs.LineLemmas.{lacks-push, ended_lines-append, lines_
 use Rattle.lockword_core.specs.declared.stake.Op.{Op}
 use Rattle.lockword_core.specs.LockState.{LockState}
 use Rattle.lockword_core.specs.Replay.{state_after}
+use Rattle.lockword_script.specs.declared.script.TheConstants.{MAX_LINES, MAX_LINE_BYTES}
 use Rattle.lockword_script.specs.Script.{Says, IsBadLine, events_of}
 use Rattle.lockword_script.specs.TraceOutput.{Prints, printed_of_events, printed_of_bad_line, whole, good, bad}
 use Rattle.lockword_script.specs.Progress.{Progress, IsReady, Advances, StopsAt, LeadsOn, LeadsToBadLine, LeadsPartly, LeadsToEnd, spent}
@@ -30,7 +31,7 @@ advances_by_byte number state partial partial' b e = record {
 }
 
 -- the line feed of a good line
-advances_by_line_feed : (number : ℕ) (state : LockState) (line : List ℕ) (first count : ℕ) (asked : Op) → Lacks 10 line → number ≤ 16777216 → Says line first count asked
+advances_by_line_feed : (number : ℕ) (state : LockState) (line : List ℕ) (first count : ℕ) (asked : Op) → Lacks 10 line → number ≤ MAX_LINES → Says line first count asked
     → Advances (record { number = number; state = state; partial = line }) (record { number = number + 1; state = state_after state (events_of first count asked); partial = [] }) (10 ∷ []) (printed_of_events state first count asked)
 advances_by_line_feed number state line first count asked l few says = record {
   front = line ∷ [];
@@ -39,7 +40,7 @@ advances_by_line_feed number state line first count asked l few says = record {
   carry = λ more text end h. good first count asked text few says h;
 }
 
-pub advances_by_line : (number : ℕ) (state : LockState) (line : List ℕ) (new : Progress) (b first count : ℕ) (asked : Op) → Lacks 10 line → b ≡ 10 → number ≤ 16777216 → Says line first count asked
+pub advances_by_line : (number : ℕ) (state : LockState) (line : List ℕ) (new : Progress) (b first count : ℕ) (asked : Op) → Lacks 10 line → b ≡ 10 → number ≤ MAX_LINES → Says line first count asked
     → new ≡ record { number = number + 1; state = state_after state (events_of first count asked); partial = [] }
     → Advances (record { number = number; state = state; partial = line }) new (b ∷ []) (printed_of_events state first count asked)
 advances_by_line number state line new b first count asked l feed few says e =
@@ -75,15 +76,15 @@ stops_later a b x y z p q k g s rest =
     (g.carry (lines_of (b.partial ++ (y ++ (z ++ rest)))) q (BadLine k) (s (z ++ rest)))
 
 -- a line too many
-pub stops_late : (number : ℕ) (state : LockState) (partial : List ℕ) (b : ℕ) → 16777216 < number → StopsAt (record { number = number; state = state; partial = partial }) (b ∷ []) (printed_of_bad_line number) number
+pub stops_late : (number : ℕ) (state : LockState) (partial : List ℕ) (b : ℕ) → MAX_LINES < number → StopsAt (record { number = number; state = state; partial = partial }) (b ∷ []) (printed_of_bad_line number) number
 stops_late number state partial b late rest =
     let s = some_first_line_after partial b rest in
     subst (λ (ls : List (List ℕ)). Prints number state ls (printed_of_bad_line number) (BadLine number)) (sym s.are) (bad (inl late))
 
 -- a line too long
-pub stops_long : (number : ℕ) (state : LockState) (partial : List ℕ) (b : ℕ) → Lacks 10 partial → b ≢ 10 → length partial ≡ 23 → StopsAt (record { number = number; state = state; partial = partial }) (b ∷ []) (printed_of_bad_line number) number
+pub stops_long : (number : ℕ) (state : LockState) (partial : List ℕ) (b : ℕ) → Lacks 10 partial → b ≢ 10 → length partial ≡ MAX_LINE_BYTES → StopsAt (record { number = number; state = state; partial = partial }) (b ∷ []) (printed_of_bad_line number) number
 stops_long number state partial b l other full rest =
-    let s = long_first_line 23 partial b rest l other full in
+    let s = long_first_line MAX_LINE_BYTES partial b rest l other full in
     subst (λ (ls : List (List ℕ)). Prints number state ls (printed_of_bad_line number) (BadLine number)) (sym s.are) (bad (inr (long_line_bad s.line s.long)))
 
 -- the line feed of a bad line
@@ -99,14 +100,14 @@ stops_bad number state line b k l feed same is_bad rest =
 pub ends_between_lines : (number : ℕ) (state : LockState) (partial : List ℕ) → length partial ≡ 0 → Prints number state (lines_of partial) [] Whole
 ends_between_lines number state partial none = subst (λ (ls : List (List ℕ)). Prints number state ls [] Whole) (sym (lines_of-empty partial none)) whole
 
-pub ends_with_good_line : (number : ℕ) (state : LockState) (line : List ℕ) (first count : ℕ) (asked : Op) → Lacks 10 line → 0 < length line → number ≤ 16777216 → Says line first count asked
+pub ends_with_good_line : (number : ℕ) (state : LockState) (line : List ℕ) (first count : ℕ) (asked : Op) → Lacks 10 line → 0 < length line → number ≤ MAX_LINES → Says line first count asked
     → Prints number state (lines_of line) (printed_of_events state first count asked) Whole
 ends_with_good_line number state line first count asked l some few says =
     let printed : List ℕ = printed_of_events state first count asked in
     subst (λ (t : List ℕ). Prints number state (lines_of line) t Whole) (append-nil printed)
     (subst (λ (ls : List (List ℕ)). Prints number state ls (printed ++ []) Whole) (sym (lines_of-last_line line l some)) (good first count asked [] few says whole))
 
-pub ends_with_bad_line : (number : ℕ) (state : LockState) (line : List ℕ) (k : ℕ) → Lacks 10 line → 0 < length line → k ≡ number → (16777216 < number) ⊎ IsBadLine line
+pub ends_with_bad_line : (number : ℕ) (state : LockState) (line : List ℕ) (k : ℕ) → Lacks 10 line → 0 < length line → k ≡ number → (MAX_LINES < number) ⊎ IsBadLine line
     → Prints number state (lines_of line) (printed_of_bad_line k) (BadLine k)
 ends_with_bad_line number state line k l some same why =
     subst (λ (c : ℕ). Prints number state (lines_of line) (printed_of_bad_line c) (BadLine c)) (sym same)
@@ -114,13 +115,13 @@ ends_with_bad_line number state line k l some same why =
 
 -- ---- Ready for the next byte, of which there are only so many
 
-pub ready_after_byte : (number : ℕ) (state : LockState) (partial partial' : List ℕ) (b : ℕ) → number ≤ 16777217 → length partial < 23 → Lacks 10 partial → b ≢ 10 → partial' ≡ partial ++ b ∷ []
+pub ready_after_byte : (number : ℕ) (state : LockState) (partial partial' : List ℕ) (b : ℕ) → number ≤ MAX_LINES + 1 → length partial < MAX_LINE_BYTES → Lacks 10 partial → b ≢ 10 → partial' ≡ partial ++ b ∷ []
     → IsReady (record { number = number; state = state; partial = partial' }) × (spent (record { number = number; state = state; partial = partial }) < spent (record { number = number; state = state; partial = partial' }))
 ready_after_byte number state partial partial' b few short l other e =
     let longer : length partial' ≡ length partial + 1 = omega (arith, ap length e, length-append partial (b ∷ [])) in
     (record { numbered = few; short = omega arith; unended = subst (Lacks 10) (sym e) (lacks-push 10 b partial l other) }, omega arith)
 
-pub ready_after_line : (old new : Progress) (state : LockState) → old.number ≤ 16777216 → length old.partial ≤ 23 → new ≡ record { number = old.number + 1; state = state; partial = [] } → IsReady new × (spent old < spent new)
+pub ready_after_line : (old new : Progress) (state : LockState) → old.number ≤ MAX_LINES → length old.partial ≤ MAX_LINE_BYTES → new ≡ record { number = old.number + 1; state = state; partial = [] } → IsReady new × (spent old < spent new)
 ready_after_line old new state few short e =
     subst (λ (p : Progress). IsReady p × (spent old < spent p)) (sym e) (record { numbered = omega arith; short = omega arith; unended = tt }, omega arith)
 

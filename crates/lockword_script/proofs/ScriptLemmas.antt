@@ -10,6 +10,7 @@ use Rattle.stream_base.proofs.DecimalLemmas.{decimal-lacks}
 use Rattle.stream_base.specs.declared.direction.Dir.TheVariants.{Read, Write}
 use Rattle.lockword_core.specs.declared.stake.Op.{Op}
 use Rattle.lockword_core.specs.declared.stake.Op.TheVariants as op
+use Rattle.lockword_script.specs.declared.script.TheConstants.{HOLDERS, MAX_LINE_BYTES}
 use Rattle.lockword_script.specs.Script.{operation_name, NamesHolders, Says, IsBadLine}
 
 -- the names of holders have no space
@@ -54,7 +55,7 @@ pub record SaysByParts (holders name : List ℕ) (first count : ℕ) (asked : Op
 
 pub says_by_parts : (line holders name : List ℕ) (first count : ℕ) (asked : Op) → Lacks 32 holders → line ≡ holders ++ 32 ∷ name → Says line first count asked → SaysByParts holders name first count asked
 says_by_parts line holders name first count asked l e says =
-    let named : first + count ≤ 4194304 = says.named in
+    let named : first + count ≤ HOLDERS = says.named in
     let p : first < 2 ^ 64 = omega arith in
     let q : count < 2 ^ 64 = omega arith in
     let cut = cut_once 32 holders name says.holders (operation_name asked) l (holders_lack_space says.holders first count p q says.names) (sym e ∙ says.text) in
@@ -103,7 +104,7 @@ operation_name_injective asked asked' e = sym (operation_of-operation_name asked
 -- a line says one thing
 pub says_once : (line : List ℕ) (first count first' count' : ℕ) (asked asked' : Op) → Says line first count asked → Says line first' count' asked' → (first ≡ first') × (count ≡ count') × (asked ≡ asked')
 says_once line first count first' count' asked asked' says says' =
-    let named : first + count ≤ 4194304 = says.named in
+    let named : first + count ≤ HOLDERS = says.named in
     let p : first < 2 ^ 64 = omega arith in
     let q : count < 2 ^ 64 = omega arith in
     let parts = says_by_parts line says.holders (operation_name asked) first' count' asked' (holders_lack_space says.holders first count p q says.names) says.text says' in
@@ -136,10 +137,10 @@ holders_short text first count p q =
       | inr range ↦ omega (arith, ap length range, length-append (decimal first) (43 ∷ decimal count))
     ]
 
--- a line of more than 23 bytes is bad
-pub long_line_bad : (line : List ℕ) → 23 < length line → IsBadLine line
+-- a line of more bytes than that is bad
+pub long_line_bad : (line : List ℕ) → MAX_LINE_BYTES < length line → IsBadLine line
 long_line_bad line long first count asked says =
-    let named : first + count ≤ 4194304 = says.named in
+    let named : first + count ≤ HOLDERS = says.named in
     let short : length says.holders ≤ 15 = holders_short says.holders first count (omega arith) (omega arith) says.names in
     omega (arith, ap length says.text, length-append says.holders (32 ∷ operation_name asked), length-operation_name asked)
 
@@ -158,10 +159,10 @@ bad_of_none line holders name first count l e p q names none first' count' asked
     omega arith
 
 -- or that one asks who can't be named
-pub bad_of_far : (line holders name : List ℕ) (first count : ℕ) → Lacks 32 holders → line ≡ holders ++ 32 ∷ name → first < 2 ^ 64 → count < 2 ^ 64 → NamesHolders holders first count → 4194304 < first + count → IsBadLine line
+pub bad_of_far : (line holders name : List ℕ) (first count : ℕ) → Lacks 32 holders → line ≡ holders ++ 32 ∷ name → first < 2 ^ 64 → count < 2 ^ 64 → NamesHolders holders first count → HOLDERS < first + count → IsBadLine line
 bad_of_far line holders name first count l e p q names far first' count' asked says =
     let same = says_only line holders name first count first' count' asked l e p q names says in
     let here : first ≡ first' = same.0 in
     let there : count ≡ count' = same.1 in
-    let named : first' + count' ≤ 4194304 = says.named in
+    let named : first' + count' ≤ HOLDERS = says.named in
     omega arith

@@ -13,6 +13,7 @@ use Rattle.lockword_core.specs.declared.stake.Op.{Op}
 use Rattle.lockword_core.specs.declared.stake.Op.TheVariants as op
 use Rattle.lockword_core.specs.LockState.{LockState}
 use Rattle.lockword_core.specs.Replay.{state_after}
+use Rattle.lockword_script.specs.declared.script.TheConstants.{HOLDERS, MAX_LINES}
 use Rattle.lockword_script.specs.Script.{operation_name, NamesHolders, Says, IsBadLine, events_of}
 use Rattle.lockword_script.specs.TraceOutput.{Prints, printed_of_events, printed_of_bad_line, whole, good, bad}
 use Rattle.lockword_script.specs.declared.outcome.End.{End}
@@ -140,7 +141,7 @@ record SaysSomething (line : List ℕ) : Type 0 where
 says_of_parts : (line holders name : List ℕ) (first count : ℕ) (asked : Op) → Lacks 32 holders → line ≡ holders ++ 32 ∷ name → name ≡ operation_name asked → first < 2 ^ 64 → count < 2 ^ 64 → NamesHolders holders first count → SaysSomething line ⊎ IsBadLine line
 says_of_parts line holders name first count asked l e is p q names = elim (cases_lt count 1) [
   | inl none ↦ inr (bad_of_none line holders name first count l e p q names (omega arith))
-  | inr some ↦ elim (cases_lt 4194304 (first + count)) [
+  | inr some ↦ elim (cases_lt HOLDERS (first + count)) [
     | inl far ↦ inr (bad_of_far line holders name first count l e p q names far)
     | inr near ↦ inl (record { first = first; count = count; asked = asked; says = record { some = some; named = near; holders = holders; names = names; text = e ∙ ap (λ (t : List ℕ). holders ++ 32 ∷ t) is } })
   ]
@@ -162,7 +163,7 @@ says_or_bad line = elim (cut_or_lacks 32 line) [
 
 pub some_text : (lines : List (List ℕ)) (number : ℕ) (state : LockState) → (text : List ℕ) × (end : End) × Prints number state lines text end
 some_text [] number state = ([], Whole, whole)
-some_text (line ∷ lines) number state = elim (cases_lt 16777216 number) [
+some_text (line ∷ lines) number state = elim (cases_lt MAX_LINES number) [
   | inl late ↦ (printed_of_bad_line number, BadLine number, bad (inl late))
   | inr few ↦ elim (says_or_bad line) [
     | inl s ↦ (let rest = some_text lines (number + 1) (state_after state (events_of s.first s.count s.asked)) in
@@ -173,7 +174,7 @@ some_text (line ∷ lines) number state = elim (cases_lt 16777216 number) [
 
 -- ---- A script has one text
 
-not_good_and_bad : (number first count : ℕ) (asked : Op) (line : List ℕ) → number ≤ 16777216 → Says line first count asked → (16777216 < number) ⊎ IsBadLine line → ⊥
+not_good_and_bad : (number first count : ℕ) (asked : Op) (line : List ℕ) → number ≤ MAX_LINES → Says line first count asked → (MAX_LINES < number) ⊎ IsBadLine line → ⊥
 not_good_and_bad number first count asked line few says = elim [ inl late ↦ omega arith | inr b ↦ b first count asked says ]
 
 pub one_text : (number : ℕ) (state : LockState) (lines : List (List ℕ)) (text text' : List ℕ) (end end' : End) → Prints number state lines text end → Prints number state lines text' end' → (text ≡ text') × (end ≡ end')

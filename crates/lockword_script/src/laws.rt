@@ -3,6 +3,7 @@
 ghost use Rattle.std.specs.Prelude.{◌≡◌, ◌<◌, ℕ, List, length, take};
 ghost use Rattle.stream_base.specs.Lines.{lines_of};
 ghost use Rattle.lockword_core.specs.declared.stake.Op.{Op};
+ghost use Rattle.lockword_script.specs.declared.script.TheConstants.{MAX_LINE_BYTES};
 ghost use Rattle.lockword_script.specs.Script.{Says, IsBadLine};
 ghost use Rattle.lockword_script.specs.TraceOutput.{IsTextOf};
 ghost use Rattle.lockword_script.specs.declared.outcome.End.{End};
@@ -25,9 +26,9 @@ pub fn a_line_says_one_thing()
         → (first ≡ first') × (count ≡ count') × (op ≡ op') }
 {}
 
-/// A line of more than 23 bytes is bad, so a run need not keep more of it.
+/// A line of more than `MAX_LINE_BYTES` bytes is bad, so a run need not keep more of it.
 pub fn a_long_line_is_bad()
-    ensures { (line : List ℕ) → 23 < length line → IsBadLine line }
+    ensures { (line : List ℕ) → MAX_LINE_BYTES < length line → IsBadLine line }
 {}
 
 /// Only the first bad line counts: a script that begins with the same lines, up to and with that one,

@@ -8,14 +8,20 @@ ghost use Rattle.lockword_script.specs.TraceOutput.{answer_name, word_text, dest
 use itoa::Buffer;
 use lockword_core::Answer;
 
-/// The room in bytes that any printed line fits in: a name of at most nine, sixteen digits, three
-/// numbers of at most twenty, and five bytes between and behind them.
-pub const PRINTED_ROOM: usize = 90;
+/// The most bytes of an answer's name.
+const NAME_ROOM: usize = 9;
+/// The bytes of a word's digits.
+const WORD_ROOM: usize = 16;
+/// The most bytes of a number.
+const NUMBER_ROOM: usize = 20;
+/// The room in bytes that any printed line fits in: a name, a word, three numbers, and five bytes
+/// between and behind them.
+pub const PRINTED_ROOM: usize = NAME_ROOM + WORD_ROOM + 3 * NUMBER_ROOM + 5;
 
 /// An answer's name.
 fn name_of(answer: Answer) -> &'static str
     ensures name { result.now ≡ answer_name answer }
-    ensures short { length result.now ≤ 9 }
+    ensures short { length result.now ≤ NAME_ROOM }
 {
     match answer {
         Answer::Held => "held",
@@ -50,9 +56,9 @@ fn append(out: &mut Vec<u8>, piece: &[u8])
 
 /// Puts a number behind the text.
 fn append_number(out: &mut Vec<u8>, number: u64)
-    requires room { vec_len out.old + 20 ≤ vec_capacity out.old }
+    requires room { vec_len out.old + NUMBER_ROOM ≤ vec_capacity out.old }
     ensures items { out.new.items ≡ out.old.items ++ decimal number }
-    ensures len { vec_len out.new ≤ vec_len out.old + 20 }
+    ensures len { vec_len out.new ≤ vec_len out.old + NUMBER_ROOM }
     ensures capacity { vec_capacity out.old ≤ vec_capacity out.new }
 {
     let mut buffer = Buffer::new();
@@ -61,12 +67,12 @@ fn append_number(out: &mut Vec<u8>, number: u64)
 
 /// Puts a word's sixteen digits behind the text.
 fn append_word(out: &mut Vec<u8>, word: u64)
-    requires room { vec_len out.old + 16 ≤ vec_capacity out.old }
+    requires room { vec_len out.old + WORD_ROOM ≤ vec_capacity out.old }
     ensures items { out.new.items ≡ out.old.items ++ word_text word }
-    ensures len { vec_len out.new ≡ vec_len out.old + 16 }
+    ensures len { vec_len out.new ≡ vec_len out.old + WORD_ROOM }
     ensures capacity { vec_capacity out.old ≤ vec_capacity out.new }
 {
-    let mut digits = [0u8; 16];
+    let mut digits = [0u8; WORD_ROOM];
     match hex::encode_to_slice(word.to_be_bytes(), &mut digits) {
         Ok(()) => append(out, &digits),
         Err(_) => unreachable!(),
@@ -75,9 +81,9 @@ fn append_word(out: &mut Vec<u8>, word: u64)
 
 /// Puts who destroyed, or a dash, behind the text.
 fn append_destroyer(out: &mut Vec<u8>, destroyed_by: Option<u64>)
-    requires room { vec_len out.old + 20 ≤ vec_capacity out.old }
+    requires room { vec_len out.old + NUMBER_ROOM ≤ vec_capacity out.old }
     ensures items { out.new.items ≡ out.old.items ++ destroyer_text destroyed_by }
-    ensures len { vec_len out.new ≤ vec_len out.old + 20 }
+    ensures len { vec_len out.new ≤ vec_len out.old + NUMBER_ROOM }
     ensures capacity { vec_capacity out.old ≤ vec_capacity out.new }
 {
     match destroyed_by {

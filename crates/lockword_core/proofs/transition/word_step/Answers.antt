@@ -3,10 +3,13 @@ use Rattle.lockword_core.specs.declared.transition.After.{After}
 use Rattle.lockword_core.specs.declared.transition.Refused.{Refused}
 use Rattle.lockword_core.specs.Transition.{outcome, transition}
 use Rattle.lockword_core.specs.WordStep.{op_of, Tells, TellsTransition}
-use Rattle.lockword_core.proofs.WordLemmas.{step_same}
+use Rattle.lockword_core.proofs.WordLemmas.{step_same, IsWordResult, stepped_word-small}
 use Rattle.lockword_core.proofs.WordRefines.{tells}
 use Rattle.lockword_core.proofs.StateLemmas.{tells_transition}
 use Rattle.lockword_core.proofs.transition.word_step.Goals as goal
+
+pub returns-clause-is_word : goal.returns-clause-is_word
+returns-clause-is_word c = subst IsWordResult (sym c.step.ensures) (stepped_word-small c.args.word c.args.kind c.if-word-ge-NO_WORD.false)
 
 pub returns-clause-fields : goal.returns-clause-fields
 returns-clause-fields c f fits same = c.step.ensures ∙ step_same f c.args.kind c.args.word fits same

@@ -1,4 +1,5 @@
-use Rattle.std.proofs.Common.{◌-◌, ◌*◌}
+use Rattle.std.proofs.Common.{◌+◌, ◌-◌, ◌*◌}
+use Rattle.lockword_script.specs.declared.script.TheConstants.{MAX_LINES, MAX_LINE_BYTES}
 use Rattle.lockword_script.specs.Progress.{progress_of, spent, IsReady}
 use Rattle.lockword_script.specs.TraceOutcome.{SinkIsWell, SourceIsWell}
 use Rattle.lockword_script.proofs.TraceLemmas.{Went}
@@ -15,4 +16,4 @@ invariant-chunks g l = record {
 }
 
 abbrev pub decreases-chunks : goal.decreases-chunks
-decreases-chunks g l = 24 * 16777218 - spent (progress_of l.run)
+decreases-chunks g l = (MAX_LINE_BYTES + 1) * (MAX_LINES + 2) - spent (progress_of l.run)

@@ -2,7 +2,7 @@ use Rattle.std.proofs.Common.{rules, ◌≡◌, ◌∙◌, sym, ap, subst, Ok, E
 use Rattle.lockword_core.specs.declared.transition.Refused.TheVariants as why
 use Rattle.lockword_core.specs.Transition.{allows}
 use Rattle.lockword_core.specs.WordStep.{op_of}
-use Rattle.lockword_core.specs.WordArithmetic.{stepped_word}
+use Rattle.lockword_core.specs.FieldStep.{stepped_word}
 use Rattle.lockword.specs.Steps.{HasSlots}
 use Rattle.lockword.proofs.LookSteps.{looks}
 use Rattle.lockword.proofs.WordTests.{is_stepped, came_after, lost, refused_closed, refused_full, no_misuse}

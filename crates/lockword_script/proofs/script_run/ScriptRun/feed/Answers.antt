@@ -1,4 +1,5 @@
 use Rattle.std.proofs.Common.{◌≡◌, ◌<◌, ◌∙◌, sym, arith, length}
+use Rattle.lockword_script.specs.declared.script.TheConstants.{MAX_LINES, MAX_LINE_BYTES}
 use Rattle.lockword_script.specs.TraceOutput.{printed_of_events, printed_of_bad_line}
 use Rattle.lockword_script.proofs.ProgressLemmas.{advances_by_line, stops_late, stops_long, stops_bad, ready_after_byte}
 use Rattle.lockword_script.proofs.script_run.ScriptRun.feed.Goals as goal
@@ -35,12 +36,12 @@ returns-in-Ok-Some-clause-stops c =
 pub returns-in-Ok-refuse-clause-stops : goal.returns-in-Ok-refuse-clause-stops
 returns-in-Ok-refuse-clause-stops c =
     let self = c.args.self.now in
-    let full : length self.partial ≡ 23 = sym c.len.ensures ∙ c.if-len-eq-MAX_LINE_BYTES.true in
+    let full : length self.partial ≡ MAX_LINE_BYTES = sym c.len.ensures ∙ c.if-len-eq-MAX_LINE_BYTES.true in
     record { printed = printed_of_bad_line self.number; put = c.in-Ok-refuse.ensures.ok; stops = stops_long self.number self.machine self.partial c.args.byte c.requires.unended c.if-byte-eq10.false full }
 
 -- one more byte of the line
 pub returns-clause-ready : goal.returns-clause-ready
 returns-clause-ready c =
     let self = c.args.self.now in
-    let short : length self.partial < 23 = omega (arith, c.requires.short, c.len.ensures, c.if-len-eq-MAX_LINE_BYTES.false) in
+    let short : length self.partial < MAX_LINE_BYTES = omega (arith, c.requires.short, c.len.ensures, c.if-len-eq-MAX_LINE_BYTES.false) in
     ready_after_byte self.number self.machine self.partial c.push.new.self c.args.byte c.requires.numbered short c.requires.unended c.if-byte-eq10.false c.push.ensures

@@ -1,6 +1,6 @@
 use Rattle.lockword.specs.Marks.{SameMarks}
 use Rattle.lockword.specs.Places.{seat_place}
-use Rattle.fdmutex.proofs.lock.read_lock.Given as goal
+use Rattle.fdmutex.proofs.locks.lock.Given as goal
 
 abbrev pub invariant-loop : goal.invariant-loop
 invariant-loop g l = SameMarks (seat_place l.initial.seat) (seat_place l.seat)

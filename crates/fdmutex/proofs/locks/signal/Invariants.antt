@@ -1,6 +1,6 @@
 use Rattle.lockword.specs.Marks.{SameMarks}
 use Rattle.lockword.specs.Places.{owing_place}
-use Rattle.fdmutex.proofs.lock.signal.Given as goal
+use Rattle.fdmutex.proofs.locks.signal.Given as goal
 
 abbrev pub invariant-loop : goal.invariant-loop
 invariant-loop g l = SameMarks (owing_place l.initial.owing) (owing_place l.owing)
