@@ -50,6 +50,10 @@ module _ {T : Type 0} where
   abbrev pub value_with_token : ℕ → List (Entry T) → Option T
   value_with_token token entries = option_map (λ e. e.value) (find (λ e. e.token == token) entries)
 
+  -- the id of the first entry that has this token, if one has
+  abbrev pub id_with_token : ℕ → List (Entry T) → Option ℕ
+  id_with_token token entries = option_map (λ e. e.id) (find (λ e. e.token == token) entries)
+
   -- the value of the first entry that has this id, if one has
   abbrev pub value_with_id : ℕ → List (Entry T) → Option T
   value_with_id id entries = option_map (λ e. e.value) (find (λ e. e.id == id) entries)
