@@ -4,10 +4,11 @@
 //! key may be that of a later entry than the one that is asked for, so an entry counts only if its
 //! token is the one asked for. The index is ordered, so it tells the ids in their order.
 
-ghost use Rattle.std.specs.Prelude.{◌≡◌, ◌≢◌, ◌==◌, ◌<◌, ◌≤◌, [], Err, find};
+ghost use Rattle.std.specs.Prelude.{◌≡◌, ◌≢◌, ◌<◌, ◌≤◌, [], Err};
 ghost use Rattle.std.specs.Prelude.{IfOk, OnOk, IfErr, OnErr, option_copied};
 ghost use Rattle.conntable.specs.ConnTable.{Inserts, Removes, HasNoId, IsConsistent, next_token};
-ghost use Rattle.conntable.specs.ConnTable.{value_with_token, value_with_id, id_with_token};
+ghost use Rattle.conntable.specs.ConnTable.{entry_with_token, value_with_token, value_with_id};
+ghost use Rattle.conntable.specs.ConnTable.{id_with_token};
 ghost use Rattle.conntable.specs.ConnTable.{ids_of, first_id_of};
 ghost use Rattle.conntable.specs.Refusals.{HasRoom, Refuses};
 
@@ -145,21 +146,37 @@ impl<T, A: Allocator> ConnTable<T, A> {
         Ok((self.next_id, token::join(key, self.next_id)))
     }
 
+    // The one at the token's key, unless that is a later one.
+    fn entry_by_token(&self, token: u64) -> Option<&Entry<T>>
+        ensures { option_copied result ≡ entry_with_token token self.now.entries }
+    {
+        let entry = self.slots.get(token::key_in(token) as usize)?;
+        if entry.token == token {
+            Some(entry)
+        } else {
+            None
+        }
+    }
+
     /// The value of the entry with this token, or `None`: a token whose entry was removed names
     /// nothing, also once another entry has its key.
     pub fn by_token(&self, token: u64) -> Option<&T>
         ensures { option_copied result ≡ value_with_token token self.now.entries }
     {
-        let entry = self.entry_by_token(token)?;
-        Some(&entry.value)
+        match self.entry_by_token(token) {
+            Some(entry) => Some(&entry.value),
+            None => None,
+        }
     }
 
-    /// The id of the entry with this token, or `None` where `by_token` finds nothing.
+    /// The id of the entry with this token, or `None`, as for `by_token`.
     pub fn id_by_token(&self, token: u64) -> Option<u64>
         ensures { result ≡ id_with_token token self.now.entries }
     {
-        let entry = self.entry_by_token(token)?;
-        Some(entry.id)
+        match self.entry_by_token(token) {
+            Some(entry) => Some(entry.id),
+            None => None,
+        }
     }
 
     /// The value of the entry with this id, or `None`.
@@ -209,17 +226,5 @@ impl<T, A: Allocator> ConnTable<T, A> {
     {
         let (id, _) = self.index.first_key_value()?;
         Some(*id)
-    }
-
-    // The entry with this token: the one at the token's key, unless that is a later one.
-    fn entry_by_token(&self, token: u64) -> Option<&Entry<T>>
-        ensures { option_copied result ≡ find (λ e. e.token == token) self.now.entries }
-    {
-        let entry = self.slots.get(token::key_in(token) as usize)?;
-        if entry.token == token {
-            Some(entry)
-        } else {
-            None
-        }
     }
 }

@@ -1,72 +1,79 @@
-//! Each time that `arm` or `arm_both` asks for memory it is refused once, by a heap that is filled
-//! up before.
+//! Each request for memory of `arm` and `arm_both` is refused in turn: a heap is filled up, and its
+//! blocks are given back one by one until the call is done.
+//!
+//! A heap that was used more after a refusal met one request of that call and refused a later one.
 use crate::Timers;
 use linked_list_allocator::LocalHeap;
 use std::alloc::{AllocError, Global};
 use std::test::Fail;
 use stream_base::Dir::{Read, Write};
-use stream_base::OutOfMemory;
 
-// Takes what is left of a heap.
+// Takes what is left of a heap, in blocks of its least size.
 fn fill<'a>(alloc: Global, heap: &'a LocalHeap) -> Result<Vec<Vec<u8, &'a LocalHeap>>, AllocError> {
     let mut blocks = Vec::new(alloc);
-    for size in [1024usize, 256, 64, 16] {
-        for _ in 0..64 {
-            match Vec::with_capacity(heap, size) {
-                Ok(block) => blocks.push(block)?,
-                Err(AllocError) => break,
-            }
+    for _ in 0..4096 {
+        match Vec::with_capacity(heap, 16) {
+            Ok(block) => blocks.push(block)?,
+            Err(AllocError) => break,
         }
     }
     Ok(blocks)
 }
 
 #[test]
-fn a_refused_arm_leaves_the_timers_as_they_were(rt: HostRuntime) -> Result<(), Fail> {
-    let mut refused = 0u32;
-    for armed in 0..20u64 {
-        let heap = LocalHeap::new(rt.alloc(), 4096)?;
+fn an_arm_refused_at_each_request_changes_nothing(rt: HostRuntime) -> Result<(), Fail> {
+    let (mut first, mut later) = (0u32, 0u32);
+    for armed in 0..40u64 {
+        let heap = LocalHeap::new(rt.alloc(), 16_384)?;
         let mut timers = Timers::new_in(&heap);
         for key in 0..armed {
             timers.arm(key, Read, 5)?;
         }
-        let blocks = fill(rt.alloc(), &heap)?;
-        if timers.arm(armed, Read, 4) == Err(OutOfMemory) {
-            refused = refused.saturating_add(1);
-            assert_eq!(rt;
-                timers.next(),
-                if armed == 0 { None } else { Some(5) },
-                "{armed} armed"
-            );
-            drop(blocks);
-            timers.arm(armed, Read, 4)?;
+        let before = (timers.next(), timers.live());
+        let mut blocks = fill(rt.alloc(), &heap)?;
+        for _ in 0..4096 {
+            let used = heap.used();
+            if timers.arm(armed, Read, 4).is_ok() {
+                break;
+            }
+            assert_eq!(rt; (timers.next(), timers.live()), before, "{armed} armed");
+            if heap.used() > used {
+                later = later.saturating_add(1);
+            } else {
+                first = first.saturating_add(1);
+            }
+            assert!(rt; blocks.pop().is_some(), "refused with all memory back");
         }
         assert_eq!(rt; timers.due(4).as_slice(), [(armed, Read)].as_slice());
         assert_eq!(rt; timers.due(5).len() as u64, armed);
     }
-    assert!(rt; refused >= 3, "the list grew {refused} times");
+    assert!(rt; first > 3 && later > 0, "{first} and {later} refusals");
     Ok(())
 }
 
 #[test]
-fn a_refused_arm_of_both_changes_neither(rt: HostRuntime) -> Result<(), Fail> {
-    let mut refused = 0u32;
-    for armed in 0..20u64 {
-        let heap = LocalHeap::new(rt.alloc(), 4096)?;
+fn an_arm_of_both_refused_at_each_request_changes_neither(rt: HostRuntime) -> Result<(), Fail> {
+    let (mut first, mut later) = (0u32, 0u32);
+    for armed in 0..40u64 {
+        let heap = LocalHeap::new(rt.alloc(), 16_384)?;
         let mut timers = Timers::new_in(&heap);
         for key in 0..armed {
             timers.arm(key, Write, 5)?;
         }
-        let blocks = fill(rt.alloc(), &heap)?;
-        if timers.arm_both(0, 4) == Err(OutOfMemory) {
-            refused = refused.saturating_add(1);
-            assert_eq!(rt;
-                timers.next(),
-                if armed == 0 { None } else { Some(5) },
-                "{armed} armed"
-            );
-            drop(blocks);
-            timers.arm_both(0, 4)?;
+        let before = (timers.next(), timers.live());
+        let mut blocks = fill(rt.alloc(), &heap)?;
+        for _ in 0..4096 {
+            let used = heap.used();
+            if timers.arm_both(0, 4).is_ok() {
+                break;
+            }
+            assert_eq!(rt; (timers.next(), timers.live()), before, "{armed} armed");
+            if heap.used() > used {
+                later = later.saturating_add(1);
+            } else {
+                first = first.saturating_add(1);
+            }
+            assert!(rt; blocks.pop().is_some(), "refused with all memory back");
         }
         assert_eq!(rt;
             timers.due(4).as_slice(),
@@ -74,6 +81,6 @@ fn a_refused_arm_of_both_changes_neither(rt: HostRuntime) -> Result<(), Fail> {
         );
         assert_eq!(rt; timers.due(5).len() as u64, armed.saturating_sub(1));
     }
-    assert!(rt; refused >= 3, "the list grew {refused} times");
+    assert!(rt; first > 3 && later > 0, "{first} and {later} refusals");
     Ok(())
 }
