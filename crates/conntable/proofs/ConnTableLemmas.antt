@@ -1,43 +1,19 @@
 -- Entries that come and go.
-use Rattle.std.proofs.Common.{◌≡◌, ◌≢◌, ◌∙◌, sym, ap, subst, ℕ, suc, ◌+◌, ◌%◌, ◌≤◌, ◌<◌, inl, inr, List, [], ◌∷◌, ◌++◌, length, get_or, take, drop, arith, length-append, length-drop, length-take, drop-cons}
+use Rattle.std.proofs.Common.{◌≡◌, ◌≢◌, ◌∙◌, sym, ap, subst, ℕ, suc, ◌+◌, ◌≤◌, ◌<◌, List, [], ◌∷◌, ◌++◌, length, get_or, take, drop, arith, length-append, length-drop, length-take, drop-cons}
 use Rattle.std.specs.Prelude.{All, AllPairs}
 use Rattle.std.specs.List.{remove}
 use Rattle.std.proofs.lemmas.List.Elements.{All-push, All-append, All-take, All-drop, All-weaker}
 use Rattle.std.proofs.lemmas.List.{get_or-take, get_or-drop, get_or_default, take-append-drop}
 use Rattle.std.proofs.lemmas.List.Quantifiers.{all_pairs_push, all_pairs_remove}
 use Rattle.std.proofs.lemmas.List.Edits.{length-remove}
-use Rattle.std.proofs.lemmas.Bool.Decides.{eqb_tells}
 use Rattle.conntable.specs.declared.table.Entry.{Entry}
 use Rattle.conntable.specs.Token.{token_of, key_of}
 use Rattle.conntable.specs.ConnTable.{Table, HasGivenId, IsFreeKey, IsConsistent, Removes}
-use Rattle.conntable.specs.Refusals.{HasRoom}
 use Rattle.conntable.proofs.TokenLemmas.{key_of-token_of}
-use Rattle.conntable.specs.UsedKeys.{mark_of, CoversEntries}
 
 module _ {T : Type 0} where
   pub All-remove : (P : Entry T → Type 0) (es : List (Entry T)) (i : ℕ) → All P es → All P (remove es i)
   All-remove P es i h = All-append P (take i es) (drop (suc i) es) (All-take P i es h) (All-drop P (suc i) es h)
-
-  -- 4,096 is in no entry, since it is no key
-  pub IsFreeKey-above : (es : List (Entry T)) → IsFreeKey 4096 es
-  IsFreeKey-above es = λ k d h. let n : ℕ = (get_or es k d).token in below n
-    where
-      below : (n : ℕ) → n % 4096 ≢ 4096
-      below n e = omega arith
-
-  -- the first key with no mark is free
-  pub IsFreeKey-first : (words : List ℕ) (es : List (Entry T)) (key : ℕ) → CoversEntries words es → key ≤ 4096 → (key < 4096 → mark_of words key ≡ 0) → IsFreeKey key es
-  IsFreeKey-first words es key covers bound free = elim (eqb_tells key 4096) [
-    | inl same ↦ subst (λ k. IsFreeKey k es) (sym same.1) (IsFreeKey-above es)
-    | inr apart ↦ (let below : key < 4096 = (let other = apart.1 in omega arith) in covers key below (free below))
-  ]
-
-  -- an entry with the marked key comes
-  pub CoversEntries-push : (words new : List ℕ) (es : List (Entry T)) (e : Entry T) (key : ℕ) → key_of e.token ≡ key → mark_of new key ≡ 1 → ((other : ℕ) → other ≢ key → mark_of new other ≡ mark_of words other) → CoversEntries words es → CoversEntries new (es ++ e ∷ [])
-  CoversEntries-push words new es e key is marked others covers = λ k below zero. elim (eqb_tells k key) [
-    | inl same ↦ (let at = same.1 in absurd (let one : mark_of new k ≡ 1 = ap (mark_of new) at ∙ marked in omega arith))
-    | inr apart ↦ (let other = apart.1 in All-push (λ f. key_of f.token ≢ k) es e (covers k below (sym (others k other) ∙ zero)) (λ there. other (sym there ∙ is)))
-  ]
 
   -- without the entry at a place, its key is free
   pub IsFreeKey-removed : (es : List (Entry T)) (i : ℕ) (e : Entry T) → i < length es → e ≡ get_or es i e → AllPairs (λ f h. key_of f.token ≢ key_of h.token) es → IsFreeKey (key_of e.token) (remove es i)
@@ -51,13 +27,6 @@ module _ {T : Type 0} where
       back = λ k d h same. let above : i < suc i + k = omega arith in
           let inside : suc i + k < length es = (let l = length-drop (suc i) es in omega (arith, l)) in
           keys i (suc i + k) d above inside (ap (λ f. key_of f.token) (sym (is ∙ get_or_default es i e d within)) ∙ sym same ∙ ap (λ f. key_of f.token) (get_or-drop (suc i) es k d))
-
-  -- the entry with the cleared key goes
-  pub CoversEntries-remove : (words new : List ℕ) (es : List (Entry T)) (i : ℕ) (e : Entry T) → i < length es → e ≡ get_or es i e → AllPairs (λ f h. key_of f.token ≢ key_of h.token) es → ((other : ℕ) → other ≢ key_of e.token → mark_of new other ≡ mark_of words other) → CoversEntries words es → CoversEntries new (remove es i)
-  CoversEntries-remove words new es i e within is keys others covers = λ k below zero. elim (eqb_tells k (key_of e.token)) [
-    | inl same ↦ subst (λ key. IsFreeKey key (remove es i)) (sym same.1) (IsFreeKey-removed es i e within is keys)
-    | inr apart ↦ (let other = apart.1 in All-remove (λ f. key_of f.token ≢ k) es i (covers k below (sym (others k other) ∙ zero)))
-  ]
 
   -- a consistent table with one entry more
   pub IsConsistent-push : (old new : Table T) (e : Entry T) → IsConsistent old → length old.entries < 4096 → old.next_id ≤ 4503599627370494 → old.next_key < 4096 → e.id ≡ old.next_id → e.token ≡ token_of old.next_key old.next_id → new.entries ≡ old.entries ++ e ∷ [] → new.next_id ≡ old.next_id + 1 → IsFreeKey new.next_key new.entries → IsConsistent new
@@ -94,25 +63,9 @@ module _ {T : Type 0} where
     next_key = free;
   }
 
-  -- what an insert leaves, where the table was seen as `seen`
-  pub IsTable-push : (old seen new : Table T) (e : Entry T) (words marks : List ℕ) → old ≡ seen → HasRoom seen → e.id ≡ seen.next_id → e.token ≡ token_of seen.next_key seen.next_id → IsConsistent old → CoversEntries words old.entries → new.entries ≡ old.entries ++ e ∷ [] → new.next_id ≡ old.next_id + 1 → mark_of marks old.next_key ≡ 1 → ((other : ℕ) → other ≢ old.next_key → mark_of marks other ≡ mark_of words other) → new.next_key ≤ 4096 → (new.next_key < 4096 → mark_of marks new.next_key ≡ 0) → IsConsistent new × CoversEntries marks new.entries
-  IsTable-push old seen new e words marks same room id token was covers now next marked others bound free =
-      let has_room : HasRoom old = subst HasRoom (sym same) room in
-      let id_is : e.id ≡ old.next_id = id ∙ sym (ap (λ t. t.next_id) same) in
-      let token_is : e.token ≡ token_of old.next_key old.next_id = token ∙ sym (ap (λ t. token_of t.next_key t.next_id) same) in
-      let key_is : key_of e.token ≡ old.next_key = ap key_of token_is ∙ key_of-token_of old.next_key old.next_id has_room.2 in
-      let covered : CoversEntries marks new.entries = subst (CoversEntries marks) (sym now) (CoversEntries-push words marks old.entries e old.next_key key_is marked others covers) in
-      (IsConsistent-push old new e was has_room.0 has_room.1 has_room.2 id_is token_is now next (IsFreeKey-first marks new.entries new.next_key covered bound free), covered)
-
-  -- what a removal leaves
-  pub IsTable-remove : (old new : Table T) (i : ℕ) (e : Entry T) (words marks : List ℕ) → i < length old.entries → e ≡ get_or old.entries i e → IsConsistent old → CoversEntries words old.entries → new.entries ≡ remove old.entries i → new.next_id ≡ old.next_id → ((other : ℕ) → other ≢ key_of e.token → mark_of marks other ≡ mark_of words other) → new.next_key ≤ 4096 → (new.next_key < 4096 → mark_of marks new.next_key ≡ 0) → IsConsistent new × CoversEntries marks new.entries
-  IsTable-remove old new i e words marks within is was covers now next others bound free =
-      let covered : CoversEntries marks new.entries = subst (CoversEntries marks) (sym now) (CoversEntries-remove words marks old.entries i e within is was.keys others covers) in
-      (IsConsistent-remove old new i was within now next (IsFreeKey-first marks new.entries new.next_key covered bound free), covered)
-
-  -- the entry that was found at a place is the one that is taken out of it
-  pub Removes-remove : (old seen new : Table T) (id i : ℕ) (e : Entry T) → old ≡ seen → i < length old.entries → e ≡ get_or old.entries i e → (x : Entry T) × (x.id ≡ id) × (get_or seen.entries i x ≡ x) → new.entries ≡ remove old.entries i → new.next_id ≡ old.next_id → Removes seen new id e.value
-  Removes-remove old seen new id i e same within is found now next = subst (λ t. Removes t new id e.value) same (record {
+  -- the entry at a place is the one that is taken out of it
+  pub Removes-remove : (old seen new : Table T) (id i : ℕ) (e : Entry T) → old ≡ seen → i < length old.entries → e ≡ get_or old.entries i e → e.id ≡ id → new.entries ≡ remove old.entries i → new.next_id ≡ old.next_id → Removes seen new id e.value
+  Removes-remove old seen new id i e same within is named now next = subst (λ t. Removes t new id e.value) same (record {
     before = take i old.entries;
     token = e.token;
     after = drop (suc i) old.entries;
@@ -120,6 +73,3 @@ module _ {T : Type 0} where
     is = now;
     next_id = next;
   })
-    where
-      named : e.id ≡ id
-      named = ap (λ f. f.id) (is ∙ get_or_default old.entries i e found.0 within ∙ ap (λ t. get_or t.entries i found.0) same ∙ found.2) ∙ found.1

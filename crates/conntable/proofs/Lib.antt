@@ -1,4 +1,4 @@
 pub mod TokenLemmas
-pub mod UsedKeyLemmas
 pub mod ConnTableLemmas
+pub mod SlotLemmas
 pub mod LawLemmas

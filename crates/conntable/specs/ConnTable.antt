@@ -1,5 +1,5 @@
 -- A table of connections, as a list of entries by rising id.
-use Rattle.std.specs.Prelude.{◌≡◌, ◌≢◌, ◌==◌, ◌≤◌, ◌<◌, ◌+◌, ℕ, List, [], ◌∷◌, ◌++◌, length, slice_index_or, map, find, All, AllPairs, Option, Some, None}
+use Rattle.std.specs.Prelude.{◌≡◌, ◌≢◌, ◌==◌, ◌≤◌, ◌<◌, ◌+◌, ℕ, List, [], ◌∷◌, ◌++◌, length, map, find, All, AllPairs, Option, Some, None}
 use Rattle.std.specs.Option.{option_map}
 use Rattle.conntable.specs.declared.table.Entry.{Entry}
 use Rattle.conntable.specs.Token.{token_of, key_of}
@@ -28,10 +28,6 @@ module _ {T : Type 0} where
   abbrev pub IsFreeKey : ℕ → List (Entry T) → Type 0
   IsFreeKey key entries = All (λ e. key_of e.token ≢ key) entries
 
-  -- the entry at this place has this id
-  abbrev pub HasIdAt : ℕ → ℕ → List (Entry T) → Type 0
-  HasIdAt id i entries = (e : Entry T) × (e.id ≡ id) × (slice_index_or entries i e ≡ e)
-
   -- no entry has this id
   abbrev pub HasNoId : ℕ → List (Entry T) → Type 0
   HasNoId id entries = All (λ e. e.id ≢ id) entries
@@ -52,7 +48,7 @@ module _ {T : Type 0} where
 
   -- the value of the first entry that has this token, if one has
   abbrev pub value_with_token : ℕ → List (Entry T) → Option T
-  value_with_token token entries = option_map (λ e. e.value) (entry_with_token token entries)
+  value_with_token token entries = option_map (λ e. e.value) (find (λ e. e.token == token) entries)
 
   -- the id of the first entry that has this token, if one has
   abbrev pub id_with_token : ℕ → List (Entry T) → Option ℕ

@@ -1,5 +1,5 @@
 pub mod Token
 pub mod ConnTable
 pub mod Refusals
-pub mod UsedKeys
 pub mod Laws
+pub mod Slots

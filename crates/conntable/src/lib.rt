@@ -2,7 +2,6 @@
 //! and a token is made of both, so that a token which outlived its entry names nothing.
 #![tactic(auto)]
 
-mod keys;
 pub mod laws;
 pub mod table;
 #[cfg(test)]

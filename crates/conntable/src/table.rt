@@ -1,19 +1,21 @@
 //! The table: entries by rising id, at most 4,096 of them, each with a key of its own.
 //!
-//! It is a plain list. A look-up walks over it; the next key comes from the marks of all keys,
-//! so an insert looks at no entry.
+//! The entries stand in a slab, which picks their keys, and an index leads from an id to its key. A
+//! key may be that of a later entry than the one that is asked for, so an entry counts only if its
+//! token is the one asked for. The index is ordered, so it tells the ids in their order.
 
-ghost use Rattle.std.specs.Prelude.{◌≡◌, ◌≢◌, ◌<◌, ◌≤◌, [], Err, length};
-ghost use Rattle.std.specs.Prelude.{IfOk, OnOk, IfErr, OnErr, IfSome, IfNone, option_copied};
-ghost use Rattle.conntable.specs.ConnTable.{Inserts, Removes, HasIdAt, HasNoId, IsConsistent};
-ghost use Rattle.conntable.specs.ConnTable.{next_token, value_with_token, value_with_id, ids_of};
-ghost use Rattle.conntable.specs.ConnTable.{entry_with_token, id_with_token};
-ghost use Rattle.conntable.specs.ConnTable.{first_id_of};
+ghost use Rattle.std.specs.Prelude.{◌≡◌, ◌≢◌, ◌<◌, ◌≤◌, [], Err};
+ghost use Rattle.std.specs.Prelude.{IfOk, OnOk, IfErr, OnErr, option_copied};
+ghost use Rattle.conntable.specs.ConnTable.{Inserts, Removes, HasNoId, IsConsistent, next_token};
+ghost use Rattle.conntable.specs.ConnTable.{entry_with_token, value_with_token, value_with_id};
+ghost use Rattle.conntable.specs.ConnTable.{id_with_token};
+ghost use Rattle.conntable.specs.ConnTable.{ids_of, first_id_of};
 ghost use Rattle.conntable.specs.Refusals.{HasRoom, Refuses};
 
-use crate::keys::UsedKeys;
 use crate::token;
+use slab::Slab;
 use std::alloc::{Allocator, Global};
+use std::collections::BTreeMap;
 use std::marker::Model;
 
 /// Why a call of a table is refused.
@@ -23,12 +25,12 @@ pub enum Refusal {
     Full,
     /// No entry has this id: it was never given, or its entry was removed.
     Unknown,
-    /// The growth of a list was refused. Nothing changed.
+    /// Memory for an entry, or for a list of ids, was refused. Nothing changed.
     OutOfMemory,
     /// The last id was given.
     IdsSpent,
-    /// No key below 4,096 is next. This list has one while it is not full; a store that picks
-    /// its keys itself may have none.
+    /// No key below 4,096 is next. The slab takes the key of a removed entry before a new one, so a
+    /// table that isn't full has one; but no clause of the slab bounds its keys.
     NoKey,
 }
 
@@ -43,28 +45,29 @@ pub struct Entry<T> {
 /// Connections by id and by token.
 ///
 /// Contracts see the list of entries in the order of their inserts, the next id and the next
-/// key. Which free key is next is open: here it is the least, and no clause says so.
+/// key. Which free key is next is open: here it is that of the entry removed last, and no clause
+/// says so.
 #[derive(Drop)]
 pub struct ConnTable<T, A: Allocator = Global> {
-    entries: Vec<Entry<T>, A>,
-    used: UsedKeys,
+    slots: Slab<Entry<T>, A>,
+    index: BTreeMap<u64, usize, A>,
     next_id: u64,
-    next_key: u64,
 }
 
 impl<T, A: Allocator> Model for ConnTable<T, A> {
     ghost use Rattle.conntable.specs.ConnTable.{Table, IsConsistent, table_of};
-    ghost use Rattle.conntable.specs.UsedKeys.{CoversEntries};
+    ghost use Rattle.conntable.specs.Slots.{entries_at, Holds};
 
     ghost Value = { Table T };
 
-    ghost view = { λ t. table_of t.entries.items t.next_id t.next_key };
+    ghost view = { λ t. table_of (entries_at t.slots t.index.entries) t.next_id t.slots.vacant_key };
 
-    ghost invariant = { λ t. IsConsistent (table_of t.entries.items t.next_id t.next_key)
-        × CoversEntries t.used.words t.entries.items };
+    ghost invariant = { λ t. let entries = entries_at t.slots t.index.entries in
+        IsConsistent (table_of entries t.next_id t.slots.vacant_key)
+        × Holds t.slots t.index.entries entries };
 }
 
-impl<T, A: Allocator> ConnTable<T, A> {
+impl<T, A: Allocator + Copy> ConnTable<T, A> {
     /// An empty table, whose first id is 1. It keeps the allocator for its entries.
     pub fn new(alloc: A) -> ConnTable<T, A>
         ensures empty { result.entries ≡ [] }
@@ -82,33 +85,10 @@ impl<T, A: Allocator> ConnTable<T, A> {
         ensures key { result.next_key < 4096 }
     {
         ConnTable {
-            entries: Vec::new(alloc),
-            used: UsedKeys::new(),
+            slots: Slab::new(alloc),
+            index: BTreeMap::new(alloc),
             next_id: first,
-            next_key: 0,
         }
-    }
-
-    /// The id and the token that the next insert would give, if memory isn't refused.
-    /// It tests `Full`, then `IdsSpent`, then `NoKey`.
-    pub fn vacant(&self) -> Result<(u64, u64), Refusal>
-        ensures id { IfOk result (λ given. given.0 ≡ self.now.next_id) }
-        ensures token { IfOk result (λ given. given.1 ≡ next_token self.now) }
-        ensures room { OnOk result (HasRoom self.now) }
-        ensures why { IfErr result (λ refusal. Refuses self.now refusal) }
-        ensures memory { result ≢ Err Refusal.OutOfMemory }
-        ensures consistent { IsConsistent self.now }
-    {
-        if self.entries.len() as u64 >= token::KEYS {
-            return Err(Refusal::Full);
-        }
-        if self.next_id > token::LAST_ID {
-            return Err(Refusal::IdsSpent);
-        }
-        if self.next_key >= token::KEYS {
-            return Err(Refusal::NoKey);
-        }
-        Ok((self.next_id, token::join(self.next_key, self.next_id)))
     }
 
     /// Adds an entry, and gives its id and its token: those that `vacant` gives before.
@@ -126,33 +106,56 @@ impl<T, A: Allocator> ConnTable<T, A> {
             Ok(given) => given,
             Err(refusal) => return Err((value, refusal)),
         };
-        match self.entries.push(Entry { id, token, value }) {
-            Ok(()) => {
-                self.used.mark(self.next_key);
-                self.next_key = self.used.first_free();
-                self.next_id += 1;
-                Ok((id, token))
-            }
-            Err(failed) => {
-                let Entry {
-                    id: _,
-                    token: _,
-                    value,
-                } = failed.value;
-                Err((value, Refusal::OutOfMemory))
-            }
+        // The slab's room is asked for first: once the index has the id, nothing can be refused.
+        if self.slots.reserve(1).is_err() {
+            return Err((value, Refusal::OutOfMemory));
         }
+        match self.index.insert(id, self.slots.vacant_key()) {
+            Ok(_) => {}
+            Err(_) => return Err((value, Refusal::OutOfMemory)),
+        }
+        self.slots.insert_reserved(Entry { id, token, value });
+        self.next_id += 1;
+        // For the proof: its clause says that the next key is in no entry.
+        let _ = self.slots.vacant_key();
+        Ok((id, token))
+    }
+}
+
+impl<T, A: Allocator> ConnTable<T, A> {
+    /// The id and the token that the next insert would give, if memory isn't refused.
+    /// It tests `Full`, then `IdsSpent`, then `NoKey`.
+    pub fn vacant(&self) -> Result<(u64, u64), Refusal>
+        ensures id { IfOk result (λ given. given.0 ≡ self.now.next_id) }
+        ensures token { IfOk result (λ given. given.1 ≡ next_token self.now) }
+        ensures room { OnOk result (HasRoom self.now) }
+        ensures why { IfErr result (λ refusal. Refuses self.now refusal) }
+        ensures memory { result ≢ Err Refusal.OutOfMemory }
+        ensures consistent { IsConsistent self.now }
+    {
+        if self.index.len() as u64 >= token::KEYS {
+            return Err(Refusal::Full);
+        }
+        if self.next_id > token::LAST_ID {
+            return Err(Refusal::IdsSpent);
+        }
+        let key = self.slots.vacant_key() as u64;
+        if key >= token::KEYS {
+            return Err(Refusal::NoKey);
+        }
+        Ok((self.next_id, token::join(key, self.next_id)))
     }
 
+    // The one at the token's key, unless that is a later one.
     fn entry_by_token(&self, token: u64) -> Option<&Entry<T>>
         ensures { option_copied result ≡ entry_with_token token self.now.entries }
     {
-        for entry in self.entries.as_slice() {
-            if entry.token == token {
-                return Some(entry);
-            }
+        let entry = self.slots.get(token::key_in(token) as usize)?;
+        if entry.token == token {
+            Some(entry)
+        } else {
+            None
         }
-        None
     }
 
     /// The value of the entry with this token, or `None`: a token whose entry was removed names
@@ -180,12 +183,9 @@ impl<T, A: Allocator> ConnTable<T, A> {
     pub fn by_id(&self, id: u64) -> Option<&T>
         ensures { option_copied result ≡ value_with_id id self.now.entries }
     {
-        for entry in self.entries.as_slice() {
-            if entry.id == id {
-                return Some(&entry.value);
-            }
-        }
-        None
+        let key = *self.index.get(&id)?;
+        let entry = self.slots.get(key)?;
+        Some(&entry.value)
     }
 
     /// Takes the entry of this id out, and gives its value. Its id never comes again.
@@ -195,17 +195,14 @@ impl<T, A: Allocator> ConnTable<T, A> {
         ensures unknown { OnErr result (HasNoId id self.old.entries) }
         ensures kept { OnErr result (self.new ≡ self.old) }
     {
-        let Some(place) = self.place_of(id) else {
+        let Some(key) = self.index.remove(&id) else {
             return Err(Refusal::Unknown);
         };
-        let entry = self.entries.remove(place);
-        self.used.clear(token::key_in(entry.token));
-        self.next_key = self.used.first_free();
         let Entry {
             id: _,
             token: _,
             value,
-        } = entry;
+        } = self.slots.remove(key);
         Ok(value)
     }
 
@@ -215,8 +212,8 @@ impl<T, A: Allocator> ConnTable<T, A> {
         ensures memory { IfErr result (λ refusal. refusal ≡ Refusal.OutOfMemory) }
     {
         let mut ids = Vec::new(alloc);
-        for entry in self.entries.as_slice() {
-            if ids.push(entry.id).is_err() {
+        for id in self.index.keys() {
+            if ids.push(*id).is_err() {
                 return Err(Refusal::OutOfMemory);
             }
         }
@@ -227,23 +224,7 @@ impl<T, A: Allocator> ConnTable<T, A> {
     pub fn first_id(&self) -> Option<u64>
         ensures { result ≡ first_id_of self.now.entries }
     {
-        match self.entries.as_slice() {
-            [] => None,
-            [entry, ..] => Some(entry.id),
-        }
-    }
-
-    // Where the entry of this id stands.
-    fn place_of(&self, id: u64) -> Option<usize>
-        ensures within { IfSome result (λ i. i < length self.now.entries) }
-        ensures found { IfSome result (λ i. HasIdAt id i self.now.entries) }
-        ensures none { IfNone result (HasNoId id self.now.entries) }
-    {
-        for i in 0..self.entries.len() {
-            if self.entries[i].id == id {
-                return Some(i);
-            }
-        }
-        None
+        let (id, _) = self.index.first_key_value()?;
+        Some(*id)
     }
 }

@@ -1,8 +1,7 @@
 //! Rows from outside, a full table, and refused memory.
+mod refused_memory;
 
 use crate::table::{ConnTable, Refusal};
-use linked_list_allocator::LocalHeap;
-use std::alloc::{AllocError, Allocator};
 use std::test::Fail;
 
 #[test]
@@ -24,10 +23,13 @@ fn token_names_nothing_once_its_key_is_used_again(rt: HostRuntime) -> Result<(),
     assert_eq!(rt; table.by_token(token).copied(), Some('a'));
     assert_eq!(rt; table.remove(id), Ok('a'));
     assert_eq!(rt; table.by_token(token).copied(), None);
+    assert_eq!(rt; table.id_by_token(token), None, "its entry is gone");
     let (next_id, next_token) = table.insert('b').map_err(|refused| refused.1)?;
     assert_eq!(rt; (next_id, next_token), (2, 8192), "the key is used again");
     assert_eq!(rt; table.by_token(token).copied(), None);
+    assert_eq!(rt; table.id_by_token(token), None, "its key is another's");
     assert_eq!(rt; table.by_token(next_token).copied(), Some('b'));
+    assert_eq!(rt; table.id_by_token(next_token), Some(2));
     assert_eq!(rt; table.by_id(id).copied(), None);
     assert_eq!(rt; table.remove(id), Err(Refusal::Unknown));
     Ok(())
@@ -67,47 +69,36 @@ fn full_table_takes_one_more_after_a_removal(rt: HostRuntime) -> Result<(), Fail
     Ok(())
 }
 
-// What a caller can see of a table without memory.
-fn seen<A: Allocator>(table: &ConnTable<u64, A>) -> (Result<(u64, u64), Refusal>, Option<u64>) {
-    (table.vacant(), table.first_id())
+#[test]
+fn ids_go_on_where_keys_come_again(rt: HostRuntime) -> Result<(), Fail> {
+    let mut table = ConnTable::new(rt.alloc());
+    let _ = table.insert('l').map_err(|refused| refused.1)?;
+    for pair in 0..300u64 {
+        let (one, _) = table.insert('a').map_err(|refused| refused.1)?;
+        let (other, _) = table.insert('b').map_err(|refused| refused.1)?;
+        assert_eq!(rt; (one, other), (2 * pair + 2, 2 * pair + 3));
+        assert_eq!(rt; table.remove(one), Ok('a'));
+        assert_eq!(rt; table.remove(other), Ok('b'));
+    }
+    let _ = table.insert('a').map_err(|refused| refused.1)?;
+    let _ = table.insert('b').map_err(|refused| refused.1)?;
+    let ids = table.ids(rt.alloc())?;
+    assert_eq!(rt; ids.as_slice(), [1, 602, 603].as_slice());
+    Ok(())
 }
 
 #[test]
-fn refused_memory_changes_nothing(rt: HostRuntime) -> Result<(), Fail> {
-    let mut refusals = 0u32;
-    for units in 1..64usize {
-        let heap = LocalHeap::new(rt.alloc(), units * 16)?;
-        let mut table = ConnTable::new(&heap);
-        let mut count = 0u64;
-        let mut refused = false;
-        for n in 0..8u64 {
-            let before = seen(&table);
-            match table.insert(n) {
-                Ok(_) => count = n + 1,
-                Err((value, refusal)) => {
-                    assert_eq!(rt; (value, refusal), (n, Refusal::OutOfMemory), "at {units}");
-                    assert_eq!(rt; seen(&table), before, "insert at {units} units");
-                    refused = true;
-                    break;
-                }
-            }
+fn a_table_filled_again_has_a_key_for_each(rt: HostRuntime) -> Result<(), Fail> {
+    let mut table = ConnTable::new(rt.alloc());
+    for round in 0..3u64 {
+        for n in 0..4096u64 {
+            let (id, _) = table.insert(n).map_err(|refused| refused.1)?;
+            assert_eq!(rt; id, 4096 * round + n + 1);
         }
-        let before = seen(&table);
-        match table.ids(&heap) {
-            Ok(ids) => assert_eq!(rt; ids.len() as u64, count),
-            Err(refusal) => {
-                assert_eq!(rt; refusal, Refusal::OutOfMemory);
-                assert_eq!(rt; seen(&table), before, "ids at {units} units");
-                refused = true;
-            }
+        for n in (0..4096u64).rev() {
+            assert_eq!(rt; table.remove(4096 * round + n + 1), Ok(n));
         }
-        let ids = table.ids(rt.alloc())?;
-        assert_eq!(rt; ids.len() as u64, count, "entries at {units} units");
-        if !refused {
-            assert!(rt; refusals > 2, "only {refusals} refusals");
-            return Ok(());
-        }
-        refusals = refusals.saturating_add(1);
+        assert_eq!(rt; table.first_id(), None, "round {round}");
     }
-    Err(Fail::new("always refused"))
+    Ok(())
 }

@@ -1,4 +1,4 @@
 pub mod PollHistory
 pub mod DueOrder
 pub mod Timers
-pub mod TimerList
+pub mod TimerOrder

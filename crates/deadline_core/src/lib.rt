@@ -10,6 +10,7 @@ mod deadline;
 pub mod laws;
 mod poll_state;
 mod refusal;
+mod timer_order;
 mod timers;
 
 pub use deadline::{Deadline, Dirs};

@@ -84,3 +84,53 @@ fn what_is_due_comes_256_at_a_time(rt: HostRuntime) -> Result<(), Fail> {
     }
     Ok(())
 }
+
+#[test]
+fn stale_entries_are_few(rt: HostRuntime) -> Result<(), Fail> {
+    let mut timers = Timers::new(rt.alloc());
+    timers.arm(7, Read, 1)?;
+    timers.arm(7, Read, 2)?;
+    assert_eq!(rt; timers.stored(), 2, "the old entry is stale");
+    for at in 3..=1000u64 {
+        timers.arm(7, Read, at)?;
+    }
+    assert_eq!(rt; timers.live(), 1);
+    assert!(rt; timers.stored() <= 66, "stored {}", timers.stored());
+    assert!(rt; timers.due(999).is_empty());
+    assert_eq!(rt; timers.due(1000).as_slice(), [(7, Read)].as_slice());
+    Ok(())
+}
+
+#[test]
+fn stale_entries_before_the_first_timer_are_dropped(rt: HostRuntime) -> Result<(), Fail> {
+    let mut timers = Timers::new(rt.alloc());
+    for key in 0..100u64 {
+        timers.arm(key, Read, key)?;
+    }
+    for key in 0..100u64 {
+        timers.arm(key, Read, 1000)?;
+    }
+    assert_eq!(rt; timers.live(), 100);
+    assert!(rt; timers.stored() <= 101, "stored {}", timers.stored());
+    timers.arm_both(7, 5)?;
+    timers.disarm(7, Read);
+    assert_eq!(rt; timers.live(), 100);
+    assert_eq!(rt; timers.next(), Some(5));
+    assert_eq!(rt; timers.due(5).as_slice(), [(7, Write)].as_slice());
+    Ok(())
+}
+
+#[test]
+fn stale_entries_behind_a_timer_are_few(rt: HostRuntime) -> Result<(), Fail> {
+    let mut timers = Timers::new(rt.alloc());
+    timers.arm(3, Write, 0)?;
+    for at in 1..=1000u64 {
+        timers.arm(7, Read, at)?;
+        assert!(rt; timers.stored() <= 68, "stored {}", timers.stored());
+    }
+    timers.disarm(7, Read);
+    assert!(rt; timers.stored() <= 66, "stored {}", timers.stored());
+    assert_eq!(rt; timers.due(1000).as_slice(), [(3, Write)].as_slice());
+    assert_eq!(rt; timers.next(), None);
+    Ok(())
+}

@@ -7,6 +7,6 @@ pub loop-preserved : goal.loop-preserved
 loop-preserved g c = record {
   room = omega (arith, c.push.ensures.len, c.loop.invariant.room);
   so_far =
-      let first : Slot × ℕ = ((c.in-Some.key, c.in-Some.dir), c.in-Some.field-0-1) in
-      rw (c.push.ensures.items, c.disarm.ensures.disarmed) (one_more _ _ _ _ _ first c.loop.invariant.so_far c.in-Some.ensures);
+      let first : Slot × ℕ = (c.in-Some.slot, c.in-Some.field-0-1) in
+      rw (c.push.ensures.items, c.in-Some.ensures.taken) (one_more _ _ _ _ _ first c.loop.invariant.so_far c.in-Some.ensures.first);
 }

@@ -1,21 +1,27 @@
-use Rattle.std.proofs.Common.{◌≡◌, subst}
-use Rattle.std.specs.Prelude.{IfNone, IfSome}
-use Rattle.std.specs.FinMap.{empty}
+use Rattle.std.proofs.Common.{◌∙◌, sym, subst, ◌∷◌}
+use Rattle.deadline_core.specs.TimerOrder.{armed_in}
 use Rattle.deadline_core.specs.Timers.{IsLeastMoment}
-use Rattle.deadline_core.specs.TimerList.{IsLeastIn}
-use Rattle.deadline_core.proofs.DueLemmas.{none_in_map, some_in_map}
+use Rattle.deadline_core.proofs.StaleEntryLemmas.{Ahead, ahead_from, ahead_next, least_here, none_ahead}
 use Rattle.deadline_core.proofs.timers.Timers.next.Goals as goal
+
+pub loop-stored-init : goal.loop-stored-init
+loop-stored-init g c =
+    subst (λ a. Ahead a c.into_iter-stored-iterator.result) c.self.view_is
+    (ahead_from c.self.inside.moments c.self.inside.order c.into_iter-stored-iterator.result c.self.invariant.0 c.iter-stored-items.ensures.ordered (c.into_iter-stored-iterator.ensures.into_iter_gives ∙ c.iter-stored-items.ensures.rest))
+
+pub loop-stored-preserved : goal.loop-stored-preserved
+loop-stored-preserved g c =
+    let k = c.in-Some.stored.now in
+    let here : Ahead (armed_in c.self.inside.moments) (k ∷ c.next.new.self) = subst (λ l. Ahead (armed_in c.self.inside.moments) l) c.in-Some.ensures.steps (subst (λ a. Ahead a c.loop-stored.stored-iterator) (sym c.self.view_is) c.loop-stored.invariant) in
+    subst (λ a. Ahead a c.next.new.self) c.self.view_is (ahead_next c.self.inside.moments k c.next.new.self (sym c.is_current.ensures ∙ c.if-is_current.false) here)
+
+pub returns-then-is_current-clause-least : goal.returns-then-is_current-clause-least
+returns-then-is_current-clause-least g c =
+    let k = c.in-Some.stored.now in
+    let here : Ahead (armed_in c.self.inside.moments) (k ∷ c.next.new.self) = subst (λ l. Ahead (armed_in c.self.inside.moments) l) c.in-Some.ensures.steps (subst (λ a. Ahead a c.loop-stored.stored-iterator) (sym c.self.view_is) c.loop-stored.invariant) in
+    subst (λ a. IsLeastMoment a k.0) c.self.view_is (least_here c.self.inside.moments k c.next.new.self (sym c.is_current.ensures ∙ c.if-is_current.true) here)
 
 pub returns-clause-none : goal.returns-clause-none
 returns-clause-none g c =
-    let es = c.self.inside.entries.items in
-    let least = c.least_of.result in
-    let least_in_list = subst (λ es. IsLeastIn es least) c.deref.ensures.value c.least_of.ensures in
-    subst (λ m. IfNone least (m ≡ empty)) c.self.view_is (none_in_map es least least_in_list)
-
-pub returns-clause-least : goal.returns-clause-least
-returns-clause-least g c =
-    let es = c.self.inside.entries.items in
-    let least = c.least_of.result in
-    let least_in_list = subst (λ es. IsLeastIn es least) c.deref.ensures.value c.least_of.ensures in
-    subst (λ m. IfSome least (λ moment. IsLeastMoment m moment)) c.self.view_is (some_in_map es least c.self.invariant least_in_list)
+    let here = subst (λ a. Ahead a c.loop-stored.stored-iterator) (sym c.self.view_is) c.loop-stored.invariant in
+    sym c.self.view_is ∙ none_ahead c.self.inside.moments (subst (λ l. Ahead (armed_in c.self.inside.moments) l) c.in-None.ensures.steps.0 here)
