@@ -54,8 +54,12 @@ impl<L: Ledger> Model for Book<L> {
 
     ghost Value = { Account };
 
-    ghost view = { λ b. record { total = b.total; opened = b.opened; settled = b.rest.amount;
-        gathered = b.gathered } };
+    ghost view = { λ b. record {
+      total = b.total;
+      opened = b.opened;
+      settled = b.rest.amount;
+      gathered = b.gathered;
+    } };
 
     ghost invariant = { λ b. (b.total ≡ b.book.total) × (b.total < 2 ^ 64) × (b.opened < 2 ^ 32)
         × (b.gathered ≡ false → b.rest.parts + b.opened ≡ 4294967296)

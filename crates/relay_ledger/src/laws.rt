@@ -3,8 +3,8 @@
 
 ghost use Rattle.relay_ledger.specs.Conservation.{CreditsAreConserved};
 
-/// However shares are opened and credited, the total of the book is the sum over its shares of
-/// the sums of their credits, and it counts its shares.
+/// However shares are opened, credited and settled, the total of the book is the sum over its
+/// shares, open and settled, of the sums of their credits, and it counts those that are open.
 pub fn credits_are_conserved()
     ensures { CreditsAreConserved }
 {}

@@ -1,5 +1,6 @@
 //! A book whose total is the sum of the amounts of its shares. Each worker has a share; a credit
-//! adds to the book and to the share at once, and who gathers all shares has the total.
+//! adds to the book and to the share at once, a share is settled when its worker has ended, and who
+//! gathers those that are open has the total.
 #![tactic(auto)]
 
 pub mod book;

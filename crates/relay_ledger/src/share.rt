@@ -1,6 +1,7 @@
 //! A share: what one worker was credited.
 //!
-//! It can't be copied and it must be spent: it goes back to `Book::gather`, or it is given up.
+//! It can't be copied and it must be spent: it goes back to `Book::settle` or `Book::gather`, or it
+//! is given up.
 //! In the ledger it holds one part, and its amount is the amount of that part.
 
 ghost use Rattle.std.specs.Prelude.{◌≡◌};

@@ -120,6 +120,39 @@ fn all_shares_gather_and_two_of_three_do_not(rt: HostRuntime) {
     assert_eq!(rt; got, Some(want));
 }
 
+// Takes a share back, where there is one.
+fn settle<L: Ledger>(book: &mut Book<L>, carried: Option<(CarriedShare<L>, u64)>) {
+    if let Some((carried, _)) = carried {
+        book.settle(carried.into_share());
+    }
+}
+
+// After two of three shares are settled: how many are open, the total, and what none gathers; then
+// the total that none gathers once the third is settled, and how many are open.
+fn settled_row<L: Ledger>(heap: Global, blank: Blank) -> (u32, u64, Option<u64>, Option<u64>, u32)
+    requires name { blank.name ≡ L.name }
+    requires parts { blank.parts ≡ L.parts }
+    requires all { blank.parts ≡ 4294967296 }
+{
+    let mut book = Book::<L>::new(blank);
+    let first = worked(&mut book, &[5, 0]);
+    let second = worked(&mut book, &[7]);
+    let third = worked(&mut book, &[]);
+    settle(&mut book, first);
+    settle(&mut book, second);
+    let (open, total) = (book.opened(), book.total());
+    let too_early = total_of(&mut book, Vec::new(heap));
+    settle(&mut book, third);
+    let gathered = total_of(&mut book, Vec::new(heap));
+    (open, total, too_early, gathered, book.opened())
+}
+
+#[test]
+fn settled_shares_need_not_be_kept(rt: HostRuntime) {
+    let got = settled_row::<Brand>(rt.alloc(), Blank::new(PARTS));
+    assert_eq!(rt; got, (1, 12, None, Some(12), 0));
+}
+
 // What a credit of 1 at the greatest total answers, and the total and the amount then.
 fn one_too_many<L: Ledger>(blank: Blank) -> Option<(Result<(), Full>, u64, u64)>
     requires name { blank.name ≡ L.name }
