@@ -158,8 +158,7 @@ impl Resource for SockRes {
     fn destroy(read: ReadHalf, write: WriteHalf) -> Result<(), DevKind>
         ensures { result ≡ Ok tt }
     {
-        drop(read);
-        drop(write);
+        drop((read, write));
         Ok(())
     }
 }
