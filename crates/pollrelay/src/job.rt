@@ -1,5 +1,14 @@
 //! The command line.
 
+ghost use Rattle.std.specs.Prelude.{◌≡◌, IfOk, map, option_map, false};
+ghost use Rattle.std.specs.String.{string_bytes};
+ghost use Rattle.clap.specs.Walk.{rows_of, rule_of};
+ghost use Rattle.clap.specs.Matches.{found_of};
+ghost use Rattle.clap.specs.Simple.{app_of, subcommand_rows_of};
+ghost use Rattle.clap.specs.declared.builder.command.Command.TheViews.{out-Command};
+ghost use Rattle.pollrelay.specs.CommandLine.{asked_of, check_app, found_job, job_asked, named_job};
+ghost use Rattle.pollrelay.specs.CommandLine.{program, required_option, serve_app, value_of};
+
 use clap::error::ErrorKind;
 use clap::{Arg, ArgAction, ArgMatches, Command};
 use std::alloc::Global;
@@ -10,53 +19,102 @@ use stream_base::OutOfMemory;
 pub enum Job {
     /// Run a trace script on standard input and output.
     Trace,
-    /// Say whether a rules file is good.
+    /// Say whether the rules file at this path is good.
     Check { rules: String },
-    /// Run the relay.
+    /// Run the relay by the rules file at `rules`, with its admin socket at `admin`.
     Serve { rules: String, admin: String },
 }
 
-fn option<'a>(alloc: Global, name: &'a str) -> Arg<'a> {
+// An option that has to be there, with a value.
+fn option<'a>(alloc: Global, name: &'a str) -> Arg<'a>
+    ensures rule { rule_of result ≡ required_option name.now }
+    ensures local { result.global ≡ false }
+{
     Arg::new(alloc, name)
         .long(name)
         .required(true)
         .action(ArgAction::Set)
 }
 
-fn command<'a>(alloc: Global) -> Result<Command<'a>, OutOfMemory> {
-    let check = Command::new(alloc, "check").arg(option(alloc, "rules"))?;
-    let serve = Command::new(alloc, "serve")
+fn check<'a>(alloc: Global) -> Result<Command<'a>, OutOfMemory>
+    ensures app { IfOk result (λ command. app_of command ≡ check_app) }
+    ensures local { IfOk result (λ command. (out-Command command).has_globals ≡ false) }
+{
+    Command::new(alloc, "check").arg(option(alloc, "rules"))
+}
+
+fn serve<'a>(alloc: Global) -> Result<Command<'a>, OutOfMemory>
+    ensures app { IfOk result (λ command. app_of command ≡ serve_app) }
+    ensures local { IfOk result (λ command. (out-Command command).has_globals ≡ false) }
+{
+    Command::new(alloc, "serve")
         .arg(option(alloc, "rules"))?
-        .arg(option(alloc, "admin"))?;
+        .arg(option(alloc, "admin"))
+}
+
+fn command<'a>(alloc: Global) -> Result<Command<'a>, OutOfMemory>
+    ensures { IfOk result (λ command. app_of command ≡ program) }
+{
     Command::new(alloc, "pollrelay")
         .no_binary_name(true)
         .subcommand(Command::new(alloc, "trace"))?
-        .subcommand(check)?
-        .subcommand(serve)
+        .subcommand(check(alloc)?)?
+        .subcommand(serve(alloc)?)
 }
 
-fn value(alloc: Global, matches: &ArgMatches<'_>, id: &str) -> Result<String, OutOfMemory> {
+// The value of an option that has to be there.
+fn value(alloc: Global, matches: &ArgMatches<'_>, id: &str) -> Result<String, OutOfMemory>
+    ensures { IfOk result (λ text. string_bytes text
+        ≡ value_of id.now (rows_of (found_of matches.now))) }
+{
     String::from_str(alloc, matches.get_str(id).unwrap_or(""))
 }
 
-fn job_in(alloc: Global, matches: &ArgMatches<'_>) -> Result<Option<Job>, OutOfMemory> {
-    match matches.subcommand() {
-        None | Some(("trace", _)) => Ok(Some(Job::Trace)),
-        Some(("check", inner)) => {
-            let rules = value(alloc, inner, "rules")?;
+fn job_named(
+    alloc: Global,
+    name: &str,
+    matches: &ArgMatches<'_>,
+) -> Result<Option<Job>, OutOfMemory>
+    ensures { IfOk result (λ job. option_map asked_of job
+        ≡ named_job name.now (rows_of (found_of matches.now))) }
+{
+    match name {
+        "trace" => Ok(Some(Job::Trace)),
+        "check" => {
+            let rules = value(alloc, matches, "rules")?;
             Ok(Some(Job::Check { rules }))
         }
-        Some(("serve", inner)) => {
-            let rules = value(alloc, inner, "rules")?;
-            let admin = value(alloc, inner, "admin")?;
+        "serve" => {
+            let rules = value(alloc, matches, "rules")?;
+            let admin = value(alloc, matches, "admin")?;
             Ok(Some(Job::Serve { rules, admin }))
         }
-        Some(_) => Ok(None),
+        _ => Ok(None),
     }
 }
 
-/// The job that the words after the program's name ask for.
-pub fn job_of(alloc: Global, words: &[&str]) -> Result<Option<Job>, OutOfMemory> {
+fn job_in(alloc: Global, matches: &ArgMatches<'_>) -> Result<Option<Job>, OutOfMemory>
+    ensures { IfOk result (λ job. option_map asked_of job
+        ≡ found_job (subcommand_rows_of matches.now)) }
+{
+    match matches.subcommand() {
+        None => Ok(Some(Job::Trace)),
+        Some((name, inner)) => job_named(alloc, name, inner),
+    }
+}
+
+/// The job that the words after the program's name ask for, and `None` where they ask for none.
+/// No word and the word `trace` ask for [`Job::Trace`]; `check` with `--rules` and `serve` with
+/// `--rules` and `--admin`, in any order, for the others. A value follows its option as the next word,
+/// which begins with no `-`, or behind a `=`. The only fault is want of memory.
+pub fn job_of(alloc: Global, words: &[&str]) -> Result<Option<Job>, OutOfMemory>
+    ensures { IfOk result (λ job. option_map asked_of job
+        ≡ job_asked (map (λ word. word.now) words.now)) }
+{
+    // `clap` takes this word for the end of options, and there is nothing that could follow it.
+    if words.contains(&"--") {
+        return Ok(None);
+    }
     match command(alloc)?.try_get_matches_from(words) {
         Ok(matches) => job_in(alloc, &matches),
         Err(error) if error.kind() == ErrorKind::OutOfMemory => Err(OutOfMemory),

@@ -1,16 +1,15 @@
 //! `pollrelay`: a relay of TCP and Unix-socket connections; it also runs trace scripts of the lock word.
 #![tactic(auto)]
 
-mod check;
 mod fault;
 mod job;
 mod status;
 
-use crate::check::check_status;
 use crate::fault::{Fault, NO_MEMORY};
 use crate::job::{Job, job_of};
 use crate::status::trace_status;
 use relay::{serve, text_of};
+use relay_admin::check_status;
 use relay_ledger::PARTS;
 use std::alloc::Global;
 use std::env;

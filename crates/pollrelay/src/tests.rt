@@ -1,8 +1,10 @@
 //! The program's rows: what scripts print, which words it takes, and what it says of a fault.
 
-use crate::fault::Fault;
+use crate::fault::{Fault, NO_MEMORY};
 use crate::job::{Job, job_of};
 use crate::status::trace_status;
+use arrayvec::ArrayString;
+use relay::ServeFault;
 use std::io::{Cursor, ErrorKind, Read, Result, Write};
 use std::prelude::HostRuntime;
 use std::process::Abort;
@@ -196,6 +198,14 @@ fn a_fault_that_cannot_be_said_is_still_a_status(rt: HostRuntime) {
     assert!(&rt; status == 3);
 }
 
+/// A text of fixed size.
+fn name(text: &str) -> std::result::Result<ArrayString<16>, Fail> {
+    match ArrayString::from(text) {
+        Ok(name) => Ok(name),
+        Err(_) => Err(Fail::new("a short name")),
+    }
+}
+
 #[test]
 fn each_fault_has_its_line_and_status(rt: HostRuntime) -> std::result::Result<(), Fail> {
     let rows = [
@@ -203,7 +213,11 @@ fn each_fault_has_its_line_and_status(rt: HostRuntime) -> std::result::Result<()
         (Fault::TraceRead, "trace fault: read", 3),
         (Fault::TraceWrite, "trace fault: write", 3),
         (Fault::TraceMemory, "trace fault: memory", 3),
-        (Fault::Memory, "relay fault: memory", 3),
+        (Fault::Relay(ServeFault::RulesFile), "cannot read rules", 3),
+        (Fault::Relay(ServeFault::Listen(name("web-1")?)), "cannot listen web-1", 3),
+        (Fault::Relay(ServeFault::Admin), "cannot listen admin", 3),
+        (Fault::Relay(ServeFault::Device), "relay fault: device", 3),
+        (NO_MEMORY, "relay fault: memory", 3),
     ];
     for (fault, line, status) in rows {
         let text = format!(in rt.alloc(); "{fault}")?;
@@ -214,11 +228,40 @@ fn each_fault_has_its_line_and_status(rt: HostRuntime) -> std::result::Result<()
 }
 
 #[test]
+fn a_command_is_taken_with_its_options(rt: HostRuntime) -> std::result::Result<(), Fail> {
+    let alloc = rt.alloc();
+    let text = |words: &str| String::from_str(alloc, words);
+    assert!(&rt; job_of(alloc, &[])? == Some(Job::Trace));
+    assert!(&rt; job_of(alloc, &["trace"])? == Some(Job::Trace));
+    let checked = Some(Job::Check { rules: text("F")? });
+    assert!(&rt; job_of(alloc, &["check", "--rules", "F"])? == checked);
+    assert!(&rt; job_of(alloc, &["check", "--rules=F"])? == checked);
+    let served = Some(Job::Serve {
+        rules: text("F")?,
+        admin: text("/a b")?,
+    });
+    assert!(&rt; job_of(alloc, &["serve", "--rules", "F", "--admin", "/a b"])? == served);
+    assert!(&rt; job_of(alloc, &["serve", "--admin=/a b", "--rules", "F"])? == served);
+    let empty = Some(Job::Check { rules: text("")? });
+    assert!(&rt; job_of(alloc, &["check", "--rules", ""])? == empty);
+    Ok(())
+}
+
+#[test]
 fn no_other_words_are_taken(rt: HostRuntime) -> std::result::Result<(), Fail> {
-    assert!(&rt; job_of(rt.alloc(), &[])? == Some(Job::Trace));
-    assert!(&rt; job_of(rt.alloc(), &["trace"])? == Some(Job::Trace));
-    let refused: [&[&str]; 12] = [
+    let refused: [&[&str]; 23] = [
         &["check"],
+        &["check", "F"],
+        &["check", "--rules"],
+        &["check", "--rules", "-x"],
+        &["check", "--rules", "F", "G"],
+        &["check", "--rules", "F", "--rules", "F"],
+        &["check", "--rule", "F"],
+        &["check", "--rules", "F", "--admin", "A"],
+        &["serve", "--rules", "F"],
+        &["serve", "--admin", "A"],
+        &["serve", "--rules", "F", "--admin", "A", "--", "x"],
+        &["--rules", "F", "check"],
         &["frob"],
         &["--help"],
         &["-h"],

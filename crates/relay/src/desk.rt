@@ -1,6 +1,7 @@
 //! What an admin session asks, over the relay's table and books.
 
-ghost use Rattle.std.specs.Prelude.{None};
+ghost use Rattle.std.specs.Prelude.{◌≡◌, None};
+ghost use Rattle.relay.specs.Desk.{desk_answer};
 
 use crate::clock::Moments;
 use crate::entry::Handle;
@@ -23,7 +24,9 @@ pub(crate) struct RelayDesk<'a, U: Ledger, D: Ledger, R: Wait + Copy, C: Moments
 
 // What a close or a deadline that ended so is to the session. A device's fault while the descriptor
 // was destroyed doesn't change that it is closed.
-fn answer_of(done: Result<(), Fault>) -> DeskAnswer {
+fn answer_of(done: Result<(), Fault>) -> DeskAnswer
+    ensures { result ≡ desk_answer done }
+{
     match done {
         Ok(()) | Err(Fault::Device(_)) => DeskAnswer::Fine,
         Err(Fault::TooMany) => DeskAnswer::Busy,

@@ -1,7 +1,10 @@
 //! Why a relay doesn't run, or can't go on.
 
+ghost use Rattle.std.specs.Prelude.{◌≡◌};
+ghost use Rattle.relay.specs.ServeFault.{poller_fault};
+
 use arrayvec::ArrayString;
-use relay_admin::RulesFault;
+use relay_admin::{RulesFault, Verdict};
 use rwloops::Fault;
 use thiserror::Error;
 
@@ -11,9 +14,9 @@ pub enum ServeFault {
     /// The rules file can't be read.
     #[error("cannot read rules")]
     RulesFile,
-    /// A rules file that isn't by the grammar.
-    #[error("bad rules")]
-    BadRules(RulesFault),
+    /// The rules are bad; the text is the verdict on them.
+    #[error("{0}")]
+    BadRules(ArrayString<64>),
     /// The rule of this name can't be listened for.
     #[error("cannot listen {0}")]
     Listen(ArrayString<16>),
@@ -30,10 +33,19 @@ pub enum ServeFault {
 
 impl ServeFault {
     /// What a fault of the poller is to the relay.
-    pub(crate) fn of_poller(fault: Fault) -> ServeFault {
+    pub(crate) fn of_poller(fault: Fault) -> ServeFault
+        ensures { result ≡ poller_fault fault }
+    {
         match fault {
             Fault::OutOfMemory => ServeFault::Memory,
             _ => ServeFault::Device,
         }
+    }
+
+    /// The fault of bad rules, with the line of their verdict but for its line feed.
+    pub(crate) fn of_rules(fault: RulesFault) -> ServeFault {
+        let mut text = Verdict::Bad(fault).line();
+        let _ = text.pop();
+        ServeFault::BadRules(text)
     }
 }

@@ -1,5 +1,8 @@
 //! What a worker copies through: two descriptors, of which one is read and the other written.
 
+ghost use Rattle.std.specs.Prelude.{◌≡◌, ◌+◌, ◌*◌, ◌-◌, ◌^◌, ℕ, min, Some, None, IfSome, IfNone};
+ghost use Rattle.deadline_core.specs.declared.deadline.Deadline.{Deadline};
+
 use crate::clock::Moments;
 use deadline_core::Deadline;
 use fd_descriptor::{Alarms, FdHandle, HalfClose, Resource};
@@ -41,7 +44,11 @@ impl<X: Resource, R: Wait + Drop, C: Moments + Drop, A: Alarms + Drop> FdGate<X,
     }
 
     // The moment now, and the deadline of a call that begins now; none without an idle time.
-    fn next_deadline(&self) -> Option<(u64, Deadline)> {
+    fn next_deadline(&self) -> Option<(u64, Deadline)>
+        ensures none { IfNone result (self.now.idle_ms ≡ None) }
+        ensures idle { IfSome result (λ r. (ms : ℕ) × (self.now.idle_ms ≡ Some ms)
+            × (r.1 ≡ Deadline.At (min (r.0 + ms * 1000000) (2 ^ 64 - 1)))) }
+    {
         let idle_ms = self.idle_ms?;
         let now = self.clock.now();
         Some((now, Deadline::At(idle_deadline(now, idle_ms))))

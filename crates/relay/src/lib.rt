@@ -23,6 +23,7 @@ mod opening;
 mod pair;
 mod relay;
 mod rules_file;
+mod saying;
 mod serving;
 mod set_up;
 mod shared;

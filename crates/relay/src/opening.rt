@@ -1,5 +1,8 @@
 //! Opening: the pollers, the listeners in the rules' order, and the admin socket.
 
+ghost use Rattle.std.specs.Prelude.{◌≡◌};
+ghost use Rattle.relay.specs.Addr.{socket_address};
+
 use crate::admin::Door;
 use crate::bound_paths::BoundPaths;
 use crate::entry::{Entry, Handle};
@@ -28,7 +31,9 @@ pub(crate) struct Opened {
 }
 
 /// The same address in the terms of sockets.
-pub(crate) fn address_of(addr: &relay_admin::Addr) -> Addr {
+pub(crate) fn address_of(addr: &relay_admin::Addr) -> Addr
+    ensures { result ≡ socket_address addr.now }
+{
     match addr {
         relay_admin::Addr::Tcp(bytes, port) => Addr::Tcp(*bytes, *port),
         relay_admin::Addr::Unix(path) => Addr::Unix(*path),

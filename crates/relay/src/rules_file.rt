@@ -1,5 +1,7 @@
 //! Reading a rules file.
 
+ghost use Rattle.std.specs.Prelude.{◌≡◌, ◌≤◌, length, IfOk};
+
 use crate::fault::ServeFault;
 use std::alloc::Global;
 use std::fs;
@@ -12,7 +14,9 @@ use stream_base::source::read_from;
 const MOST_BYTES: usize = 65_537;
 
 // Reads until the buffer is full or the reader is at its end, and gives the count.
-fn fill<R: Read>(reader: &mut R, buf: &mut [u8]) -> Result<usize, ServeFault> {
+fn fill<R: Read>(reader: &mut R, buf: &mut [u8]) -> Result<usize, ServeFault>
+    ensures { length buf.new ≡ length buf.old }
+{
     let mut filled = 0usize;
     for _ in 0..u64::MAX {
         let Some(rest) = buf.get_mut(filled..) else {
@@ -33,7 +37,9 @@ fn fill<R: Read>(reader: &mut R, buf: &mut [u8]) -> Result<usize, ServeFault> {
 
 /// The bytes of a file, or its first 65,537 where it has more, which are enough to see that it is too
 /// long. The faults are `RulesFile`, where it can't be opened or read, and `Memory`.
-pub fn text_of<R: Files>(rt: &R, alloc: Global, path: &str) -> Result<Vec<u8>, ServeFault> {
+pub fn text_of<R: Files>(rt: &R, alloc: Global, path: &str) -> Result<Vec<u8>, ServeFault>
+    ensures most { IfOk result (λ text. length text.items ≤ 65537) }
+{
     let Ok(mut file) = fs::open(rt, path) else {
         return Err(ServeFault::RulesFile);
     };

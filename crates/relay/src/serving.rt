@@ -1,6 +1,8 @@
 //! A relay from its rules file to its end.
 
-ghost use Rattle.std.specs.Prelude.{◌≡◌};
+ghost use Rattle.std.specs.Prelude.{◌≡◌, ℕ, OnOk};
+ghost use Rattle.std.specs.Io.KnownBytes.{Appends};
+ghost use Rattle.relay.specs.Output.{WritesBothLines, listening_line};
 
 use crate::bound_paths::BoundPaths;
 use crate::entry::Entry;
@@ -8,6 +10,7 @@ use crate::fault::ServeFault;
 use crate::opening::{Opened, open};
 use crate::relay::Relay;
 use crate::rules_file::text_of;
+use crate::saying::{say_listening, say_totals};
 use crate::shared::Shared;
 use crate::threads::{Helpers, Unstarted};
 use conntable::ConnTable;
@@ -95,11 +98,11 @@ where
     U: Ledger + Send + Sync + 'static,
     D: Ledger + Send + Sync + 'static,
     R: Wait + Threads + Net + Clock + Copy + Send + Sync + 'static,
+    ensures { OnOk result ((rules : ℕ)
+        × Appends (W.contents writer.old) (W.contents writer.new) (listening_line rules)) }
 {
     let rules = relay.rules.len();
-    if writeln!(writer, "listening {rules}").is_err() || writer.flush().is_err() {
-        return Err(ServeFault::Device);
-    }
+    say_listening(writer, rules as u64)?;
     relay.turn_until_stop(rt)
 }
 
@@ -119,6 +122,8 @@ where
     U: Ledger + Send + Sync + 'static,
     D: Ledger + Send + Sync + 'static,
     R: Wait + Threads + Net + Clock + Files + Copy + Send + Sync + 'static,
+    ensures { OnOk result ((rules : ℕ)
+        × Appends (W.contents writer.old) (W.contents writer.new) (listening_line rules)) }
 {
     let (relay, unstarted) = opened(&rt, alloc, rules, admin, up, down, bound)?;
     let mut relay = relay;
@@ -163,13 +168,14 @@ where
     requires down_name { down.name ≡ D.name }
     requires down_parts { down.parts ≡ D.parts }
     requires down_all { down.parts ≡ 4294967296 }
+    ensures written { OnOk result (WritesBothLines (W.contents writer.old) (W.contents writer.new)) }
 {
     let alloc = rt.alloc();
     let (up, down) = (Book::<U>::new(up), Book::<D>::new(down));
     let text = text_of(&rt, alloc, rules.as_str())?;
     let rules = match Rules::parse(text.as_slice()) {
         Ok(rules) => rules,
-        Err(fault) => return Err(ServeFault::BadRules(fault)),
+        Err(fault) => return Err(ServeFault::of_rules(fault)),
     };
     drop(text);
     let mut bound = BoundPaths::new(rules.as_slice(), admin.as_str());
@@ -185,8 +191,5 @@ where
     );
     bound.remove_all(&rt);
     let (up, down) = relayed?;
-    if writeln!(writer, "up {up} down {down}").is_err() || writer.flush().is_err() {
-        return Err(ServeFault::Device);
-    }
-    Ok(())
+    say_totals(writer, up, down)
 }

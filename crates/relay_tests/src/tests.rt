@@ -25,8 +25,8 @@ use std::{env, fs, process};
 /// The most turns of one millisecond that a test waits.
 const TURNS: u32 = 10_000;
 
-/// The longest that a test waits for a byte.
-const LONGEST_READ: Duration = Duration::from_secs(10);
+/// The longest that a test waits for a byte, in seconds.
+const LONGEST_READ_SECONDS: u64 = 10;
 
 /// A path in the test's own folder, with this name in it.
 fn own_path(rt: &HostRuntime, name: &str) -> Result<String, Fail> {
@@ -144,7 +144,7 @@ fn heard<S: Read>(stream: &mut S, alloc: Global) -> Result<String, Fail> {
 fn reach_unix<R: Net + Clock>(rt: &R, path: &str) -> Result<UnixStream, Fail> {
     for _ in 0..TURNS {
         if let Ok(stream) = UnixStream::connect(rt, path) {
-            stream.set_read_timeout(Some(LONGEST_READ))?;
+            stream.set_read_timeout(Some(Duration::from_secs(LONGEST_READ_SECONDS)))?;
             return Ok(stream);
         }
         thread::sleep(rt, Duration::from_millis(1));
@@ -159,7 +159,7 @@ where
 {
     for _ in 0..TURNS {
         if let Ok(stream) = TcpStream::connect(rt, ("127.0.0.1", port)) {
-            stream.set_read_timeout(Some(LONGEST_READ))?;
+            stream.set_read_timeout(Some(Duration::from_secs(LONGEST_READ_SECONDS)))?;
             return Ok(stream);
         }
         thread::sleep(rt, Duration::from_millis(1));
@@ -189,7 +189,7 @@ where
 /// The next connection of a target.
 fn accepted(listener: &TcpListener) -> Result<TcpStream, Fail> {
     let (stream, _) = listener.accept()?;
-    stream.set_read_timeout(Some(LONGEST_READ))?;
+    stream.set_read_timeout(Some(Duration::from_secs(LONGEST_READ_SECONDS)))?;
     Ok(stream)
 }
 
@@ -199,7 +199,7 @@ fn hears<S: Read>(stream: &mut S, bytes: &[u8]) -> bool {
     let Some(part) = buf.get_mut(..bytes.len()) else {
         return false;
     };
-    stream.read_exact(part).is_ok() && part == bytes
+    stream.read_exact(part).is_ok() && &*part == bytes
 }
 
 /// Whether the stream is at its end, or broken.

@@ -1,6 +1,6 @@
 //! Bytes through the relay and back.
 
-use super::{Place, accepted, free_port, heard, own_path, reach, start, target};
+use super::{Place, free_port, heard, own_path, reach, start, target};
 use std::fs;
 use std::io;
 use std::io::Write;
@@ -10,8 +10,8 @@ use std::thread;
 
 /// Sends the bytes of one connection back, until their end.
 fn echo(listener: TcpListener) -> bool {
-    match accepted(&listener) {
-        Ok(stream) => io::copy(&mut &stream, &mut &stream).is_ok(),
+    match listener.accept() {
+        Ok((stream, _)) => io::copy(&mut &stream, &mut &stream).is_ok(),
         Err(_) => false,
     }
 }

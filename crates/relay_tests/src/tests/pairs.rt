@@ -5,7 +5,7 @@ ghost use Rattle.std.specs.Prelude.{◌≡◌};
 use super::TURNS;
 use relay::{AtEnd, Done, start_pair};
 use relay_core::{CopyGate, Ended};
-use relay_ledger::{Book, PARTS};
+use relay_ledger::{Book, PARTS, give_up_all};
 use rwloops::{Fault, WriteFault};
 use std::alloc::Global;
 use std::marker::Brand;
@@ -93,7 +93,10 @@ fn leaves<L: Ledger, R: Wait>(
     let gathered = book.lock(rt).gather(Vec::new(alloc));
     match gathered {
         Ok(total) => Ok(total == 3 && ended == Ended::Eof),
-        Err(_) => Err(Fail::new("not gathered")),
+        Err(back) => {
+            give_up_all(back);
+            Err(Fail::new("not gathered"))
+        }
     }
 }
 

@@ -1,0 +1,63 @@
+-- What the words of the command line ask for.
+use Rattle.std.specs.Prelude.{ℕ, true, List, [], ◌∷◌, Option, Some, None, codes, if◌then◌else◌, unwrap_or}
+use Rattle.std.specs.List.{list_any}
+use Rattle.std.specs.Str.{bytes_eq}
+use Rattle.std.specs.String.{string_bytes}
+use Rattle.clap.specs.Walk.{Row, Rule, Text, first_of, is_empty}
+use Rattle.clap.specs.Simple.{App, new_app, new_rule, subcommand_of, with_rule, with_subcommand}
+use Rattle.clap.specs.Faults.{fault_of}
+use Rattle.clap.specs.declared.builder.action.ArgAction.TheVariants.{Set}
+use Rattle.pollrelay.specs.declared.job.Job.{Job}
+use Rattle.pollrelay.specs.declared.job.Job.TheVariants as job
+
+-- a job with its texts
+pub data Asked : Type 0 where
+  Trace : Asked
+  Check : (rules : Text) → Asked
+  Serve : (rules admin : Text) → Asked
+
+abbrev pub asked_of : Job → Asked
+asked_of job.Trace = Trace
+asked_of (job.Check rules) = Check (string_bytes rules)
+asked_of (job.Serve rules admin) = Serve (string_bytes rules) (string_bytes admin)
+
+-- an option that has to be there, with one value
+abbrev pub required_option : Text → Rule
+required_option name = record (new_rule name) { long = Some name; action = Some Set; required = true }
+
+abbrev pub check_app : App
+check_app = with_rule (new_app (codes "check")) (required_option (codes "rules"))
+
+abbrev pub serve_app : App
+serve_app = with_rule (with_rule (new_app (codes "serve")) (required_option (codes "rules"))) (required_option (codes "admin"))
+
+-- the program as `clap` sees it: three commands, and no name ahead of the words
+abbrev pub program : App
+program =
+    let bare = new_app (codes "pollrelay") in
+    let named = record bare { top = record bare.top { no_binary_name = true } } in
+    with_subcommand (with_subcommand (with_subcommand named (new_app (codes "trace")).top) check_app.top) serve_app.top
+
+-- the value of an option
+abbrev pub value_of : Text → List Row → Text
+value_of id rows = unwrap_or (first_of id rows) []
+
+-- the job of a command with its options, or none
+abbrev pub named_job : Text → List Row → Option Asked
+named_job name rows =
+    if bytes_eq name (codes "trace") then Some Trace
+    else if bytes_eq name (codes "check") then Some (Check (value_of (codes "rules") rows))
+    else if bytes_eq name (codes "serve") then Some (Serve (value_of (codes "rules") rows) (value_of (codes "admin") rows))
+    else None
+
+-- the job of what a command line holds: no command stands for `trace`
+abbrev pub found_job : Option (Text × List Row) → Option Asked
+found_job None = Some Trace
+found_job (Some p) = named_job p.0 p.1
+
+-- the job that words ask for: those of a command line without a fault, in which no word ends the options
+abbrev pub job_asked : List Text → Option Asked
+job_asked words =
+    if list_any (λ word. bytes_eq word (codes "--")) words then None
+    else if is_empty (fault_of program words) then found_job (subcommand_of program words)
+    else None

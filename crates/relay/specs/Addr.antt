@@ -1,0 +1,10 @@
+-- Addresses of rules and of sockets.
+use Rattle.relay_admin.specs.declared.addr.Addr.{Addr as RuleAddr}
+use Rattle.relay_admin.specs.declared.addr.Addr.TheVariants as rule
+use Rattle.readiness.specs.declared.addr.Addr.{Addr}
+use Rattle.readiness.specs.declared.addr.Addr.TheVariants as socket
+
+-- the same address in the terms of sockets
+abbrev pub socket_address : RuleAddr → Addr
+socket_address (rule.Tcp bytes port) = socket.Tcp bytes port
+socket_address (rule.Unix path) = socket.Unix path

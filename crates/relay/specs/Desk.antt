@@ -1,0 +1,14 @@
+-- What an admin session is answered.
+use Rattle.std.specs.Prelude.{Result, Ok, Err}
+use Rattle.rwloops.specs.declared.fault.Fault.{Fault}
+use Rattle.rwloops.specs.declared.fault.Fault.TheVariants as fault
+use Rattle.relay_admin.specs.declared.desk_answer.DeskAnswer.{DeskAnswer}
+use Rattle.relay_admin.specs.declared.desk_answer.DeskAnswer.TheVariants.{Fine, Closed, Busy, NoMemory}
+
+-- the answer to a close or a deadline that ended so: a device's fault at the destroy leaves it closed
+abbrev pub desk_answer : Result (Unit {0}) Fault → DeskAnswer
+desk_answer (Ok done) = Fine
+desk_answer (Err (fault.Device kind)) = Fine
+desk_answer (Err fault.TooMany) = Busy
+desk_answer (Err fault.OutOfMemory) = NoMemory
+desk_answer (Err other) = Closed

@@ -1,0 +1,4 @@
+pub mod Addr
+pub mod Desk
+pub mod Output
+pub mod ServeFault

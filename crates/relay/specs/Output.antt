@@ -1,0 +1,16 @@
+-- What a relay writes on standard output.
+use Rattle.std.specs.Prelude.{ℕ, List, [], ◌∷◌, ◌++◌, Option, codes}
+use Rattle.std.specs.Fmt.{decimal}
+use Rattle.std.specs.Io.KnownBytes.{Appends}
+
+-- the line of a relay that listens by so many rules
+abbrev pub listening_line : ℕ → List ℕ
+listening_line rules = codes "listening " ++ decimal rules ++ 10 ∷ []
+
+-- the line of the totals
+abbrev pub totals_line : ℕ → ℕ → List ℕ
+totals_line up down = codes "up " ++ decimal up ++ codes " down " ++ decimal down ++ 10 ∷ []
+
+-- both lines were written, with some number of rules and some totals, and nothing else
+abbrev pub WritesBothLines : Option (List ℕ) → Option (List ℕ) → Type 0
+WritesBothLines old new = (rules : ℕ) × (up : ℕ) × (down : ℕ) × Appends old new (listening_line rules ++ totals_line up down)
