@@ -21,7 +21,7 @@ fn comes_first<A: Allocator>(timers: &Timers<A>, at: u64) -> bool
     }
 }
 
-fn arm_in<A: Allocator>(
+fn arm_in<A: Allocator + Copy>(
     timers: &mut Timers<A>,
     key: u64,
     dirs: Dirs,
@@ -69,7 +69,7 @@ impl<T: Wait + Drop, A: Allocator> TimerAlarms<T, A> {
     }
 }
 
-impl<T: Wait + Drop, A: Allocator> Alarms for TimerAlarms<T, A> {
+impl<T: Wait + Drop, A: Allocator + Copy> Alarms for TimerAlarms<T, A> {
     fn arm(&self, key: u64, dirs: Dirs, at: u64) -> Result<(), OutOfMemory> {
         let mut timers = self.timers.lock(&self.rt);
         let is_first = comes_first(&timers, at);
