@@ -15,7 +15,9 @@ pub fn look_ups(alloc: Global, by: By, count: u64, times: u64) -> Option<u64> {
     let (mut sum, mut state) = (0u64, 1u64);
     for _ in 0..times {
         // A linear congruence, whose upper half picks an entry.
-        state = state.wrapping_mul(6_364_136_223_846_793_005).wrapping_add(1);
+        state = state
+            .wrapping_mul(6_364_136_223_846_793_005)
+            .wrapping_add(1);
         let (id, token) = *given.get(((state >> 32).wrapping_mul(count) >> 32) as usize)?;
         let value = match by {
             By::Token => table.by_token(token),

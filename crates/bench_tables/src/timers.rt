@@ -6,7 +6,9 @@ use stream_base::Dir;
 
 // A moment of the round. In each round the keys come in another order than that of their numbers.
 fn moment(round: u64, key: u64) -> u64 {
-    round.wrapping_mul(1 << 24).wrapping_add(key.wrapping_mul(0x9e37_79b9_7f4a_7c15) >> 40)
+    round
+        .wrapping_mul(1 << 24)
+        .wrapping_add(key.wrapping_mul(0x9e37_79b9_7f4a_7c15) >> 40)
 }
 
 /// Arms a timer for each of `count` keys, then each again in `rounds` rounds, and takes all out. Gives
