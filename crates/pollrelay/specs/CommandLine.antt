@@ -1,11 +1,12 @@
 -- What the words of the command line ask for.
-use Rattle.std.specs.Prelude.{ℕ, true, List, [], ◌∷◌, Option, Some, None, codes, if◌then◌else◌, unwrap_or}
+use Rattle.std.specs.Prelude.{Bool, true, List, [], ◌∷◌, Option, Some, None, codes, if◌then◌else◌, unwrap_or}
 use Rattle.std.specs.List.{list_any}
 use Rattle.std.specs.Str.{bytes_eq}
 use Rattle.std.specs.String.{string_bytes}
-use Rattle.clap.specs.Walk.{Row, Rule, Text, first_of, is_empty}
+use Rattle.clap.specs.Walk.{Row, Rule, Text, first_of}
 use Rattle.clap.specs.Simple.{App, new_app, new_rule, subcommand_of, with_rule, with_subcommand}
 use Rattle.clap.specs.Faults.{fault_of}
+use Rattle.clap.specs.Kinds.{Kinds}
 use Rattle.clap.specs.declared.builder.action.ArgAction.TheVariants.{Set}
 use Rattle.pollrelay.specs.declared.job.Job.{Job}
 use Rattle.pollrelay.specs.declared.job.Job.TheVariants as job
@@ -55,9 +56,17 @@ abbrev pub found_job : Option (Text × List Row) → Option Asked
 found_job None = Some Trace
 found_job (Some p) = named_job p.0 p.1
 
+-- a command line with a fault asks for nothing
+abbrev pub unless_faulty : Kinds → Option Asked → Option Asked
+unless_faulty [] asked = asked
+unless_faulty (fault ∷ others) asked = None
+
+-- some word ends the options
+abbrev pub ends_options : List Text → Bool
+ends_options = list_any (λ word. bytes_eq word (codes "--"))
+
 -- the job that words ask for: those of a command line without a fault, in which no word ends the options
 abbrev pub job_asked : List Text → Option Asked
 job_asked words =
-    if list_any (λ word. bytes_eq word (codes "--")) words then None
-    else if is_empty (fault_of program words) then found_job (subcommand_of program words)
-    else None
+    if ends_options words then None
+    else unless_faulty (fault_of program words) (found_job (subcommand_of program words))

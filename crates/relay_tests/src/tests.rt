@@ -49,6 +49,13 @@ impl Place {
             admin: own_path(rt, "admin")?,
         })
     }
+
+    /// The same place, with these rules in it.
+    fn with_rules(rt: &HostRuntime, text: &str) -> Result<Place, Fail> {
+        let place = Place::new(rt)?;
+        fs::write(rt, place.rules.as_str(), text)?;
+        Ok(place)
+    }
 }
 
 /// What a relay answered, and what it wrote.
@@ -80,21 +87,6 @@ where
 struct Running {
     thread: JoinHandle<Said>,
     admin: String,
-}
-
-/// Starts a relay by these rules.
-fn start<R>(rt: R, place: Place, text: &str) -> Result<Running, Fail>
-where
-    R: Wait + Threads + Net + Clock + Files + AllocGlobal + Copy + Send + Sync + 'static,
-{
-    let Place { rules, admin } = place;
-    fs::write(&rt, rules.as_str(), text)?;
-    let socket = admin.clone()?;
-    let job = move || served(rt, &rules, &socket);
-    match thread::spawn(&rt, job) {
-        Ok(thread) => Ok(Running { thread, admin }),
-        Err(_) => Err(Fail::new("thread")),
-    }
 }
 
 impl Running {

@@ -1,6 +1,6 @@
 //! Bytes through the relay and back.
 
-use super::{Place, free_port, heard, own_path, reach, start, target};
+use super::{Place, Running, free_port, heard, own_path, reach, served, target};
 use std::fs;
 use std::io;
 use std::io::Write;
@@ -19,28 +19,29 @@ fn echo(listener: TcpListener) -> bool {
 #[test]
 fn hello_comes_back_and_is_counted(rt: HostRuntime) -> Result<(), Fail> {
     let alloc = rt.alloc();
-    let place = Place::new(&rt)?;
-    let admin = place.admin.clone()?;
     let (listener, target) = target(&rt)?;
     let echoing = thread::spawn(&rt, move || echo(listener))?;
     let port = free_port(&rt)?;
     let rules = format!(in alloc; "relay a tcp:127.0.0.1:{port} tcp:127.0.0.1:{target} never\n")?;
-    let running = start(rt, place, rules.as_str())?;
+    let Place { rules, admin } = Place::with_rules(&rt, rules.as_str())?;
+    let socket = admin.clone()?;
+    let thread = thread::spawn(&rt, move || served(rt, &rules, &socket))?;
+    let running = Running { thread, admin };
     let mut client = reach(&rt, port)?;
     client.write_all(b"hello")?;
     client.shutdown(Shutdown::Write)?;
     assert!(rt; heard(&mut client, alloc)?.as_str() == "hello");
     assert!(rt; echoing.join(&rt));
+    let path = running.admin.clone()?;
     let said = running.stop(&rt, alloc)?;
     assert!(rt; said.is(Ok(()), "listening 1\nup 5 down 5\n"));
-    assert!(rt; fs::metadata(&rt, admin.as_str()).is_err(), "the admin socket's path is left");
+    assert!(rt; fs::metadata(&rt, path.as_str()).is_err(), "the admin socket's path is left");
     Ok(())
 }
 
 #[test]
 fn unix_sockets_serve_on_both_sides(rt: HostRuntime) -> Result<(), Fail> {
     let alloc = rt.alloc();
-    let place = Place::new(&rt)?;
     let middle = own_path(&rt, "middle")?;
     let (listener, target) = target(&rt)?;
     let echoing = thread::spawn(&rt, move || echo(listener))?;
@@ -48,7 +49,10 @@ fn unix_sockets_serve_on_both_sides(rt: HostRuntime) -> Result<(), Fail> {
     let rules = format!(in alloc;
         "relay in tcp:127.0.0.1:{port} unix:{middle} never\nrelay out unix:{middle} tcp:127.0.0.1:{target} 60000\n"
     )?;
-    let running = start(rt, place, rules.as_str())?;
+    let Place { rules, admin } = Place::with_rules(&rt, rules.as_str())?;
+    let socket = admin.clone()?;
+    let thread = thread::spawn(&rt, move || served(rt, &rules, &socket))?;
+    let running = Running { thread, admin };
     let mut client = reach(&rt, port)?;
     client.write_all(b"hello")?;
     client.shutdown(Shutdown::Write)?;

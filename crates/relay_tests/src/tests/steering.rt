@@ -1,6 +1,6 @@
 //! Pairs that are ended: by an admin session, by a deadline, by silence, by a stop.
 
-use super::{Place, accepted, free_port, has_ended, hears, reach, start, target};
+use super::{Place, Running, accepted, free_port, has_ended, hears, reach, served, target};
 use std::io::Write;
 use std::test::Fail;
 use std::thread;
@@ -9,11 +9,13 @@ use std::time::Duration;
 #[test]
 fn closing_one_side_ends_the_pair(rt: HostRuntime) -> Result<(), Fail> {
     let alloc = rt.alloc();
-    let place = Place::new(&rt)?;
     let (listener, target) = target(&rt)?;
     let port = free_port(&rt)?;
     let rules = format!(in alloc; "relay a tcp:127.0.0.1:{port} tcp:127.0.0.1:{target} never\n")?;
-    let running = start(rt, place, rules.as_str())?;
+    let Place { rules, admin } = Place::with_rules(&rt, rules.as_str())?;
+    let socket = admin.clone()?;
+    let thread = thread::spawn(&rt, move || served(rt, &rules, &socket))?;
+    let running = Running { thread, admin };
     let mut client = reach(&rt, port)?;
     let mut peer = accepted(&listener)?;
     client.write_all(b"hello")?;
@@ -33,11 +35,13 @@ fn a_deadline_ends_a_pair_and_one_that_is_lifted_lets_a_listener_accept(
     rt: HostRuntime,
 ) -> Result<(), Fail> {
     let alloc = rt.alloc();
-    let place = Place::new(&rt)?;
     let (listener, target) = target(&rt)?;
     let port = free_port(&rt)?;
     let rules = format!(in alloc; "relay a tcp:127.0.0.1:{port} tcp:127.0.0.1:{target} never\n")?;
-    let running = start(rt, place, rules.as_str())?;
+    let Place { rules, admin } = Place::with_rules(&rt, rules.as_str())?;
+    let socket = admin.clone()?;
+    let thread = thread::spawn(&rt, move || served(rt, &rules, &socket))?;
+    let running = Running { thread, admin };
     assert!(rt; running.ask(&rt, alloc, "deadline 1 0\n")?.as_str() == "ok\n");
     let mut client = reach(&rt, port)?;
     thread::sleep(&rt, Duration::from_millis(20));
@@ -56,11 +60,13 @@ fn a_deadline_ends_a_pair_and_one_that_is_lifted_lets_a_listener_accept(
 #[test]
 fn the_silent_way_ends_a_pair_after_its_idle_time(rt: HostRuntime) -> Result<(), Fail> {
     let alloc = rt.alloc();
-    let place = Place::new(&rt)?;
     let (listener, target) = target(&rt)?;
     let port = free_port(&rt)?;
     let rules = format!(in alloc; "relay a tcp:127.0.0.1:{port} tcp:127.0.0.1:{target} 100\n")?;
-    let running = start(rt, place, rules.as_str())?;
+    let Place { rules, admin } = Place::with_rules(&rt, rules.as_str())?;
+    let socket = admin.clone()?;
+    let thread = thread::spawn(&rt, move || served(rt, &rules, &socket))?;
+    let running = Running { thread, admin };
     let mut client = reach(&rt, port)?;
     let _peer = accepted(&listener)?;
     // The client speaks all the time, and the target never: its silence ends the pair.
@@ -80,11 +86,13 @@ fn the_silent_way_ends_a_pair_after_its_idle_time(rt: HostRuntime) -> Result<(),
 #[test]
 fn a_stop_ends_pairs_that_stand(rt: HostRuntime) -> Result<(), Fail> {
     let alloc = rt.alloc();
-    let place = Place::new(&rt)?;
     let (listener, target) = target(&rt)?;
     let port = free_port(&rt)?;
     let rules = format!(in alloc; "relay a tcp:127.0.0.1:{port} tcp:127.0.0.1:{target} 60000\n")?;
-    let running = start(rt, place, rules.as_str())?;
+    let Place { rules, admin } = Place::with_rules(&rt, rules.as_str())?;
+    let socket = admin.clone()?;
+    let thread = thread::spawn(&rt, move || served(rt, &rules, &socket))?;
+    let running = Running { thread, admin };
     let mut first = reach(&rt, port)?;
     let mut second = reach(&rt, port)?;
     let mut peer = accepted(&listener)?;
