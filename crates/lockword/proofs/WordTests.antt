@@ -21,6 +21,7 @@ use Rattle.lockword_core.specs.WordStep.{op_of}
 use Rattle.lockword_core.proofs.FieldSteps.{same_numbers, not_false, holds, IsMade, Stepped, stepped, refused_holds, full_is_open}
 use Rattle.lockword_core.proofs.WordRefines.{same_pair}
 use Rattle.lockword_core.proofs.WordFields.{fields_fit, packs_back, unpacks}
+use Rattle.lockword.specs.declared.local_view.Marks.{Marks}
 use Rattle.lockword.specs.declared.local_view.LocalView.{LocalView}
 use Rattle.lockword.specs.declared.shared_rule.Half.{Half}
 use Rattle.lockword.specs.declared.transitions.Advance.TheVariants as advance
@@ -87,12 +88,16 @@ open_by : (t : Bool) (x : ℕ) → (t ≡ true → x ≡ 0) → x ≢ 0 → t �
 open_by true x none ne = absurd (ne (none refl))
 open_by false x none ne = refl
 
+both_marks : (m n : Marks) → m.closed ≡ n.closed → m.done ≡ n.done → m ≡ n
+both_marks m n closed done i = record { closed = closed i; done = done i }
+
 module _ {R W : Type 0} where
   -- the marks of a seat that looked and saw no flag
   marks_open : (n : ℕ) (p q : Place R W) → Told n p.me.0 → closed_in n ≡ false → q.me.0.saw.closed ≡ closed_in n
       → q.me.0.saw.done ≡ p.me.0.saw.done → q.table_id ≡ p.table_id → SameMarks p q × IsOpen p
   marks_open n p q told unshut flag done same =
-      let unseen = was_open p.me.0.saw.closed (closed_in n) told.saw_closed unshut in ((same, flag ∙ unshut ∙ sym unseen, done), unseen)
+      let unseen = was_open p.me.0.saw.closed (closed_in n) told.saw_closed unshut in
+      ((same, both_marks _ _ (flag ∙ unshut ∙ sym unseen) done), unseen)
 
   marks_later : (n : ℕ) (p q : Place R W) → Told n p.me.0 → q.me.0.saw.closed ≡ closed_in n
       → q.me.0.saw.done ≡ p.me.0.saw.done → q.table_id ≡ p.table_id → Later p q

@@ -10,6 +10,7 @@ use Rattle.lockword_core.specs.declared.transition.After.TheVariants as after
 use Rattle.lockword_core.specs.declared.word.Word.{Word}
 use Rattle.lockword_core.specs.declared.word.TheConstants.{MAX_REFERENCES, MAX_WAITERS}
 use Rattle.lockword_core.specs.FieldStep.{lock_of, waiters_of}
+use Rattle.lockword.specs.declared.local_view.Marks.{Marks}
 use Rattle.lockword.specs.declared.local_view.LocalView.{LocalView}
 use Rattle.lockword.specs.declared.shared_rule.Half.{Half}
 
@@ -26,18 +27,21 @@ module _ {R W : Type 0} where
   abbrev pub word_of : Place R W → WordId
   word_of p = p.table_id
 
+  -- what the seat has seen
+  abbrev pub marks_of : Place R W → Marks
+  marks_of p = p.me.0.saw
+
   -- whether the seat saw the closed flag
   abbrev pub saw_closed : Place R W → Bool
-  saw_closed p = p.me.0.saw.closed
+  saw_closed p = (marks_of p).closed
 
   -- whether the seat saw the mark
   abbrev pub saw_done : Place R W → Bool
-  saw_done p = p.me.0.saw.done
+  saw_done p = (marks_of p).done
 
   -- the same word and the same marks
   abbrev pub SameMarks : Place R W → Place R W → Type 0
-  SameMarks p q =
-      (word_of q ≡ word_of p) × (saw_closed q ≡ saw_closed p) × (saw_done q ≡ saw_done p)
+  SameMarks p q = (word_of q ≡ word_of p) × (marks_of q ≡ marks_of p)
 
   -- the same word, and saw closed is not taken back
   abbrev pub Later : Place R W → Place R W → Type 0
