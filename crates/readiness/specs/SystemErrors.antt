@@ -20,7 +20,12 @@ kind_told PipeIsBroken = BrokenPipe
 kind_told ConnectionRefused = Refused
 kind_told _ = Other
 
--- what comes before there is a connection: nobody listens, or any other error
+-- before there is a connection: nobody listens, or any other error
+abbrev pub refused_or_other : DevKind → DevKind
+refused_or_other Refused = Refused
+refused_or_other _ = Other
+
+-- one of the kinds that come before there is a connection
 abbrev pub IsConnectKind : DevKind → Type 0
 IsConnectKind kind = (kind ≡ Refused) ⊎ (kind ≡ Other)
 

@@ -61,14 +61,6 @@ fn notify_entries<R: Wait, T: HasCell, B: Allocator>(rt: &R, events: &[Ev], tabl
     }
 }
 
-// Whether the moment has come.
-fn has_come(now: u64, next: Option<u64>) -> bool {
-    match next {
-        None => false,
-        Some(at) => at <= now,
-    }
-}
-
 // Shows the clock to the entries whose timers are due, and gives the earliest moment that is left. A
 // key whose entry is gone is passed over.
 fn tick_due<R: Wait, T: HasCell, B: Allocator, C: Allocator>(
@@ -78,7 +70,7 @@ fn tick_due<R: Wait, T: HasCell, B: Allocator, C: Allocator>(
     timers: &Mutex<Timers<C>>,
 ) -> Option<u64> {
     let next = timers.lock(rt).next();
-    if !has_come(now, next) {
+    if wait_ms(now, next) > 0 {
         return next;
     }
     let due = timers.lock(rt).due(now);

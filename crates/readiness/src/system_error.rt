@@ -1,9 +1,8 @@
 //! What callers are told of the system's errors.
 
-ghost use Rattle.std.specs.Prelude.{◌≡◌, ◌⊎◌};
+ghost use Rattle.std.specs.Prelude.{◌≡◌};
 ghost use Rattle.std.specs.IoError.{error_kind};
-ghost use Rattle.readiness.specs.SystemErrors.{kind_told, outcome_told, accept_told, IsConnectKind};
-ghost use Rattle.rwloops.specs.declared.outcome.DevKind.{DevKind};
+ghost use Rattle.readiness.specs.SystemErrors.{kind_told, refused_or_other, outcome_told, accept_told, IsConnectKind};
 
 use crate::sock::Sock;
 use rwloops::{AcceptOutcome, DevKind, Outcome};
@@ -26,7 +25,7 @@ pub(crate) fn kind_of(error: &io::Error) -> DevKind
 /// What is told of an error that comes before there is a connection.
 pub(crate) fn connect_kind_of(error: &io::Error) -> DevKind
     ensures kind { IsConnectKind result }
-    ensures told { kind_told (error_kind error.now) ≡ DevKind.Refused → result ≡ DevKind.Refused }
+    ensures told { result ≡ refused_or_other (kind_told (error_kind error.now)) }
 {
     match kind_of(error) {
         DevKind::Refused => DevKind::Refused,

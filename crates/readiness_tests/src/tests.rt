@@ -12,7 +12,8 @@ mod waiting;
 use conntable::ConnTable;
 use fd_descriptor::{AcceptOutcome, FdHandle, PollCell, TryAccept};
 use readiness::{
-    Acceptor, Addr, HasCell, Listen, Poller, Sock, SockRes, TimerAlarms, Timers, connect, listen,
+    Acceptor, Addr, HasCell, Listen, ListenRes, NoWrites, Poller, Sock, SockRes, TimerAlarms,
+    Timers, connect, listen,
 };
 use std::alloc::Global;
 use std::fs::Files;
@@ -98,6 +99,21 @@ impl<R: Wait + Threads + Net + Files + Clock + Copy + Drop> World<R> {
             FdHandle::<SockRes>::open(self.alloc, read, write, id),
             "open",
         )?;
+        let cell = or_fail(handle.cell(), "cell")?;
+        let _ = or_fail(table.insert(Entry { cell }), "insert")?;
+        Ok(handle)
+    }
+
+    /// A descriptor on this listener, as for a connection.
+    fn add_listener(&self, listener: Listen) -> Result<FdHandle<ListenRes>, Fail> {
+        let mut listener = listener;
+        let mut table = self.shared.table.lock(&self.rt);
+        let (id, token) = or_fail(table.vacant(), "room")?;
+        let registered = self.poller.register_listener(&mut listener, token);
+        or_fail(registered, "register")?;
+        let acceptor = Acceptor::new(listener);
+        let opened = FdHandle::<ListenRes>::open(self.alloc, acceptor, NoWrites, id);
+        let handle = or_fail(opened, "open")?;
         let cell = or_fail(handle.cell(), "cell")?;
         let _ = or_fail(table.insert(Entry { cell }), "insert")?;
         Ok(handle)

@@ -2,9 +2,13 @@
 
 use super::open_files::open_files;
 use super::{any_port, or_fail, socks};
-use fd_descriptor::{DevKind, Fault, Outcome, TryRead, TryWrite};
+use fd_descriptor::{Deadline, Fault, FdHandle, Outcome, TryRead, TryWrite};
 use linked_list_allocator::LocalHeap;
-use readiness::Poller;
+use readiness::{ConnTable, Listen, Poller, Sock, SockRes, TimerAlarms, Timers, listen};
+use std::alloc::Global;
+use std::net::Net;
+use std::os::fd::{AsRawFd, RawFd};
+use std::sync::{Arc, Mutex, Wait};
 use std::test::Fail;
 
 #[test]
@@ -84,9 +88,7 @@ fn sets_up<R: Wait + Net + Copy + Drop>(rt: R, alloc: Global, near: Sock) -> Opt
     let (read, write) = near.split(alloc).ok()?;
     let mut handle = FdHandle::<SockRes>::open(alloc, read, write, id).ok()?;
     table.insert(handle.cell().ok()?).ok()?;
-    handle
-        .set_deadline(&rt, Deadline::At(100), 0, &alarms)
-        .ok()
+    handle.set_deadline(&rt, Deadline::At(100), 0, &alarms).ok()
 }
 
 /// Holds where memory is refused as well: `tests/refused_memory.sh` refuses each allocation in turn.

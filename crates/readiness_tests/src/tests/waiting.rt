@@ -1,13 +1,13 @@
 //! Calls that wait, and what ends them: a turn at their deadline, a close, a waker.
 
-use super::{Entry, Turning, World, any_port, comes_to, or_fail};
+use super::{Entry, Turning, World, any_port, comes_to, nanos_since, or_fail, reach};
 use fd_descriptor::{Deadline, Fault, FdHandle};
-use readiness::SockRes;
-use std::sync::Wait;
-use std::sync::atomic::Ordering;
+use readiness::{Poller, SockRes, connect, listen};
+use std::sync::atomic::{AtomicU64, Ordering};
+use std::sync::{Arc, Wait};
 use std::test::Fail;
 use std::thread;
-use std::time::Duration;
+use std::time::{Duration, Instant};
 
 const LATE: Result<usize, Fault> = Err(Fault::DeadlineExceeded);
 
@@ -41,15 +41,12 @@ fn a_deadline_that_is_set_while_the_poller_sleeps_ends_a_read(rt: HostRuntime) -
     let mut reader = near.share().map_err(|_| Fail::new("share"))?;
     let reading = thread::spawn(&rt, move || reader.read(&rt, &mut [0; 8]))?;
     thread::sleep(&rt, Duration::from_millis(50));
-    let now = super::nanos_since(&rt, start);
+    let now = nanos_since(&rt, start);
     let at = now.saturating_add(20_000_000);
     let set = near.set_read_deadline(&rt, Deadline::At(at), now, &alarms);
     assert!(rt; set == Ok(()));
     assert!(rt; reading.join(&rt) == LATE);
-    assert!(rt;
-        super::nanos_since(&rt, start) >= at,
-        "no earlier than its moment"
-    );
+    assert!(rt; nanos_since(&rt, start) >= at, "no earlier than its moment");
     assert!(rt; turning.stop(&rt));
     Ok(())
 }
@@ -58,7 +55,7 @@ fn a_deadline_that_is_set_while_the_poller_sleeps_ends_a_read(rt: HostRuntime) -
 fn a_close_ends_a_parked_read_and_the_peer_reads_the_end(rt: HostRuntime) -> Result<(), Fail> {
     let world = World::new(rt, rt.alloc())?;
     let (mut near, mut far) = world.pair(&any_port())?;
-    let shared = std::sync::Arc::try_clone(&world.shared)?;
+    let shared = Arc::try_clone(&world.shared)?;
     let turning = Turning::start(world)?;
     let mut reader = near.share().map_err(|_| Fail::new("share"))?;
     let reading = thread::spawn(&rt, move || reader.read(&rt, &mut [0; 8]))?;
@@ -95,7 +92,7 @@ fn a_due_key_without_an_entry_is_passed_over(rt: HostRuntime) -> Result<(), Fail
 #[test]
 fn a_wake_ends_a_turn_and_is_told_to_no_entry(rt: HostRuntime) -> Result<(), Fail> {
     let world = World::new(rt, rt.alloc())?;
-    let shared = std::sync::Arc::try_clone(&world.shared)?;
+    let shared = Arc::try_clone(&world.shared)?;
     let waker = or_fail(world.poller.waker(), "waker")?;
     let (near, far) = world.pair(&any_port())?;
     let turning = Turning::start(world)?;
@@ -142,6 +139,43 @@ fn closes_from_other_threads_end_what_waits(rt: HostRuntime) -> Result<(), Fail>
         }
         turning
     };
+    assert!(rt; turning.stop(&rt));
+    Ok(())
+}
+
+#[test]
+fn a_wait_without_a_table_lasts_a_second_or_until_a_wake(rt: HostRuntime) -> Result<(), Fail> {
+    let mut poller = or_fail(Poller::new(&rt, rt.alloc()), "poller")?;
+    let start = Instant::now(&rt)?;
+    assert!(rt; poller.wait_any() == Ok(()));
+    assert!(rt; nanos_since(&rt, start) >= 900_000_000, "nobody woke it");
+    let waker = or_fail(poller.waker(), "waker")?;
+    waker.wake()?;
+    assert!(rt; poller.wait_any() == Ok(()));
+    Ok(())
+}
+
+#[test]
+fn a_parked_accept_takes_who_comes_and_a_close_ends_it(rt: HostRuntime) -> Result<(), Fail> {
+    let world = World::new(rt, rt.alloc())?;
+    let listener = or_fail(listen(&rt, &any_port()), "listen")?;
+    let addr = reach(&any_port(), &listener);
+    let mut handle = world.add_listener(listener)?;
+    let mut acceptor = handle.share().map_err(|_| Fail::new("share"))?;
+    let turning = Turning::start(world)?;
+    let taken = Arc::new(rt.alloc(), AtomicU64::new(0))?;
+    let told = Arc::try_clone(&taken)?;
+    let accepting = thread::spawn(&rt, move || {
+        let first = acceptor.accept(&rt).is_ok();
+        told.fetch_add(1, Ordering::SeqCst);
+        (first, acceptor.accept(&rt).err())
+    })?;
+    thread::sleep(&rt, Duration::from_millis(20));
+    let client = or_fail(connect(&rt, &addr), "connect")?;
+    assert!(rt; comes_to(&rt, &taken, 1));
+    assert!(rt; handle.close(&rt) == Ok(()));
+    assert!(rt; accepting.join(&rt) == (true, Some(Fault::Closed)));
+    drop(client);
     assert!(rt; turning.stop(&rt));
     Ok(())
 }
