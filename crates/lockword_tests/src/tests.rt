@@ -25,7 +25,7 @@ mod waits;
 ghost use Rattle.std.specs.Prelude.{◌≡◌};
 ghost use Rattle.stream_base.specs.declared.direction.Dir.TheVariants.{Read, Write};
 ghost use Rattle.lockword.specs.Marks.{SameMarks, NowClosed};
-ghost use Rattle.lockword.specs.Places.{seat_place, ref_place, read_lock_place, write_lock_place, closing_place, last_place, owed_by};
+ghost use Rattle.lockword.specs.Places.{seat_place, ref_place, lock_place, closing_place, last_place, owed_by};
 ghost use Rattle.lockword.specs.TransitionOutcomes.{IsSeatOf, SameStake, HasNotTaken};
 ghost use Rattle.fdmutex.specs.Refusal.{IsFreedOf};
 
@@ -141,7 +141,7 @@ fn reference<R: Wait + Abort>(rt: &R, word: &Counters, seat: CounterSeat) -> Ref
 /// The read lock, or the test ends.
 fn reading<R: Wait + Abort>(rt: &R, word: &Counters, seat: CounterSeat) -> ReadLock<u64, u64>
     requires seat { IsSeatOf word.now (seat_place seat) }
-    ensures marks { SameMarks (seat_place seat) (read_lock_place result) }
+    ensures marks { SameMarks (seat_place seat) (lock_place result) }
 {
     match read_lock(rt, word, seat) {
         Ok(held) => held,
@@ -152,7 +152,7 @@ fn reading<R: Wait + Abort>(rt: &R, word: &Counters, seat: CounterSeat) -> ReadL
 /// The write lock, or the test ends.
 fn writing<R: Wait + Abort>(rt: &R, word: &Counters, seat: CounterSeat) -> WriteLock<u64, u64>
     requires seat { IsSeatOf word.now (seat_place seat) }
-    ensures marks { SameMarks (seat_place seat) (write_lock_place result) }
+    ensures marks { SameMarks (seat_place seat) (lock_place result) }
 {
     match write_lock(rt, word, seat) {
         Ok(held) => held,

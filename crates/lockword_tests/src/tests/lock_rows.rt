@@ -1,6 +1,6 @@
 //! The words of worked rows with locks, queues and signals, by one thread with a seat for each holder.
 
-ghost use Rattle.lockword.specs.Places.{seat_place, read_lock_place, read_wait_place};
+ghost use Rattle.lockword.specs.Places.{seat_place, lock_place, wait_place};
 ghost use Rattle.lockword.specs.TransitionOutcomes.{IsSeatOf};
 
 use super::{CounterSeat, Counters, destroy, owes_nobody, shows, wrong};
@@ -24,8 +24,8 @@ fn reads_and_waits<R: Abort>(
     requires one { IsSeatOf word.now (seat_place one) }
     requires two { IsSeatOf word.now (seat_place two) }
     ensures spare { IsSeatOf word.now (seat_place spare.new) }
-    ensures lock { IsSeatOf word.now (read_lock_place result.0) }
-    ensures wait { IsSeatOf word.now (read_wait_place result.1) }
+    ensures lock { IsSeatOf word.now (lock_place result.0) }
+    ensures wait { IsSeatOf word.now (wait_place result.1) }
 {
     let lock = want!(rt; word.try_lock_read(one), LockRead::Held);
     shows(rt, word, spare, 0xa, "1 rlock");
