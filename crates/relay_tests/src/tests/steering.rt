@@ -1,6 +1,6 @@
 //! Pairs that are ended: by an admin session, by a deadline, by silence, by a stop.
 
-use super::{Place, Running, accepted, free_port, has_ended, hears, reach, served, target};
+use super::{Place, Running, TURNS, accepted, free_port, has_ended, hears, reach, served, target};
 use std::io::Write;
 use std::test::Fail;
 use std::thread;
@@ -71,12 +71,15 @@ fn the_silent_way_ends_a_pair_after_its_idle_time(rt: HostRuntime) -> Result<(),
     let _peer = accepted(&listener)?;
     // The client speaks all the time, and the target never: its silence ends the pair.
     let mut turns = 0u32;
-    while client.write_all(b"x").is_ok() {
-        assert!(rt; turns < super::TURNS, "the pair goes on");
-        turns += 1;
+    for _ in 0..TURNS {
+        if client.write_all(b"x").is_err() {
+            break;
+        }
+        turns = turns.saturating_add(1);
         thread::sleep(&rt, Duration::from_millis(1));
     }
-    assert!(rt; turns > 50, "it ended at once");
+    assert!(rt; turns > 20, "it ended at once");
+    assert!(rt; turns < TURNS, "the pair goes on");
     running.comes_to(&rt, alloc, "list\n", "ids 1\n")?;
     let said = running.stop(&rt, alloc)?;
     assert!(rt; said.done == Ok(()));
