@@ -12,13 +12,12 @@ use relay::{serve, text_of};
 use relay_admin::check_status;
 use relay_ledger::PARTS;
 use std::alloc::Global;
-use std::env;
 use std::fs::Files;
-use std::io;
 use std::io::ErrorKind;
 use std::marker::Brand;
 use std::process::ExitCode;
 use std::sync::ledger::Blank;
+use std::{env, io};
 use stream_base::OutOfMemory;
 
 /// Tells a fault on standard error. Where that cannot be written either, nobody is left to tell.

@@ -214,7 +214,11 @@ fn each_fault_has_its_line_and_status(rt: HostRuntime) -> std::result::Result<()
         (Fault::TraceWrite, "trace fault: write", 3),
         (Fault::TraceMemory, "trace fault: memory", 3),
         (Fault::Relay(ServeFault::RulesFile), "cannot read rules", 3),
-        (Fault::Relay(ServeFault::Listen(name("web-1")?)), "cannot listen web-1", 3),
+        (
+            Fault::Relay(ServeFault::Listen(name("web-1")?)),
+            "cannot listen web-1",
+            3,
+        ),
         (Fault::Relay(ServeFault::Admin), "cannot listen admin", 3),
         (Fault::Relay(ServeFault::Device), "relay fault: device", 3),
         (NO_MEMORY, "relay fault: memory", 3),

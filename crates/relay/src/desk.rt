@@ -11,8 +11,8 @@ use relay_admin::{Desk, DeskAnswer};
 use relay_core::idle_deadline;
 use rwloops::Fault;
 use std::alloc::Global;
-use std::sync::ledger::Ledger;
 use std::sync::Wait;
+use std::sync::ledger::Ledger;
 
 /// A desk for one session.
 #[derive(Drop)]

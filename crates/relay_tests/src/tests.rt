@@ -17,10 +17,9 @@ use std::os::unix::net::UnixStream;
 use std::sync::Wait;
 use std::sync::ledger::Blank;
 use std::test::Fail;
-use std::thread;
 use std::thread::{JoinHandle, Threads};
 use std::time::{Clock, Duration};
-use std::{env, fs, process};
+use std::{env, fs, process, thread};
 
 /// The most turns of one millisecond that a test waits.
 const TURNS: u32 = 10_000;

@@ -1,12 +1,10 @@
 //! Bytes through the relay and back.
 
 use super::{Place, Running, free_port, heard, own_path, reach, served, target};
-use std::fs;
-use std::io;
 use std::io::Write;
 use std::net::{Shutdown, TcpListener};
 use std::test::Fail;
-use std::thread;
+use std::{fs, io, thread};
 
 /// Sends the bytes of one connection back, until their end.
 fn echo(listener: TcpListener) -> bool {
@@ -35,7 +33,10 @@ fn hello_comes_back_and_is_counted(rt: HostRuntime) -> Result<(), Fail> {
     let path = running.admin.clone()?;
     let said = running.stop(&rt, alloc)?;
     assert!(rt; said.is(Ok(()), "listening 1\nup 5 down 5\n"));
-    assert!(rt; fs::metadata(&rt, path.as_str()).is_err(), "the admin socket's path is left");
+    assert!(rt;
+        fs::metadata(&rt, path.as_str()).is_err(),
+        "the admin socket's path is left"
+    );
     Ok(())
 }
 
@@ -60,6 +61,9 @@ fn unix_sockets_serve_on_both_sides(rt: HostRuntime) -> Result<(), Fail> {
     assert!(rt; echoing.join(&rt));
     let said = running.stop(&rt, alloc)?;
     assert!(rt; said.is(Ok(()), "listening 2\nup 10 down 10\n"));
-    assert!(rt; fs::metadata(&rt, middle.as_str()).is_err(), "a rule's path is left");
+    assert!(rt;
+        fs::metadata(&rt, middle.as_str()).is_err(),
+        "a rule's path is left"
+    );
     Ok(())
 }

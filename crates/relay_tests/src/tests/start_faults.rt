@@ -37,8 +37,14 @@ fn the_first_listener_that_fails_is_told_before_the_admin_socket(
     fs::write(&rt, place.rules.as_str(), rules.as_str())?;
     let said = served(rt, &place.rules, &place.admin);
     assert!(rt; said.is(Err(fault_of_listening("b")?), ""));
-    assert!(rt; fs::metadata(&rt, first.as_str()).is_err(), "a path that it bound is left");
-    assert!(rt; fs::metadata(&rt, taken.as_str()).is_ok(), "a path that it didn't bind is gone");
+    assert!(rt;
+        fs::metadata(&rt, first.as_str()).is_err(),
+        "a path that it bound is left"
+    );
+    assert!(rt;
+        fs::metadata(&rt, taken.as_str()).is_ok(),
+        "a path that it didn't bind is gone"
+    );
     Ok(())
 }
 
@@ -55,8 +61,14 @@ fn an_admin_socket_that_fails_is_told(rt: HostRuntime) -> Result<(), Fail> {
     for admin in [&place.admin, &empty, &long] {
         let said = served(rt, &place.rules, admin);
         assert!(rt; said.is(Err(ServeFault::Admin), ""));
-        assert!(rt; fs::metadata(&rt, first.as_str()).is_err(), "a path that it bound is left");
+        assert!(rt;
+            fs::metadata(&rt, first.as_str()).is_err(),
+            "a path that it bound is left"
+        );
     }
-    assert!(rt; fs::metadata(&rt, place.admin.as_str()).is_ok(), "a path that it didn't bind is gone");
+    assert!(rt;
+        fs::metadata(&rt, place.admin.as_str()).is_ok(),
+        "a path that it didn't bind is gone"
+    );
     Ok(())
 }

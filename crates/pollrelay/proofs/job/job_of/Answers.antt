@@ -75,8 +75,8 @@ returns-in-Err-2 c =
     let is : app_of c.in_ok-command.field-0 ≡ program = c.in_ok-command.ensures in
     let kinds = c.in-Err.ensures.kinds (ap is_simple_and_free is ∙ is_free_program) in
     let other : kind_of c.in-Err.error ≡ kind.OutOfMemory → ⊥ = λ memory.
-        let no_memory : c.kind.result ≡ kind.OutOfMemory = c.kind.ensures ∙ memory in
-        let same : c.eq.result ≡ true = rw no_memory at c.eq.ensures in
-        absurd (cc) in
+    let no_memory : c.kind.result ≡ kind.OutOfMemory = c.kind.ensures ∙ memory in
+    let same : c.eq.result ≡ true = rw no_memory at c.eq.ensures in
+    absurd (cc) in
     let faulty : fault_of program words ≡ [] → ⊥ = λ none. has_fault (fault_of (app_of c.in_ok-command.field-0) words) c.in-Err.error kinds other (ap (λ a. fault_of a words) is ∙ none) in
     sym (left_out (ends_options words) (fault_of program words) (found_job (subcommand_of program words)) faulty)

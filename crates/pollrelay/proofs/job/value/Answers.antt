@@ -19,6 +19,6 @@ text_read r d o f e first z = ap (λ (s : Bor Text). s.now) e ∙ text_or_defaul
 pub returns : goal.returns
 returns c =
     let first : option_map (λ (s : Bor Text). s.now) c.get_str.result ≡ first_of c.args.id.now (rows_of (found_of c.args.matches.now))
-        = c.get_str.ensures ∙ first_value-rows (found_of c.args.matches.now) c.args.id.now in
+    = c.get_str.ensures ∙ first_value-rows (found_of c.args.matches.now) c.args.id.now in
     let text = text_read c.unwrap_or.result _ c.get_str.result _ c.unwrap_or.ensures first (search rules) in
     IfOk-weaker c.from_str.result _ _ (λ t h. h ∙ text) c.from_str.ensures.ok
