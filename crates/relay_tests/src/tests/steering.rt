@@ -52,7 +52,8 @@ fn a_deadline_ends_a_pair_and_one_that_is_lifted_lets_a_listener_accept(
     let running = Running { thread, admin };
     assert!(rt; running.ask(&rt, alloc, "deadline 1 0\n")?.as_str() == "ok\n");
     let mut client = reach(&rt, port)?;
-    thread::sleep(&rt, Duration::from_millis(20));
+    // A thousand faults that follow each other within a millisecond would be over by now.
+    thread::sleep(&rt, Duration::from_millis(1_200));
     assert!(rt;
         running
             .ask(&rt, alloc, "list\ndeadline 1 never\n")?
