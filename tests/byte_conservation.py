@@ -108,8 +108,8 @@ def expect_end(checks, name, relay):
     return totals
 
 
-def admin_ends(relay, checks, rng, times):
-    """Connections that the admin session ends once all their bytes arrived. Gives what arrived."""
+def admin_ends(relay, rng, times, standing):
+    """Connections that the admin session ends once all their bytes arrived, beside so many ids that stand. Gives what arrived."""
     # With an idle time the next read could set a deadline of its own after the admin session's.
     outcome, lanes = Outcome(), [lane for lane in LANES if lane.kind == "whole" and lane.idle == "never"]
     for turn in range(times):
@@ -118,7 +118,7 @@ def admin_ends(relay, checks, rng, times):
         faults = []
         if not pump((client, target), lambda: client.has_all() and target.has_all(), SECONDS):
             faults.append("an exchange isn't whole before its close")
-        wait_until(lambda: len(relay.ids()) == len(LANES) + 2, 5)
+        wait_until(lambda: len(relay.ids()) == standing + 2, 5)
         ids = relay.ids()[-2:]
         id = rng.choice(ids)
         relay.ask(f"close {id}" if turn % 2 else f"deadline {id} {rng.choice((0, 1, 100))}")
@@ -143,7 +143,7 @@ def whole(checks, size, seed, folder):
         outcomes = run_lanes(["whole"], size * 7 // 10, seed)
         meddler.end(checks, "whole")
         outcomes += run_lanes(["stall", "refused"], size // 10, seed)
-        outcomes.append(admin_ends(relay, checks, random.Random(seed), size // 20))
+        outcomes.append(admin_ends(relay, random.Random(seed), size // 20, len(LANES)))
         sums = told(checks, "whole", outcomes)
         expect_nothing_left(checks, "whole", relay, before)
         checks.expect("whole: totals before the end", tuple(sums[:2]), relay.totals())

@@ -1,5 +1,6 @@
 #!/usr/bin/env python3
-"""Checks that each call, clause, fact and file that README.md and docs/guarantees.md name is there.
+"""Checks that each call, clause, fact and file that README.md and docs/guarantees.md name is there, and each step of a
+model, with its functions, that docs/wake-ups.md names.
 
 A row of a table that promises something names, in its last cell, functions, followed by the clauses that each of them
 has, as `Timers::arm`, `arm_both` `armed`, `unchanged`; items are parted by semicolons, and what definitions a clause
@@ -136,6 +137,31 @@ def check(text, crates):
     return missing, seen
 
 
+def steps_of(models):
+    """The steps and threads that models define."""
+    return set(re.findall(r"^(?:inline|proctype) (\w+)", "\n".join(it.read_text() for it in models), re.M))
+
+
+def check_models(text, steps, source):
+    """The names of a table of steps, functions and their file that aren't there, each with its line, and how many are."""
+    missing, seen = [], 0
+    for number, line in enumerate(text.splitlines(), 1):
+        row = re.match(r"\| ([^|]+) \| ([^|]+) \| `(crates/[^`]+\.rt)` \|$", line)
+        if not row:
+            continue
+        named, functions = ([it for it in re.findall(r"`(\w+)`", cell)] for cell in row.groups()[:2])
+        code = set(re.findall(r"\bfn (\w+)", source(row[3])))
+        missing += [(number, it) for it in named if it not in steps]
+        missing += [(number, f"{row[3]} {it}") for it in functions if it not in code]
+        seen += len(named) + len(functions)
+    return missing, seen
+
+
+def source_of(name):
+    file = ROOT / name
+    return file.read_text() if file.is_file() else ""
+
+
 def main():
     crates = {it.name: Crate(it) for it in sorted((ROOT / "crates").iterdir()) if it.is_dir()}
     failed = passed = 0
@@ -144,6 +170,11 @@ def main():
         for number, token in missing:
             print(f"{name}:{number}: nothing is called `{token}`, or no function before it has that clause")
         failed, passed = failed + len(missing), passed + seen - len(missing)
+    missing, seen = check_models(
+        (ROOT / "docs/wake-ups.md").read_text(), steps_of((ROOT / "models").iterdir()), source_of)
+    for number, token in missing:
+        print(f"docs/wake-ups.md:{number}: nothing is called `{token}`")
+    failed, passed = failed + len(missing) + (not seen), passed + seen - len(missing)
     print(f"{passed} passed, {failed} failed")
     return 1 if failed or not passed else 0
 

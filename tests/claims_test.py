@@ -59,6 +59,19 @@ class Claims(unittest.TestCase):
     def test_a_file_that_is_not_there_is_told(self):
         self.assertEqual(self.missing("`tests/no_such_file.sh`"), ["tests/no_such_file.sh"])
 
+    def missing_of_model(self, row):
+        text = f"| Step of a model | Function | File |\n|---|---|---|\n{row}\n"
+        source = {"crates/timing/src/lib.rt": SOURCE}
+        return [name for _, name in claims.check_models(text, {"set_alarm"}, lambda name: source.get(name, ""))[0]]
+
+    def test_steps_of_a_model_and_their_functions_pass(self):
+        self.assertEqual(self.missing_of_model("| `set_alarm` | `arm`, `next` | `crates/timing/src/lib.rt` |"), [])
+
+    def test_a_step_a_function_and_a_file_that_are_not_there_are_told(self):
+        row = "| `set_clock` | `disarm` | `crates/timing/src/lib.rt` |\n| `set_alarm` | `arm` | `crates/timing/src/no.rt` |"
+        told = ["set_clock", "crates/timing/src/lib.rt disarm", "crates/timing/src/no.rt arm"]
+        self.assertEqual(self.missing_of_model(row), told)
+
 
 if __name__ == "__main__":
     unittest.main()

@@ -1,20 +1,36 @@
 // Loaded before the C library (LD_PRELOAD), it refuses the allocation whose number is in REFUSE, of those
-// that the program itself asks for, and says so on standard error by the line "[refused]".
+// that the program itself asks for, and says so on standard error by the line "[refused]". The signal SIGUSR1 has it
+// refuse all from then on, and SIGUSR2 none any more.
 #define _GNU_SOURCE
 #include <dlfcn.h>
+#include <signal.h>
+#include <stdatomic.h>
 #include <stdlib.h>
 #include <string.h>
 #include <unistd.h>
 
-static long asked;
+static atomic_long asked;
+static atomic_int refuses_all;
+static long number;
+
+static void hear(int signal) {
+    atomic_store(&refuses_all, signal == SIGUSR1);
+}
+
+__attribute__((constructor)) static void begin(void) {
+    const char *text = getenv("REFUSE");
+    number = text == NULL ? 0 : atol(text);
+    struct sigaction action = {.sa_handler = hear, .sa_flags = SA_RESTART};
+    sigaction(SIGUSR1, &action, NULL);
+    sigaction(SIGUSR2, &action, NULL);
+}
 
 static int is_refused(void *caller) {
     Dl_info from;
-    const char *number = getenv("REFUSE");
-    if (number == NULL || !dladdr(caller, &from) || from.dli_fname == NULL || strstr(from.dli_fname, ".so") != NULL)
+    if (!dladdr(caller, &from) || from.dli_fname == NULL || strstr(from.dli_fname, ".so") != NULL)
         return 0;
-    asked += 1;
-    if (asked != atol(number))
+    long at = atomic_fetch_add(&asked, 1) + 1;
+    if (at != number && !atomic_load(&refuses_all))
         return 0;
     return write(2, "[refused]\n", 10) == 10;
 }

@@ -6,7 +6,9 @@ import os
 import random
 import resource
 import shutil
+import signal
 import socket
+import stat
 import subprocess
 import tempfile
 import time
@@ -20,6 +22,11 @@ DESCRIPTORS = 4096
 
 # Ports below the range from which the system takes those of outgoing connections, so that none of these takes ours.
 _ports = random.sample(range(10_000, 32_000), 22_000)
+
+
+def share_ports(at, count):
+    """Leaves this process one of so many shares of the ports, where others that were forked with it take theirs."""
+    _ports[:] = _ports[at::count]
 
 
 def free_port():
@@ -95,23 +102,59 @@ class Session:
         self.sock.close()
 
 
-class Relay:
-    """A relay that serves a text of rules until stop() or the end of the with block."""
+class StartFault(RuntimeError):
+    """A relay that ended, or was ended, before it said that it listens: its status, its outputs and the sockets that it left."""
 
-    def __init__(self, rules, program=PROGRAM, descriptors=DESCRIPTORS):
+    def __init__(self, relay, said):
+        self.said = said
+        self.is_hung = said != ""
+        if not self.is_hung:
+            self.is_hung = not relay.ends_within(REPLY_SECONDS)
+        self.status, self.errors, self.left = relay.process.poll(), relay.errors(), relay.sockets()
+        super().__init__(f"the relay didn't start: it said {said!r}")
+
+
+class Relay:
+    """A relay that serves a text of rules until stop() or the end of the with block. `{folder}` in the rules is its own folder.
+
+    With an environment of its own its standard error is kept, for errors(). `before` are words ahead of the program's, as of a tracer.
+    """
+
+    def __init__(self, rules, program=PROGRAM, descriptors=DESCRIPTORS, env=None, before=()):
         self.folder = tempfile.mkdtemp(prefix="relay-")
         self.admin = f"{self.folder}/admin.sock"
         with open(f"{self.folder}/rules", "w", encoding="ascii") as file:
-            file.write(rules)
-        words = [program, "serve", "--rules", f"{self.folder}/rules", "--admin", self.admin]
+            file.write(rules.replace("{folder}", self.folder))
+        words = [*before, program, "serve", "--rules", f"{self.folder}/rules", "--admin", self.admin]
+        self.kept_errors = None if env is None else open(f"{self.folder}/errors", "ab")
         self.process = subprocess.Popen(
-            words, stdin=subprocess.DEVNULL, stdout=subprocess.PIPE, preexec_fn=lambda: allow_descriptors(descriptors)
+            words, stdin=subprocess.DEVNULL, stdout=subprocess.PIPE, stderr=self.kept_errors,
+            env=None if env is None else {**os.environ, **env}, preexec_fn=lambda: allow_descriptors(descriptors),
         )
         said = self.process.stdout.readline().decode()
         if not said.startswith("listening "):
+            fault = StartFault(self, said)
             self.close()
-            raise RuntimeError(f"the relay didn't start: it said {said!r}")
+            raise fault
         self.said = said
+
+    def errors(self):
+        """What it wrote to standard error so far, where that is kept."""
+        if self.kept_errors is None:
+            return ""
+        with open(self.kept_errors.name, encoding="utf-8", errors="replace") as file:
+            return file.read()
+
+    def sockets(self):
+        """The names of Unix sockets in its folder."""
+        return sorted(it.name for it in os.scandir(self.folder) if stat.S_ISSOCK(it.stat(follow_symlinks=False).st_mode))
+
+    def ends_within(self, seconds):
+        try:
+            self.process.wait(seconds)
+            return True
+        except subprocess.TimeoutExpired:
+            return False
 
     def ask(self, line):
         """The reply to one line, in a session of its own."""
@@ -143,11 +186,21 @@ class Relay:
         with open(f"/proc/{self.process.pid}/status", encoding="ascii") as file:
             return next(int(line.split()[1]) for line in file if line.startswith("VmRSS"))
 
+    def traced(self):
+        """The processes that a tracer ahead of the program has started, which would outlive it."""
+        path = f"/proc/{self.process.pid}/task/{self.process.pid}/children"
+        with open(path, encoding="ascii") as file:
+            return [int(word) for word in file.read().split()]
+
     def close(self):
         if self.process.poll() is None:
+            for child in self.traced():
+                os.kill(child, signal.SIGKILL)
             self.process.kill()
         self.process.wait()
         self.process.stdout.close()
+        if self.kept_errors is not None:
+            self.kept_errors.close()
         shutil.rmtree(self.folder, ignore_errors=True)
 
     def __enter__(self):

@@ -316,6 +316,20 @@ def gone_without_reading(checks, relay):
     checks.expect("session: after clients that went away", b"ids 1 2 3 4\n", session(relay.admin, b"list\n"))
 
 
+def stopped_and_gone(checks, _):
+    """A client that says stop and goes away at once, whatever it asked before, stops the relay."""
+    for sent in (b"stop\n", b"stop", b"list\n" * 1_000 + b"stop\n"):
+        for _ in range(5):
+            with Relay("") as relay:
+                with connect(f"unix:{relay.admin}") as sock:
+                    sock.sendall(sent)
+                try:
+                    said, _ = relay.process.communicate(timeout=20)
+                except subprocess.TimeoutExpired:
+                    said = b"still running"
+                checks.expect("session: stop, and gone", (b"up 0 down 0\n", 0), (said, relay.process.poll()))
+
+
 def no_rule(checks, _):
     with Relay("") as relay:
         checks.expect("no rule: first line", "listening 0\n", relay.said)
@@ -371,8 +385,8 @@ def sample_metrics(checks, folder):
 
 
 STAGES = [
-    command_lines, verdicts, outputs, start_faults, poller_fault, refused_paths, admin_sessions, no_rule,
-    sample_rules, sample_sessions, sample_metrics,
+    command_lines, verdicts, outputs, start_faults, poller_fault, refused_paths, admin_sessions, stopped_and_gone,
+    no_rule, sample_rules, sample_sessions, sample_metrics,
 ]
 
 

@@ -5,7 +5,8 @@
 
 A round starts each relay once, with the first one changing from round to round, runs all rows through it, and stops it. One
 load generator (load.c) is both the clients and the target and compares the counts of both ends. POLLRELAY names another
-program than crates/pollrelay/out/pollrelay. Needs cc, haproxy, nginx-light with libnginx-mod-stream, socat and golang-go.
+program than crates/pollrelay/out/pollrelay, and a NAME with a slash is another build of it, to compare. What is missing of
+gcc, haproxy, nginx-light with libnginx-mod-stream, socat and golang-go is installed.
 """
 import argparse
 import os
@@ -25,6 +26,9 @@ PEERS = ["haproxy", "nginx", "socat", "go-copy"]
 OTHERS = ["go-splice", "direct"]
 TICK_NS = 1_000_000_000 // os.sysconf("SC_CLK_TCK")
 
+PACKAGES = ["gcc", "libc6-dev", "haproxy", "nginx-light", "libnginx-mod-stream", "socat", "golang-go"]
+STREAM_MODULE = "/usr/lib/nginx/modules/ngx_stream_module.so"
+
 HAPROXY = """global
   nbthread {processors}
   maxconn 4096
@@ -42,7 +46,7 @@ NGINX = """daemon off;
 pid {folder}/nginx.pid;
 error_log {folder}/error.log;
 worker_processes {processors};
-load_module /usr/lib/nginx/modules/ngx_stream_module.so;
+load_module {module};
 events {{ worker_connections 4096; }}
 stream {{ server {{ listen 127.0.0.1:{port}; proxy_pass 127.0.0.1:{target}; proxy_timeout 1h; proxy_half_close on; }} }}
 """
@@ -55,8 +59,9 @@ class Started:
         self.name, self.port, self.relay, self.process = name, free_port(), None, None
         if name == "direct":
             self.port = target
-        elif name == "pollrelay":
-            self.relay = Relay(f"relay bench tcp:127.0.0.1:{self.port} tcp:127.0.0.1:{target} never\n")
+        elif name == "pollrelay" or "/" in name:
+            rules = f"relay bench tcp:127.0.0.1:{self.port} tcp:127.0.0.1:{target} never\n"
+            self.relay = Relay(rules, program=PROGRAM if name == "pollrelay" else name)
             self.process = self.relay.process
         else:
             quiet = {"stdin": subprocess.DEVNULL, "stdout": subprocess.DEVNULL, "stderr": subprocess.DEVNULL}
@@ -119,7 +124,7 @@ class Started:
 
 def words_of(name, folder, port, target):
     """The command that runs a peer in the foreground."""
-    values = {"port": port, "target": target, "folder": folder, "processors": len(os.sched_getaffinity(0))}
+    values = {"module": STREAM_MODULE, "port": port, "target": target, "folder": folder, "processors": len(os.sched_getaffinity(0))}
     if name == "haproxy":
         return ["haproxy", "-q", "-db", "-f", written(f"{folder}/haproxy.cfg", HAPROXY.format(**values))]
     if name == "nginx":
@@ -244,7 +249,7 @@ def table(results):
         best = (max if is_rate(row) else min)(peers, key=peers.get) if peers else None
         for name, median in medians.items():
             ratio = f"{median / peers[best]:6.2f}" if best and peers[best] else "     -"
-            print(f"  {name:10} {median:12.3f}  {min(values[name]):12.3f} to {max(values[name]):12.3f}  {ratio}" + (" best peer" if name == best else ""))
+            print(f"  {os.path.basename(name):10} {median:12.3f}  {min(values[name]):12.3f} to {max(values[name]):12.3f}  {ratio}" + (" best peer" if name == best else ""))
 
 
 def build_load(folder):
@@ -254,6 +259,21 @@ def build_load(folder):
 def build_go_relay(folder):
     env = {**os.environ, "GOCACHE": f"{folder}/go-cache", "GOFLAGS": "-mod=mod", "GO111MODULE": "off"}
     subprocess.run(["go", "build", "-o", f"{folder}/go_relay", f"{HERE}/go_relay.go"], check=True, env=env)
+
+
+def missing():
+    """What the bench needs and isn't there."""
+    return [it for it in ("cc", "haproxy", "nginx", "socat", "go", STREAM_MODULE) if not (shutil.which(it) or os.path.exists(it))]
+
+
+def install_missing():
+    """Installs the peers by name, where one isn't there."""
+    if missing():
+        env = {**os.environ, "DEBIAN_FRONTEND": "noninteractive"}
+        words = ["apt-get", "install", "-y", "--no-install-recommends", "-o", "DPkg::Lock::Timeout=120", *PACKAGES]
+        subprocess.run(words, env=env, stdout=sys.stderr, check=False)
+    if left := [*missing(), *([] if os.path.exists(PROGRAM) else [PROGRAM])]:
+        sys.exit(f"not there: {', '.join(left)}")
 
 
 def machine():
@@ -276,9 +296,7 @@ def main():
     if chosen.small:
         chosen.rounds, chosen.seconds, chosen.idle_seconds, chosen.idle = 1, 0.2, 0.5, 50
     names = chosen.only.split(",")
-    missing = [it for it in ("cc", "haproxy", "nginx", "socat", "go", PROGRAM) if not shutil.which(it)]
-    if missing:
-        return f"not there: {', '.join(missing)} (apt-get install gcc haproxy nginx-light libnginx-mod-stream socat golang-go)"
+    install_missing()
     machine()
     results = {name: [] for name in names}
     with tempfile.TemporaryDirectory(prefix="bench-") as folder:

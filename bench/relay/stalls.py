@@ -13,7 +13,7 @@ import subprocess
 import sys
 import tempfile
 
-from run import Load, Started, build_go_relay, build_load
+from run import Load, Started, build_go_relay, build_load, install_missing
 
 SECONDS = 0.3
 
@@ -24,6 +24,7 @@ def main():
     words.add_argument("--relay", default="pollrelay", help="or a peer of run.py, to compare")
     words.add_argument("--longest", type=float, default=1.0)
     chosen = words.parse_args()
+    install_missing()
     too_long = 0
     with tempfile.TemporaryDirectory(prefix="stalls-") as folder:
         build_load(folder)

@@ -2,7 +2,8 @@
 //! `bench_lock_word`), and beside it plain Rust and, where `go_word/build.sh` has built it, Go's own word.
 //! Each run is a process of its own, timed from outside, in turn with its peers; each prints its rounds,
 //! its word and its half, which are compared. In each turn the words lie elsewhere in their pages. Prints
-//! medians, and the ratio of the proved word's to each.
+//! medians, and the ratio of the proved word's to each. The variable `EARLIER` names another build of the
+//! proved program, which runs beside it.
 
 mod plain_word;
 
@@ -164,6 +165,11 @@ fn main() {
         ("spin", own, &["plain", "spin"]),
         ("std's mutex", own, &["plain", "mutex"]),
     ];
+    let earlier = std::env::var("EARLIER");
+    if let Ok(program) = &earlier {
+        references.push(("earlier build", program, &["references"]));
+        locks.push(("earlier build", program, &["reads"]));
+    }
     if Path::new(GO).exists() {
         references.push(("Go's", GO, &["references"]));
         locks.push(("Go's", GO, &["reads"]));

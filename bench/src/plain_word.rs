@@ -1,5 +1,6 @@
 //! The lock word as a Rust programmer writes it by hand: one atomic word on the heap, the same bits, and
-//! the same tests. A try is one load and one exchange, and is made again at once where it is lost.
+//! the same tests. A try is one load and one exchange, and is made again at once where it is lost; a
+//! reference is given back by one subtraction.
 
 use std::cell::UnsafeCell;
 use std::sync::atomic::{AtomicU64, Ordering::SeqCst};
@@ -37,11 +38,10 @@ impl PlainWord {
     }
 
     /// Whether it was the last reference of a closed word.
-    fn try_drop_ref(&self) -> Option<bool> {
-        let found = self.word.load(SeqCst);
+    fn drop_ref(&self) -> bool {
+        let found = self.word.fetch_sub(REFERENCE, SeqCst);
         assert!(found & REFERENCES != 0, "no reference to give back");
-        let last = found & CLOSED != 0 && found & REFERENCES == REFERENCE;
-        self.exchange(found, found - REFERENCE).then_some(last)
+        found & CLOSED != 0 && found & REFERENCES == REFERENCE
     }
 
     /// `Some(false)` where another thread has the lock.
@@ -73,7 +73,7 @@ impl PlainWord {
     /// Takes a reference and drops it.
     pub fn reference_round(&self) {
         while self.try_incref().is_none() {}
-        while self.try_drop_ref().is_none() {}
+        assert!(!self.drop_ref(), "nobody closes the word");
     }
 
     /// Adds 1 to the half under the read lock. Who finds the lock taken spins.

@@ -36,7 +36,7 @@ pub fn take_and_drop<T: Wait>(rt: &T, word: &Counters, seat: CounterSeat) -> Opt
     ensures { IfSome result (λ seat. IsSeatOf word.now (seat_place seat)) }
 {
     match incref(rt, word, seat) {
-        Ok(held) => seat_of(word, decref(rt, word, held)),
+        Ok(held) => seat_of(word, decref(word, held)),
         Err(_) => None,
     }
 }

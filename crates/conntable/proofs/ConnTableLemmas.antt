@@ -1,5 +1,6 @@
 -- Entries that come and go.
-use Rattle.std.proofs.Common.{◌≡◌, ◌≢◌, ◌∙◌, sym, ap, subst, ℕ, suc, ◌+◌, ◌≤◌, ◌<◌, List, [], ◌∷◌, ◌++◌, length, get_or, take, drop, arith, length-append, length-drop, length-take, drop-cons}
+use Rattle.std.proofs.Common.{◌≡◌, ◌≢◌, ◌∙◌, sym, ap, subst, ℕ, suc, ◌+◌, ◌≤◌, ◌<◌, List, [], ◌∷◌, ◌++◌, length, get_or}
+use Rattle.std.proofs.Common.{take, drop, arith, length-append, length-drop, length-take, drop-cons}
 use Rattle.std.specs.Prelude.{All, AllPairs}
 use Rattle.std.specs.List.{remove}
 use Rattle.std.proofs.lemmas.List.Elements.{All-push, All-append, All-take, All-drop, All-weaker}
@@ -16,20 +17,27 @@ module _ {T : Type 0} where
   All-remove P es i h = All-append P (take i es) (drop (suc i) es) (All-take P i es h) (All-drop P (suc i) es h)
 
   -- without the entry at a place, its key is free
-  pub IsFreeKey-removed : (es : List (Entry T)) (i : ℕ) (e : Entry T) → i < length es → e ≡ get_or es i e → AllPairs (λ f h. key_of f.token ≢ key_of h.token) es → IsFreeKey (key_of e.token) (remove es i)
-  IsFreeKey-removed es i e within is keys = All-append (λ f. key_of f.token ≢ key_of e.token) (take i es) (drop (suc i) es) front back
+  pub IsFreeKey-removed : (es : List (Entry T)) (i : ℕ) (e : Entry T) → i < length es → e ≡ get_or es i e →
+      AllPairs (λ f h. key_of f.token ≢ key_of h.token) es → IsFreeKey (key_of e.token) (remove es i)
+  IsFreeKey-removed es i e within is keys = All-append (λ f. key_of f.token ≢ key_of e.token) (take i es)
+      (drop (suc i) es) front back
     where
       front : All (λ f. key_of f.token ≢ key_of e.token) (take i es)
       front = λ k d h same. let below : k < i = (let l = length-take i es in omega (arith, l)) in
-          keys k i d below within (ap (λ f. key_of f.token) (sym (get_or-take i es k d below)) ∙ same ∙ ap (λ f. key_of f.token) (is ∙ get_or_default es i e d within))
+          keys k i d below within (ap (λ f. key_of f.token) (sym (get_or-take i es k d below)) ∙ same ∙
+          ap (λ f. key_of f.token) (is ∙ get_or_default es i e d within))
 
       back : All (λ f. key_of f.token ≢ key_of e.token) (drop (suc i) es)
       back = λ k d h same. let above : i < suc i + k = omega arith in
           let inside : suc i + k < length es = (let l = length-drop (suc i) es in omega (arith, l)) in
-          keys i (suc i + k) d above inside (ap (λ f. key_of f.token) (sym (is ∙ get_or_default es i e d within)) ∙ sym same ∙ ap (λ f. key_of f.token) (get_or-drop (suc i) es k d))
+          keys i (suc i + k) d above inside (ap (λ f. key_of f.token) (sym (is ∙ get_or_default es i e d within)) ∙
+          sym same ∙ ap (λ f. key_of f.token) (get_or-drop (suc i) es k d))
 
   -- a consistent table with one entry more
-  pub IsConsistent-push : (old new : Table T) (e : Entry T) → IsConsistent old → length old.entries < 4096 → old.next_id ≤ 4503599627370494 → old.next_key < 4096 → e.id ≡ old.next_id → e.token ≡ token_of old.next_key old.next_id → new.entries ≡ old.entries ++ e ∷ [] → new.next_id ≡ old.next_id + 1 → IsFreeKey new.next_key new.entries → IsConsistent new
+  pub IsConsistent-push : (old new : Table T) (e : Entry T) → IsConsistent old → length old.entries < 4096 →
+      old.next_id ≤ 4503599627370494 → old.next_key < 4096 → e.id ≡ old.next_id →
+      e.token ≡ token_of old.next_key old.next_id → new.entries ≡ old.entries ++ e ∷ [] →
+      new.next_id ≡ old.next_id + 1 → IsFreeKey new.next_key new.entries → IsConsistent new
   IsConsistent-push old new e was room last small id token now next free =
       let key : key_of e.token ≡ old.next_key = ap key_of token ∙ key_of-token_of old.next_key old.next_id small in
       let given : HasGivenId (old.next_id + 1) e = given_now in
@@ -38,10 +46,15 @@ module _ {T : Type 0} where
       record {
         room = let l = length-push old.entries e in rw now (omega (arith, l));
         first = omega arith;
-        ids = rw now (rw next (All-push (HasGivenId (old.next_id + 1)) old.entries e (All-weaker (HasGivenId old.next_id) (HasGivenId (old.next_id + 1)) (λ f h. (h.0, omega arith, h.2)) old.entries was.ids) given));
-        rising = rw now (all_pairs_push (λ f h. f.id < h.id) old.entries e was.rising (λ k d h. let below = (was.ids k d h).1 in omega arith));
-        tokens = rw now (All-push (λ f. f.token ≡ token_of (key_of f.token) f.id) old.entries e was.tokens (token ∙ ap (λ k. token_of k old.next_id) (sym key) ∙ ap (token_of (key_of e.token)) (sym id)));
-        keys = rw now (all_pairs_push (λ f h. key_of f.token ≢ key_of h.token) old.entries e was.keys (λ k d h same. was.next_key k d h (same ∙ key)));
+        ids = rw now (rw next (All-push (HasGivenId (old.next_id + 1)) old.entries e
+            (All-weaker (HasGivenId old.next_id) (HasGivenId (old.next_id + 1))
+            (λ f h. (h.0, omega arith, h.2)) old.entries was.ids) given));
+        rising = rw now (all_pairs_push (λ f h. f.id < h.id) old.entries e was.rising
+            (λ k d h. let below = (was.ids k d h).1 in omega arith));
+        tokens = rw now (All-push (λ f. f.token ≡ token_of (key_of f.token) f.id) old.entries e was.tokens
+            (token ∙ ap (λ k. token_of k old.next_id) (sym key) ∙ ap (token_of (key_of e.token)) (sym id)));
+        keys = rw now (all_pairs_push (λ f h. key_of f.token ≢ key_of h.token) old.entries e was.keys
+            (λ k d h same. was.next_key k d h (same ∙ key)));
         next_key = free;
       }
     where
@@ -52,7 +65,9 @@ module _ {T : Type 0} where
       length-push xs x = grind (arith, length-append)
 
   -- a consistent table with one entry less
-  pub IsConsistent-remove : (old new : Table T) (i : ℕ) → IsConsistent old → i < length old.entries → new.entries ≡ remove old.entries i → new.next_id ≡ old.next_id → IsFreeKey new.next_key new.entries → IsConsistent new
+  pub IsConsistent-remove : (old new : Table T) (i : ℕ) → IsConsistent old → i < length old.entries →
+      new.entries ≡ remove old.entries i → new.next_id ≡ old.next_id → IsFreeKey new.next_key new.entries →
+      IsConsistent new
   IsConsistent-remove old new i was within now next free = record {
     room = rw now (let l = length-remove old.entries i within in omega (arith, l, was.room));
     first = rw next was.first;
@@ -64,12 +79,18 @@ module _ {T : Type 0} where
   }
 
   -- the entry at a place is the one that is taken out of it
-  pub Removes-remove : (old seen new : Table T) (id i : ℕ) (e : Entry T) → old ≡ seen → i < length old.entries → e ≡ get_or old.entries i e → e.id ≡ id → new.entries ≡ remove old.entries i → new.next_id ≡ old.next_id → Removes seen new id e.value
-  Removes-remove old seen new id i e same within is named now next = subst (λ t. Removes t new id e.value) same (record {
-    before = take i old.entries;
-    token = e.token;
-    after = drop (suc i) old.entries;
-    was = sym (take-append-drop i old.entries) ∙ ap (λ t. take i old.entries ++ t) (drop-cons old.entries i e within ∙ ap (λ f. f ∷ drop (suc i) old.entries) (sym is ∙ ap (λ n. record { id = n; token = e.token; value = e.value }) named));
-    is = now;
-    next_id = next;
-  })
+  pub Removes-remove : (old seen new : Table T) (id i : ℕ) (e : Entry T) → old ≡ seen → i < length old.entries →
+      e ≡ get_or old.entries i e → e.id ≡ id → new.entries ≡ remove old.entries i → new.next_id ≡ old.next_id →
+      Removes seen new id e.value
+  Removes-remove old seen new id i e same within is named now next =
+      subst (λ t. Removes t new id e.value) same (record {
+        before = take i old.entries;
+        token = e.token;
+        after = drop (suc i) old.entries;
+        was = sym (take-append-drop i old.entries) ∙
+            ap (λ t. take i old.entries ++ t) (drop-cons old.entries i e within ∙
+            ap (λ f. f ∷ drop (suc i) old.entries) (sym is ∙
+            ap (λ n. record { id = n; token = e.token; value = e.value }) named));
+        is = now;
+        next_id = next;
+      })

@@ -12,5 +12,6 @@ pub id_in-token_of : (key id : ℕ) → key < 4096 → token_of key id / 4096 �
 id_in-token_of key id h = omega arith
 
 -- two tokens with keys below 4,096 are equal only if their ids are
-pub same_id : (key id other_key other_id : ℕ) → key < 4096 → other_key < 4096 → token_of key id ≡ token_of other_key other_id → id ≡ other_id
+pub same_id : (key id other_key other_id : ℕ) → key < 4096 → other_key < 4096 →
+    token_of key id ≡ token_of other_key other_id → id ≡ other_id
 same_id key id other_key other_id h k same = omega arith

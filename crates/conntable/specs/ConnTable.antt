@@ -1,5 +1,6 @@
 -- A table of connections, as a list of entries by rising id.
-use Rattle.std.specs.Prelude.{◌≡◌, ◌≢◌, ◌==◌, ◌≤◌, ◌<◌, ◌+◌, ℕ, List, [], ◌∷◌, ◌++◌, length, map, find, All, AllPairs, Option, Some, None}
+use Rattle.std.specs.Prelude.{◌≡◌, ◌≢◌, ◌==◌, ◌≤◌, ◌<◌, ◌+◌, ℕ, List, [], ◌∷◌, ◌++◌, length, map}
+use Rattle.std.specs.Prelude.{find, All, AllPairs, Option, Some, None}
 use Rattle.std.specs.Option.{option_map}
 use Rattle.conntable.specs.declared.table.Entry.{Entry}
 use Rattle.conntable.specs.Token.{token_of, key_of}

@@ -3,7 +3,8 @@ use Rattle.std.specs.Prelude.{◌≡◌, ◌≤◌, ◌<◌, ◌+◌, ◌^◌, �
 use Rattle.std.specs.List.Sorted.{IsStrictlyIncreasing}
 use Rattle.conntable.specs.declared.table.Entry.{Entry}
 use Rattle.conntable.specs.Token.{token_of, key_of}
-use Rattle.conntable.specs.ConnTable.{Table, IsConsistent, Inserts, Removes, HasNoId, value_with_token, value_with_id, ids_of, first_id_of}
+use Rattle.conntable.specs.ConnTable.{Table, IsConsistent, Inserts, Removes, HasNoId}
+use Rattle.conntable.specs.ConnTable.{value_with_token, value_with_id, ids_of, first_id_of}
 
 module _ {T : Type 0} where
   -- the second table comes of the first by inserts and removals

@@ -13,8 +13,11 @@ module _ {T : Type 0} where
   abbrev pub entries_at : Slab (Entry T) → List (ℕ × ℕ) → List (Entry T)
   entries_at slots index = filter_map (λ line. get slots line.1) index
 
-  -- the slab has these entries and no others, each at its key, and the index has a line for each, in their order
-  pub record Holds (slots : Slab (Entry T)) (index : List (ℕ × ℕ)) (entries : List (Entry T)) : Type 0 where
+  -- the slab has these entries and no others, each at its key, and the index has a line for each,
+  -- in their order
+  pub record Holds (slots : Slab (Entry T)) (index : List (ℕ × ℕ))
+      (entries : List (Entry T)) : Type 0 where
     pub indexed : index ≡ map line_of entries
     pub kept : All (λ e. get slots (key_of e.token) ≡ Some e) entries
-    pub no_others : (key : ℕ) (e : Entry T) → get slots key ≡ Some e → Contains entries e × (key_of e.token ≡ key)
+    pub no_others : (key : ℕ) (e : Entry T) → get slots key ≡ Some e →
+        Contains entries e × (key_of e.token ≡ key)

@@ -14,6 +14,7 @@ use std::alloc::Allocator;
 pub fn tables_are_consistent<T, A: Allocator>(table: &ConnTable<T, A>)
     ensures { IsConsistent table.now }
 {
+    // The invariant of a table behind a reference is known once a call has read the table.
     let _ = table.vacant();
 }
 

@@ -1,5 +1,6 @@
 -- Which timer fires first, which fire after it, and what is left once some are taken out.
-use Rattle.std.proofs.Common.{◌≡◌, ℕ, ◌+◌, ◌<◌, ◌≤◌, inl, inr, Bool, true, false, cond, List, [], ◌∷◌, ◌++◌, length, refl, sym, ap, subst, ◌∙◌, Option, Some, None, arith, length-append}
+use Rattle.std.proofs.Common.{◌≡◌, ℕ, ◌+◌, ◌<◌, ◌≤◌, inl, inr, Bool, true, false, cond, List, [], ◌∷◌, ◌++◌, length}
+use Rattle.std.proofs.Common.{refl, sym, ap, subst, ◌∙◌, Option, Some, None, arith, length-append}
 use Rattle.std.specs.List.{All, AllPairs}
 use Rattle.std.proofs.lemmas.List.Elements.{All-push}
 use Rattle.std.proofs.lemmas.List.Quantifiers.{all_pairs_push}
@@ -14,7 +15,8 @@ use Rattle.deadline_core.proofs.TimersLemmas.{slots_total}
 
 -- the order in which timers fire is total
 pub entries_total : IsTotalOrder entry_cmp
-entries_total = then_total (on_total (λ (e : Slot × ℕ). e.1) nat_cmp_total) (on_total (λ (e : Slot × ℕ). e.0) slots_total)
+entries_total = then_total (on_total (λ (e : Slot × ℕ). e.1) nat_cmp_total)
+    (on_total (λ (e : Slot × ℕ). e.0) slots_total)
 
 -- Taking out one after the other
 
@@ -23,15 +25,19 @@ removed_gives true o at h = absurd (let no : None ≡ Some at = h in cc)
 removed_gives false o at h = (refl, h)
 
 -- what is armed after one is taken out was armed before, and isn't that one
-pub left_gives : (armed : Armed) (slot q : Slot) (at : ℕ) → get (remove armed slot) q ≡ Some at → (eq_by_cmp slot_cmp q slot ≡ false) × (get armed q ≡ Some at)
+pub left_gives : (armed : Armed) (slot q : Slot) (at : ℕ) → get (remove armed slot) q ≡ Some at →
+    (eq_by_cmp slot_cmp q slot ≡ false) × (get armed q ≡ Some at)
 left_gives armed slot q at h = removed_gives _ _ at (sym (get-remove slots_total armed slot q) ∙ h)
 
 -- what is armed after some are taken out was armed before
-pub remaining_gives : (taken : List Slot) (armed : Armed) (q : Slot) (at : ℕ) → get (remove_all armed taken) q ≡ Some at → get armed q ≡ Some at
+pub remaining_gives : (taken : List Slot) (armed : Armed) (q : Slot) (at : ℕ) →
+    get (remove_all armed taken) q ≡ Some at → get armed q ≡ Some at
 remaining_gives [] armed q at h = h
-remaining_gives (slot ∷ taken) armed q at h = (left_gives armed slot q at (remaining_gives taken (remove armed slot) q at h)).1
+remaining_gives (slot ∷ taken) armed q at h = (left_gives armed slot q at
+    (remaining_gives taken (remove armed slot) q at h)).1
 
-remove_all_push : (taken : List Slot) (armed : Armed) (slot : Slot) → remove_all armed (taken ++ slot ∷ []) ≡ remove (remove_all armed taken) slot
+remove_all_push : (taken : List Slot) (armed : Armed) (slot : Slot) →
+    remove_all armed (taken ++ slot ∷ []) ≡ remove (remove_all armed taken) slot
 remove_all_push [] armed slot = refl
 remove_all_push (one ∷ taken) armed slot = remove_all_push taken (remove armed one) slot
 
@@ -49,7 +55,8 @@ pub record DueSoFar (first left : Armed) (now : ℕ) (given : List Slot) (count 
   pub left_is : left ≡ remove_all first given
 
 -- an entry that comes before another fires before it in the map that has both
-fires_before : (armed : Armed) (e x : Slot × ℕ) → get armed e.0 ≡ Some e.1 → get armed x.0 ≡ Some x.1 → Before e x → FiresBefore armed e.0 x.0
+fires_before : (armed : Armed) (e x : Slot × ℕ) → get armed e.0 ≡ Some e.1 → get armed x.0 ≡ Some x.1 → Before e x →
+    FiresBefore armed e.0 x.0
 fires_before armed e x armed_e armed_x comes = λ m n at_m at_n.
     let same_m : e.1 ≡ m = (let both : Some e.1 ≡ Some m = sym armed_e ∙ at_m in cc) in
     let same_n : x.1 ≡ n = (let both : Some x.1 ≡ Some n = sym armed_x ∙ at_n in cc) in
@@ -57,9 +64,11 @@ fires_before armed e x armed_e armed_x comes = λ m n at_m at_n.
 
 -- one more is taken out
 pub one_more : (first left : Armed) (now : ℕ) (given : List Slot) (count : ℕ) (e : Slot × ℕ)
-    → DueSoFar first left now given count → IsFirstOf left now (Some e) → DueSoFar first (remove left e.0) now (given ++ e.0 ∷ []) (count + 1)
+    → DueSoFar first left now given count → IsFirstOf left now (Some e) →
+    DueSoFar first (remove left e.0) now (given ++ e.0 ∷ []) (count + 1)
 one_more first left now given count e s f =
-    let was_armed = λ (slot : Slot) (at : ℕ) (found : get left slot ≡ Some at). remaining_gives given first slot at (ap (λ m. get m slot) (sym s.left_is) ∙ found) in
+    let was_armed = λ (slot : Slot) (at : ℕ) (found : get left slot ≡ Some at). remaining_gives given first slot at
+    (ap (λ m. get m slot) (sym s.left_is) ∙ found) in
     record {
       size = omega (arith, length-append given (e.0 ∷ []), s.size);
       due = All-push (IsDue first now) given e.0 s.due (e.1, was_armed e.0 e.1 f.0, f.1);
@@ -75,10 +84,12 @@ one_more first left now given count e s f =
     }
 
 -- no due one is left
-pub all_given : (first left : Armed) (now : ℕ) (given : List Slot) (count : ℕ) → count ≤ 256 → DueSoFar first left now given count → IsFirstOf left now None → AreFirstDue first now given
+pub all_given : (first left : Armed) (now : ℕ) (given : List Slot) (count : ℕ) → count ≤ 256 →
+    DueSoFar first left now given count → IsFirstOf left now None → AreFirstDue first now given
 all_given first left now given count fits s none =
     let no_more = λ (slot : Slot) (due : IsDue (remove_all first given) now slot).
-    (let late : now < due.0 = none slot due.0 (ap (λ m. get m slot) s.left_is ∙ due.1) in let come : due.0 ≤ now = due.2 in absurd {A = ⊥} (omega (arith, late, come))) in
+    (let late : now < due.0 = none slot due.0 (ap (λ m. get m slot) s.left_is ∙ due.1) in let come : due.0 ≤ now =
+    due.2 in absurd {A = ⊥} (omega (arith, late, come))) in
     record {
       due = s.due;
       in_order = s.in_order;
@@ -88,7 +99,8 @@ all_given first left now given count fits s none =
     }
 
 -- 256 were taken out
-pub full_given : (first left : Armed) (now : ℕ) (given : List Slot) (count : ℕ) → count ≡ 256 → DueSoFar first left now given count → AreFirstDue first now given
+pub full_given : (first left : Armed) (now : ℕ) (given : List Slot) (count : ℕ) → count ≡ 256 →
+    DueSoFar first left now given count → AreFirstDue first now given
 full_given first left now given count full s = record {
   due = s.due;
   in_order = s.in_order;

@@ -1,5 +1,7 @@
 -- An index and an ordered set that stand for timers.
-use Rattle.std.proofs.Common.{◌≡◌, ℕ, ◌⊎◌, inl, inr, Bool, true, false, cond, ◌&&◌, List, [], ◌∷◌, length, refl, sym, ap, ◌∙◌, subst, Option, Some, None, T, btree_map_len, BTreeMap, Result, Ok, Err, OnOk, OnErr, IfNone, IfSome}
+use Rattle.std.proofs.Common.{◌≡◌, ℕ, ◌⊎◌, inl, inr, Bool, true, false, cond, ◌&&◌, List, [], ◌∷◌, length, refl, sym}
+use Rattle.std.proofs.Common.{ap, ◌∙◌, subst, Option, Some, None, T, btree_map_len, BTreeMap, Result, Ok, Err, OnOk}
+use Rattle.std.proofs.Common.{OnErr, IfNone, IfSome}
 use Rattle.std.specs.BTreeMap.{is_at}
 use Rattle.std.specs.BTreeMap as tree
 use Rattle.std.specs.BTreeSet.{BTreeSet, contains}
@@ -12,7 +14,8 @@ use Rattle.std.specs.Cmp.{IsTotalOrder, nat_cmp_total, eq_by_cmp_equiv}
 use Rattle.std.proofs.lemmas.Cmp.{on_total, then_total}
 use Rattle.std.proofs.lemmas.Map.Lookups.{CmpEqualImpliesEq, exact_pairs, exact_unsigned}
 use Rattle.std.proofs.lemmas.Map.Views.{tells_apart}
-use Rattle.std.specs.FinMap.{get, insert, remove, len, from_sorted, find, get-from_entries, get-from_sorted, get-insert, get-remove, same_map, len-entries, entries-from_sorted}
+use Rattle.std.specs.FinMap.{get, insert, remove, len, from_sorted, find, get-from_entries, get-from_sorted, get-insert}
+use Rattle.std.specs.FinMap.{get-remove, same_map, len-entries, entries-from_sorted}
 use Rattle.std.specs.FinMap.Entries.{below_all, is_sorted}
 use Rattle.stream_base.specs.contracts.direction.DirOrd.TheImpl as dir_ord
 use Rattle.stream_base.specs.declared.direction.Dir.{Dir}
@@ -23,7 +26,8 @@ use Rattle.deadline_core.proofs.TimersLemmas.{slots_total, exact_slots}
 
 -- the order of moments is total, and tells all entries apart
 pub moments_total : IsTotalOrder moment_cmp
-moments_total = then_total (on_total (λ (e : ℕ × Slot). e.0) nat_cmp_total) (on_total (λ (e : ℕ × Slot). e.1) slots_total)
+moments_total = then_total (on_total (λ (e : ℕ × Slot). e.0) nat_cmp_total)
+    (on_total (λ (e : ℕ × Slot). e.1) slots_total)
 
 pub exact_moments : CmpEqualImpliesEq moment_cmp
 exact_moments = exact_pairs nat_cmp slot_cmp exact_unsigned exact_slots
@@ -57,16 +61,22 @@ find_is (e ∷ es) q = ap (cond (eq_by_cmp slot_cmp q e.0) (Some e.1)) (find_is 
 pub armed_gives : (m : BTreeMap Slot ℕ) (q : Slot) → get (armed_in m) q ≡ moment_in m q
 armed_gives m q = get-from_entries slots_total m.entries q ∙ find_is m.entries q
 
-pub sets_from : (m n : BTreeMap Slot ℕ) (slot : Slot) (w : Option ℕ) → ((q : Slot) → tree.get tree_slot_cmp n q ≡ cond (is_at (tree_slot_cmp slot) q) w (tree.get tree_slot_cmp m q)) → Sets m n slot w
-sets_from m n slot w updates = λ q. subst (λ R. tree.get R n q ≡ cond (is_at (R slot) q) w (tree.get R m q)) slot_cmp_is (updates q) ∙ ap (λ b. cond b w (moment_in m q)) ((eq_by_cmp_equiv slots_total).symm slot q)
+pub sets_from : (m n : BTreeMap Slot ℕ) (slot : Slot) (w : Option ℕ) →
+    ((q : Slot) → tree.get tree_slot_cmp n q ≡ cond (is_at (tree_slot_cmp slot) q) w (tree.get tree_slot_cmp m q)) →
+    Sets m n slot w
+sets_from m n slot w updates = λ q. subst (λ R. tree.get R n q ≡ cond (is_at (R slot) q) w (tree.get R m q)) slot_cmp_is
+    (updates q) ∙ ap (λ b. cond b w (moment_in m q)) ((eq_by_cmp_equiv slots_total).symm slot q)
 
-pub armed_named : (m n : BTreeMap Slot ℕ) (slot : Slot) (at : ℕ) → Sets m n slot (Some at) → armed_in n ≡ insert (armed_in m) slot at
+pub armed_named : (m n : BTreeMap Slot ℕ) (slot : Slot) (at : ℕ) → Sets m n slot (Some at) → armed_in
+    n ≡ insert (armed_in m) slot at
 armed_named m n slot at sets = same_map slots_total exact_slots _ _ (λ q.
-    armed_gives n q ∙ sets q ∙ sym (get-insert slots_total (armed_in m) slot at q ∙ ap (cond (eq_by_cmp slot_cmp q slot) (Some at)) (armed_gives m q)))
+    armed_gives n q ∙ sets q ∙ sym (get-insert slots_total (armed_in m) slot at q ∙
+    ap (cond (eq_by_cmp slot_cmp q slot) (Some at)) (armed_gives m q)))
 
 pub armed_taken : (m n : BTreeMap Slot ℕ) (slot : Slot) → Sets m n slot None → armed_in n ≡ remove (armed_in m) slot
 armed_taken m n slot sets = same_map slots_total exact_slots _ _ (λ q.
-    armed_gives n q ∙ sets q ∙ sym (get-remove slots_total (armed_in m) slot q ∙ ap (cond (eq_by_cmp slot_cmp q slot) None) (armed_gives m q)))
+    armed_gives n q ∙ sets q ∙ sym (get-remove slots_total (armed_in m) slot q ∙
+    ap (cond (eq_by_cmp slot_cmp q slot) None) (armed_gives m q)))
 
 pub armed_same : (m n : BTreeMap Slot ℕ) → SameMoments m n → armed_in n ≡ armed_in m
 armed_same m n same = same_map slots_total exact_slots _ _ (λ q. armed_gives n q ∙ same q ∙ sym (armed_gives m q))
@@ -80,9 +90,12 @@ itself true o w e = sym e
 itself false o w e = refl
 
 -- a slot that is given what it had
-pub put_back_same : (m n o : BTreeMap Slot ℕ) (slot : Slot) (at : ℕ) (before : Option ℕ) → before ≡ moment_in m slot → Sets m n slot (Some at) → Sets n o slot before → SameMoments m o
+pub put_back_same : (m n o : BTreeMap Slot ℕ) (slot : Slot) (at : ℕ) (before : Option ℕ) → before ≡ moment_in m slot →
+    Sets m n slot (Some at) → Sets n o slot before → SameMoments m o
 put_back_same m n o slot at before was named back = λ q.
-    back q ∙ ap (cond (eq_by_cmp slot_cmp q slot) before) (named q) ∙ covered (eq_by_cmp slot_cmp q slot) before (Some at) (moment_in m q) ∙ by_case q (eq_by_cmp slot_cmp q slot) refl
+    back q ∙ ap (cond (eq_by_cmp slot_cmp q slot) before) (named q) ∙
+    covered (eq_by_cmp slot_cmp q slot) before (Some at) (moment_in m q) ∙
+    by_case q (eq_by_cmp slot_cmp q slot) refl
   where
     by_case : (q : Slot) (b : Bool) → eq_by_cmp slot_cmp q slot ≡ b → cond b before (moment_in m q) ≡ moment_in m q
     by_case q true is = was ∙ ap (moment_in m) (sym (tells_apart exact_slots q slot is))
@@ -90,10 +103,12 @@ put_back_same m n o slot at before was named back = λ q.
 
 -- How many timers are armed
 
-below_from : (k : Slot) (es : List (Slot × ℕ)) → IsStrictlySortedBy slot_cmp (k ∷ keys_of es) → T (below_all slot_cmp k es)
+below_from : (k : Slot) (es : List (Slot × ℕ)) → IsStrictlySortedBy slot_cmp (k ∷ keys_of es) →
+    T (below_all slot_cmp k es)
 unfolding IsStrictlySortedBy
 below_from k [] h = tt
-below_from k (e ∷ es) h = both_hold (is_lt (slot_cmp k e.0)) (below_all slot_cmp k es) (less_is (slot_cmp k e.0) h.0.0) (below_from k es (h.0.1, h.1.1))
+below_from k (e ∷ es) h = both_hold (is_lt (slot_cmp k e.0)) (below_all slot_cmp k es) (less_is (slot_cmp k e.0) h.0.0)
+    (below_from k es (h.0.1, h.1.1))
   where
     both_hold : (a b : Bool) → T a → T b → T (a && b)
     both_hold true b p q = q
@@ -105,7 +120,8 @@ below_from k (e ∷ es) h = both_hold (is_lt (slot_cmp k e.0)) (below_all slot_c
 sorted_from : (es : List (Slot × ℕ)) → IsStrictlySortedBy slot_cmp (keys_of es) → T (is_sorted slot_cmp es)
 unfolding IsStrictlySortedBy
 sorted_from [] h = tt
-sorted_from (e ∷ es) h = both_hold (below_all slot_cmp e.0 es) (is_sorted slot_cmp es) (below_from e.0 es h) (sorted_from es h.1)
+sorted_from (e ∷ es) h = both_hold (below_all slot_cmp e.0 es) (is_sorted slot_cmp es) (below_from e.0 es h)
+    (sorted_from es h.1)
   where
     both_hold : (a b : Bool) → T a → T b → T (a && b)
     both_hold true b p q = q
@@ -114,34 +130,46 @@ sorted_from (e ∷ es) h = both_hold (below_all slot_cmp e.0 es) (is_sorted slot
 pub armed_len : (m : BTreeMap Slot ℕ) → tree.IsOrdered slot_cmp m → len (armed_in m) ≡ btree_map_len m
 armed_len m ordered =
     let rise = sorted_from m.entries ordered in
-    let same : armed_in m ≡ from_sorted m.entries = same_map slots_total exact_slots (armed_in m) (from_sorted m.entries) (λ q. get-from_entries slots_total m.entries q ∙ sym (get-from_sorted slot_cmp m.entries q rise)) in
-    ap len same ∙ len-entries (from_sorted {R = slot_cmp} m.entries) ∙ ap length (entries-from_sorted slot_cmp m.entries rise)
+    let same : armed_in m ≡ from_sorted m.entries =
+    same_map slots_total exact_slots (armed_in m) (from_sorted m.entries)
+    (λ q. get-from_entries slots_total m.entries q ∙ sym (get-from_sorted slot_cmp m.entries q rise)) in
+    ap len same ∙ len-entries (from_sorted {R = slot_cmp} m.entries) ∙
+    ap length (entries-from_sorted slot_cmp m.entries rise)
 
 -- What an index and an order keep
 
-pub stored_same : (m n : BTreeMap Slot ℕ) (order : BTreeSet (ℕ × Slot)) → SameMoments m n → IsStored m order → IsStored n order
+pub stored_same : (m n : BTreeMap Slot ℕ) (order : BTreeSet (ℕ × Slot)) → SameMoments m n → IsStored m order →
+    IsStored n order
 stored_same m n order same stored = λ slot at armed. stored slot at (sym (same slot) ∙ armed)
 
-named_cases : (b : Bool) (o : Option ℕ) (at a : ℕ) → cond b (Some at) o ≡ Some a → ((b ≡ true) × (at ≡ a)) ⊎ (o ≡ Some a)
+named_cases : (b : Bool) (o : Option ℕ) (at a : ℕ) → cond b (Some at) o ≡ Some a →
+    ((b ≡ true) × (at ≡ a)) ⊎ (o ≡ Some a)
 named_cases true o at a h = inl (refl, cc h)
 named_cases false o at a h = inr h
 
 -- what is named is stored, where its entry is
-pub stored_named : (m n : BTreeMap Slot ℕ) (order : BTreeSet (ℕ × Slot)) (slot : Slot) (at : ℕ) → Sets m n slot (Some at) → contains moment_cmp order (at, slot) ≡ true → IsStored m order → IsStored n order
-stored_named m n order slot at sets there stored = λ q a armed. elim (named_cases (eq_by_cmp slot_cmp q slot) (moment_in m q) at a (sym (sets q) ∙ armed)) [
-  | inl now ↦ (let same : slot ≡ q = sym (tells_apart exact_slots q slot now.0) in let when : at ≡ a = now.1 in subst (λ (e : ℕ × Slot). contains moment_cmp order e ≡ true) (λ i. (when i, same i)) there)
-  | inr was ↦ stored q a was
-]
+pub stored_named : (m n : BTreeMap Slot ℕ) (order : BTreeSet (ℕ × Slot)) (slot : Slot) (at : ℕ) →
+    Sets m n slot (Some at) → contains moment_cmp order (at, slot) ≡ true → IsStored m order → IsStored n order
+stored_named m n order slot at sets there stored =
+    λ q a armed. elim (named_cases (eq_by_cmp slot_cmp q slot) (moment_in m q) at a (sym (sets q) ∙ armed)) [
+      | inl now ↦ (let same : slot ≡ q = sym (tells_apart exact_slots q slot now.0) in let when : at ≡ a = now.1 in
+          subst (λ (e : ℕ × Slot). contains moment_cmp order e ≡ true) (λ i. (when i, same i)) there)
+      | inr was ↦ stored q a was
+    ]
 
-pub stored_more : (m : BTreeMap Slot ℕ) (old new : BTreeSet (ℕ × Slot)) → IsMore old new → IsStored m old → IsStored m new
+pub stored_more : (m : BTreeMap Slot ℕ) (old new : BTreeSet (ℕ × Slot)) → IsMore old new → IsStored m old →
+    IsStored m new
 stored_more m old new more stored = λ slot at armed. more (at, slot) (stored slot at armed)
 
 true_stays : (b c : Bool) → c ≡ true → cond b true c ≡ true
 true_stays true c h = refl
 true_stays false c h = h
 
-pub more_from : (old new : BTreeSet (ℕ × Slot)) (k : ℕ × Slot) → ((q : ℕ × Slot) → contains tree_moment_cmp new q ≡ cond (is_at (tree_moment_cmp k) q) true (contains tree_moment_cmp old q)) → IsMore old new
-more_from old new k updates = λ q was. subst (λ R. contains R new q ≡ cond (is_at (R k) q) true (contains R old q)) moment_cmp_is (updates q) ∙ true_stays (is_at (moment_cmp k) q) (contains moment_cmp old q) was
+pub more_from : (old new : BTreeSet (ℕ × Slot)) (k : ℕ × Slot) →
+    ((q : ℕ × Slot) → contains tree_moment_cmp new q ≡
+    cond (is_at (tree_moment_cmp k) q) true (contains tree_moment_cmp old q)) → IsMore old new
+more_from old new k updates = λ q was. subst (λ R. contains R new q ≡ cond (is_at (R k) q) true (contains R old q))
+    moment_cmp_is (updates q) ∙ true_stays (is_at (moment_cmp k) q) (contains moment_cmp old q) was
 
 -- Facts that hang on an answer
 

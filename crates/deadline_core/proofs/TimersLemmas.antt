@@ -9,10 +9,12 @@ use Rattle.deadline_core.specs.DueOrder.{Slot, slot_cmp, rank, dir_of, dir_of-ra
 
 -- the order of slots is total
 pub slots_total : IsTotalOrder slot_cmp
-slots_total = then_total (on_total (λ (slot : Slot). slot.0) nat_cmp_total) (on_total (λ (slot : Slot). rank slot.1) nat_cmp_total)
+slots_total = then_total (on_total (λ (slot : Slot). slot.0) nat_cmp_total)
+    (on_total (λ (slot : Slot). rank slot.1) nat_cmp_total)
 
 exact_dirs : CmpEqualImpliesEq (λ (one other : Dir). nat_cmp (rank one) (rank other))
-exact_dirs one other same = sym (dir_of-rank one) ∙ ap dir_of (exact_unsigned (rank one) (rank other) same) ∙ dir_of-rank other
+exact_dirs one other same = sym (dir_of-rank one) ∙ ap dir_of (exact_unsigned (rank one) (rank other) same) ∙
+    dir_of-rank other
 
 -- the order of slots tells all slots apart
 pub exact_slots : CmpEqualImpliesEq slot_cmp

@@ -44,4 +44,5 @@ slot_of-coded slot = λ i. (slot.0, dir_of-rank slot.1 i)
 
 -- a slot as two numbers
 abbrev pub coded_slot : Coded Slot
-coded_slot = code_by (ℕ × ℕ) (coded× coded_ℕ coded_ℕ) (λ slot. (slot.0, rank slot.1)) (λ pair. (pair.0, dir_of pair.1)) slot_of-coded
+coded_slot = code_by (ℕ × ℕ) (coded× coded_ℕ coded_ℕ) (λ slot. (slot.0, rank slot.1))
+    (λ pair. (pair.0, dir_of pair.1)) slot_of-coded

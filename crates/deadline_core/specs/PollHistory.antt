@@ -1,10 +1,13 @@
 -- The calls made on one poll state with their answers, newest first, and what such a list says.
-use Rattle.std.specs.Prelude.{◌≡◌, ℕ, Bool, true, false, ◌&&◌, not, List, [], ◌∷◌, ◌++◌, Option, Some, None, Result, Ok, Err, is_ok, nat_le, find, take_while, if◌then◌else◌}
+use Rattle.std.specs.Prelude.{◌≡◌, ℕ, Bool, true, false, ◌&&◌, not, List, [], ◌∷◌, ◌++◌, Option}
+use Rattle.std.specs.Prelude.{Some, None, Result, Ok, Err, is_ok, nat_le, find, take_while}
+use Rattle.std.specs.Prelude.{if◌then◌else◌}
 use Rattle.std.specs.List.{list_any, filter_map}
 use Rattle.stream_base.specs.declared.direction.Dir.{Dir}
 use Rattle.stream_base.specs.declared.direction.Dir.TheVariants.{Read, Write}
 use Rattle.deadline_core.specs.declared.deadline.Dirs.{Dirs}
-use Rattle.deadline_core.specs.declared.deadline.Dirs.TheVariants.{Read as ReadAlone, Write as WriteAlone, Both}
+use Rattle.deadline_core.specs.declared.deadline.Dirs.TheVariants.{Read as ReadAlone}
+use Rattle.deadline_core.specs.declared.deadline.Dirs.TheVariants.{Write as WriteAlone, Both}
 use Rattle.deadline_core.specs.declared.deadline.Deadline.{Deadline}
 use Rattle.deadline_core.specs.declared.deadline.Deadline.TheVariants.{Never, At}
 use Rattle.deadline_core.specs.declared.refusal.Refusal.{Refusal}
@@ -19,7 +22,8 @@ pub data Call : Type 0 where
   Prepared : (dir : Dir) (answer : Result (Unit {0}) Refusal) → Call
   Looked : (dir : Dir) (answer : Look) → Call
   Readied : (dir : Dir) → Call
-  DeadlineSet : (dirs : Dirs) (deadline : Deadline) (now : ℕ) (answer : Result (Unit {0}) Refusal) → Call
+  DeadlineSet : (dirs : Dirs) (deadline : Deadline) (now : ℕ) (answer : Result (Unit {0}) Refusal) →
+      Call
   Ticked : (now : ℕ) → Call
   Evicted : Call
 
@@ -102,7 +106,8 @@ deadline_of dir calls = deadline_in (last_set dir calls)
 
 -- the moments that a direction's deadline has lived through: its setting and each tick since
 abbrev pub moments_of : Dir → List Call → List ℕ
-moments_of dir calls = filter_map tick_moment (since_set dir calls) ++ moment_in (last_set dir calls)
+moments_of dir calls = filter_map tick_moment (since_set dir calls) ++ moment_in
+    (last_set dir calls)
 
 -- a deadline has passed at one of these moments, or before it
 abbrev pub passed : Deadline → List ℕ → Bool
@@ -119,7 +124,8 @@ notice dir calls = is_readied (find (moves_notice dir) calls)
 
 -- why a direction is refused; closing comes before expiry
 abbrev pub why_refused : Bool → Bool → Option Refusal
-why_refused is_closing is_expired = if is_closing then Some Closed else (if is_expired then Some DeadlineExceeded else None)
+why_refused is_closing is_expired = if is_closing then Some Closed else
+    (if is_expired then Some DeadlineExceeded else None)
 
 -- why a read or a write is refused after these calls
 abbrev pub refusal_of : Dir → List Call → Option Refusal

@@ -1,5 +1,6 @@
 -- How an index and an ordered set stand for timers. No public clause cites this module.
-use Rattle.std.specs.Prelude.{◌≡◌, ◌==◌, ℕ, ◌<◌, ◌≤◌, ◌⊎◌, Bool, true, false, cond, Option, Some, None}
+use Rattle.std.specs.Prelude.{◌≡◌, ◌==◌, ℕ, ◌<◌, ◌≤◌, ◌⊎◌, Bool, true, false, cond, Option, Some}
+use Rattle.std.specs.Prelude.{None}
 use Rattle.std.specs.declared.cmp.Ordering.{Ordering}
 use Rattle.std.specs.Ordering.{nat_cmp, ordering_then, eq_by_cmp}
 use Rattle.std.specs.FinMap.{get, from_entries}
@@ -23,11 +24,13 @@ moment_in moments slot = tree.get slot_cmp moments slot
 
 -- each armed timer stands in the order with its moment
 abbrev pub IsStored : BTreeMap Slot ℕ → BTreeSet (ℕ × Slot) → Type 0
-IsStored moments order = (slot : Slot) (at : ℕ) → moment_in moments slot ≡ Some at → contains moment_cmp order (at, slot) ≡ true
+IsStored moments order = (slot : Slot) (at : ℕ) → moment_in moments slot ≡ Some at →
+    contains moment_cmp order (at, slot) ≡ true
 
 -- what the order had it has
 abbrev pub IsMore : BTreeSet (ℕ × Slot) → BTreeSet (ℕ × Slot) → Type 0
-IsMore old new = (entry : ℕ × Slot) → contains moment_cmp old entry ≡ true → contains moment_cmp new entry ≡ true
+IsMore old new = (entry : ℕ × Slot) → contains moment_cmp old entry ≡ true →
+    contains moment_cmp new entry ≡ true
 
 -- the entry's slot is armed for the entry's moment
 abbrev pub is_now : Option ℕ → ℕ → Bool
@@ -39,7 +42,8 @@ is_current_in moments entry = is_now (moment_in moments entry.1) entry.0
 
 -- this slot has this, and each other slot what it had
 abbrev pub Sets : BTreeMap Slot ℕ → BTreeMap Slot ℕ → Slot → Option ℕ → Type 0
-Sets old new slot moment = (q : Slot) → moment_in new q ≡ cond (eq_by_cmp slot_cmp q slot) moment (moment_in old q)
+Sets old new slot moment = (q : Slot) → moment_in
+    new q ≡ cond (eq_by_cmp slot_cmp q slot) moment (moment_in old q)
 
 -- the same timers are armed
 abbrev pub SameMoments : BTreeMap Slot ℕ → BTreeMap Slot ℕ → Type 0
@@ -51,4 +55,5 @@ IsFirstOf armed now None = (slot : Slot) (at : ℕ) → get armed slot ≡ Some 
 IsFirstOf armed now (Some first) =
     (get armed first.0 ≡ Some first.1)
     × (first.1 ≤ now)
-    × ((slot : Slot) (at : ℕ) → get armed slot ≡ Some at → at ≤ now → ((slot, at) ≡ first) ⊎ Before first (slot, at))
+    × ((slot : Slot) (at : ℕ) → get armed slot ≡ Some at → at ≤ now →
+    ((slot, at) ≡ first) ⊎ Before first (slot, at))

@@ -19,15 +19,19 @@ IsDue armed now slot = (at : ℕ) × (get armed slot ≡ Some at) × (at ≤ now
 
 -- of two armed timers, one fires before the other
 abbrev pub FiresBefore : Armed → Slot → Slot → Type 0
-FiresBefore armed one other = (m n : ℕ) → get armed one ≡ Some m → get armed other ≡ Some n → Before (one, m) (other, n)
+FiresBefore armed one other = (m n : ℕ) → get armed one ≡ Some m → get armed other ≡ Some n →
+    Before (one, m) (other, n)
 
--- these are the first 256 timers that are due, in the order in which they fire, or all where fewer are due
+-- these are the first 256 timers that are due, in the order in which they fire, or all where fewer
+-- are due
 pub record AreFirstDue (armed : Armed) (now : ℕ) (given : List Slot) : Type 0 where
   pub due : All (IsDue armed now) given
   pub in_order : AllPairs (FiresBefore armed) given
   pub at_most_256 : length given ≤ 256
-  pub no_fewer_if_more_are_due : (slot : Slot) → IsDue (remove_all armed given) now slot → length given ≡ 256
-  pub before_all_others : (slot : Slot) → IsDue (remove_all armed given) now slot → All (λ one. FiresBefore armed one slot) given
+  pub no_fewer_if_more_are_due : (slot : Slot) → IsDue (remove_all armed given) now slot →
+      length given ≡ 256
+  pub before_all_others : (slot : Slot) → IsDue (remove_all armed given) now slot →
+      All (λ one. FiresBefore armed one slot) given
 
 -- some timer is armed for this moment, and none for an earlier one
 pub record IsLeastMoment (armed : Armed) (moment : ℕ) : Type 0 where

@@ -2,12 +2,12 @@
 //! halves are destroyed once, which alarms are asked for, and refused memory.
 
 mod closing;
-mod courses;
 mod deadlines;
+mod eight_threads;
 mod memory;
+mod outcome_lists;
 mod rows;
 mod scripted;
-mod storm;
 
 use deadline_core::Dirs;
 use fd_descriptor::{Alarms, FdHandle, Resource};

@@ -1,4 +1,5 @@
--- The key of a cell. Of what its lock guards nothing is known, so the key is what tells one cell from another.
+-- The key of a cell. Of what its lock guards nothing is known, so the key is what tells one cell
+-- from another.
 use Rattle.std.specs.Prelude.{ℕ}
 use Rattle.fd_descriptor.specs.declared.poll_cell.PollCell.{PollCell}
 

@@ -1,17 +1,21 @@
--- Which alarm goes with a deadline, and why one isn't set.
-use Rattle.std.specs.Prelude.{ℕ, Option, Some, None, nat_lt, if◌then◌else◌}
+-- The setting of a deadline: what it keeps of its handle, and which alarm goes with it.
+use Rattle.std.specs.Prelude.{◌≡◌, ℕ, true, Option, Some, None, Result, Err, IfErr, nat_lt, if◌then◌else◌}
 use Rattle.deadline_core.specs.declared.deadline.Deadline.{Deadline}
 use Rattle.deadline_core.specs.declared.deadline.Deadline.TheVariants.{Never, At}
 use Rattle.rwloops.specs.declared.fault.Fault.{Fault}
-use Rattle.rwloops.specs.declared.fault.Fault.TheVariants.{Closed, OutOfMemory}
+use Rattle.rwloops.specs.declared.fault.Fault.TheVariants.{Closed}
+use Rattle.fd_descriptor.specs.declared.descriptor.FdHandle.{FdHandle}
+use Rattle.fd_descriptor.specs.FdHandle.{KeepsHandle, marks_of, saw_closed}
+use Rattle.fd_descriptor.specs.HandleCalls.{MayTell, SetsDeadline}
 
 -- the moment of a deadline that is still to come
 abbrev pub alarm_at : Deadline → ℕ → Option ℕ
 alarm_at Never now = None
 alarm_at (At moment) now = if nat_lt now moment then Some moment else None
 
--- a deadline isn't set on a state that is closing, nor where its alarm is refused memory
-abbrev pub IsSettingFault : Fault → Type 0
-IsSettingFault Closed = Unit {0}
-IsSettingFault OutOfMemory = Unit {0}
-IsSettingFault _ = ⊥
+-- what holds of each setting, whatever its directions
+pub record IsSetting {X R W A : Type 0} (before after : FdHandle X R W A)
+    (result : Result (Unit {0}) Fault) : Type 0 where
+  pub keeps : KeepsHandle before after
+  pub closed : saw_closed before ≡ true → result ≡ Err Closed
+  pub allowed : IfErr result (MayTell SetsDeadline (marks_of before) (marks_of after))

@@ -1,11 +1,11 @@
 -- A handle, as callers see it: its descriptor, the descriptor's key and cell, and what it has seen.
-use Rattle.std.specs.Prelude.{ℕ, Bool}
+use Rattle.std.specs.Prelude.{◌≡◌, ℕ, Bool}
 use Rattle.std.specs.Arc.{arc_value}
 use Rattle.fd_descriptor.specs.declared.descriptor.Fd.{Fd}
 use Rattle.fd_descriptor.specs.declared.descriptor.FdHandle.{FdHandle}
 use Rattle.fd_descriptor.specs.declared.poll_cell.PollCell.{PollCell}
 use Rattle.fd_descriptor.specs.CellKey.{key_of_cell}
-use Rattle.fd_descriptor.specs.ClosedMarks.{Marks, marks_in}
+use Rattle.fd_descriptor.specs.Marks.{Marks, KeepsMarks, marks_in}
 
 module _ {X R W A : Type 0} where
   -- the descriptor that a handle is on
@@ -31,3 +31,10 @@ module _ {X R W A : Type 0} where
   -- the handle saw that the halves are destroyed
   abbrev pub saw_done : FdHandle X R W A → Bool
   saw_done h = (marks_of h).done
+
+-- what every call keeps of its handle
+pub record KeepsHandle {X R W A : Type 0} (before after : FdHandle X R W A) : Type 0 where
+  -- the handle stays on its descriptor
+  pub same : descriptor_of after ≡ descriptor_of before
+  -- what was seen stays seen
+  pub marks : KeepsMarks (marks_of before) (marks_of after)

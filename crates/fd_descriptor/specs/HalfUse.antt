@@ -5,4 +5,5 @@ use denote.Ref.{MutBor}
 -- the closure was called once, at a half, and gave this
 abbrev pub Did : {F H Y : Type 0} → Once F (MutBor H × Unit {0}) (Y × (MutBor H × Unit {0})) → F → Y
     → Type 0
-Did {H = H} once act answer = (before : H) × (after : H) × FnOnceReturnsAtMut once act before answer after
+Did {H = H} once act answer =
+    (before : H) × (after : H) × FnOnceReturnsAtMut once act before answer after

@@ -1,6 +1,7 @@
 pub mod CellKey
-pub mod ClosedMarks
 pub mod Deadlines
 pub mod FdHandle
 pub mod HalfUse
+pub mod HandleCalls
+pub mod Marks
 pub mod Parking

@@ -1,15 +1,21 @@
-//! What handles do on a descriptor. Each call lends the handle's seat and puts back what is left.
+//! What handles do on a descriptor, each under the lock of a half or under a reference.
 
 ghost use Rattle.std.specs.Prelude.{◌≡◌, ◌≤◌, ◌<◌, true, length, Err, IfOk, IfErr};
-ghost use Rattle.fd_descriptor.specs.ClosedMarks.{KeepsMarks, lock_shows, read_shows, accept_shows, write_shows, shut_shows, set_shows, close_shows};
-ghost use Rattle.fd_descriptor.specs.FdHandle.{descriptor_of, marks_of, saw_closed};
+ghost use Rattle.fd_descriptor.specs.FdHandle.{KeepsHandle, marks_of, saw_closed};
+ghost use Rattle.fd_descriptor.specs.HandleCalls.{IsLockFault, MayTell, HasEnded};
+ghost use Rattle.fd_descriptor.specs.HandleCalls.{Reads, Accepts, Writes, Shuts, Closes};
+ghost use Rattle.fd_descriptor.specs.Deadlines.{IsSetting};
 
 use crate::close::close_by;
 use crate::deadlines::Setting;
-use crate::descriptor::FdHandle;
+use crate::descriptor::{Fd, FdHandle};
+use crate::half_use::{accept_in, read_in, shut_connected, with_half, write_in};
+use crate::leave::{leave, lock_fault};
+use crate::poll_cell::CellWaits;
 use crate::resource::{Alarms, HalfClose, Resource};
-use crate::transfer::{accept_by, read_by, set_by, shut_by, write_by};
 use deadline_core::{Deadline, Dirs};
+use fdmutex::{decref, incref};
+use lockword::{Reading, Writing};
 use rwloops::{Fault, TryAccept, TryRead, TryWrite, WriteFault};
 use std::alloc::Allocator;
 use std::sync::Wait;
@@ -19,58 +25,55 @@ impl<X: Resource, A: Allocator> FdHandle<X, A> {
     pub fn read<T: Wait>(&mut self, rt: &T, buf: &mut [u8]) -> Result<usize, Fault>
     where
         X::R: TryRead,
-        ensures same { descriptor_of self.new ≡ descriptor_of self.old }
-        ensures marks { KeepsMarks (marks_of self.old) (marks_of self.new) }
+        ensures keeps { KeepsHandle self.old self.new }
         ensures closed { saw_closed self.old ≡ true → result ≡ Err Fault.Closed }
+        ensures allowed { IfErr result (MayTell Reads (marks_of self.old) (marks_of self.new)) }
         ensures within { IfOk result (λ count. count ≤ length buf.old) }
         ensures some { 0 < length buf.old → IfOk result (λ count. 0 < count) }
-        ensures empty { length buf.old ≡ 0 → lock_shows (marks_of self.old) (marks_of self.new)
-            result }
-        ensures shows { read_shows (marks_of self.old) (marks_of self.new) result }
+        ensures empty { length buf.old ≡ 0
+            → IfErr result (IsLockFault (marks_of self.old) (marks_of self.new)) }
     {
-        let Some(seat) = self.seat.take() else {
-            unreachable!()
-        };
-        let (seat, answer) = read_by(rt, &self.fd, seat, buf);
-        self.seat = Some(seat);
-        answer
+        let fd: &Fd<X, A> = &self.fd;
+        with_half::<Reading, X, A, T, _, _>(rt, fd, &mut self.seat, |half| {
+            read_in(rt, &fd.cell, half, buf)
+        })?
     }
 
     /// Accepts one connection; one caller at a time, as for reads.
     pub fn accept<T: Wait>(&mut self, rt: &T) -> Result<<X::R as TryAccept>::T, Fault>
     where
         X::R: TryAccept,
-        ensures same { descriptor_of self.new ≡ descriptor_of self.old }
-        ensures marks { KeepsMarks (marks_of self.old) (marks_of self.new) }
+        ensures keeps { KeepsHandle self.old self.new }
         ensures closed { saw_closed self.old ≡ true → result ≡ Err Fault.Closed }
-        ensures shows { accept_shows (marks_of self.old) (marks_of self.new) result }
+        ensures allowed { IfErr result (MayTell Accepts (marks_of self.old) (marks_of self.new)) }
     {
-        let Some(seat) = self.seat.take() else {
-            unreachable!()
-        };
-        let (seat, answer) = accept_by(rt, &self.fd, seat);
-        self.seat = Some(seat);
-        answer
+        let fd: &Fd<X, A> = &self.fd;
+        with_half::<Reading, X, A, T, _, _>(rt, fd, &mut self.seat, |half| {
+            accept_in(rt, &fd.cell, half)
+        })?
     }
 
     /// Writes all bytes, or says how many were taken; one writer at a time.
     pub fn write<T: Wait>(&mut self, rt: &T, bytes: &[u8]) -> Result<usize, WriteFault>
     where
         X::W: TryWrite,
-        ensures same { descriptor_of self.new ≡ descriptor_of self.old }
-        ensures marks { KeepsMarks (marks_of self.old) (marks_of self.new) }
+        ensures keeps { KeepsHandle self.old self.new }
+        ensures allowed { IfErr result (λ failed.
+            MayTell Writes (marks_of self.old) (marks_of self.new) failed.fault) }
         ensures closed { saw_closed self.old ≡ true
             → result ≡ Err (record { fault = Fault.Closed; count = 0 }) }
         ensures whole { IfOk result (λ count. count ≡ length bytes.now) }
         ensures part { IfErr result (λ failed. failed.count ≤ length bytes.now) }
-        ensures shows { write_shows (marks_of self.old) (marks_of self.new) result }
+        ensures nothing { IfErr result (λ failed. failed.fault ≡ Fault.TooMany
+            → failed.count ≡ 0) }
     {
-        let Some(seat) = self.seat.take() else {
-            unreachable!()
-        };
-        let (seat, answer) = write_by(rt, &self.fd, seat, bytes);
-        self.seat = Some(seat);
-        answer
+        let fd: &Fd<X, A> = &self.fd;
+        match with_half::<Writing, X, A, T, _, _>(rt, fd, &mut self.seat, |half| {
+            write_in(rt, &fd.cell, half, bytes)
+        }) {
+            Ok(answer) => answer,
+            Err(fault) => Err(WriteFault { fault, count: 0 }),
+        }
     }
 
     /// Shuts the write half, after the writer before it, and where the connection isn't made yet after
@@ -79,30 +82,34 @@ impl<X: Resource, A: Allocator> FdHandle<X, A> {
     pub fn close_write<T: Wait>(&mut self, rt: &T) -> Result<(), Fault>
     where
         X::W: HalfClose,
-        ensures same { descriptor_of self.new ≡ descriptor_of self.old }
-        ensures marks { KeepsMarks (marks_of self.old) (marks_of self.new) }
+        ensures keeps { KeepsHandle self.old self.new }
         ensures closed { saw_closed self.old ≡ true → result ≡ Err Fault.Closed }
-        ensures shows { shut_shows (marks_of self.old) (marks_of self.new) result }
+        ensures allowed { IfErr result (MayTell Shuts (marks_of self.old) (marks_of self.new)) }
     {
-        let Some(seat) = self.seat.take() else {
-            unreachable!()
-        };
-        let (seat, answer) = shut_by(rt, &self.fd, seat);
-        self.seat = Some(seat);
-        answer
+        let fd: &Fd<X, A> = &self.fd;
+        match with_half::<Writing, X, A, T, _, _>(rt, fd, &mut self.seat, |half| {
+            shut_connected(rt, half, &mut CellWaits::new(&fd.cell, rt))
+        })? {
+            Ok(()) => Ok(()),
+            Err(kind) => Err(Fault::Device(kind)),
+        }
     }
 
     fn set<T: Wait, L: Alarms>(&mut self, rt: &T, alarms: &L, setting: Setting) -> Result<(), Fault>
-        ensures same { descriptor_of self.new ≡ descriptor_of self.old }
-        ensures marks { KeepsMarks (marks_of self.old) (marks_of self.new) }
-        ensures closed { saw_closed self.old ≡ true → result ≡ Err Fault.Closed }
-        ensures shows { set_shows (marks_of self.old) (marks_of self.new) result }
+        ensures setting { IsSetting self.old self.new result }
     {
         let Some(seat) = self.seat.take() else {
             unreachable!()
         };
-        let (seat, answer) = set_by(rt, &self.fd, seat, alarms, setting);
-        self.seat = Some(seat);
+        let held = match incref(rt, &self.fd.word, seat) {
+            Ok(held) => held,
+            Err((left, refusal)) => {
+                self.seat = Some(left);
+                return Err(lock_fault(refusal));
+            }
+        };
+        let answer = self.fd.cell.set(rt, alarms, setting);
+        self.seat = Some(leave::<X>(&self.fd.word, decref(&self.fd.word, held)));
         answer
     }
 
@@ -115,21 +122,9 @@ impl<X: Resource, A: Allocator> FdHandle<X, A> {
         now: u64,
         alarms: &L,
     ) -> Result<(), Fault>
-        ensures same { descriptor_of self.new ≡ descriptor_of self.old }
-        ensures marks { KeepsMarks (marks_of self.old) (marks_of self.new) }
-        ensures closed { saw_closed self.old ≡ true → result ≡ Err Fault.Closed }
-        ensures shows { set_shows (marks_of self.old) (marks_of self.new) result }
+        ensures setting { IsSetting self.old self.new result }
     {
-        let dirs = Dirs::Both;
-        self.set(
-            rt,
-            alarms,
-            Setting {
-                dirs,
-                deadline,
-                now,
-            },
-        )
+        self.set(rt, alarms, Setting::new(Dirs::Both, deadline, now))
     }
 
     /// Sets the deadline of reads and accepts.
@@ -140,21 +135,9 @@ impl<X: Resource, A: Allocator> FdHandle<X, A> {
         now: u64,
         alarms: &L,
     ) -> Result<(), Fault>
-        ensures same { descriptor_of self.new ≡ descriptor_of self.old }
-        ensures marks { KeepsMarks (marks_of self.old) (marks_of self.new) }
-        ensures closed { saw_closed self.old ≡ true → result ≡ Err Fault.Closed }
-        ensures shows { set_shows (marks_of self.old) (marks_of self.new) result }
+        ensures setting { IsSetting self.old self.new result }
     {
-        let dirs = Dirs::Read;
-        self.set(
-            rt,
-            alarms,
-            Setting {
-                dirs,
-                deadline,
-                now,
-            },
-        )
+        self.set(rt, alarms, Setting::new(Dirs::Read, deadline, now))
     }
 
     /// Sets the deadline of writes.
@@ -165,37 +148,20 @@ impl<X: Resource, A: Allocator> FdHandle<X, A> {
         now: u64,
         alarms: &L,
     ) -> Result<(), Fault>
-        ensures same { descriptor_of self.new ≡ descriptor_of self.old }
-        ensures marks { KeepsMarks (marks_of self.old) (marks_of self.new) }
-        ensures closed { saw_closed self.old ≡ true → result ≡ Err Fault.Closed }
-        ensures shows { set_shows (marks_of self.old) (marks_of self.new) result }
+        ensures setting { IsSetting self.old self.new result }
     {
-        let dirs = Dirs::Write;
-        self.set(
-            rt,
-            alarms,
-            Setting {
-                dirs,
-                deadline,
-                now,
-            },
-        )
+        self.set(rt, alarms, Setting::new(Dirs::Write, deadline, now))
     }
 
     /// Closes the descriptor for all handles: calls that wait end as `Closed`, and this one answers
     /// once the halves are destroyed. `Device` is the fault of destroying them, where this call did;
     /// `Closed` says that somebody closed before, `TooMany` that the descriptor is still open.
     pub fn close<T: Wait>(&mut self, rt: &T) -> Result<(), Fault>
-        ensures same { descriptor_of self.new ≡ descriptor_of self.old }
-        ensures marks { KeepsMarks (marks_of self.old) (marks_of self.new) }
+        ensures keeps { KeepsHandle self.old self.new }
         ensures closed { saw_closed self.old ≡ true → result ≡ Err Fault.Closed }
-        ensures shows { close_shows (marks_of self.old) (marks_of self.new) result }
+        ensures allowed { IfErr result (MayTell Closes (marks_of self.old) (marks_of self.new)) }
+        ensures ended { HasEnded result (marks_of self.new) }
     {
-        let Some(seat) = self.seat.take() else {
-            unreachable!()
-        };
-        let (seat, answer) = close_by(rt, &self.fd, seat);
-        self.seat = Some(seat);
-        answer
+        close_by(rt, &self.fd, &mut self.seat)
     }
 }

@@ -2,7 +2,8 @@
 
 ghost use Rattle.std.specs.Prelude.{◌≡◌, List, ◌∷◌, true, false, Ok, Err, IfErr};
 ghost use Rattle.deadline_core.specs.PollHistory.{Call, DeadlineSet, StandsFor, closing};
-ghost use Rattle.fd_descriptor.specs.Deadlines.{alarm_at, IsSettingFault};
+ghost use Rattle.fd_descriptor.specs.Deadlines.{alarm_at};
+ghost use Rattle.fd_descriptor.specs.HandleCalls.{IsOwnFault, SetsDeadline};
 
 use crate::resource::Alarms;
 use deadline_core::{Deadline, Dirs, PollState};
@@ -18,13 +19,52 @@ pub(crate) struct Setting {
 }
 
 impl Setting {
-    /// The moment to be told of: one that is still to come.
-    pub(crate) fn alarm(self) -> Option<u64>
-        ensures { result ≡ alarm_at self.deadline self.now }
+    pub(crate) fn new(dirs: Dirs, deadline: Deadline, now: u64) -> Setting
+        ensures { result ≡ record { dirs = dirs; deadline = deadline; now = now } }
     {
-        match self.deadline {
-            Deadline::At(at) if self.now < at => Some(at),
-            _ => None,
+        Setting {
+            dirs,
+            deadline,
+            now,
+        }
+    }
+
+    /// The alarm that goes with it, for this key.
+    pub(crate) fn plan(self, key: u64) -> AlarmPlan
+        ensures key { result.key ≡ key }
+        ensures dirs { result.dirs ≡ self.dirs }
+        ensures at { result.at ≡ alarm_at self.deadline self.now }
+    {
+        AlarmPlan {
+            key,
+            dirs: self.dirs,
+            at: match self.deadline {
+                Deadline::At(at) if self.now < at => Some(at),
+                _ => None,
+            },
+        }
+    }
+}
+
+/// What is asked of the alarms with a deadline: in place of what was asked for a key and its
+/// directions, a moment that is still to come, or none.
+#[derive(Clone, Copy)]
+pub(crate) struct AlarmPlan {
+    key: u64,
+    dirs: Dirs,
+    at: Option<u64>,
+}
+
+impl AlarmPlan {
+    // Everything is decided before: no clause can say what alarms were asked for, so this decides
+    // nothing.
+    fn carry_out<A: Alarms>(self, alarms: &A) -> Result<(), OutOfMemory> {
+        match self.at {
+            Some(at) => alarms.arm(self.key, self.dirs, at),
+            None => {
+                alarms.disarm(self.key, self.dirs);
+                Ok(())
+            }
         }
     }
 }
@@ -46,17 +86,13 @@ pub(crate) fn set_in<A: Alarms>(
         (DeadlineSet setting.dirs setting.deadline setting.now (Ok tt) ∷ calls) }
     ensures refused { (calls : List Call) → StandsFor state.old calls
         → IfErr result (λ fault. StandsFor state.new calls) }
-    ensures faults { IfErr result IsSettingFault }
+    ensures faults { IfErr result (IsOwnFault SetsDeadline) }
 {
     if state.is_closing() {
         return Err(Fault::Closed);
     }
-    match setting.alarm() {
-        Some(at) => match alarms.arm(key, setting.dirs, at) {
-            Ok(()) => {}
-            Err(OutOfMemory) => return Err(Fault::OutOfMemory),
-        },
-        None => alarms.disarm(key, setting.dirs),
+    if setting.plan(key).carry_out(alarms).is_err() {
+        return Err(Fault::OutOfMemory);
     }
     match state.set(setting.dirs, setting.deadline, setting.now) {
         Ok(()) => Ok(()),

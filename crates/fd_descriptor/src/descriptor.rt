@@ -1,7 +1,7 @@
 //! A descriptor, and the handles through which alone it is reached.
 
 ghost use Rattle.std.specs.Arc.{arc_value};
-ghost use Rattle.fd_descriptor.specs.ClosedMarks.{HoldsSeatOf};
+ghost use Rattle.fd_descriptor.specs.Marks.{HoldsSeatOf};
 
 use crate::poll_cell::PollCell;
 use crate::resource::Resource;

@@ -3,8 +3,8 @@
 ghost use Rattle.std.specs.Prelude.{◌≡◌, true, false, IfOk, IfErr};
 ghost use Rattle.std.specs.Arc.{arc_value};
 ghost use Rattle.lockword.specs.TransitionOutcomes.{IsOnlyClosed};
-ghost use Rattle.fd_descriptor.specs.ClosedMarks.{SameMarks};
-ghost use Rattle.fd_descriptor.specs.FdHandle.{descriptor_of, key_of, cell_of, marks_of, saw_closed, saw_done};
+ghost use Rattle.fd_descriptor.specs.FdHandle.{descriptor_of, key_of, cell_of};
+ghost use Rattle.fd_descriptor.specs.FdHandle.{marks_of, saw_closed, saw_done};
 
 use crate::descriptor::{Fd, FdHandle};
 use crate::poll_cell::PollCell;
@@ -93,9 +93,9 @@ impl<X: Resource, A: Allocator> FdHandle<X, A> {
     /// only a descriptor that is held too often.
     pub fn share(&mut self) -> Result<FdHandle<X, A>, Fault>
         ensures same { descriptor_of self.new ≡ descriptor_of self.old }
-        ensures kept { SameMarks (marks_of self.old) (marks_of self.new) }
+        ensures kept { marks_of self.new ≡ marks_of self.old }
         ensures shared { IfOk result (λ other. descriptor_of other ≡ descriptor_of self.old) }
-        ensures seen { IfOk result (λ other. SameMarks (marks_of self.old) (marks_of other)) }
+        ensures seen { IfOk result (λ other. marks_of other ≡ marks_of self.old) }
         ensures refused { IfErr result (λ fault. fault ≡ Fault.OutOfMemory) }
     {
         let Ok(fd) = Arc::try_clone(&self.fd) else {

@@ -7,10 +7,11 @@ mod calls;
 mod close;
 mod deadlines;
 mod descriptor;
+mod half_use;
 mod handle;
+mod leave;
 mod poll_cell;
 mod resource;
-mod transfer;
 
 pub use descriptor::{Fd, FdHandle};
 pub use poll_cell::{CellWaits, PollCell};
@@ -18,7 +19,8 @@ pub use resource::{Alarms, HalfClose, Resource};
 
 // What callers of the above speak of, so that they need this crate alone.
 pub use deadline_core::{Deadline, Dirs};
+pub use lockword_core::Word;
 pub use rwloops::{
-    AcceptOutcome, DevKind, Fault, Outcome, TryAccept, TryRead, TryWrite, WriteFault,
+    AcceptOutcome, DevKind, Fault, Outcome, TryAccept, TryRead, TryWrite, Waits, WriteFault,
 };
 pub use stream_base::{Dir, OutOfMemory};

@@ -7,10 +7,11 @@
 
 ghost use Rattle.std.specs.Prelude.{◌≡◌, ◌&&◌, not, List, [], ◌∷◌, true, false, Ok, IfOk, IfErr};
 ghost use Rattle.stream_base.specs.declared.direction.Dir.{Dir};
-ghost use Rattle.deadline_core.specs.PollHistory.{Call, Looked, Readied, DeadlineSet, Ticked, Evicted, StandsFor, look_answer, covers};
+ghost use Rattle.deadline_core.specs.PollHistory.{Call, Looked, Readied, DeadlineSet, Ticked, Evicted};
+ghost use Rattle.deadline_core.specs.PollHistory.{StandsFor, look_answer, covers};
 ghost use Rattle.fd_descriptor.specs.Parking.{is_parked, is_woken};
 ghost use Rattle.fd_descriptor.specs.CellKey.{key_of_cell};
-ghost use Rattle.fd_descriptor.specs.Deadlines.{IsSettingFault};
+ghost use Rattle.fd_descriptor.specs.HandleCalls.{IsOwnFault, SetsDeadline};
 
 use crate::deadlines::{Setting, set_in};
 use crate::resource::Alarms;
@@ -119,7 +120,7 @@ impl Watched {
             → is_woken parked d ≡ (covers setting.dirs d && is_parked self.old d)) }
         ensures refused { (calls : List Call) → StandsFor self.old.state calls
             → IfErr result (λ fault. StandsFor self.new.state calls) }
-        ensures faults { IfErr result IsSettingFault }
+        ensures faults { IfErr result (IsOwnFault SetsDeadline) }
     {
         set_in(&mut self.state, alarms, key, setting)?;
         Ok(self.unpark(setting.dirs))
@@ -192,7 +193,7 @@ impl PollCell {
         alarms: &A,
         setting: Setting,
     ) -> Result<(), Fault>
-        ensures { IfErr result IsSettingFault }
+        ensures { IfErr result (IsOwnFault SetsDeadline) }
     {
         let parked = self.watched.lock(rt).set(alarms, self.key, setting)?;
         self.wake(parked);

@@ -8,10 +8,11 @@ ghost use Rattle.lockword_core.specs.LockState.{is_same};
 ghost use Rattle.lockword.specs.Marks.{NowClosed, IsOpen};
 ghost use Rattle.lockword.specs.Places.{seat_place, closing_place, owed_by};
 ghost use Rattle.lockword.specs.TransitionOutcomes.{IsSeatOf, IsAtLimit};
-ghost use Rattle.fdmutex.specs.Refusal.{refused, freed_closing};
+ghost use Rattle.lockword.specs.Dropping.{IsDecided, LeavesClosed};
+ghost use Rattle.fdmutex.specs.Refusal.{IsRefused};
 
-use crate::{Freed, Refusal};
-use lockword::{Close, Closing, DropClosing, LockWord, Seat, SignalClosing};
+use crate::Refusal;
+use lockword::{Close, Closing, Freed, LockWord, Seat, SignalClosing};
 use std::sync::Wait;
 use stream_base::Dir;
 
@@ -24,7 +25,7 @@ fn take_over<R: Drop, W: Drop, T: Wait>(
     requires seat { IsSeatOf word.now (seat_place seat) }
     ensures closed { IfOk result (λ closing. NowClosed (seat_place seat) (closing_place closing)) }
     ensures was_open { IfOk result (λ closing. IsOpen (seat_place seat)) }
-    ensures refusal { IfErr result (λ e. refused IsAtLimit seat e.0 e.1) }
+    ensures refusal { IfErr result (λ e. IsRefused IsAtLimit seat e.0 e.1) }
 {
     let mut seat = seat;
     for _ in rt.forever() {
@@ -76,31 +77,20 @@ pub fn close_mark<R: Drop, W: Drop, T: Wait>(
     ensures was_open { IfOk result (λ closing. IsOpen (seat_place seat)) }
     ensures no_reader_owed { IfOk result (λ closing. owed_by closing Read ≡ 0) }
     ensures no_writer_owed { IfOk result (λ closing. owed_by closing Write ≡ 0) }
-    ensures refusal { IfErr result (λ e. refused IsAtLimit seat e.0 e.1) }
+    ensures refusal { IfErr result (λ e. IsRefused IsAtLimit seat e.0 e.1) }
 {
     let closing = take_over(rt, word, seat)?;
     let closing = signal_all(rt, word, closing, Dir::Read);
     Ok(signal_all(rt, word, closing, Dir::Write))
 }
 
-/// Gives the closer's reference back.
-pub fn drop_closing<R: Drop, W: Drop, T: Wait>(
-    rt: &T,
-    word: &LockWord<R, W>,
-    closing: Closing<R, W>,
-) -> Freed<R, W>
+/// Gives the closer's reference back. It can't be lost, so that nothing is waited for.
+pub fn drop_closing<R: Drop, W: Drop>(word: &LockWord<R, W>, closing: Closing<R, W>) -> Freed<R, W>
     requires seat { IsSeatOf word.now (closing_place closing) }
     requires no_reader_owed { owed_by closing Read ≡ 0 }
     requires no_writer_owed { owed_by closing Write ≡ 0 }
-    ensures answer { freed_closing (closing_place closing) result }
+    ensures left { LeavesClosed (closing_place closing) result }
+    ensures decided { IsDecided (closing_place closing) result }
 {
-    let mut closing = closing;
-    for _ in rt.forever() {
-        match word.try_drop_closing(closing) {
-            DropClosing::Kept(seat) => return Freed::Kept(seat),
-            DropClosing::Last(last) => return Freed::Last(last),
-            DropClosing::Lost(back) => closing = back,
-        }
-    }
-    unreachable!()
+    word.drop_closing(closing)
 }

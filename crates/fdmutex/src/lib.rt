@@ -9,8 +9,9 @@ mod done;
 mod locks;
 mod reference;
 
-pub use answers::{Freed, Refusal};
+pub use answers::Refusal;
 pub use close::{close_mark, drop_closing};
 pub use done::wait_done;
 pub use locks::{lock, read_lock, read_unlock, unlock, write_lock, write_unlock};
+pub use lockword::Freed;
 pub use reference::{decref, incref};

@@ -6,12 +6,13 @@ ghost use Rattle.stream_base.specs.declared.direction.Dir.TheVariants.{Read, Wri
 ghost use Rattle.lockword.specs.Marks.{SameMarks, IsOpen};
 ghost use Rattle.lockword.specs.Places.{seat_place, lock_place, wait_place, owing_place};
 ghost use Rattle.lockword.specs.TransitionOutcomes.{IsSeatOf};
-ghost use Rattle.fdmutex.specs.Refusal.{refused, IsLockFull, freed};
+ghost use Rattle.lockword.specs.Dropping.{Leaves};
+ghost use Rattle.fdmutex.specs.Refusal.{IsRefused, IsLockFull};
 
-use crate::{Freed, Refusal};
+use crate::Refusal;
 use lockword::{
-    Direction, Guards, Held, Lock, LockWord, Owing, ReadLock, Seat, Signal, Unlock, Waiting, Wake,
-    WriteLock,
+    Direction, Freed, Guards, Held, Lock, LockWord, Owing, ReadLock, Seat, Signal, Unlock, Waiting,
+    Wake, WriteLock,
 };
 use std::sync::Wait;
 
@@ -67,7 +68,7 @@ pub fn lock<D: Guards<R, W>, R: Drop, W: Drop, T: Wait>(
     requires seat { IsSeatOf word.now (seat_place seat) }
     ensures marks { IfOk result (λ held. SameMarks (seat_place seat) (lock_place held)) }
     ensures was_open { IfOk result (λ held. IsOpen (seat_place seat)) }
-    ensures refusal { IfErr result (λ e. refused (IsLockFull D.dir) seat e.0 e.1) }
+    ensures refusal { IfErr result (λ e. IsRefused (IsLockFull D.dir) seat e.0 e.1) }
 {
     let mut seat = seat;
     for _ in rt.forever() {
@@ -89,7 +90,7 @@ pub fn unlock<D: Guards<R, W>, R: Drop, W: Drop, T: Wait>(
     held: Held<D, R, W>,
 ) -> Freed<R, W>
     requires seat { IsSeatOf word.now (lock_place held) }
-    ensures answer { freed (lock_place held) result }
+    ensures left { Leaves (lock_place held) result }
 {
     let mut held = held;
     for _ in rt.forever() {
@@ -112,7 +113,7 @@ pub fn read_lock<R: Drop, W: Drop, T: Wait>(
     requires seat { IsSeatOf word.now (seat_place seat) }
     ensures marks { IfOk result (λ held. SameMarks (seat_place seat) (lock_place held)) }
     ensures was_open { IfOk result (λ held. IsOpen (seat_place seat)) }
-    ensures refusal { IfErr result (λ e. refused (IsLockFull Read) seat e.0 e.1) }
+    ensures refusal { IfErr result (λ e. IsRefused (IsLockFull Read) seat e.0 e.1) }
 {
     lock(rt, word, seat)
 }
@@ -124,7 +125,7 @@ pub fn read_unlock<R: Drop, W: Drop, T: Wait>(
     held: ReadLock<R, W>,
 ) -> Freed<R, W>
     requires seat { IsSeatOf word.now (lock_place held) }
-    ensures answer { freed (lock_place held) result }
+    ensures left { Leaves (lock_place held) result }
 {
     unlock(rt, word, held)
 }
@@ -138,7 +139,7 @@ pub fn write_lock<R: Drop, W: Drop, T: Wait>(
     requires seat { IsSeatOf word.now (seat_place seat) }
     ensures marks { IfOk result (λ held. SameMarks (seat_place seat) (lock_place held)) }
     ensures was_open { IfOk result (λ held. IsOpen (seat_place seat)) }
-    ensures refusal { IfErr result (λ e. refused (IsLockFull Write) seat e.0 e.1) }
+    ensures refusal { IfErr result (λ e. IsRefused (IsLockFull Write) seat e.0 e.1) }
 {
     lock(rt, word, seat)
 }
@@ -150,7 +151,7 @@ pub fn write_unlock<R: Drop, W: Drop, T: Wait>(
     held: WriteLock<R, W>,
 ) -> Freed<R, W>
     requires seat { IsSeatOf word.now (lock_place held) }
-    ensures answer { freed (lock_place held) result }
+    ensures left { Leaves (lock_place held) result }
 {
     unlock(rt, word, held)
 }

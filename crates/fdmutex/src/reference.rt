@@ -1,13 +1,14 @@
-//! References: a try that was lost is made again.
+//! References: a try to take one that was lost is made again.
 
 ghost use Rattle.std.specs.Prelude.{IfOk, IfErr};
 ghost use Rattle.lockword.specs.Marks.{SameMarks, IsOpen};
 ghost use Rattle.lockword.specs.Places.{seat_place, ref_place};
 ghost use Rattle.lockword.specs.TransitionOutcomes.{IsSeatOf, IsAtLimit};
-ghost use Rattle.fdmutex.specs.Refusal.{refused, freed};
+ghost use Rattle.lockword.specs.Dropping.{IsDecided, Leaves};
+ghost use Rattle.fdmutex.specs.Refusal.{IsRefused};
 
-use crate::{Freed, Refusal};
-use lockword::{DropRef, Incref, LockWord, Ref, Seat};
+use crate::Refusal;
+use lockword::{Freed, Incref, LockWord, Ref, Seat};
 use std::sync::Wait;
 
 /// Takes a reference.
@@ -19,7 +20,7 @@ pub fn incref<R: Drop, W: Drop, T: Wait>(
     requires seat { IsSeatOf word.now (seat_place seat) }
     ensures marks { IfOk result (λ held. SameMarks (seat_place seat) (ref_place held)) }
     ensures was_open { IfOk result (λ held. IsOpen (seat_place seat)) }
-    ensures refusal { IfErr result (λ e. refused IsAtLimit seat e.0 e.1) }
+    ensures refusal { IfErr result (λ e. IsRefused IsAtLimit seat e.0 e.1) }
 {
     let mut seat = seat;
     for _ in rt.forever() {
@@ -33,22 +34,11 @@ pub fn incref<R: Drop, W: Drop, T: Wait>(
     unreachable!()
 }
 
-/// Gives a reference back.
-pub fn decref<R: Drop, W: Drop, T: Wait>(
-    rt: &T,
-    word: &LockWord<R, W>,
-    held: Ref<R, W>,
-) -> Freed<R, W>
+/// Gives a reference back. It can't be lost, so that nothing is waited for.
+pub fn decref<R: Drop, W: Drop>(word: &LockWord<R, W>, held: Ref<R, W>) -> Freed<R, W>
     requires seat { IsSeatOf word.now (ref_place held) }
-    ensures answer { freed (ref_place held) result }
+    ensures left { Leaves (ref_place held) result }
+    ensures decided { IsDecided (ref_place held) result }
 {
-    let mut held = held;
-    for _ in rt.forever() {
-        match word.try_drop_ref(held) {
-            DropRef::Kept(seat) => return Freed::Kept(seat),
-            DropRef::Last(last) => return Freed::Last(last),
-            DropRef::Lost(back) => held = back,
-        }
-    }
-    unreachable!()
+    word.drop_ref(held)
 }

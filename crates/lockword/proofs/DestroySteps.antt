@@ -1,5 +1,5 @@
 -- The end of a word: the last holder takes the halves and marks that it destroyed.
-use Rattle.std.proofs.Common.{◌≡◌, ℕ, ◌+◌, ◌≤◌, ◌∙◌, Bool, true, false, List, [], ◌∷◌, length, get_or, set, refl, sym, ap, subst, arith, length-set}
+use Rattle.std.proofs.Common.{◌≡◌, ℕ, ◌+◌, ◌≤◌, ◌∙◌, Bool, true, false, List, [], ◌∷◌, ◌++◌, length, get_or, set, refl, sym, ap, subst, arith, length-set}
 use mathlib.Core.Option.{Option, none, some}
 use lib.ListN.{get_elem?}
 use Rattle.atomic_table.specs.Table.{step, takes, gives, chain, Allows}
@@ -8,8 +8,12 @@ use Rattle.stream_base.specs.declared.direction.Dir.{Dir}
 use Rattle.stream_base.specs.declared.direction.Dir.TheVariants.{Read, Write}
 use Rattle.lockword_core.specs.declared.stake.Stake.{Stake}
 use Rattle.lockword_core.specs.declared.stake.Stake.TheVariants as stake
+use Rattle.lockword_core.specs.declared.stake.Op.TheVariants as op
+use Rattle.lockword_core.specs.declared.stake.Answer.TheVariants as answer
+use Rattle.lockword_core.specs.Transition.{destroys}
 use Rattle.lockword_core.specs.Word.{bit}
-use Rattle.lockword_core.specs.LockState.{Census, locks, lasts, part, count, number}
+use Rattle.lockword_core.specs.LockState.{Census, empty, locks, lasts, part, count, number}
+use Rattle.lockword_core.specs.Replay.{state_after}
 use Rattle.lockword_core.specs.LockInvariant.{ChangesOneStake}
 use Rattle.lockword_core.proofs.CountLemmas.{count-within}
 use Rattle.lockword_core.proofs.BalanceLemmas.{IsBalanced, destroy_keeps}
@@ -18,11 +22,12 @@ use Rattle.lockword.specs.declared.shared_rule.Half.TheVariants as half
 use Rattle.lockword.specs.declared.shared_rule.TheConstants.{STATE, DONE}
 use Rattle.lockword.specs.LocalView.{newcomer, stakes_of, taken_by, takers}
 use Rattle.lockword.specs.Directions.{Guarded, half_of, half_home}
-use Rattle.lockword.specs.SharedInvariant.{Represents}
-use Rattle.lockword.specs.Steps.{emptied, marked}
+use Rattle.lockword.specs.SharedInvariant.{Represents, IsReached}
+use Rattle.lockword.specs.Steps.{destroyed_view, emptied, marked}
 use Rattle.lockword.proofs.ViewLemmas.{one_changes, same_stakes, counted_at, takers-set, takers-le}
 use Rattle.lockword.proofs.Representation.{both, seated, present, fits, represents, on_done}
-use Rattle.lockword.proofs.LookSteps.{is_over}
+use Rattle.lockword.proofs.LookSteps.{is_over, view_of}
+use Rattle.lockword.proofs.HistorySteps.{event, same_history, same_deeds, more_deeds, none_refused_more, destroy_moves, own_stake, destroyed_history, is_made}
 use Rattle.lockword.proofs.Exchanges.{H, M}
 
 module _ (R W : Type 0) where
@@ -65,8 +70,9 @@ module _ (R W : Type 0) where
 
   -- the last holder takes both halves
   pub empties : (slots id : ℕ) (me : M R W) → me.0.stake ≡ stake.Last → me.0.took ≡ false
-      → Allows Represents slots id me DONE (λ n. n) (emptied (step slots DONE 0 0 none) me)
-  empties slots id me last untaken s r _ at small =
+      → Allows IsReached slots id me DONE (λ n. n) (emptied (step slots DONE 0 0 none) me)
+  empties slots id me last untaken s reached _ at small =
+      let r = reached.represents in
       let n : ℕ = get_or s.words DONE 0 in
       let f = fits s r in
       let c : Census = present s r in
@@ -97,21 +103,31 @@ module _ (R W : Type 0) where
         w,
         chain (takes 0 (half.Read a.0)) (takes 1 (half.Write b.0)),
         (a.1, set_else s.homes 0 1 none (omega arith) ∙ b.1),
-        subst (λ (x : ℕ). Represents record { words = set s.words DONE x; homes = homes; views = views }) (sym done_is) (represents (set s.words DONE (bit c.destroyed)) homes views (seated views c) state next),
+        record {
+          represents = subst (λ (x : ℕ). Represents record { words = set s.words DONE x; homes = homes; views = views }) (sym done_is) (represents (set s.words DONE (bit c.destroyed)) homes views (seated views c) state next);
+          history = reached.history;
+          interleaves = same_deeds reached.history s.views id me.0 w reached.interleaves at refl;
+          none_refused = reached.none_refused;
+          leads = same_history (state_after empty reached.history) s.words s.views DONE id me.0 w reached.leads at refl;
+        },
         (refl, (a.0, b.0, refl)),
       )
 
   -- the last holder marks that it destroyed
   pub marks : (slots id : ℕ) (me : M R W) → me.0.stake ≡ stake.Last → me.0.took ≡ true → me.0.saw.closed ≡ true
       → me.1 ≡ (1, half.Away) ∷ (0, half.Away) ∷ []
-      → Allows Represents slots id me DONE (λ _. 1) (λ _. marked (step slots DONE 1 0 none) me 1)
+      → Allows IsReached slots id me DONE (λ _. 1) (λ _. marked (step slots DONE 1 0 none) me 1)
   marks slots id me last taken saw holds =
-      subst (λ (slots' : List (ℕ × H R W)). Allows Represents slots id (me.0, slots') DONE (λ _. 1) (λ _. marked (step slots DONE 1 0 none) (me.0, slots') 1)) (sym holds)
-      (λ s r _ at small.
+      subst (λ (slots' : List (ℕ × H R W)). Allows IsReached slots id (me.0, slots') DONE (λ _. 1) (λ _. marked (step slots DONE 1 0 none) (me.0, slots') 1)) (sym holds)
+      (λ s reached _ at small.
+      let r = reached.represents in
       let f = fits s r in
       let c : Census = present s r in
       let state : ℕ = get_or s.words STATE 0 in
-      let w : LocalView = record { stake = stake.Free; took = false; saw = record { closed = me.0.saw.closed; done = true } } in
+      let w : LocalView = destroyed_view me.0 in
+      let h = reached.history in
+      let own = own_stake (state_after empty h) s.words s.views id me.0 reached.leads at ∙ last in
+      let made = destroy_moves h id own in
       let views : List LocalView = set s.views id w in
       let mine : taken_by me.0 ≡ 1 = taken_last me.0 true last taken in
       let so = alone s.views c state id me.0 f.stakes f.balance at (last_part me.0.stake last) (omega arith) in
@@ -134,6 +150,12 @@ module _ (R W : Type 0) where
         w,
         chain gives gives,
         (tt, tt),
-        represents (set s.words DONE 1) homes views (record c { stakes = stakes_of views; destroyed = true }) state next,
-        (refl, refl),
+        record {
+          represents = represents (set s.words DONE 1) homes views (record c { stakes = stakes_of views; destroyed = true }) state next;
+          history = h ++ event id op.Destroy ∷ [];
+          interleaves = more_deeds h s.views id me.0 w op.Destroy reached.interleaves at refl;
+          none_refused = none_refused_more h id op.Destroy answer.Done stake.Free destroys made reached.none_refused;
+          leads = destroyed_history h s.words s.views id me.0 w reached.leads r.four_words at last refl;
+        },
+        (refl, refl, is_made h id me.0 w op.Destroy answer.Done stake.Free destroys (view_of s reached id me.0 at) made refl refl),
       ))

@@ -1,10 +1,13 @@
 pub mod ViewLemmas
 pub mod Representation
+pub mod HistorySteps
 pub mod Exchanges
 pub mod LookSteps
 pub mod WordTests
 pub mod StateSteps
+pub mod SubtractionSteps
 pub mod DestroySteps
 pub mod SplitSteps
 pub mod OpeningKeepsInvariant
 pub mod WakeupSteps
+pub mod RuleLaws

@@ -1,32 +1,38 @@
 -- Loads: what they tell a seat, and that they keep the rule.
-use Rattle.std.proofs.Common.{◌≡◌, ℕ, ◌+◌, ◌<◌, ◌≤◌, ◌∙◌, Bool, true, List, get_or, set, refl, sym, ap, subst, arith}
-use Rattle.std.specs.Prelude.{◌==◌}
+use Rattle.std.proofs.Common.{◌≡◌, ℕ, ◌+◌, ◌<◌, ◌≤◌, ◌∙◌, Bool, true, List, length, get_or, get_or-set_same, set, refl, sym, ap, subst, arith}
+use Rattle.std.specs.Prelude.{◌==◌, is_some}
 use mathlib.Core.Logic.{dite}
 use mathlib.Core.Option.{Option, none, some}
 use native.Mathlib.Decide.{ℕ_discrete}
 use lib.ListN.{get_elem?}
-use Rattle.atomic_table.specs.Table.{step, keeps, stepped, Allows}
+use Rattle.atomic_table.specs.Table.{State, step, keeps, stepped, Allows}
+use Rattle.atomic_table.proofs.Lists.{set_here}
 use Rattle.stream_base.specs.declared.direction.Dir.{Dir}
 use Rattle.stream_base.specs.declared.direction.Dir.TheVariants.{Read, Write}
 use Rattle.lockword_core.specs.declared.stake.Stake.{Stake}
 use Rattle.lockword_core.specs.declared.stake.Stake.TheVariants as stake
 use Rattle.lockword_core.specs.declared.word.TheConstants.{CLOSED}
 use Rattle.lockword_core.specs.Word.{bit, closed_in, waiters_in}
-use Rattle.lockword_core.specs.LockState.{Census, Counted, references, locks, lasts, part, count, number}
+use Rattle.lockword_core.specs.LockState.{LockState, empty, Census, census, encoded, Counted, references, locks, lasts, part, count, number}
+use Rattle.lockword_core.specs.Replay.{state_after}
 use Rattle.lockword_core.proofs.CountLemmas.{count-within}
 use Rattle.lockword_core.proofs.BalanceLemmas.{IsBalanced, reads_as}
-use Rattle.lockword_core.proofs.InvariantPreserved.{bit-le, bit-true}
+use Rattle.lockword_core.proofs.InvariantPreserved.{balance_of, bit-le, bit-true}
+use Rattle.lockword_core.proofs.ReplayLemmas.{always_consistent}
 use Rattle.lockword_core.proofs.FieldSteps.{same_numbers}
 use Rattle.lockword_core.proofs.WordRefines.{flag_is}
 use Rattle.lockword.specs.declared.local_view.LocalView.{LocalView}
 use Rattle.lockword.specs.declared.shared_rule.Half.{Half}
 use Rattle.lockword.specs.declared.shared_rule.TheConstants.{STATE, DONE}
 use Rattle.lockword.specs.LocalView.{stakes_of, taken_by, takers}
-use Rattle.lockword.specs.SharedInvariant.{Represents}
+use Rattle.lockword.specs.SharedInvariant.{Represents, IsReached}
+use Rattle.lockword.specs.History.{IsView}
+use Rattle.lockword.specs.Moment.{IsFound}
 use Rattle.lockword.specs.Steps.{Shows, Told, seen_in, looked, asked}
-use Rattle.lockword.proofs.ViewLemmas.{same_stakes, counted_at, takers-set}
+use Rattle.lockword.proofs.ViewLemmas.{at_there, same_stakes, counted_at, takers-set}
 use Rattle.lockword.proofs.Representation.{seated, present, Fits, fits, recounted, represents, on_state, on_done}
 use Rattle.lockword.proofs.Exchanges.{M}
+use Rattle.lockword.proofs.HistorySteps.{same_history, same_deeds, own_view}
 
 -- ---- Where one is the last, or destroyed
 
@@ -74,12 +80,13 @@ some_destroyed : (b : Bool) (k : ℕ) → b ≡ true → 0 < k + bit b
 some_destroyed b k e = let one : bit b ≡ 1 = ap bit e in omega arith
 
 module _ {R W : Type 0} where
-  pub told : (words : List ℕ) (homes : List (Option (Half R W))) (views : List LocalView) (c : Census) (n id : ℕ) (v : LocalView) → Fits words homes views c n → get_elem? views id ≡ some v → Told n v
-  told words homes views c n id v f at =
+  pub told : (words : List ℕ) (homes : List (Option (Half R W))) (views : List LocalView) (c : Census) (n id : ℕ) (v : LocalView) → Fits words homes views c n → get_elem? views id ≡ some v → IsFound R W n (seen_in n v) → Told R W n v
+  told words homes views c n id v f at found =
       let r = reads_as c n f.balance in
       let flag : c.closed ≡ closed_in n = flag_is c.closed _ r.flag in
       let saw = f.seen id v at in
       record {
+        found = found;
         is_word = r.is_word;
         saw_closed = λ e. sym flag ∙ saw.closed e;
         saw_done = λ e. (is_over c n f.balance (some_destroyed c.destroyed (number lasts c) (saw.done e))).word;
@@ -87,11 +94,26 @@ module _ {R W : Type 0} where
         none_waits = λ d e. none_waits d c n f.balance (ap bit (flag ∙ e));
       }
 
+-- the view of a seat at the history that leads to a state
+pub view_of : {R W : Type 0} (s : State (Half R W) LocalView) (reached : IsReached s) (id : ℕ) (v : LocalView) → get_elem? s.views id ≡ some v
+    → IsView reached.history id v
+view_of s reached id v at =
+    let st : LockState = state_after empty reached.history in
+    let f = fits s reached.represents in
+    let c : Census = present s reached.represents in
+    let good = always_consistent reached.history in
+    let here = flag_is c.closed _ (reads_as c (get_or s.words STATE 0) f.balance).flag in
+    let there = flag_is st.closed _ (reads_as (census st) (encoded (census st)) (balance_of (census st) good.counts)).flag in
+    let saw = f.seen id v at in
+    own_view reached.history s.words s.views id v reached.leads reached.interleaves at
+    (λ e. there ∙ ap closed_in (sym reached.leads.state_word) ∙ sym here ∙ saw.closed e)
+    (λ e. bit-true (is_some st.destroyed_by) (sym reached.leads.done_word ∙ f.done ∙ ap bit (saw.done e)))
+
 module _ (R W : Type 0) where
-  -- a load of the state
-  pub looks : (slots id : ℕ) (me : M R W)
-      → Allows Represents slots id me STATE (λ n. n) (looked (step slots STATE 0 0 none) me)
-  looks slots id me s r deep at small =
+  -- a seat that has seen the state word, which is as it was
+  pub seen_fits : (id : ℕ) (me : M R W) (s : State (Half R W) LocalView) → Represents s → get_elem? s.views id ≡ some me.0
+      → Represents (stepped s STATE (get_or s.words STATE 0) id me.1 (seen_in (get_or s.words STATE 0) me.0) keeps)
+  seen_fits id me s r at =
       let n : ℕ = get_or s.words STATE 0 in
       let f = fits s r in
       let c : Census = present s r in
@@ -100,22 +122,50 @@ module _ (R W : Type 0) where
       let flag : c.closed ≡ closed_in n = flag_is c.closed _ (reads_as c n f.balance).flag in
       let same : stakes_of views ≡ stakes_of s.views = same_stakes s.views id me.0 w at refl in
       let took : takers views + taken_by me.0 ≡ takers s.views + taken_by me.0 = takers-set s.views id me.0 w at in
-      let takers_same : takers views ≡ takers s.views = omega arith in (
-        w,
-        keeps,
-        tt,
-        represents (set s.words STATE n) s.homes views (seated views c) n
-            (on_state s.words s.homes s.homes s.views c c.closed n n id w f f.deep
-            (subst (λ (ys : List Stake). IsBalanced (record c { stakes = ys }) n) (sym same) f.balance)
-            (λ d. recounted d s.homes c (stakes_of views) _ _ (ap (count (locks d)) same) takers_same (f.halves d))
-            (λ e. e) record { closed = λ e. flag ∙ e; done = (f.seen id me.0 at).done }),
-        (told s.words s.homes s.views c n id me.0 f at, refl),
-      )
+      let takers_same : takers views ≡ takers s.views = omega arith in
+      represents (set s.words STATE n) s.homes views (seated views c) n
+      (on_state s.words s.homes s.homes s.views c c.closed n n id w f f.deep
+      (subst (λ (ys : List Stake). IsBalanced (record c { stakes = ys }) n) (sym same) f.balance)
+      (λ d. recounted d s.homes c (stakes_of views) _ _ (ap (count (locks d)) same) takers_same (f.halves d))
+      (λ e. e) record { closed = λ e. flag ∙ e; done = (f.seen id me.0 at).done })
+
+  -- a seat that has seen the state word did nothing
+  pub seen_reached : (id : ℕ) (me : M R W) (s : State (Half R W) LocalView) → IsReached s → get_elem? s.views id ≡ some me.0
+      → IsReached (stepped s STATE (get_or s.words STATE 0) id me.1 (seen_in (get_or s.words STATE 0) me.0) keeps)
+  seen_reached id me s reached at =
+      let w : LocalView = seen_in (get_or s.words STATE 0) me.0 in
+      record {
+        represents = seen_fits id me s reached.represents at;
+        history = reached.history;
+        interleaves = same_deeds reached.history s.views id me.0 w reached.interleaves at refl;
+        none_refused = reached.none_refused;
+        leads = same_history (state_after empty reached.history) s.words s.views STATE id me.0 w reached.leads at refl;
+      }
+
+  -- what the state word tells a seat
+  pub told_of : (id : ℕ) (me : M R W) (s : State (Half R W) LocalView) → IsReached s → get_elem? s.views id ≡ some me.0
+      → Told R W (get_or s.words STATE 0) me.0
+  told_of id me s reached at =
+      let n : ℕ = get_or s.words STATE 0 in
+      let r = reached.represents in
+      let f = fits s r in
+      let wide = f.wide in
+      let w : LocalView = seen_in n me.0 in
+      let found : IsFound R W n w =
+      record { moment = record { words = set s.words STATE n; homes = s.homes; views = set s.views id w }; rule = seen_reached id me s reached at; seat = id; own = set_here s.views id w (at_there s.views id me.0 at).0; word = get_or-set_same s.words 0 n 0 (omega arith) } in
+      told s.words s.homes s.views (present s r) n id me.0 f at found
+
+  -- a load of the state
+  pub looks : (slots id : ℕ) (me : M R W)
+      → Allows IsReached slots id me STATE (λ n. n) (looked (step slots STATE 0 0 none) me)
+  looks slots id me s reached deep at small =
+      (seen_in (get_or s.words STATE 0) me.0, keeps, tt, seen_reached id me s reached at, (told_of id me s reached at, refl))
 
   -- a load of the done word
   pub asks : (slots id : ℕ) (me : M R W)
-      → Allows Represents slots id me DONE (λ n. n) (asked (step slots DONE 0 0 none) me)
-  asks slots id me s r deep at small =
+      → Allows IsReached slots id me DONE (λ n. n) (asked (step slots DONE 0 0 none) me)
+  asks slots id me s reached deep at small =
+      let r = reached.represents in
       let n : ℕ = get_or s.words DONE 0 in
       let f = fits s r in
       let c : Census = present s r in
@@ -135,6 +185,12 @@ module _ (R W : Type 0) where
         w,
         keeps,
         tt,
-        subst (λ (x : ℕ). Represents (stepped s DONE x id me.1 w keeps)) (sym done_is) (represents (set s.words DONE (bit c.destroyed)) s.homes views (seated views c) state next),
+        record {
+          represents = subst (λ (x : ℕ). Represents (stepped s DONE x id me.1 w keeps)) (sym done_is) (represents (set s.words DONE (bit c.destroyed)) s.homes views (seated views c) state next);
+          history = reached.history;
+          interleaves = same_deeds reached.history s.views id me.0 w reached.interleaves at refl;
+          none_refused = reached.none_refused;
+          leads = same_history (state_after empty reached.history) s.words s.views DONE id me.0 w reached.leads at refl;
+        },
         (omega arith, (λ e. done_is ∙ ap bit (saw.done e)), refl),
       )

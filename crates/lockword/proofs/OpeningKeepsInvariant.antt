@@ -11,9 +11,10 @@ use Rattle.lockword_core.proofs.BalanceLemmas.{IsBalanced}
 use Rattle.lockword.specs.declared.local_view.LocalView.{LocalView}
 use Rattle.lockword.specs.declared.shared_rule.Half.TheVariants as half
 use Rattle.lockword.specs.LocalView.{takers, newcomer}
-use Rattle.lockword.specs.SharedInvariant.{SawRightly, Represents}
+use Rattle.lockword.specs.SharedInvariant.{SawRightly, IsReached}
 use Rattle.lockword.proofs.ViewLemmas.{takers-nil, takers-push}
 use Rattle.lockword.proofs.Representation.{both, represents}
+use Rattle.lockword.proofs.HistorySteps.{first_history, first_deeds}
 
 none_counted : (what : Rattle.lockword_core.specs.LockState.Counted) → count what (stake.Free ∷ []) ≡ 0
 none_counted what =
@@ -48,17 +49,23 @@ starts =
     )
 
 module _ (R W : Type 0) where
-  pub begins : (r : R) (w : W) → Represents (opening (0 ∷ 0 ∷ 0 ∷ 0 ∷ []) (half.Read r ∷ half.Write w ∷ []) newcomer)
+  pub begins : (r : R) (w : W) → IsReached (opening (0 ∷ 0 ∷ 0 ∷ 0 ∷ []) (half.Read r ∷ half.Write w ∷ []) newcomer)
   begins r w =
-      represents (0 ∷ 0 ∷ 0 ∷ 0 ∷ []) (some (half.Read r) ∷ some (half.Write w) ∷ []) (newcomer ∷ []) first_census 0
       record {
-        wide = refl;
-        deep = refl;
-        state = refl;
-        semaphores = both _ refl refl;
-        done = refl;
-        stakes = refl;
-        balance = starts;
-        halves = both _ (omega (arith, none_counted (locks Read), none_took)) (omega (arith, none_counted (locks Write), none_took));
-        seen = λ i v at. subst (λ (y : LocalView). SawRightly first_census y) (saw_nothing i v at) record { closed = λ e. e; done = λ e. e };
+        represents = represents (0 ∷ 0 ∷ 0 ∷ 0 ∷ []) (some (half.Read r) ∷ some (half.Write w) ∷ []) (newcomer ∷ []) first_census 0
+            record {
+              wide = refl;
+              deep = refl;
+              state = refl;
+              semaphores = both _ refl refl;
+              done = refl;
+              stakes = refl;
+              balance = starts;
+              halves = both _ (omega (arith, none_counted (locks Read), none_took)) (omega (arith, none_counted (locks Write), none_took));
+              seen = λ i v at. subst (λ (y : LocalView). SawRightly first_census y) (saw_nothing i v at) record { closed = λ e. e; done = λ e. e };
+            };
+        history = [];
+        interleaves = first_deeds;
+        none_refused = refl;
+        leads = first_history;
       }

@@ -30,15 +30,15 @@ both P reads writes Write = writes
 
 -- ---- The words of the semaphores
 
-not_state : (d : Dir) → semaphore d ≢ 0
+pub not_state : (d : Dir) → semaphore d ≢ 0
 not_state Read e = omega arith
 not_state Write e = omega arith
 
-not_done : (d : Dir) → semaphore d ≢ 3
+pub not_done : (d : Dir) → semaphore d ≢ 3
 not_done Read e = omega arith
 not_done Write e = omega arith
 
-semaphore_after : (d e : Dir) (words : List ℕ) (m : ℕ) (signals : Signals) → length words ≡ 4
+pub semaphore_after : (d e : Dir) (words : List ℕ) (m : ℕ) (signals : Signals) → length words ≡ 4
     → get_or words (semaphore e) 0 ≡ signals_in e signals
     → get_or (set words (semaphore d) m) (semaphore e) 0 ≡ signals_in e (with_signals d m signals)
 semaphore_after Read Read words m signals wide was = get_or-set_same words 1 m 0 (omega arith)

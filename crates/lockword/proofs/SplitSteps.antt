@@ -5,19 +5,22 @@ use Rattle.atomic_table.proofs.Lists.{set_again, at_snoc}
 use Rattle.stream_base.specs.declared.direction.Dir.{Dir}
 use Rattle.lockword_core.specs.declared.stake.Stake.TheVariants as stake
 use Rattle.lockword_core.specs.Word.{bit}
-use Rattle.lockword_core.specs.LockState.{Census, Counted, locks, count}
+use Rattle.lockword_core.specs.LockState.{Census, empty, Counted, locks, count}
+use Rattle.lockword_core.specs.Replay.{state_after}
 use Rattle.lockword_core.proofs.CountLemmas.{count-push}
 use Rattle.lockword_core.proofs.BalanceLemmas.{IsBalanced}
 use Rattle.lockword.specs.declared.local_view.LocalView.{LocalView}
 use Rattle.lockword.specs.declared.shared_rule.Half.{Half}
 use Rattle.lockword.specs.LocalView.{stakes_of, takers, without_stake}
-use Rattle.lockword.specs.SharedInvariant.{SawRightly, Represents}
+use Rattle.lockword.specs.SharedInvariant.{SawRightly, IsReached}
 use Rattle.lockword.proofs.ViewLemmas.{stakes_push, takers-push}
 use Rattle.lockword.proofs.Representation.{seated, present, Fits, fits, recounted, represents}
+use Rattle.lockword.proofs.HistorySteps.{split_history, split_deeds}
 
 module _ (R W : Type 0) where
-  pub splits : (id : ℕ) (v : LocalView) → Splits {S = Half R W} Represents id v v (without_stake v)
-  splits id v s r at =
+  pub splits : (id : ℕ) (v : LocalView) → Splits {S = Half R W} IsReached id v v (without_stake v)
+  splits id v s reached at =
+      let r = reached.represents in
       let f = fits s r in
       let c : Census = present s r in
       let w : LocalView = without_stake v in
@@ -39,5 +42,11 @@ module _ (R W : Type 0) where
         seen = λ i x at'. ⊎_elim (λ here. let saw = f.seen i x here in record { closed = saw.closed; done = saw.done })
             (λ new. let saw = f.seen id v at in subst (λ (y : LocalView). SawRightly (seated views c) y) new record { closed = saw.closed; done = saw.done }) (at_snoc s.views w x i at');
       } in
-      subst (λ (vs : List LocalView). Represents record { words = s.words; homes = s.homes; views = vs ++ w ∷ [] }) (sym (set_again s.views id v at))
-      (represents s.words s.homes views (seated views c) n next)
+      subst (λ (vs : List LocalView). IsReached record { words = s.words; homes = s.homes; views = vs ++ w ∷ [] }) (sym (set_again s.views id v at))
+      record {
+        represents = represents s.words s.homes views (seated views c) n next;
+        history = reached.history;
+        interleaves = split_deeds reached.history s.views w reached.interleaves refl;
+        none_refused = reached.none_refused;
+        leads = split_history (state_after empty reached.history) s.words s.views w reached.leads refl;
+      }

@@ -1,5 +1,5 @@
 -- Exchanges of the state word: each kind of step keeps the rule.
-use Rattle.std.proofs.Common.{◌≡◌, ℕ, ◌+◌, ◌≤◌, ◌∙◌, eqb, Bool, true, false, List, [], ◌∷◌, length, length-set, get_or, set, refl, sym, ap, subst, arith, Result, Ok, Err}
+use Rattle.std.proofs.Common.{◌≡◌, ℕ, ◌+◌, ◌≤◌, ◌∙◌, eqb, Bool, true, false, List, [], ◌∷◌, ◌++◌, length, length-set, get_or, set, refl, sym, ap, subst, arith, Result, Ok, Err}
 use Rattle.std.specs.Prelude.{◌==◌, ◌&&◌, if◌then◌else◌}
 use mathlib.Core.Option.{Option, none, some}
 use lib.ListN.{get_elem?}
@@ -15,7 +15,9 @@ use Rattle.lockword_core.specs.declared.transition.After.{After}
 use Rattle.lockword_core.specs.declared.transition.After.TheVariants as after
 use Rattle.lockword_core.specs.Word.{bit}
 use Rattle.lockword_core.specs.declared.stake.Op.TheVariants as op
-use Rattle.lockword_core.specs.LockState.{Census, is_same, locks, lasts, part, count, number}
+use Rattle.lockword_core.specs.declared.stake.Event.{Event}
+use Rattle.lockword_core.specs.Replay.{state_after}
+use Rattle.lockword_core.specs.LockState.{Census, empty, is_same, locks, lasts, part, count, number}
 use Rattle.lockword_core.specs.LockInvariant.{ChangesOneStake}
 use Rattle.lockword_core.specs.Transition.{lock_stake, allows, changed}
 use Rattle.lockword_core.specs.WordStep.{op_of, gained}
@@ -31,12 +33,15 @@ use Rattle.lockword.proofs.WordTests.{possible}
 use Rattle.lockword.proofs.DestroySteps.{has_half}
 use Rattle.lockword.specs.LocalView.{stakes_of, taken_by, takers}
 use Rattle.lockword.specs.Directions.{slot_of, Guarded, half_of, half_home}
-use Rattle.lockword.specs.SharedInvariant.{Represents}
+use Rattle.lockword.specs.SharedInvariant.{Represents, IsReached}
+use Rattle.lockword.specs.History.{IsMade}
 use Rattle.lockword.specs.declared.shared_rule.TheConstants.{STATE}
 use Rattle.lockword.specs.Steps.{saw_after, moved_view, Carries, HasSlots}
 use Rattle.lockword.specs.Steps as steps
 use Rattle.lockword.proofs.ViewLemmas.{one_changes, counted_at, takers-set, taken-le, takers-le}
 use Rattle.lockword.proofs.Representation.{seated, present, IsInOnePlace, fits, recounted, represents, on_state}
+use Rattle.lockword.proofs.LookSteps.{view_of}
+use Rattle.lockword.proofs.HistorySteps.{event, IsMove, own_stake, step_moves, stepped_history, more_deeds, none_refused_more, is_made}
 use Rattle.lockword.proofs.Exchanges.{H, St, M, swaps}
 
 -- ---- The balance after a step
@@ -202,7 +207,7 @@ same_count before now others p q e f g h = omega arith
 
 module _ (R W : Type 0) where
   -- a step that moves no half keeps the rule
-  quiet_fits : (k : Kind) (a : After) (n m id : ℕ) (me : M R W) (s : St R W) → stepped_word n k ≡ Ok (m, a)
+  pub quiet_fits : (k : Kind) (a : After) (n m id : ℕ) (me : M R W) (s : St R W) → stepped_word n k ≡ Ok (m, a)
       → allows me.0.stake (op_of k) ≡ true → IsQuiet k a
       → Represents s → get_elem? s.views id ≡ some me.0 → get_or s.words 0 0 ≡ n
       → Represents (stepped s 0 m id me.1 (moved_view k a me.0) keeps)
@@ -312,18 +317,31 @@ module _ (R W : Type 0) where
 
   abbrev MovesAs : ℕ → ℕ → ℕ → ℕ → M R W → Kind → Type 0
   MovesAs slots id n m me k =
-      Allows Represents slots id me 0 (λ x. either (eqb x n) m x) (steps.moved k (step slots 0 n m none) me)
+      Allows IsReached slots id me 0 (λ x. either (eqb x n) m x) (steps.moved k (step slots 0 n m none) me)
 
   pub moves : (slots id n m : ℕ) (me : M R W) (k j : Kind) (a : After) → k ≡ j → stepped_word n k ≡ Ok (m, a)
       → allows me.0.stake (op_of k) ≡ true → HasSlots k me.1
-      → Allows Represents slots id me 0 (λ x. either (eqb x n) m x) (steps.moved j (step slots 0 n m none) me)
+      → Allows IsReached slots id me 0 (λ x. either (eqb x n) m x) (steps.moved j (step slots 0 n m none) me)
   moves slots id n m me k j a same_kind is may has =
       subst (λ (z : Kind). MovesAs slots id n m me z) same_kind
-      (swaps R W slots id 0 n m me (λ me'. (b : After) → stepped_word n k ≡ Ok (m, b) → (me'.0 ≡ moved_view k b me.0) × Carries k b me.1 me'.1)
-      (λ s r at found. let t = kept k a n m id me s is may has r at found in (
-        moved_view k a me.0,
+      (swaps R W slots id 0 n m me (λ me'. (b : After) → stepped_word n k ≡ Ok (m, b) → (me'.0 ≡ moved_view k b me.0) × Carries k b me.1 me'.1 × IsMade (op_of k) (gained k b).0 me.0 me'.0)
+      (λ s reached at found.
+      let r = reached.represents in
+      let t = kept k a n m id me s is may has r at found in
+      let w : LocalView = moved_view k a me.0 in
+      let h : List Event = reached.history in
+      let own_may = ap (λ (x : Stake). allows x (op_of k)) (own_stake (state_after empty h) s.words s.views id me.0 reached.leads at) ∙ may in
+      let made : IsMove h id (op_of k) (gained k a).0 (gained k a).1 (change_of k) = step_moves h id k a n m (sym found ∙ reached.leads.state_word) own_may is in (
+        w,
         t.0,
         t.1,
-        t.2,
-        λ b same. subst (λ (x : After). (moved_view k a me.0 ≡ moved_view k x me.0) × Carries k x me.1 (carried_after me.1 t.0)) (ap (λ (p : ℕ × After). p.1) (same_pair (m, a) (m, b) (sym is ∙ same))) (refl, t.3),
+        record {
+          represents = t.2;
+          history = h ++ event id (op_of k) ∷ [];
+          interleaves = more_deeds h s.views id me.0 w (op_of k) reached.interleaves at refl;
+          none_refused = none_refused_more h id (op_of k) _ _ _ made reached.none_refused;
+          leads = stepped_history h s.words s.views id me.0 w k a n m reached.leads r.four_words at may is found refl;
+        },
+        λ b same. subst (λ (x : After). (w ≡ moved_view k x me.0) × Carries k x me.1 (carried_after me.1 t.0) × IsMade (op_of k) (gained k x).0 me.0 w) (ap (λ (p : ℕ × After). p.1) (same_pair (m, a) (m, b) (sym is ∙ same)))
+            (refl, t.3, is_made h id me.0 w (op_of k) _ _ _ (view_of s reached id me.0 at) made refl refl),
       )))

@@ -14,7 +14,7 @@ use Rattle.lockword_core.proofs.CountLemmas.{count-nil, changes-set}
 use Rattle.lockword.specs.declared.local_view.LocalView.{LocalView}
 use Rattle.lockword.specs.LocalView.{stakes_of, taken_by, takers}
 
-at_there : {A : Type 0} (xs : List A) (i : ℕ) (x : A) → get_elem? xs i ≡ some x
+pub at_there : {A : Type 0} (xs : List A) (i : ℕ) (x : A) → get_elem? xs i ≡ some x
     → (i < length xs) × ((d : A) → get_or xs i d ≡ x)
 at_there [] i x e = absurd (some-ne-none x (sym e))
 at_there (y ∷ ys) zero x e = (omega arith, λ d. some-injective y x e)
@@ -22,11 +22,11 @@ at_there (y ∷ ys) (suc i) x e = let r = at_there ys i x e in let h : i < lengt
 
 -- ---- Stakes
 
-stakes-set : (views : List LocalView) (i : ℕ) (w : LocalView)
+pub stakes-set : (views : List LocalView) (i : ℕ) (w : LocalView)
     → stakes_of (set views i w) ≡ set (stakes_of views) i w.stake
 stakes-set views i w = map-set (λ (v : LocalView). v.stake) views i w
 
-stake_at : (views : List LocalView) (i : ℕ) (v : LocalView) → get_elem? views i ≡ some v
+pub stake_at : (views : List LocalView) (i : ℕ) (v : LocalView) → get_elem? views i ≡ some v
     → get_elem? (stakes_of views) i ≡ some v.stake
 stake_at views i v at = at_map (λ (x : LocalView). x.stake) views i v at
 

@@ -1,5 +1,5 @@
 -- Semaphores: a signal that is given or taken keeps the rule.
-use Rattle.std.proofs.Common.{◌≡◌, ◌≢◌, ℕ, ◌+◌, ◌-◌, ◌<◌, ◌≤◌, ◌∙◌, eqb, true, List, get_or, set, refl, sym, ap, subst, arith}
+use Rattle.std.proofs.Common.{◌≡◌, ◌≢◌, ℕ, ◌+◌, ◌-◌, ◌<◌, ◌≤◌, ◌∙◌, eqb, true, List, [], ◌∷◌, ◌++◌, get_or, set, refl, sym, ap, subst, arith}
 use Rattle.std.specs.Prelude.{nat_lt}
 use Rattle.std.proofs.lemmas.Bool.Decides.{nat_tests}
 use mathlib.Core.Option.{none}
@@ -9,10 +9,15 @@ use Rattle.stream_base.specs.declared.direction.Dir.{Dir}
 use Rattle.stream_base.specs.declared.direction.Dir.TheVariants.{Read, Write}
 use Rattle.lockword_core.specs.declared.stake.Stake.{Stake}
 use Rattle.lockword_core.specs.declared.stake.Stake.TheVariants as stake
+use Rattle.lockword_core.specs.declared.stake.Event.{Event}
+use Rattle.lockword_core.specs.declared.stake.Op.{Op}
 use Rattle.lockword_core.specs.declared.stake.Op.TheVariants as op
+use Rattle.lockword_core.specs.declared.stake.Answer.{Answer}
+use Rattle.lockword_core.specs.declared.stake.Answer.TheVariants as answer
 use Rattle.lockword_core.specs.declared.signals.TheConstants.{MAX_SIGNALS}
 use Rattle.lockword_core.specs.Signals.{signals_in, with_signals}
-use Rattle.lockword_core.specs.LockState.{Census, locks, lasts, part, count, owed_part}
+use Rattle.lockword_core.specs.LockState.{Census, empty, locks, lasts, part, count, owed_part}
+use Rattle.lockword_core.specs.Replay.{state_after}
 use Rattle.lockword_core.specs.LockInvariant.{ChangesOneStake}
 use Rattle.lockword_core.specs.Transition.{allows, stake_after_signal}
 use Rattle.lockword_core.proofs.BalanceLemmas as laws
@@ -21,15 +26,18 @@ use Rattle.lockword.specs.declared.local_view.LocalView.{LocalView}
 use Rattle.lockword.specs.declared.shared_rule.TheConstants.{STATE}
 use Rattle.lockword.specs.LocalView.{stakes_of, taken_by, takers}
 use Rattle.lockword.specs.Directions.{semaphore}
-use Rattle.lockword.specs.SharedInvariant.{Represents}
+use Rattle.lockword.specs.SharedInvariant.{IsReached}
+use Rattle.lockword.specs.History.{IsMade}
 use Rattle.lockword.specs.Steps.{way_of, signalled_view, counted, signalled}
 use Rattle.lockword.proofs.ViewLemmas.{one_changes, takers-set, taken-le}
 use Rattle.lockword.proofs.Representation.{present, fits, recounted, represents, on_signals}
 use Rattle.lockword.proofs.StateSteps.{same_count}
+use Rattle.lockword.proofs.LookSteps.{view_of}
+use Rattle.lockword.proofs.HistorySteps.{event, IsMove, IsDeed, gives_deed, takes_deed, deed_moves, own_stake, signalled_history, more_deeds, none_refused_more, is_made}
 use Rattle.lockword.proofs.Exchanges.{M, swaps, unmoved}
 
 -- what an exchange of n for m at the semaphore of a direction does for the holder of a stake, which then has another
-pub record IsRung (d : Dir) (n m : ℕ) (own new : Stake) : Type 0 where
+pub record KeepsCounts (d : Dir) (n m : ℕ) (own new : Stake) : Type 0 where
   own_lockless : (e : Dir) → part (locks e) own ≡ 0
   new_lockless : (e : Dir) → part (locks e) new ≡ 0
   not_last : part lasts own ≡ 0
@@ -75,7 +83,7 @@ with_count : (d : Dir) (c : Census) (ys : List Stake) (word n : ℕ) (change : �
 with_count d c ys word n change e b =
     subst (λ (x : ℕ). IsBalanced (record c { stakes = ys; signals = with_signals d (change x) c.signals }) word) e b
 
-gives_owed : (d : Dir) (n : ℕ) → n ≢ MAX_SIGNALS → IsRung d n (n + 1) (stake.Owes d) stake.Free
+gives_owed : (d : Dir) (n : ℕ) → n ≢ MAX_SIGNALS → KeepsCounts d n (n + 1) (stake.Owes d) stake.Free
 gives_owed d n room =
     record {
       own_lockless = λ e. refl;
@@ -85,9 +93,9 @@ gives_owed d n room =
     }
 
 pub gives_signal : (d : Dir) (n : ℕ) (own : Stake) → allows own (op.Signal d) ≡ true → n ≢ MAX_SIGNALS
-    → IsRung d n (n + 1) own (stake_after_signal d own)
+    → KeepsCounts d n (n + 1) own (stake_after_signal d own)
 gives_signal d n (stake.Owes e) may room =
-    subst (λ (z : Stake × Stake). IsRung d n (n + 1) z.0 z.1) (λ i. (stake.Owes (sym (owes_that_way d e may) i), sym (owed_is_given d e) i)) (gives_owed d n room)
+    subst (λ (z : Stake × Stake). KeepsCounts d n (n + 1) z.0 z.1) (λ i. (stake.Owes (sym (owes_that_way d e may) i), sym (owed_is_given d e) i)) (gives_owed d n room)
 gives_signal d n (stake.Closing r w) may room =
     record {
       own_lockless = λ e. refl;
@@ -97,7 +105,7 @@ gives_signal d n (stake.Closing r w) may room =
     }
 gives_signal d n _ may room = absurd (cc)
 
-takes_waited : (d : Dir) (n : ℕ) → n ≢ 0 → IsRung d n (n - 1) (stake.Waits d) stake.Free
+takes_waited : (d : Dir) (n : ℕ) → n ≢ 0 → KeepsCounts d n (n - 1) (stake.Waits d) stake.Free
 takes_waited d n more =
     record {
       own_lockless = λ e. refl;
@@ -107,22 +115,33 @@ takes_waited d n more =
     }
 
 pub takes_signal : (d : Dir) (n : ℕ) (own : Stake) → allows own (op.Wake d) ≡ true → n ≢ 0
-    → IsRung d n (n - 1) own (stake_after_signal d own)
+    → KeepsCounts d n (n - 1) own (stake_after_signal d own)
 takes_signal d n (stake.Waits e) may more =
-    subst (λ (z : Stake × Stake). IsRung d n (n - 1) z.0 z.1) (λ i. (stake.Waits (sym (waits_that_way d e may) i), sym (wait_is_over d e) i)) (takes_waited d n more)
+    subst (λ (z : Stake × Stake). KeepsCounts d n (n - 1) z.0 z.1) (λ i. (stake.Waits (sym (waits_that_way d e may) i), sym (wait_is_over d e) i)) (takes_waited d n more)
 takes_signal d n _ may more = absurd (cc)
+
+-- the exchange keeps the counts, and is this operation with this answer
+pub record IsSignalStep (d : Dir) (n m : ℕ) (own : Stake) (o : Op) (a : Answer) : Type 0 where
+  counts : KeepsCounts d n m own (stake_after_signal d own)
+  deed : IsDeed d n m own (stake_after_signal d own) o a
 
 -- a semaphore with room
 pub gives_one : (d : Dir) (n m : ℕ) (own : Stake) → allows own (op.Signal d) ≡ true → n < MAX_SIGNALS → m ≡ n + 1
-    → IsRung d n m own (stake_after_signal d own)
+    → IsSignalStep d n m own (op.Signal d) answer.Signalled
 gives_one d n m own may room more =
-    subst (λ (x : ℕ). IsRung d n x own (stake_after_signal d own)) (sym more) (gives_signal d n own may (λ full. absurd (omega arith)))
+    record {
+      counts = subst (λ (x : ℕ). KeepsCounts d n x own (stake_after_signal d own)) (sym more) (gives_signal d n own may (λ full. absurd (omega arith)));
+      deed = gives_deed d n m own may room more;
+    }
 
 -- a semaphore with a signal
 pub takes_one : (d : Dir) (n m : ℕ) (own : Stake) → allows own (op.Wake d) ≡ true → 0 < n → m ≡ n - 1
-    → IsRung d n m own (stake_after_signal d own)
+    → IsSignalStep d n m own (op.Wake d) answer.Woken
 takes_one d n m own may any less =
-    subst (λ (x : ℕ). IsRung d n x own (stake_after_signal d own)) (sym less) (takes_signal d n own may (λ none. absurd (omega arith)))
+    record {
+      counts = subst (λ (x : ℕ). KeepsCounts d n x own (stake_after_signal d own)) (sym less) (takes_signal d n own may (λ none. absurd (omega arith)));
+      deed = takes_deed d n m own may any less;
+    }
 
 way_back : (d : Dir) → way_of (semaphore d) ≡ d
 way_back Read = refl
@@ -133,49 +152,65 @@ few_signals Read c word b = b.reading.signals_fit
 few_signals Write c word b = b.writing.signals_fit
 
 module _ (R W : Type 0) where
+  -- what the seat has and did once it gave or took a signal
+  abbrev IsSignalled : (Dir → Op) → Answer → Dir → M R W → M R W → Type 0
+  IsSignalled o a d me me' = (me' ≡ (signalled_view o d me.0, me.1)) × IsMade (o d) a me.0 me'.0
+
   -- an exchange of a semaphore, by which a seat's stake changes, keeps the rule
-  rings_there : (d : Dir) (slots id n m : ℕ) (me : M R W) → IsRung d n m me.0.stake (stake_after_signal d me.0.stake)
-      → Allows Represents slots id me (semaphore d) (λ x. either (eqb x n) m x) (signalled (step slots (semaphore d) n m none) me)
-  rings_there d slots id n m me rung =
-      swaps R W slots id (semaphore d) n m me (λ me'. me' ≡ (signalled_view (way_of (semaphore d)) me.0, me.1))
-      (λ s r at found.
+  signals_there : (d : Dir) (slots id n m : ℕ) (me : M R W) (o : Dir → Op) (a : Answer) → IsSignalStep d n m me.0.stake (o d) a
+      → Allows IsReached slots id me (semaphore d) (λ x. either (eqb x n) m x) (signalled o a (step slots (semaphore d) n m none) me)
+  signals_there d slots id n m me o a signal =
+      let keeps_counts = signal.counts in
+      swaps R W slots id (semaphore d) n m me (IsSignalled o a (way_of (semaphore d)) me)
+      (λ s reached at found.
+      let r = reached.represents in
       let f = fits s r in
       let c : Census = present s r in
-      let w : LocalView = signalled_view d me.0 in
+      let w : LocalView = signalled_view o d me.0 in
       let views : List LocalView = set s.views id w in
       let one = one_changes s.views id me.0 w at in
       let here : signals_in d c.signals ≡ n = sym (f.semaphores d) ∙ found in
-      let locked : (e : Dir) → count (locks e) (stakes_of views) ≡ count (locks e) (stakes_of s.views) = λ e. same_count _ _ _ _ _ (one.counted_before (locks e)) (one.counted_after (locks e)) (rung.own_lockless e) (rung.new_lockless e) in
+      let locked : (e : Dir) → count (locks e) (stakes_of views) ≡ count (locks e) (stakes_of s.views) = λ e. same_count _ _ _ _ _ (one.counted_before (locks e)) (one.counted_after (locks e)) (keeps_counts.own_lockless e) (keeps_counts.new_lockless e) in
       let took : takers views + taken_by me.0 ≡ takers s.views + 0 = takers-set s.views id me.0 w at in
       let mine : taken_by me.0 ≤ part lasts me.0.stake = taken-le me.0 in
-      let no_last = rung.not_last in
-      let takers_same : takers views ≡ takers s.views = omega arith in (
+      let no_last = keeps_counts.not_last in
+      let takers_same : takers views ≡ takers s.views = omega arith in
+      let h : List Event = reached.history in
+      let own = own_stake (state_after empty h) s.words s.views id me.0 reached.leads at in
+      let made : IsMove h id (o d) a (stake_after_signal d me.0.stake) signal.deed.change = deed_moves h id d n m me.0.stake _ (o d) a signal.deed own (sym (reached.leads.semaphores d) ∙ found) in (
         w,
         keeps,
         tt,
-        represents (set s.words (semaphore d) m) s.homes views (record c { stakes = stakes_of views; signals = with_signals d m c.signals }) (get_or s.words STATE 0)
-            (on_signals d s.words s.homes s.views c (get_or s.words STATE 0) m id w f
-            (rung.balances c (stakes_of views) _ f.balance one here)
-            (λ e. recounted e s.homes c (stakes_of views) _ _ (locked e) takers_same (f.halves e))
-            (let saw = f.seen id me.0 at in record { closed = saw.closed; done = saw.done })),
-        ap (λ (x : Dir). (signalled_view x me.0, me.1)) (sym (way_back d)),
+        record {
+          represents = represents (set s.words (semaphore d) m) s.homes views (record c { stakes = stakes_of views; signals = with_signals d m c.signals }) (get_or s.words STATE 0)
+              (on_signals d s.words s.homes s.views c (get_or s.words STATE 0) m id w f
+              (keeps_counts.balances c (stakes_of views) _ f.balance one here)
+              (λ e. recounted e s.homes c (stakes_of views) _ _ (locked e) takers_same (f.halves e))
+              (let saw = f.seen id me.0 at in record { closed = saw.closed; done = saw.done }));
+          history = h ++ event id (o d) ∷ [];
+          interleaves = more_deeds h s.views id me.0 w (o d) reached.interleaves at refl;
+          none_refused = none_refused_more h id (o d) a _ _ made reached.none_refused;
+          leads = signalled_history h s.words s.views id me.0 w d n m (stake_after_signal d me.0.stake) (o d) a signal.deed reached.leads r.four_words at found refl;
+        },
+        subst (λ (x : Dir). IsSignalled o a x me (w, me.1)) (sym (way_back d))
+            (refl, is_made h id me.0 w (o d) a _ _ (view_of s reached id me.0 at) made refl refl),
       ))
 
   -- a load of a semaphore
   counts_there : (d : Dir) (slots id : ℕ) (me : M R W)
-      → Allows Represents slots id me (semaphore d) (λ n. n) (counted (step slots (semaphore d) 0 0 none) me)
-  counts_there d slots id me s r deep at small =
-      let few = few_signals d (present s r) _ (fits s r).balance in
-      let here = (fits s r).semaphores d in
-      (me.0, keeps, tt, unmoved R W s (semaphore d) id me.0 r at, (omega arith, refl))
+      → Allows IsReached slots id me (semaphore d) (λ n. n) (counted (step slots (semaphore d) 0 0 none) me)
+  counts_there d slots id me s reached deep at small =
+      let few = few_signals d (present s reached.represents) _ (fits s reached.represents).balance in
+      let here = (fits s reached.represents).semaphores d in
+      (me.0, keeps, tt, unmoved R W s (semaphore d) id me.0 reached at, (omega arith, refl))
 
-  pub rings : (d : Dir) (slots id i n m : ℕ) (me : M R W) → i ≡ semaphore d
-      → IsRung d n m me.0.stake (stake_after_signal d me.0.stake)
-      → Allows Represents slots id me i (λ x. either (eqb x n) m x) (signalled (step slots i n m none) me)
-  rings d slots id i n m me e rung =
-      subst (λ (j : ℕ). Allows Represents slots id me j (λ x. either (eqb x n) m x) (signalled (step slots j n m none) me)) (sym e) (rings_there d slots id n m me rung)
+  pub signals : (d : Dir) (slots id i n m : ℕ) (me : M R W) (o : Dir → Op) (a : Answer) → i ≡ semaphore d
+      → IsSignalStep d n m me.0.stake (o d) a
+      → Allows IsReached slots id me i (λ x. either (eqb x n) m x) (signalled o a (step slots i n m none) me)
+  signals d slots id i n m me o a e signal =
+      subst (λ (j : ℕ). Allows IsReached slots id me j (λ x. either (eqb x n) m x) (signalled o a (step slots j n m none) me)) (sym e) (signals_there d slots id n m me o a signal)
 
   pub counts : (d : Dir) (slots id i : ℕ) (me : M R W) → i ≡ semaphore d
-      → Allows Represents slots id me i (λ n. n) (counted (step slots i 0 0 none) me)
+      → Allows IsReached slots id me i (λ n. n) (counted (step slots i 0 0 none) me)
   counts d slots id i me e =
-      subst (λ (j : ℕ). Allows Represents slots id me j (λ n. n) (counted (step slots j 0 0 none) me)) (sym e) (counts_there d slots id me)
+      subst (λ (j : ℕ). Allows IsReached slots id me j (λ n. n) (counted (step slots j 0 0 none) me)) (sym e) (counts_there d slots id me)

@@ -6,6 +6,8 @@ use Rattle.stream_base.specs.declared.direction.Dir.{Dir}
 use Rattle.stream_base.specs.declared.direction.Dir.TheVariants.{Read, Write}
 use Rattle.lockword_core.specs.declared.stake.Stake.{Stake}
 use Rattle.lockword_core.specs.declared.stake.Stake.TheVariants as stake
+use Rattle.lockword_core.specs.declared.stake.Op.{Op}
+use Rattle.lockword_core.specs.declared.stake.Answer.{Answer}
 use Rattle.lockword_core.specs.declared.word.Word.{Word}
 use Rattle.lockword_core.specs.declared.word.TheConstants.{READ_LOCK, CLOSED, MAX_REFERENCES, MAX_WAITERS, NO_WORD}
 use Rattle.lockword_core.specs.declared.transition.Kind.{Kind}
@@ -17,15 +19,17 @@ use Rattle.lockword_core.specs.declared.transition.Refused.TheVariants as why
 use Rattle.lockword_core.specs.Word.{bit, IsWord, packed, closed_in, lock_in, references_in, waiters_in}
 use Rattle.lockword_core.specs.Transition.{allows}
 use Rattle.lockword_core.specs.FieldStep.{lock_of, waiters_of, guards, first_refusal, field_step, packed_result, fields_in, stepped_word}
-use Rattle.lockword_core.specs.WordStep.{op_of}
-use Rattle.lockword_core.proofs.FieldSteps.{same_numbers, not_false, holds, IsMade, Stepped, stepped, refused_holds, full_is_open}
+use Rattle.lockword_core.specs.WordStep.{op_of, gained}
+use Rattle.lockword_core.proofs.FieldSteps.{same_numbers, not_false, holds, IsMade as IsTableMade, Stepped, stepped, refused_holds, full_is_open}
 use Rattle.lockword_core.proofs.WordRefines.{same_pair}
 use Rattle.lockword_core.proofs.WordFields.{fields_fit, packs_back, unpacks}
 use Rattle.lockword.specs.declared.local_view.Marks.{Marks}
 use Rattle.lockword.specs.declared.local_view.LocalView.{LocalView}
 use Rattle.lockword.specs.declared.shared_rule.Half.{Half}
+use Rattle.lockword.specs.History.{IsMade}
+use Rattle.lockword.specs.Moment.{IsFound, IsShown}
 use Rattle.lockword.specs.declared.transitions.Advance.TheVariants as advance
-use Rattle.lockword.specs.Marks.{Place, SameMarks, Later, NowClosed, IsOpen, HasNotTaken, IsFullWay, IsFull, Marked, LostMarks}
+use Rattle.lockword.specs.Marks.{Place, SameMarks, Later, NowClosed, IsOpen, HasNotTaken, IsFullWay, IsFull, Marked, LostMarks, SameDeeds}
 use Rattle.lockword.specs.Steps.{Shows, Told, seen_in, saw_after, moved_view, Carries, Keeps, Came, Advanced}
 
 -- ---- The tests
@@ -37,14 +41,14 @@ is_stepped n k r small told = told (fields_in n) (fields_fit n) (packs_back n sm
 
 -- what the word shows where a step comes to this
 abbrev pub Shown : ℕ → Kind → After → Type 0
-Shown n k a = (g : Word) × IsMade (fields_in n) k a g
+Shown n k a = (g : Word) × IsTableMade (fields_in n) k a g
 
 pub possible : (n m : ℕ) (k : Kind) (a : After) → stepped_word n k ≡ Ok (m, a) → Shown n k a
 possible n m k a = by (field_step (fields_in n) k) (stepped (fields_in n) k)
   where
     by : (r : Result (Word × After) Refused) → Stepped (fields_in n) k r → packed_result r ≡ Ok (m, a) → Shown n k a
     by (Ok (g, b)) made e =
-        (g, subst (λ (x : ℕ × After). IsMade (fields_in n) k x.1 g) (same_pair (packed g, b) (m, a) e) made)
+        (g, subst (λ (x : ℕ × After). IsTableMade (fields_in n) k x.1 g) (same_pair (packed g, b) (m, a) e) made)
     by (Err x) first e = absurd (cc)
 
 -- which test refuses
@@ -91,22 +95,41 @@ open_by false x none ne = refl
 both_marks : (m n : Marks) → m.closed ≡ n.closed → m.done ≡ n.done → m ≡ n
 both_marks m n closed done i = record { closed = closed i; done = done i }
 
+-- the fields of the word that was found
+pub shown : (R W : Type 0) (n : ℕ) (w : Word) (v : LocalView) → IsFound R W n v → IsWord w → packed w ≡ n → IsShown R W w v
+shown R W n w v found fits same =
+    record { moment = found.moment; read = record { rule = found.rule; is_word = fits; same = same ∙ sym found.word }; seat = found.seat; own = found.own }
+
+-- what a seat made after a load, it made with the view that it had before
+pub made_before : {R W : Type 0} (n : ℕ) (v w : LocalView) (o : Op) (a : Answer) → Told R W n v → IsMade o a (seen_in n v) w
+    → IsMade o a v w
+made_before n v w o a told made =
+    record {
+      history = made.history;
+      seat = made.seat;
+      own = record { did = made.own.did; stake = made.own.stake; saw_closed = λ e. made.own.saw_closed (told.saw_closed e); saw_done = made.own.saw_done };
+      answered = made.answered;
+      stake = made.stake;
+      did = made.did;
+    }
+
 module _ {R W : Type 0} where
   -- the marks of a seat that looked and saw no flag
-  marks_open : (n : ℕ) (p q : Place R W) → Told n p.me.0 → closed_in n ≡ false → q.me.0.saw.closed ≡ closed_in n
+  marks_open : (n : ℕ) (p q : Place R W) → Told R W n p.me.0 → closed_in n ≡ false → q.me.0.saw.closed ≡ closed_in n
       → q.me.0.saw.done ≡ p.me.0.saw.done → q.table_id ≡ p.table_id → SameMarks p q × IsOpen p
   marks_open n p q told unshut flag done same =
       let unseen = was_open p.me.0.saw.closed (closed_in n) told.saw_closed unshut in
       ((same, both_marks _ _ (flag ∙ unshut ∙ sym unseen) done), unseen)
 
-  marks_later : (n : ℕ) (p q : Place R W) → Told n p.me.0 → q.me.0.saw.closed ≡ closed_in n
+  marks_later : (n : ℕ) (p q : Place R W) → Told R W n p.me.0 → q.me.0.saw.closed ≡ closed_in n
       → q.me.0.saw.done ≡ p.me.0.saw.done → q.table_id ≡ p.table_id → Later p q
   marks_later n p q told flag done same = (same, (λ e. flag ∙ told.saw_closed e), done)
 
-  pub came : (k : Kind) (a : After) (n m : ℕ) (p q : Place R W) → Told n p.me.0 → stepped_word n k ≡ Ok (m, a)
-      → q.me.0 ≡ moved_view k a (seen_in n p.me.0) → Carries k a p.me.1 q.me.1 → q.table_id ≡ p.table_id → Came k a p q
-  came k a n m p q told is view slots same =
-      (ap (λ (v : LocalView). v.stake) view, slots, by k a (possible n m k a is) (ap (λ (v : LocalView). v.saw.closed) view))
+  pub came : (k : Kind) (a : After) (n m : ℕ) (p q : Place R W) → Told R W n p.me.0 → stepped_word n k ≡ Ok (m, a)
+      → q.me.0 ≡ moved_view k a (seen_in n p.me.0) → Carries k a p.me.1 q.me.1 → q.table_id ≡ p.table_id
+      → IsMade (op_of k) (gained k a).0 p.me.0 q.me.0 → Came k a p q
+  came k a n m p q told is view slots same made =
+      (ap (λ (v : LocalView). v.stake) view, slots, (by k a (possible n m k a is) (ap (λ (v : LocalView). v.saw.closed) view), made))
     where
       done : q.me.0.saw.done ≡ p.me.0.saw.done
       done = ap (λ (v : LocalView). v.saw.done) view
@@ -137,9 +160,12 @@ module _ {R W : Type 0} where
   pub kept : (n : ℕ) (p q : Place R W) → q.me ≡ (seen_in n p.me.0, p.me.1) → Keeps p q
   kept n p q e = (ap (λ m. m.0.stake) e, ap (λ m. m.0.took) e, ap (λ m. m.1) e)
 
-  pub lost : (k : Kind) (a : After) (n m : ℕ) (p q : Place R W) → Told n p.me.0 → stepped_word n k ≡ Ok (m, a)
+  pub deeds_kept : (n : ℕ) (p q : Place R W) → q.me ≡ (seen_in n p.me.0, p.me.1) → SameDeeds p q
+  deeds_kept n p q e = ap (λ m. m.0.did) e
+
+  pub lost : (k : Kind) (a : After) (n m : ℕ) (p q : Place R W) → Told R W n p.me.0 → stepped_word n k ≡ Ok (m, a)
       → q.me ≡ (seen_in n p.me.0, p.me.1) → q.table_id ≡ p.table_id → Advanced k p q advance.Lost
-  lost k a n m p q told is me same = (kept n p q me, by k a (possible n m k a is))
+  lost k a n m p q told is me same = (kept n p q me, (by k a (possible n m k a is), deeds_kept n p q me))
     where
       flag : q.me.0.saw.closed ≡ closed_in n
       flag = ap (λ m. m.0.saw.closed) me
@@ -151,8 +177,8 @@ module _ {R W : Type 0} where
       by kind.Incref a (g, made) = marks_open n p q told (made.passes why.Closed) flag done same
       by kind.Close a (g, made) = marks_open n p q told (made.passes why.Closed) flag done same
       by (kind.Lock d) a (g, made) = marks_open n p q told (made.passes why.Closed) flag done same
-      by kind.Decref a shown = marks_later n p q told flag done same
-      by (kind.Unlock d) a shown = marks_later n p q told flag done same
+      by kind.Decref a made = marks_later n p q told flag done same
+      by (kind.Unlock d) a made = marks_later n p q told flag done same
 
   pub refused_closed : (k : Kind) (n : ℕ) (p q : Place R W) → stepped_word n k ≡ Err why.Closed
       → q.me ≡ (seen_in n p.me.0, p.me.1) → q.table_id ≡ p.table_id → Advanced k p q advance.Closed
@@ -162,36 +188,40 @@ module _ {R W : Type 0} where
       now shut = (same, ap (λ m. m.0.saw.closed) me ∙ shut, ap (λ m. m.0.saw.done) me)
 
       by : (k : Kind) → holds why.Closed (guards (fields_in n) k) ≡ true → Advanced k p q advance.Closed
-      by kind.Incref shut = (tt, kept n p q me, now shut)
-      by kind.Close shut = (tt, kept n p q me, now shut)
-      by (kind.Lock d) shut = (tt, kept n p q me, now shut)
+      by kind.Incref shut = (tt, kept n p q me, (now shut, deeds_kept n p q me))
+      by kind.Close shut = (tt, kept n p q me, (now shut, deeds_kept n p q me))
+      by (kind.Lock d) shut = (tt, kept n p q me, (now shut, deeds_kept n p q me))
       by kind.Decref none = absurd (cc)
       by (kind.Unlock d) none = absurd (cc)
 
-  pub refused_full : (k : Kind) (n : ℕ) (w : Word) (p q : Place R W) → Told n p.me.0
+  pub refused_full : (k : Kind) (n : ℕ) (w : Word) (p q : Place R W) → Told R W n p.me.0
       → stepped_word n k ≡ Err why.TooMany → IsWord w → packed w ≡ n → q.me ≡ (seen_in n p.me.0, p.me.1)
       → q.table_id ≡ p.table_id → Advanced k p q (advance.TooMany w)
   refused_full k n w p q told is fits same_word me same =
-      (kept n p q me, (marks.0, marks.1, full_is_open w k first, is_full w k (refused_holds w k why.TooMany first)))
+      (kept n p q me, ((marks.0, marks.1, full_is_open w k first, is_full w k (refused_holds w k why.TooMany first)), shown R W n w q.me.0 found fits same_word, deeds_kept n p q me))
     where
       first : first_refusal (guards w k) ≡ Some why.TooMany
       first =
           subst (λ (f : Word). first_refusal (guards f k) ≡ Some why.TooMany) (unpacks w n fits same_word) (refusing n k why.TooMany is)
+
+      found : IsFound R W n q.me.0
+      found = subst (λ (v : LocalView). IsFound R W n v) (sym (ap (λ m. m.0) me)) told.found
 
       marks : SameMarks p q × IsOpen p
       marks =
           marks_open n p q told (full_is_open (fields_in n) k (refusing n k why.TooMany is)) (ap (λ m. m.0.saw.closed) me) (ap (λ m. m.0.saw.done) me) same
 
   -- the same, where the step was told of an equal kind, and was made after a load
-  pub came_after : (k j : Kind) (a : After) (n m : ℕ) (p x q : Place R W) → k ≡ j → Told n p.me.0
+  pub came_after : (k j : Kind) (a : After) (n m : ℕ) (p x q : Place R W) → k ≡ j → Told R W n p.me.0
       → stepped_word n k ≡ Ok (m, a) → x.me ≡ (seen_in n p.me.0, p.me.1)
-      → ((b : After) → stepped_word n j ≡ Ok (m, b) → (q.me.0 ≡ moved_view j b x.me.0) × Carries j b x.me.1 q.me.1)
+      → ((b : After) → stepped_word n j ≡ Ok (m, b) → (q.me.0 ≡ moved_view j b x.me.0) × Carries j b x.me.1 q.me.1 × IsMade (op_of j) (gained j b).0 x.me.0 q.me.0)
       → q.table_id ≡ p.table_id → Came k a p q
   came_after k j a n m p x q same_kind told is looked did same =
-      let did_k : ((b : After) → stepped_word n k ≡ Ok (m, b) → (q.me.0 ≡ moved_view k b x.me.0) × Carries k b x.me.1 q.me.1) =
-      subst (λ (z : Kind). (b : After) → stepped_word n z ≡ Ok (m, b) → (q.me.0 ≡ moved_view z b x.me.0) × Carries z b x.me.1 q.me.1) (sym same_kind) did in
+      let did_k : ((b : After) → stepped_word n k ≡ Ok (m, b) → (q.me.0 ≡ moved_view k b x.me.0) × Carries k b x.me.1 q.me.1 × IsMade (op_of k) (gained k b).0 x.me.0 q.me.0) =
+      subst (λ (z : Kind). (b : After) → stepped_word n z ≡ Ok (m, b) → (q.me.0 ≡ moved_view z b x.me.0) × Carries z b x.me.1 q.me.1 × IsMade (op_of z) (gained z b).0 x.me.0 q.me.0) (sym same_kind) did in
       let one = did_k a is in
       came k a n m p q told is (one.0 ∙ ap (λ y. moved_view k a y.0) looked) (subst (λ (l : List (ℕ × Half R W)). Carries k a l q.me.1) (ap (λ y. y.1) looked) one.1) same
+      (made_before n p.me.0 q.me.0 (op_of k) (gained k a).0 told (subst (λ (y : LocalView). IsMade (op_of k) (gained k a).0 y q.me.0) (ap (λ y. y.0) looked) one.2))
 
 -- no step that a stake allows is a misuse
 pub no_misuse : (k : Kind) (own : Stake) (n : ℕ) → Shows own n → allows own (op_of k) ≡ true

@@ -1,9 +1,13 @@
 pub mod Directions
+pub mod Dropping
 pub mod LocalView
+pub mod History
 pub mod Marks
 pub mod Places
 pub mod SharedInvariant
+pub mod Moment
 pub mod Slots
 pub mod Steps
 pub mod TransitionOutcomes
 pub mod Lent
+pub mod Laws

@@ -1,8 +1,10 @@
 -- A seat's word and its marks, before and after a call.
-use Rattle.std.specs.Prelude.{◌≡◌, ◌⊎◌, Bool, true, false}
+use Rattle.std.specs.Prelude.{◌≡◌, ◌⊎◌, List, Bool, true, false}
 use Rattle.atomic_table.specs.declared.shared.Seat as table
 use Rattle.atomic_table.specs.Seated.{TableId}
 use Rattle.stream_base.specs.declared.direction.Dir.{Dir}
+use Rattle.lockword_core.specs.declared.stake.Op.{Op}
+use Rattle.lockword_core.specs.declared.stake.Answer.{Answer}
 use Rattle.lockword_core.specs.declared.transition.Kind.{Kind}
 use Rattle.lockword_core.specs.declared.transition.Kind.TheVariants as kind
 use Rattle.lockword_core.specs.declared.transition.After.{After}
@@ -10,6 +12,9 @@ use Rattle.lockword_core.specs.declared.transition.After.TheVariants as after
 use Rattle.lockword_core.specs.declared.word.Word.{Word}
 use Rattle.lockword_core.specs.declared.word.TheConstants.{MAX_REFERENCES, MAX_WAITERS}
 use Rattle.lockword_core.specs.FieldStep.{lock_of, waiters_of}
+use Rattle.lockword_core.specs.WordStep.{op_of, gained}
+use Rattle.lockword.specs.History.{IsMade}
+use Rattle.lockword.specs.Moment.{IsShown}
 use Rattle.lockword.specs.declared.local_view.Marks.{Marks}
 use Rattle.lockword.specs.declared.local_view.LocalView.{LocalView}
 use Rattle.lockword.specs.declared.shared_rule.Half.{Half}
@@ -39,6 +44,10 @@ module _ {R W : Type 0} where
   abbrev pub saw_done : Place R W → Bool
   saw_done p = (marks_of p).done
 
+  -- the operations that the seat has made, in order
+  abbrev pub deeds : Place R W → List Op
+  deeds p = p.me.0.did
+
   -- the same word and the same marks
   abbrev pub SameMarks : Place R W → Place R W → Type 0
   SameMarks p q = (word_of q ≡ word_of p) × (marks_of q ≡ marks_of p)
@@ -51,6 +60,19 @@ module _ {R W : Type 0} where
   -- the same word, and now the seat has seen it closed
   abbrev pub NowClosed : Place R W → Place R W → Type 0
   NowClosed p q = (word_of q ≡ word_of p) × (saw_closed q ≡ true) × (saw_done q ≡ saw_done p)
+
+  -- after some list of operations by the word's seats, this seat made this operation, was answered
+  -- so, and has what it has now
+  abbrev pub Did : Op → Answer → Place R W → Place R W → Type 0
+  Did o a p q = IsMade o a p.me.0 q.me.0
+
+  -- the seat made no operation
+  abbrev pub SameDeeds : Place R W → Place R W → Type 0
+  SameDeeds p q = deeds q ≡ deeds p
+
+  -- these were the six fields at some moment, at which the rule held and this seat had this view
+  abbrev pub Showed : Word → Place R W → Type 0
+  Showed w q = IsShown R W w q.me.0
 
   -- whether a `Last` has taken the halves
   abbrev pub HasTaken : Place R W → Type 0
@@ -100,3 +122,19 @@ module _ {R W : Type 0} where
   -- the marks once a step was refused by this word, which is not closed and is at a limit
   abbrev pub FullMarks : Kind → Place R W → Place R W → Word → Type 0
   FullMarks k p q w = SameMarks p q × IsOpen p × (w.closed ≡ false) × IsFull k w
+
+  -- a step of this kind was made and came to this: the seat's marks, and what it did
+  abbrev pub Made : Kind → After → Place R W → Place R W → Type 0
+  Made k a p q = Marked k a p q × Did (op_of k) (gained k a).0 p q
+
+  -- the exchange of a step was lost, and the seat did nothing
+  abbrev pub LostStep : Kind → Place R W → Place R W → Type 0
+  LostStep k p q = LostMarks k p q × SameDeeds p q
+
+  -- a step found the word closed, and the seat did nothing
+  abbrev pub FoundClosed : Place R W → Place R W → Type 0
+  FoundClosed p q = NowClosed p q × SameDeeds p q
+
+  -- a step was refused by this word, which was the word at some moment, and the seat did nothing
+  abbrev pub FoundFull : Kind → Place R W → Place R W → Word → Type 0
+  FoundFull k p q w = FullMarks k p q w × Showed w q × SameDeeds p q

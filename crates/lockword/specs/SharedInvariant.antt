@@ -1,18 +1,22 @@
 -- What holds of the words, the slots and all seats between any two atomic steps.
-use Rattle.std.specs.Prelude.{◌≡◌, ◌+◌, ℕ, true, length, slice_index}
+use Rattle.std.specs.Prelude.{◌≡◌, ◌+◌, ℕ, true, List, length, slice_index}
 use mathlib.Core.Option.{some}
 use lib.ListN.{get_elem?}
 use Rattle.atomic_table.specs.Table.{State}
 use Rattle.stream_base.specs.declared.direction.Dir.{Dir}
+use Rattle.lockword_core.specs.declared.stake.Event.{Event}
 use Rattle.lockword_core.specs.Word.{bit}
 use Rattle.lockword_core.specs.Signals.{signals_in}
-use Rattle.lockword_core.specs.LockState.{Census, locks, number, encoded}
+use Rattle.lockword_core.specs.LockState.{Census, empty, locks, number, encoded}
 use Rattle.lockword_core.specs.LockInvariant.{IsConsistentCensus}
+use Rattle.lockword_core.specs.Replay.{state_after}
+use Rattle.lockword_core.specs.OperationCounts.{NoneRefused}
 use Rattle.lockword.specs.declared.local_view.LocalView.{LocalView}
 use Rattle.lockword.specs.declared.shared_rule.Half.{Half}
 use Rattle.lockword.specs.declared.shared_rule.TheConstants.{STATE, DONE}
 use Rattle.lockword.specs.Directions.{semaphore, slot_of, half_home}
 use Rattle.lockword.specs.LocalView.{stakes_of, takers}
+use Rattle.lockword.specs.History.{Matches, Interleaves}
 
 -- what a seat saw is so
 pub record SawRightly (c : Census) (v : LocalView) : Type 0 where
@@ -37,3 +41,12 @@ module _ {R W : Type 0} where
         → half_home d (get_elem? s.homes (slot_of d)) + number (locks d) census + takers s.views + bit census.destroyed ≡ 1
     -- whoever saw the closed flag or the done word set, saw what is so
     pub seen : (i : ℕ) (v : LocalView) → get_elem? s.views i ≡ some v → SawRightly census v
+
+  -- the rule of the table: besides, what all seats have ever done leads here from the empty state,
+  -- in some order that keeps each seat's own
+  pub record IsReached (s : State (Half R W) LocalView) : Type 0 where
+    pub represents : Represents s
+    pub history : List Event
+    pub interleaves : Interleaves history s.views
+    pub none_refused : NoneRefused history
+    pub leads : Matches (state_after empty history) s.words s.views

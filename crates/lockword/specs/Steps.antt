@@ -1,28 +1,33 @@
 -- What the atomic steps tell the seat that makes them. No public clause cites this module.
-use Rattle.std.specs.Prelude.{◌≡◌, ◌≢◌, ◌==◌, ◌<◌, ◌≤◌, ℕ, List, [], ◌∷◌, Bool, true, false, Ok, if◌then◌else◌}
+use Rattle.std.specs.Prelude.{◌≡◌, ◌≢◌, ◌==◌, ◌<◌, ◌≤◌, ◌-◌, ℕ, List, [], ◌∷◌, ◌++◌, Bool, true, false, Ok, if◌then◌else◌}
 use Rattle.atomic_table.specs.Table.{Me, Step, rest}
 use Rattle.stream_base.specs.declared.direction.Dir.{Dir}
 use Rattle.stream_base.specs.declared.direction.Dir.TheVariants.{Read, Write}
 use Rattle.lockword_core.specs.declared.stake.Stake.{Stake}
 use Rattle.lockword_core.specs.declared.stake.Stake.TheVariants as stake
-use Rattle.lockword_core.specs.declared.word.TheConstants.{CLOSED, NO_WORD, MAX_REFERENCES}
+use Rattle.lockword_core.specs.declared.stake.Op.{Op}
+use Rattle.lockword_core.specs.declared.stake.Op.TheVariants as op
+use Rattle.lockword_core.specs.declared.stake.Answer.{Answer}
+use Rattle.lockword_core.specs.declared.stake.Answer.TheVariants as answer
+use Rattle.lockword_core.specs.declared.word.TheConstants.{CLOSED, NO_WORD, REFERENCE}
 use Rattle.lockword_core.specs.declared.signals.TheConstants.{MAX_SIGNALS}
 use Rattle.lockword_core.specs.declared.transition.Kind.{Kind}
 use Rattle.lockword_core.specs.declared.transition.Kind.TheVariants as kind
 use Rattle.lockword_core.specs.declared.transition.After.{After}
 use Rattle.lockword_core.specs.declared.transition.After.TheVariants as after
 use Rattle.lockword_core.specs.Word.{closed_in, lock_in, references_in, waiters_in}
-use Rattle.lockword_core.specs.WordStep.{gained}
+use Rattle.lockword_core.specs.WordStep.{op_of, gained}
 use Rattle.lockword_core.specs.FieldStep.{stepped_word}
 use Rattle.lockword.specs.declared.local_view.LocalView.{LocalView}
-use Rattle.lockword_core.specs.declared.word.Word.{Word}
-use Rattle.lockword_core.specs.Transition.{lock_stake, stake_after_signal}
+use Rattle.lockword_core.specs.Transition.{stake_after_signal}
 use Rattle.lockword.specs.declared.transitions.Advance.{Advance}
 use Rattle.lockword.specs.declared.transitions.Advance.TheVariants as advance
-use Rattle.lockword.specs.declared.signals.Rung.{Rung}
-use Rattle.lockword.specs.declared.signals.Rung.TheVariants as rung
+use Rattle.lockword.specs.declared.signals.SignalTry.{SignalTry}
+use Rattle.lockword.specs.declared.signals.SignalTry.TheVariants as tried
 use Rattle.lockword.specs.Directions.{slot_of, Guarded, half_of}
-use Rattle.lockword.specs.Marks.{Place, SameMarks, NowClosed, Marked, LostMarks, FullMarks}
+use Rattle.lockword.specs.History.{IsMade}
+use Rattle.lockword.specs.Moment.{IsFound}
+use Rattle.lockword.specs.Marks.{Place, SameMarks, Did, SameDeeds, Made, LostStep, FoundClosed, FoundFull}
 use Rattle.lockword.specs.declared.shared_rule.Half.{Half}
 use Rattle.lockword.specs.declared.shared_rule.Half.TheVariants as half
 use Rattle.lockword.specs.declared.shared_rule.TheConstants.{READ_HALF, WRITE_HALF, READ_SIGNALS}
@@ -36,18 +41,19 @@ Shows (stake.Closing r w) n = 0 < references_in n
 Shows stake.Last n = n ≡ CLOSED
 Shows _ n = Unit {0}
 
+-- the view once the state word was seen
+abbrev pub seen_in : ℕ → LocalView → LocalView
+seen_in n v = record v { saw = record { closed = closed_in n; done = v.saw.done } }
+
 -- what a load of the state tells a seat with this view
-pub record Told (n : ℕ) (v : LocalView) : Type 0 where
+pub record Told (R W : Type 0) (n : ℕ) (v : LocalView) : Type 0 where
+  pub found : IsFound R W n (seen_in n v)
   pub is_word : n < NO_WORD
   pub saw_closed : v.saw.closed ≡ true → closed_in n ≡ true
   pub saw_done : v.saw.done ≡ true → n ≡ CLOSED
   pub shows : Shows v.stake n
   -- nobody waits for a signal once the word is closed
   pub none_waits : (d : Dir) → closed_in n ≡ true → waiters_in d n ≡ 0
-
--- the view once the state word was seen
-abbrev pub seen_in : ℕ → LocalView → LocalView
-seen_in n v = record v { saw = record { closed = closed_in n; done = v.saw.done } }
 
 -- whether a seat saw the flag once it made a step
 abbrev pub saw_after : Kind → Bool → Bool
@@ -57,18 +63,35 @@ saw_after _ c = c
 -- the view once the seat made a step
 abbrev pub moved_view : Kind → After → LocalView → LocalView
 moved_view k a v =
-    record { stake = (gained k a).1; took = false; saw = record { closed = saw_after k v.saw.closed; done = v.saw.done } }
+    record {
+      stake = (gained k a).1;
+      took = false;
+      saw = record { closed = saw_after k v.saw.closed; done = v.saw.done };
+      did = v.did ++ op_of k ∷ [];
+    }
+
+-- the view once the seat marked that it destroyed
+abbrev pub destroyed_view : LocalView → LocalView
+destroyed_view v =
+    record {
+      stake = stake.Free;
+      took = false;
+      saw = record { closed = v.saw.closed; done = true };
+      did = v.did ++ op.Destroy ∷ [];
+    }
 
 module _ {S : Type 0} where
-  abbrev pub looked : Step S → Me S LocalView → ℕ → Me S LocalView → Type 0
-  looked st me n me' = Told n me.0 × (me' ≡ (seen_in n me.0, me.1))
-
   -- a load of the done word
   abbrev pub asked : Step S → Me S LocalView → ℕ → Me S LocalView → Type 0
   asked st me n me' =
       (n ≤ 1) × (me.0.saw.done ≡ true → n ≡ 1) × (me' ≡ (record me.0 { saw = record { closed = me.0.saw.closed; done = n == 1 } }, me.1))
 
 module _ {R W : Type 0} where
+  -- a load of the state
+  abbrev pub looked : Step (Half R W) → Me (Half R W) LocalView → ℕ → Me (Half R W) LocalView
+      → Type 0
+  looked st me n me' = Told R W n me.0 × (me' ≡ (seen_in n me.0, me.1))
+
   -- the slots that a seat holds once it made a step: a lock that is taken brings its half, one
   -- given back leaves it
   abbrev pub Carries : Kind → After → List (ℕ × Half R W) → List (ℕ × Half R W) → Type 0
@@ -82,8 +105,20 @@ module _ {R W : Type 0} where
   abbrev pub moved : Kind → Step (Half R W) → Me (Half R W) LocalView → ℕ → Me (Half R W) LocalView
       → Type 0
   moved k st me n me' =
-      (n ≡ st.first → (a : After) → stepped_word st.first k ≡ Ok (st.second, a) → (me'.0 ≡ moved_view k a me.0) × Carries k a me.1 me'.1)
+      (n ≡ st.first → (a : After) → stepped_word st.first k ≡ Ok (st.second, a)
+      → (me'.0 ≡ moved_view k a me.0) × Carries k a me.1 me'.1
+      × IsMade (op_of k) (gained k a).0 me.0 me'.0)
       × (n ≢ st.first → me' ≡ me)
+
+  -- a subtraction of a reference: the word that was found decides, and shows the flag
+  abbrev pub subtracted : Step (Half R W) → Me (Half R W) LocalView → ℕ → Me (Half R W) LocalView
+      → Type 0
+  subtracted st me n me' =
+      Told R W n me.0
+      × ((a : After) × (stepped_word n kind.Decref ≡ Ok (n - REFERENCE, a))
+      × (me'.0 ≡ moved_view kind.Decref a (seen_in n me.0)) × Shows me'.0.stake (n - REFERENCE)
+      × IsMade op.Decref (gained kind.Decref a).0 me.0 me'.0)
+      × (me'.1 ≡ me.1)
 
   -- the last holder takes both halves
   abbrev pub emptied : Step (Half R W) → Me (Half R W) LocalView → ℕ → Me (Half R W) LocalView
@@ -95,7 +130,8 @@ module _ {R W : Type 0} where
   abbrev pub marked : Step (Half R W) → Me (Half R W) LocalView → ℕ → Me (Half R W) LocalView
       → Type 0
   marked st me n me' =
-      (me'.0 ≡ record { stake = stake.Free; took = false; saw = record { closed = me.0.saw.closed; done = true } }) × (me'.1 ≡ rest (rest me.1))
+      (me'.0 ≡ destroyed_view me.0) × (me'.1 ≡ rest (rest me.1))
+      × IsMade op.Destroy answer.Done me.0 me'.0
 
 -- ---- A try at a step on the state word
 
@@ -113,14 +149,14 @@ module _ {R W : Type 0} where
 
   -- what a step of this kind came to
   abbrev pub Came : Kind → After → Place R W → Place R W → Type 0
-  Came k a p q = (q.me.0.stake ≡ (gained k a).1) × Carries k a p.me.1 q.me.1 × Marked k a p q
+  Came k a p q = (q.me.0.stake ≡ (gained k a).1) × Carries k a p.me.1 q.me.1 × Made k a p q
 
   -- what a try at a step of this kind did to its seat
   abbrev pub Advanced : Kind → Place R W → Place R W → Advance → Type 0
   Advanced k p q (advance.Done a) = Came k a p q
-  Advanced k p q advance.Closed = IsTaking k × Keeps p q × NowClosed p q
-  Advanced k p q (advance.TooMany w) = Keeps p q × FullMarks k p q w
-  Advanced k p q advance.Lost = Keeps p q × LostMarks k p q
+  Advanced k p q advance.Closed = IsTaking k × Keeps p q × FoundClosed p q
+  Advanced k p q (advance.TooMany w) = Keeps p q × FoundFull k p q w
+  Advanced k p q advance.Lost = Keeps p q × LostStep k p q
 
 -- the slots that a seat has to hold before it makes a step: a lock that is given back needs its
 -- half
@@ -135,9 +171,15 @@ HasSlots _ slots = Unit {0}
 abbrev pub way_of : ℕ → Dir
 way_of i = if i == READ_SIGNALS then Read else Write
 
--- the view once the seat gave or took a signal
-abbrev pub signalled_view : Dir → LocalView → LocalView
-signalled_view d v = record { stake = stake_after_signal d v.stake; took = false; saw = v.saw }
+-- the view once the seat gave or took a signal, by this operation
+abbrev pub signalled_view : (Dir → Op) → Dir → LocalView → LocalView
+signalled_view o d v =
+    record {
+      stake = stake_after_signal d v.stake;
+      took = false;
+      saw = v.saw;
+      did = v.did ++ o d ∷ [];
+    }
 
 module _ {S : Type 0} where
   -- a load of a semaphore
@@ -145,13 +187,18 @@ module _ {S : Type 0} where
   counted st me n me' = (n ≤ MAX_SIGNALS) × (me' ≡ me)
 
   -- an exchange of a semaphore, by which a signal is given or taken
-  abbrev pub signalled : Step S → Me S LocalView → ℕ → Me S LocalView → Type 0
-  signalled st me n me' =
-      (n ≡ st.first → me' ≡ (signalled_view (way_of st.word) me.0, me.1)) × (n ≢ st.first → me' ≡ me)
+  abbrev pub signalled : (Dir → Op) → Answer → Step S → Me S LocalView → ℕ → Me S LocalView → Type 0
+  signalled o a st me n me' =
+      (n ≡ st.first
+      → (me' ≡ (signalled_view o (way_of st.word) me.0, me.1))
+      × IsMade (o (way_of st.word)) a me.0 me'.0)
+      × (n ≢ st.first → me' ≡ me)
 
 -- what a try at a semaphore did to its seat
-abbrev pub Signalled : {R W : Type 0} → Dir → Place R W → Place R W → Rung → Type 0
-Signalled d p q rung.Done =
+abbrev pub Signalled : {R W : Type 0} → (Dir → Op) → Answer → Dir → Place R W → Place R W → SignalTry
+    → Type 0
+Signalled o a d p q tried.Done =
     (q.me.0.stake ≡ stake_after_signal d p.me.0.stake) × (q.me.1 ≡ p.me.1) × SameMarks p q
-Signalled d p q rung.Refused = Keeps p q × SameMarks p q
-Signalled d p q rung.Lost = Keeps p q × SameMarks p q
+    × Did (o d) a p q
+Signalled o a d p q tried.Refused = Keeps p q × SameMarks p q × SameDeeds p q
+Signalled o a d p q tried.Lost = Keeps p q × SameMarks p q × SameDeeds p q

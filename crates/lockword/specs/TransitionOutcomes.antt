@@ -3,6 +3,8 @@ use Rattle.std.specs.Prelude.{◌≡◌, ◌<◌, ◌-◌, true, false}
 use Rattle.stream_base.specs.declared.direction.Dir.{Dir}
 use Rattle.lockword_core.specs.declared.stake.Stake.{Stake}
 use Rattle.lockword_core.specs.declared.stake.Stake.TheVariants as stake
+use Rattle.lockword_core.specs.declared.stake.Op.TheVariants as op
+use Rattle.lockword_core.specs.declared.stake.Answer.TheVariants as answer
 use Rattle.lockword_core.specs.declared.transition.Kind.TheVariants as kind
 use Rattle.lockword_core.specs.declared.transition.After.TheVariants as after
 use Rattle.lockword_core.specs.declared.word.Word.{Word}
@@ -10,12 +12,8 @@ use Rattle.lockword_core.specs.declared.word.TheConstants.{MAX_REFERENCES}
 use Rattle.lockword.specs.declared.holders.LockWord.{LockWord}
 use Rattle.lockword.specs.declared.holders.Incref.{Incref}
 use Rattle.lockword.specs.declared.holders.Incref.TheVariants as incref
-use Rattle.lockword.specs.declared.holders.DropRef.{DropRef}
-use Rattle.lockword.specs.declared.holders.DropRef.TheVariants as drop_ref
 use Rattle.lockword.specs.declared.holders.Close.{Close}
 use Rattle.lockword.specs.declared.holders.Close.TheVariants as close
-use Rattle.lockword.specs.declared.holders.DropClosing.{DropClosing}
-use Rattle.lockword.specs.declared.holders.DropClosing.TheVariants as drop_closing
 use Rattle.lockword.specs.declared.directions.Direction.{Ghosts}
 use Rattle.lockword.specs.declared.holders.Lock.{Lock}
 use Rattle.lockword.specs.declared.holders.Lock.TheVariants as lock
@@ -32,7 +30,7 @@ use Rattle.lockword.specs.declared.holders.Closing.{Closing}
 use Rattle.lockword.specs.declared.holders.Waiting.{Waiting}
 use Rattle.lockword_core.specs.Word.{IsWord, bit}
 use Rattle.lockword_core.specs.LockState.{is_same}
-use Rattle.lockword.specs.Marks.{WordId, Place, Marked, LostMarks, FullMarks, word_of, saw_closed, saw_done, SameMarks, Later, NowClosed, IsOpen}
+use Rattle.lockword.specs.Marks.{WordId, Place, word_of, saw_closed, saw_done, SameMarks, NowClosed, Did, SameDeeds, Showed, Made, LostStep, FoundClosed, FoundFull}
 use Rattle.lockword.specs.Places.{seat_place, ref_place, closing_place, owed_by, last_place, lock_place, wait_place, owing_place, owing_way}
 pub use Rattle.lockword.specs.Marks.{HasTaken, HasNotTaken}
 
@@ -54,74 +52,78 @@ module _ {R W : Type 0} where
   SameStake p q = (q.me.0.stake ≡ p.me.0.stake) × (q.me.0.took ≡ p.me.0.took)
 
   -- a reference is held by a seat that has not seen the word closed
-  abbrev pub incref_answers : Place R W → Incref R W → Type 0
-  incref_answers p (incref.Held r) = Marked kind.Incref after.Held p (ref_place r)
-  incref_answers p (incref.Closed s) = NowClosed p (seat_place s)
-  incref_answers p (incref.TooMany s w) = FullMarks kind.Incref p (seat_place s) w
-  incref_answers p (incref.Lost s) = LostMarks kind.Incref p (seat_place s)
-
-  -- the last reference leaves a holder that saw the word closed and has yet to take the halves
-  abbrev pub drop_ref_answers : Place R W → DropRef R W → Type 0
-  drop_ref_answers p (drop_ref.Kept s) = Marked kind.Decref after.Kept p (seat_place s)
-  drop_ref_answers p (drop_ref.Last l) = Marked kind.Decref after.Last p (last_place l)
-  drop_ref_answers p (drop_ref.Lost r) = LostMarks kind.Decref p (ref_place r)
+  abbrev pub AnswersIncref : Place R W → Incref R W → Type 0
+  AnswersIncref p (incref.Held r) = Made kind.Incref after.Held p (ref_place r)
+  AnswersIncref p (incref.Closed s) = FoundClosed p (seat_place s)
+  AnswersIncref p (incref.TooMany s w) = FoundFull kind.Incref p (seat_place s) w
+  AnswersIncref p (incref.Lost s) = LostStep kind.Incref p (seat_place s)
 
   -- only a seat that has not seen the word closed closes it, and then it has
-  abbrev pub close_answers : Place R W → Close R W → Type 0
-  close_answers p (close.Closing c) =
-      Marked kind.Close (after.Closing c.owed_read c.owed_write) p (closing_place c)
-  close_answers p (close.Closed s) = NowClosed p (seat_place s)
-  close_answers p (close.TooMany s w) = FullMarks kind.Close p (seat_place s) w
-  close_answers p (close.Lost s) = LostMarks kind.Close p (seat_place s)
-
-  -- as for a reference; a try that is lost still owes nothing
-  abbrev pub drop_closing_answers : Place R W → DropClosing R W → Type 0
-  drop_closing_answers p (drop_closing.Kept s) = NowClosed p (seat_place s)
-  drop_closing_answers p (drop_closing.Last l) =
-      NowClosed p (last_place l) × HasNotTaken (last_place l)
-  drop_closing_answers p (drop_closing.Lost c) =
-      NowClosed p (closing_place c) × ((d : Dir) → owed_by c d ≡ 0)
+  abbrev pub AnswersClose : Place R W → Close R W → Type 0
+  AnswersClose p (close.Closing c) =
+      Made kind.Close (after.Closing c.owed_read c.owed_write) p (closing_place c)
+  AnswersClose p (close.Closed s) = FoundClosed p (seat_place s)
+  AnswersClose p (close.TooMany s w) = FoundFull kind.Close p (seat_place s) w
+  AnswersClose p (close.Lost s) = LostStep kind.Close p (seat_place s)
 
   -- a lock, or a place in its queue, is had by a seat that has not seen the word closed
-  abbrev pub lock_answers : {D G : Type 0} {way : Ghosts D} → Place R W → Lock D R W G way → Type 0
-  lock_answers {way} p (lock.Held l) = Marked (kind.Lock way.dir) after.Held p (lock_place l)
-  lock_answers {way} p (lock.Queued q) = Marked (kind.Lock way.dir) after.Queued p (wait_place q)
-  lock_answers p (lock.Closed s) = NowClosed p (seat_place s)
-  lock_answers {way} p (lock.TooMany s w) = FullMarks (kind.Lock way.dir) p (seat_place s) w
-  lock_answers {way} p (lock.Lost s) = LostMarks (kind.Lock way.dir) p (seat_place s)
+  abbrev pub AnswersLock : {D G : Type 0} {way : Ghosts D} → Place R W → Lock D R W G way → Type 0
+  AnswersLock {way} p (lock.Held l) = Made (kind.Lock way.dir) after.Held p (lock_place l)
+  AnswersLock {way} p (lock.Queued q) = Made (kind.Lock way.dir) after.Queued p (wait_place q)
+  AnswersLock p (lock.Closed s) = FoundClosed p (seat_place s)
+  AnswersLock {way} p (lock.TooMany s w) = FoundFull (kind.Lock way.dir) p (seat_place s) w
+  AnswersLock {way} p (lock.Lost s) = LostStep (kind.Lock way.dir) p (seat_place s)
 
   -- a signal is owed by a seat that has not seen the word closed alone
-  abbrev pub unlock_answers : {D G : Type 0} {way : Ghosts D} → Place R W → Unlock D R W G way
+  abbrev pub AnswersUnlock : {D G : Type 0} {way : Ghosts D} → Place R W → Unlock D R W G way
       → Type 0
-  unlock_answers {way} p (unlock.Free s) = Marked (kind.Unlock way.dir) after.Kept p (seat_place s)
-  unlock_answers {way} p (unlock.Owes o) =
-      Marked (kind.Unlock way.dir) after.Owes p (owing_place o) × (owing_way o ≡ way.dir)
-  unlock_answers {way} p (unlock.Last l) = Marked (kind.Unlock way.dir) after.Last p (last_place l)
-  unlock_answers {way} p (unlock.Lost l) = LostMarks (kind.Unlock way.dir) p (lock_place l)
+  AnswersUnlock {way} p (unlock.Free s) = Made (kind.Unlock way.dir) after.Kept p (seat_place s)
+  AnswersUnlock {way} p (unlock.Owes o) =
+      Made (kind.Unlock way.dir) after.Owes p (owing_place o) × (owing_way o ≡ way.dir)
+  AnswersUnlock {way} p (unlock.Last l) = Made (kind.Unlock way.dir) after.Last p (last_place l)
+  AnswersUnlock {way} p (unlock.Lost l) = LostStep (kind.Unlock way.dir) p (lock_place l)
+
+  -- a signal was not given: marks, direction and deeds are as before
+  abbrev pub StillOwes : Owing R W → Owing R W → Type 0
+  StillOwes o n =
+      SameMarks (owing_place o) (owing_place n) × (owing_way n ≡ owing_way o)
+      × SameDeeds (owing_place o) (owing_place n)
 
   -- a signal changes no mark
-  abbrev pub signal_answers : Owing R W → Signal R W → Type 0
-  signal_answers o (signal.Signalled s) = SameMarks (owing_place o) (seat_place s)
-  signal_answers o (signal.Full n) =
-      SameMarks (owing_place o) (owing_place n) × (owing_way n ≡ owing_way o)
-  signal_answers o (signal.Lost n) =
-      SameMarks (owing_place o) (owing_place n) × (owing_way n ≡ owing_way o)
+  abbrev pub AnswersSignal : Owing R W → Signal R W → Type 0
+  AnswersSignal o (signal.Signalled s) =
+      SameMarks (owing_place o) (seat_place s)
+      × Did (op.Signal (owing_way o)) answer.Signalled (owing_place o) (seat_place s)
+  AnswersSignal o (signal.Full n) = StillOwes o n
+  AnswersSignal o (signal.Lost n) = StillOwes o n
+
+  -- a closer gave no signal, and owes what it owed
+  abbrev pub StillOwesAll : Closing R W → Closing R W → Type 0
+  StillOwesAll c n =
+      FoundClosed (closing_place c) (closing_place n) × ((e : Dir) → owed_by n e ≡ owed_by c e)
 
   -- a signal that a closer gives is owed no more; in the other direction as many are owed as before
-  abbrev pub signal_closing_answers : Closing R W → Dir → SignalClosing R W → Type 0
-  signal_closing_answers c d (signal_closing.Signalled n) =
-      NowClosed (closing_place c) (closing_place n) × ((e : Dir) → owed_by n e ≡ owed_by c e - bit (is_same d e))
-  signal_closing_answers c d (signal_closing.Full n) =
-      NowClosed (closing_place c) (closing_place n) × ((e : Dir) → owed_by n e ≡ owed_by c e)
-  signal_closing_answers c d (signal_closing.Lost n) =
-      NowClosed (closing_place c) (closing_place n) × ((e : Dir) → owed_by n e ≡ owed_by c e)
+  abbrev pub AnswersSignalClosing : Closing R W → Dir → SignalClosing R W → Type 0
+  AnswersSignalClosing c d (signal_closing.Signalled n) =
+      NowClosed (closing_place c) (closing_place n)
+      × ((e : Dir) → owed_by n e ≡ owed_by c e - bit (is_same d e))
+      × Did (op.Signal d) answer.Signalled (closing_place c) (closing_place n)
+  AnswersSignalClosing c d (signal_closing.Full n) = StillOwesAll c n
+  AnswersSignalClosing c d (signal_closing.Lost n) = StillOwesAll c n
+
+  -- no signal was taken: marks and deeds are as before
+  abbrev pub StillWaits : {D : Type 0} {way : Ghosts D} → Waiting D R W way → Waiting D R W way
+      → Type 0
+  StillWaits o n = SameMarks (wait_place o) (wait_place n) × SameDeeds (wait_place o) (wait_place n)
 
   -- a wake changes no mark
-  abbrev pub wake_answers : {D : Type 0} {way : Ghosts D} → Waiting D R W way → Wake D R W way
+  abbrev pub AnswersWake : {D : Type 0} {way : Ghosts D} → Waiting D R W way → Wake D R W way
       → Type 0
-  wake_answers o (wake.Woken s) = SameMarks (wait_place o) (seat_place s)
-  wake_answers o (wake.NotYet n) = SameMarks (wait_place o) (wait_place n)
-  wake_answers o (wake.Lost n) = SameMarks (wait_place o) (wait_place n)
+  AnswersWake {way} o (wake.Woken s) =
+      SameMarks (wait_place o) (seat_place s)
+      × Did (op.Wake way.dir) answer.Woken (wait_place o) (seat_place s)
+  AnswersWake o (wake.NotYet n) = StillWaits o n
+  AnswersWake o (wake.Lost n) = StillWaits o n
 
 -- the flag, and nothing else
 abbrev pub IsOnlyClosed : Word → Type 0
@@ -139,6 +141,8 @@ ShowsStake _ w = Unit {0}
 
 -- what a look shows to a seat, and what the seat then has seen
 pub record Looks {R W : Type 0} (p q : Place R W) (w : Word) : Type 0 where
+  pub shown : Showed w q
+  pub same_deeds : SameDeeds p q
   pub is_word : IsWord w
   pub same_word : word_of q ≡ word_of p
   pub sees_flag : saw_closed q ≡ w.closed

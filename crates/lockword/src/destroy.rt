@@ -1,7 +1,9 @@
 //! The beginning and the end of a word: new words, more seats, the halves, and the done word.
 
-ghost use Rattle.std.specs.Prelude.{◌≡◌, true, false, IfOk};
-ghost use Rattle.lockword.specs.Marks.{saw_closed, saw_done, SameMarks};
+ghost use Rattle.std.specs.Prelude.{◌≡◌, true, false, [], IfOk};
+ghost use Rattle.lockword_core.specs.declared.stake.Op.TheVariants as op;
+ghost use Rattle.lockword_core.specs.declared.stake.Answer.TheVariants as answer;
+ghost use Rattle.lockword.specs.Marks.{saw_closed, saw_done, deeds, SameMarks, Did, SameDeeds};
 ghost use Rattle.lockword.specs.Places.{seat_place, last_place};
 ghost use Rattle.lockword.specs.TransitionOutcomes.{IsSeatOf, HasTaken, HasNotTaken};
 
@@ -23,6 +25,7 @@ impl<R: Drop, W: Drop> LockWord<R, W> {
         ensures word { IfOk result (λ made. IsSeatOf made.0 (seat_place made.1)) }
         ensures open { IfOk result (λ made. saw_closed (seat_place made.1) ≡ false) }
         ensures not_done { IfOk result (λ made. saw_done (seat_place made.1) ≡ false) }
+        ensures no_deeds { IfOk result (λ made. deeds (seat_place made.1) ≡ []) }
     {
         let mut halves = Vec::with_capacity(alloc, 2)?;
         if let Err(AllocFailed { value: _ }) = halves.push(Half::Read(read)) {
@@ -42,6 +45,8 @@ impl<R: Drop, W: Drop> LockWord<R, W> {
         requires { IsSeatOf self.now (seat_place seat) }
         ensures first { SameMarks (seat_place seat) (seat_place result.0) }
         ensures second { SameMarks (seat_place seat) (seat_place result.1) }
+        ensures same_deeds { SameDeeds (seat_place seat) (seat_place result.0) }
+        ensures no_deeds { deeds (seat_place result.1) ≡ [] }
     {
         let Seat { mut place } = seat;
         let other = self.table.shared.split_seat::<Another>(&mut place);
@@ -55,6 +60,7 @@ impl<R: Drop, W: Drop> LockWord<R, W> {
         ensures same_closed { saw_closed (seat_place seat.new) ≡ saw_closed (seat_place seat.old) }
         ensures sees { saw_done (seat_place seat.new) ≡ result }
         ensures stays { saw_done (seat_place seat.old) ≡ true → result ≡ true }
+        ensures same_deeds { SameDeeds (seat_place seat.old) (seat_place seat.new) }
     {
         self.table.shared.load::<Ask>(&mut seat.place, DONE) == 1
     }
@@ -79,6 +85,7 @@ impl<R: Drop, W: Drop> LockWord<R, W> {
         ensures word { IsSeatOf self.now (seat_place result) }
         ensures closed { saw_closed (seat_place result) ≡ true }
         ensures done { saw_done (seat_place result) ≡ true }
+        ensures made { Did op.Destroy answer.Done (last_place last) (seat_place result) }
     {
         let Last { mut place } = last;
         self.table.shared.store::<Mark>(&mut place, DONE, 1);
@@ -94,6 +101,7 @@ impl<R: Drop, W: Drop> Last<R, W> {
         requires not_taken { HasNotTaken (last_place self.old) }
         ensures marks { SameMarks (last_place self.old) (last_place self.new) }
         ensures taken { HasTaken (last_place self.new) }
+        ensures same_deeds { SameDeeds (last_place self.old) (last_place self.new) }
     {
         let shared = &word.table.shared;
         let place = &mut self.place;

@@ -37,7 +37,7 @@ pub struct Seat<R, W> {
     ghost slots: { place.me.1 ≡ [] },
 }
 
-/// A reference. It goes into `try_drop_ref`.
+/// A reference. It goes into `drop_ref`.
 pub struct Ref<R, W> {
     pub(crate) place: Place<R, W>,
     ghost stake: { place.me.0.stake ≡ stake.Ref },
@@ -45,7 +45,7 @@ pub struct Ref<R, W> {
 }
 
 /// The close: a reference, and the signals that are still owed to the waiters of each direction. It
-/// goes into `try_drop_closing` once nothing is owed.
+/// goes into `drop_closing` once nothing is owed.
 pub struct Closing<R, W> {
     pub(crate) place: Place<R, W>,
     pub(crate) owed_read: u32,
@@ -76,14 +76,12 @@ pub enum Incref<R, W> {
     Lost(Seat<R, W>),
 }
 
-/// What `try_drop_ref` answers.
-pub enum DropRef<R, W> {
-    /// The reference is given back.
+/// What is left to a holder that gave a reference, a lock or the close back.
+pub enum Freed<R, W> {
+    /// Nothing but the seat.
     Kept(Seat<R, W>),
-    /// It was the last one of a closed word.
+    /// It was the last reference of a closed word.
     Last(Last<R, W>),
-    /// Another step came between; nothing changed.
-    Lost(Ref<R, W>),
 }
 
 /// What `try_close` answers.
@@ -96,16 +94,6 @@ pub enum Close<R, W> {
     TooMany(Seat<R, W>, Word),
     /// Another step came between; nothing changed.
     Lost(Seat<R, W>),
-}
-
-/// What `try_drop_closing` answers.
-pub enum DropClosing<R, W> {
-    /// The closer's reference is given back.
-    Kept(Seat<R, W>),
-    /// It was the last one.
-    Last(Last<R, W>),
-    /// Another step came between; nothing changed.
-    Lost(Closing<R, W>),
 }
 
 /// The lock of a direction, with a reference and the half that it guards. It goes into `try_unlock`.

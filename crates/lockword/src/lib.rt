@@ -5,7 +5,9 @@
 mod closing;
 mod destroy;
 mod directions;
+mod dropping;
 mod holders;
+pub mod laws;
 mod local_view;
 mod locking;
 mod look;
@@ -16,9 +18,9 @@ mod transitions;
 
 pub use directions::{Direction, Guards, Reading, Writing};
 pub use holders::{
-    Close, Closing, DropClosing, DropRef, Held, Incref, Last, Lock, LockRead, LockWord, LockWrite,
-    Owing, Place, ReadLock, ReadWait, Ref, Seat, Signal, SignalClosing, Unlock, UnlockRead,
-    UnlockWrite, Waiting, Wake, WakeRead, WakeWrite, WriteLock, WriteWait,
+    Close, Closing, Freed, Held, Incref, Last, Lock, LockRead, LockWord, LockWrite, Owing, Place,
+    ReadLock, ReadWait, Ref, Seat, Signal, SignalClosing, Unlock, UnlockRead, UnlockWrite, Waiting,
+    Wake, WakeRead, WakeWrite, WriteLock, WriteWait,
 };
 pub use local_view::{LocalView, Marks};
 pub use look::Holder;

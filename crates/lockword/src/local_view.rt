@@ -1,6 +1,13 @@
 //! What one seat knows.
 
+ghost use Rattle.std.specs.Prelude.{List};
+ghost use base.Fml.{ftrue};
+ghost use base.Stored.{coded_list};
+ghost use Rattle.lockword_core.specs.declared.stake.Op.{Op};
+ghost use Rattle.lockword_core.specs.contracts.stake.Op.{the_row};
+
 use lockword_core::Stake;
+use std::marker::Model;
 
 /// What a seat has seen of its word. A mark is never taken back.
 pub struct Marks {
@@ -18,4 +25,10 @@ pub struct LocalView {
     pub took: bool,
     /// What the seat has seen.
     pub saw: Marks,
+    // The operations that the seat has made, in order; never taken back.
+    pub ghost did: { List Op } by { coded_list the_row.coded },
+}
+
+impl Model for LocalView {
+    ghost also_owns = { λ _. ftrue };
 }

@@ -4,7 +4,7 @@ ghost use Rattle.std.specs.Prelude.{◌≡◌};
 ghost use Rattle.std.specs.Borrow.{sem, Lends};
 ghost use Rattle.lockword.specs.contracts.holders.Held as held;
 ghost use Rattle.lockword.specs.Lent.{half_in, with_half};
-ghost use Rattle.lockword.specs.TransitionOutcomes.{IsSeatOf, lock_answers, unlock_answers};
+ghost use Rattle.lockword.specs.TransitionOutcomes.{IsSeatOf, AnswersLock, AnswersUnlock};
 ghost use Rattle.lockword.specs.Places.{seat_place, lock_place};
 
 use crate::directions::{Guards, Reading, Writing};
@@ -22,7 +22,7 @@ impl<R: Drop, W: Drop> LockWord<R, W> {
     /// Go panics this answers `TooMany`.
     pub fn try_lock<D: Guards<R, W>>(&self, seat: Seat<R, W>) -> Lock<D, R, W>
         requires { IsSeatOf self.now (seat_place seat) }
-        ensures { lock_answers (seat_place seat) result }
+        ensures { AnswersLock (seat_place seat) result }
     {
         let Seat { mut place } = seat;
         let dir = D::dir();
@@ -51,7 +51,7 @@ impl<R: Drop, W: Drop> LockWord<R, W> {
     /// Gives the lock of a direction back, as `rwunlock` of Go's `fd_mutex.go`.
     pub fn try_unlock<D: Guards<R, W>>(&self, lock: Held<D, R, W>) -> Unlock<D, R, W>
         requires { IsSeatOf self.now (lock_place lock) }
-        ensures { unlock_answers (lock_place lock) result }
+        ensures { AnswersUnlock (lock_place lock) result }
     {
         let Held { mut place, half } = lock;
         let dir = D::dir();
@@ -83,7 +83,7 @@ impl<R: Drop, W: Drop> LockWord<R, W> {
     /// Takes the read lock, or a place in its queue.
     pub fn try_lock_read(&self, seat: Seat<R, W>) -> LockRead<R, W>
         requires { IsSeatOf self.now (seat_place seat) }
-        ensures { lock_answers (seat_place seat) result }
+        ensures { AnswersLock (seat_place seat) result }
     {
         self.try_lock(seat)
     }
@@ -91,7 +91,7 @@ impl<R: Drop, W: Drop> LockWord<R, W> {
     /// Takes the write lock, or a place in its queue.
     pub fn try_lock_write(&self, seat: Seat<R, W>) -> LockWrite<R, W>
         requires { IsSeatOf self.now (seat_place seat) }
-        ensures { lock_answers (seat_place seat) result }
+        ensures { AnswersLock (seat_place seat) result }
     {
         self.try_lock(seat)
     }
@@ -99,7 +99,7 @@ impl<R: Drop, W: Drop> LockWord<R, W> {
     /// Gives the read lock back.
     pub fn try_unlock_read(&self, lock: ReadLock<R, W>) -> UnlockRead<R, W>
         requires { IsSeatOf self.now (lock_place lock) }
-        ensures { unlock_answers (lock_place lock) result }
+        ensures { AnswersUnlock (lock_place lock) result }
     {
         self.try_unlock(lock)
     }
@@ -107,7 +107,7 @@ impl<R: Drop, W: Drop> LockWord<R, W> {
     /// Gives the write lock back.
     pub fn try_unlock_write(&self, lock: WriteLock<R, W>) -> UnlockWrite<R, W>
         requires { IsSeatOf self.now (lock_place lock) }
-        ensures { unlock_answers (lock_place lock) result }
+        ensures { AnswersUnlock (lock_place lock) result }
     {
         self.try_unlock(lock)
     }

@@ -70,9 +70,9 @@ pub struct LockRule;
 
 impl<R, W> TableRule<Half<R, W>, LocalView, ()> for LockRule {
     ghost use Rattle.lockword.specs.LocalView.{newcomer};
-    ghost use Rattle.lockword.specs.SharedInvariant.{Represents};
+    ghost use Rattle.lockword.specs.SharedInvariant.{IsReached};
 
-    ghost holds = { λ _. Represents };
+    ghost holds = { λ _. IsReached };
 
     ghost first = { λ _. newcomer };
 }

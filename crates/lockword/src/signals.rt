@@ -2,9 +2,10 @@
 
 ghost use Rattle.std.specs.Prelude.{◌≡◌, ◌<◌, true};
 ghost use Rattle.lockword_core.specs.declared.stake.Op.TheVariants as op;
+ghost use Rattle.lockword_core.specs.declared.stake.Answer.TheVariants as answer;
 ghost use Rattle.lockword_core.specs.Transition.{allows};
 ghost use Rattle.lockword.specs.Steps.{Signalled};
-ghost use Rattle.lockword.specs.TransitionOutcomes.{IsSeatOf, signal_answers, signal_closing_answers, wake_answers};
+ghost use Rattle.lockword.specs.TransitionOutcomes.{IsSeatOf, AnswersSignal, AnswersSignalClosing, AnswersWake};
 ghost use Rattle.lockword.specs.Places.{owing_place, closing_place, owed_by, wait_place};
 
 use crate::directions::Direction;
@@ -13,13 +14,13 @@ use crate::holders::{
     WakeRead, WakeWrite, WriteWait,
 };
 use crate::shared_rule::semaphore;
-use crate::transitions::{Count, Ring};
+use crate::transitions::{Count, GiveSignal, TakeSignal};
 use lockword_core::{signal_add, signal_take};
 use std::sync::Wait;
 use stream_base::Dir;
 
 /// What a try at a semaphore came to.
-pub(crate) enum Rung {
+pub(crate) enum SignalTry {
     Done,
     Refused,
     Lost,
@@ -28,56 +29,56 @@ pub(crate) enum Rung {
 impl<R: Drop, W: Drop> LockWord<R, W> {
     /// One load of a semaphore, and at most one exchange, by which a signal is given; a signal that
     /// is given wakes one thread that is parked on the semaphore.
-    fn try_ring(&self, place: &mut Place<R, W>, dir: Dir) -> Rung
+    fn try_give(&self, place: &mut Place<R, W>, dir: Dir) -> SignalTry
         requires word { place.old.table_id ≡ self.now.table.shared.table_id }
         requires allowed { allows place.old.me.0.stake (op.Signal dir) ≡ true }
         ensures word { place.new.table_id ≡ place.old.table_id }
-        ensures step { Signalled dir place.old place.new result }
+        ensures step { Signalled (λ d. op.Signal d) answer.Signalled dir place.old place.new result }
     {
         let shared = &self.table.shared;
         let word = semaphore(dir);
         let found = shared.load::<Count>(place, word);
         let Some(more) = signal_add(found) else {
-            return Rung::Refused;
+            return SignalTry::Refused;
         };
-        if shared.compare_exchange::<Ring>(place, word, found, more) == found {
+        if shared.compare_exchange::<GiveSignal>(place, word, found, more) == found {
             shared.wake_one(word);
-            Rung::Done
+            SignalTry::Done
         } else {
-            Rung::Lost
+            SignalTry::Lost
         }
     }
 
     /// One load of a semaphore, and at most one exchange, by which a signal is taken.
-    fn try_take(&self, place: &mut Place<R, W>, dir: Dir) -> Rung
+    fn try_take(&self, place: &mut Place<R, W>, dir: Dir) -> SignalTry
         requires word { place.old.table_id ≡ self.now.table.shared.table_id }
         requires allowed { allows place.old.me.0.stake (op.Wake dir) ≡ true }
         ensures word { place.new.table_id ≡ place.old.table_id }
-        ensures step { Signalled dir place.old place.new result }
+        ensures step { Signalled (λ d. op.Wake d) answer.Woken dir place.old place.new result }
     {
         let shared = &self.table.shared;
         let word = semaphore(dir);
         let found = shared.load::<Count>(place, word);
         let Some(less) = signal_take(found) else {
-            return Rung::Refused;
+            return SignalTry::Refused;
         };
-        if shared.compare_exchange::<Ring>(place, word, found, less) == found {
-            Rung::Done
+        if shared.compare_exchange::<TakeSignal>(place, word, found, less) == found {
+            SignalTry::Done
         } else {
-            Rung::Lost
+            SignalTry::Lost
         }
     }
 
     /// Gives the signal that is owed, and wakes one thread that is parked on the semaphore.
     pub fn try_signal(&self, owing: Owing<R, W>) -> Signal<R, W>
         requires { IsSeatOf self.now (owing_place owing) }
-        ensures { signal_answers owing result }
+        ensures { AnswersSignal owing result }
     {
         let Owing { mut place, dir } = owing;
-        match self.try_ring(&mut place, dir) {
-            Rung::Done => Signal::Signalled(Seat { place }),
-            Rung::Refused => Signal::Full(Owing { place, dir }),
-            Rung::Lost => Signal::Lost(Owing { place, dir }),
+        match self.try_give(&mut place, dir) {
+            SignalTry::Done => Signal::Signalled(Seat { place }),
+            SignalTry::Refused => Signal::Full(Owing { place, dir }),
+            SignalTry::Lost => Signal::Lost(Owing { place, dir }),
         }
     }
 
@@ -86,15 +87,15 @@ impl<R: Drop, W: Drop> LockWord<R, W> {
     pub fn try_signal_closing(&self, closing: Closing<R, W>, dir: Dir) -> SignalClosing<R, W>
         requires word { IsSeatOf self.now (closing_place closing) }
         requires owes { 0 < owed_by closing dir }
-        ensures { signal_closing_answers closing dir result }
+        ensures { AnswersSignalClosing closing dir result }
     {
         let Closing {
             mut place,
             owed_read,
             owed_write,
         } = closing;
-        match self.try_ring(&mut place, dir) {
-            Rung::Done => {
+        match self.try_give(&mut place, dir) {
+            SignalTry::Done => {
                 let (owed_read, owed_write) = match dir {
                     Dir::Read => (owed_read - 1, owed_write),
                     Dir::Write => (owed_read, owed_write - 1),
@@ -105,12 +106,12 @@ impl<R: Drop, W: Drop> LockWord<R, W> {
                     owed_write,
                 })
             }
-            Rung::Refused => SignalClosing::Full(Closing {
+            SignalTry::Refused => SignalClosing::Full(Closing {
                 place,
                 owed_read,
                 owed_write,
             }),
-            Rung::Lost => SignalClosing::Lost(Closing {
+            SignalTry::Lost => SignalClosing::Lost(Closing {
                 place,
                 owed_read,
                 owed_write,
@@ -121,20 +122,20 @@ impl<R: Drop, W: Drop> LockWord<R, W> {
     /// Takes a signal to a waiter of a direction, after which its holder has nothing and contends again.
     pub fn try_wake<D: Direction>(&self, wait: Waiting<D, R, W>) -> Wake<D, R, W>
         requires { IsSeatOf self.now (wait_place wait) }
-        ensures { wake_answers wait result }
+        ensures { AnswersWake wait result }
     {
         let Waiting { mut place, marker } = wait;
         match self.try_take(&mut place, D::dir()) {
-            Rung::Done => Wake::Woken(Seat { place }),
-            Rung::Refused => Wake::NotYet(Waiting { place, marker }),
-            Rung::Lost => Wake::Lost(Waiting { place, marker }),
+            SignalTry::Done => Wake::Woken(Seat { place }),
+            SignalTry::Refused => Wake::NotYet(Waiting { place, marker }),
+            SignalTry::Lost => Wake::Lost(Waiting { place, marker }),
         }
     }
 
     /// Takes a signal to a reader.
     pub fn try_wake_read(&self, wait: ReadWait<R, W>) -> WakeRead<R, W>
         requires { IsSeatOf self.now (wait_place wait) }
-        ensures { wake_answers wait result }
+        ensures { AnswersWake wait result }
     {
         self.try_wake(wait)
     }
@@ -142,7 +143,7 @@ impl<R: Drop, W: Drop> LockWord<R, W> {
     /// Takes a signal to a writer.
     pub fn try_wake_write(&self, wait: WriteWait<R, W>) -> WakeWrite<R, W>
         requires { IsSeatOf self.now (wait_place wait) }
-        ensures { wake_answers wait result }
+        ensures { AnswersWake wait result }
     {
         self.try_wake(wait)
     }

@@ -5,8 +5,10 @@ ghost use Rattle.lockword_core.specs.declared.word.TheConstants.{NO_WORD};
 ghost use Rattle.lockword_core.specs.Word.{IsWord, packed};
 ghost use Rattle.lockword_core.specs.Transition.{allows};
 ghost use Rattle.lockword_core.specs.WordStep.{op_of};
-ghost use Rattle.lockword.specs.Steps.{looked, moved, asked, emptied, marked, counted, signalled, HasSlots, Keeps, Advanced};
+ghost use Rattle.lockword.specs.Steps.{looked, moved, subtracted, asked, emptied, marked, counted, signalled, HasSlots, Keeps, Advanced};
 ghost use Rattle.lockword.specs.TransitionOutcomes.{Looks};
+ghost use Rattle.lockword_core.specs.declared.stake.Op.TheVariants as op;
+ghost use Rattle.lockword_core.specs.declared.stake.Answer.TheVariants as answer;
 ghost use Rattle.lockword_core.specs.declared.transition.Kind.{Kind};
 ghost use Rattle.lockword_core.specs.declared.transition.Kind.TheVariants as kind;
 
@@ -45,12 +47,6 @@ impl StateStep for TakeReference {
     ghost kind = { kind.Incref };
 }
 
-pub(crate) struct DropReference;
-
-impl StateStep for DropReference {
-    ghost kind = { kind.Decref };
-}
-
 pub(crate) struct SetClosed;
 
 impl StateStep for SetClosed {
@@ -75,6 +71,13 @@ impl<D: Direction> StateStep for Unlocking<D> {
     ghost kind = { kind.Unlock D.dir };
 }
 
+/// A subtraction of a reference.
+pub(crate) struct Subtract;
+
+impl<R, W> Play<Half<R, W>, LocalView> for Subtract {
+    ghost then = { subtracted };
+}
+
 /// A load of a semaphore.
 pub(crate) struct Count;
 
@@ -82,11 +85,18 @@ impl<R, W> Play<Half<R, W>, LocalView> for Count {
     ghost then = { counted };
 }
 
-/// An exchange of a semaphore, by which a signal is given or taken.
-pub(crate) struct Ring;
+/// An exchange of a semaphore, by which a signal is given.
+pub(crate) struct GiveSignal;
 
-impl<R, W> Play<Half<R, W>, LocalView> for Ring {
-    ghost then = { signalled };
+impl<R, W> Play<Half<R, W>, LocalView> for GiveSignal {
+    ghost then = { signalled (λ d. op.Signal d) answer.Signalled };
+}
+
+/// An exchange of a semaphore, by which a signal is taken.
+pub(crate) struct TakeSignal;
+
+impl<R, W> Play<Half<R, W>, LocalView> for TakeSignal {
+    ghost then = { signalled (λ d. op.Wake d) answer.Woken };
 }
 
 /// A load of the done word.

@@ -19,7 +19,7 @@ pub count-nil : (what : Counted) → count what [] ≡ 0
 unfolding count
 count-nil what = refl
 
-part-free : (what : Counted) → part what stake.Free ≡ 0
+pub part-free : (what : Counted) → part what stake.Free ≡ 0
 part-free references = refl
 part-free (locks d) = refl
 part-free (queued d) = refl
@@ -77,7 +77,7 @@ unfolding count
 count-push what stakes =
     let sums : sum_by (part what) (stakes ++ stake.Free ∷ []) ≡ sum_by (part what) stakes + part what stake.Free = sum_by_push (part what) stakes stake.Free in omega (arith, part-free what)
 
-count-cons : (what : Counted) (own : Stake) (rest : List Stake)
+pub count-cons : (what : Counted) (own : Stake) (rest : List Stake)
     → count what (own ∷ rest) ≡ part what own + count what rest
 unfolding count
 count-cons what own rest = sum_by-cons (part what) own rest

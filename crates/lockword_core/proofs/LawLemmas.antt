@@ -213,7 +213,7 @@ allowed_tells c own op.Close may =
     by_test c.closed own _ _ (refl, refl) (by_test (number references c == MAX_REFERENCES) own _ _ (refl, refl) (refl, refl, not_last own op.Close tt may))
 allowed_tells c own op.Destroy may = (refl, refl, is_the_last own may)
 
-tells_ends : (c : Census) (own : Stake) (o : Op) → TellsEnds own (outcome c own o)
+pub tells_ends : (c : Census) (own : Stake) (o : Op) → TellsEnds own (outcome c own o)
 tells_ends c own o = by (allows own o) refl
   where
     by : (t : Bool) → allows own o ≡ t → TellsEnds own (if t then allowed_outcome c own o else refused answer.Misuse)
@@ -231,11 +231,11 @@ part-last : (own : Stake) → part lasts own ≡ bit (is_last_stake own)
 part-last stake.Last = refl
 part-last _ = refl
 
-stakes-change : (s : LockState) (holder : ℕ) (new : Stake) (change : Change)
+pub stakes-change : (s : LockState) (holder : ℕ) (new : Stake) (change : Change)
     → (census (with_change (with_stake s holder new) holder change)).stakes ≡ values_of (insert_entry nat_cmp s.holders holder new)
 stakes-change s holder new change = ap values_of (names-change (with_stake s holder new) holder change)
 
-mark-change : (s : LockState) (holder : ℕ) (change : Change)
+pub mark-change : (s : LockState) (holder : ℕ) (change : Change)
     → bit (is_some s.destroyed_by) ≡ 0 ⊎ (is_destroying change ≡ false)
     → bit (is_some (with_change s holder change).destroyed_by) ≡ bit (is_some s.destroyed_by) + bit (is_destroying change)
 mark-change s holder nothing may = omega arith
@@ -250,7 +250,7 @@ bit-le true = omega arith
 bit-le false = omega arith
 
 -- a holder with `Last` is there only before the mark
-no_mark_yet : (s : LockState) (holder : ℕ) (change : Change) → IsConsistent s
+pub no_mark_yet : (s : LockState) (holder : ℕ) (change : Change) → IsConsistent s
     → is_last_stake (stake_of s holder) ≡ is_destroying change
     → bit (is_some s.destroyed_by) ≡ 0 ⊎ (is_destroying change ≡ false)
 no_mark_yet s holder change good own_last = by (is_destroying change) refl
@@ -288,14 +288,14 @@ advances s holder o good =
     advances_carried s holder (outcome (census s) (stake_of s holder) o) good (tells_ends (census s) (stake_of s holder) o)
 
 -- how many answers pass, answer by answer
-abbrev passing : (Answer → Bool) → List Answer → ℕ
+abbrev pub passing : (Answer → Bool) → List Answer → ℕ
 passing p [] = 0
 passing p (a ∷ answers) = cond (p a) (1 + passing p answers) (passing p answers)
 
-passing-is : (p : Answer → Bool) (answers : List Answer) → passing p answers ≡ count_by p answers
+pub passing-is : (p : Answer → Bool) (answers : List Answer) → passing p answers ≡ count_by p answers
 passing-is p answers = is_count_by (passing p) p refl (λ x xs. refl) answers
 
-passing-cons : (p : Answer → Bool) (a : Answer) (answers : List Answer)
+pub passing-cons : (p : Answer → Bool) (a : Answer) (answers : List Answer)
     → passing p (a ∷ answers) ≡ bit (p a) + passing p answers
 passing-cons p a answers = by (p a)
   where
@@ -336,13 +336,20 @@ last_once events =
 
 -- ---- Who it was
 
-same_key : (k : ℕ) → is_eq (nat_cmp k k) ≡ true
+pub same_key : (k : ℕ) → is_eq (nat_cmp k k) ≡ true
 same_key k = grind (arith, nat_tests)
 
-equal_key : (a b : ℕ) → is_eq (nat_cmp a b) ≡ true → a ≡ b
+pub equal_key : (a b : ℕ) → is_eq (nat_cmp a b) ≡ true → a ≡ b
 equal_key a b e = grind (arith, nat_tests)
 
-lookup-at : (k : ℕ) (v : Stake) (es : List (ℕ × Stake))
+pub other_key : (a b : ℕ) → (a ≡ b → ⊥) → is_eq (nat_cmp a b) ≡ false
+other_key a b ne = by (is_eq (nat_cmp a b)) refl
+  where
+    by : (t : Bool) → is_eq (nat_cmp a b) ≡ t → is_eq (nat_cmp a b) ≡ false
+    by false e = e
+    by true e = absurd (ne (equal_key a b e))
+
+pub lookup-at : (k : ℕ) (v : Stake) (es : List (ℕ × Stake))
     → lookup (is_at (nat_cmp k)) (insert_entry nat_cmp es k v) ≡ Some v
 lookup-at k v [] = rw (same_key k) refl
 lookup-at k v (e ∷ es) = by (nat_cmp k e.0) refl (lookup-at k v es)
@@ -353,7 +360,7 @@ lookup-at k v (e ∷ es) = by (nat_cmp k e.0) refl (lookup-at k v es)
     by Equal h rest = rw h refl
     by Greater h rest = rw h rest
 
-lookup-other : (k q : ℕ) (v : Stake) (es : List (ℕ × Stake)) → is_eq (nat_cmp q k) ≡ false
+pub lookup-other : (k q : ℕ) (v : Stake) (es : List (ℕ × Stake)) → is_eq (nat_cmp q k) ≡ false
     → lookup (is_at (nat_cmp q)) (insert_entry nat_cmp es k v) ≡ lookup (is_at (nat_cmp q)) es
 lookup-other k q v [] other = rw other refl
 lookup-other k q v (e ∷ es) other = by (nat_cmp k e.0) refl (lookup-other k q v es other)

@@ -9,3 +9,7 @@ pub mod WordLemmas
 pub mod MachineLemmas
 pub mod ReplayLemmas
 pub mod LawLemmas
+pub mod ForGood
+pub mod HolderLemmas
+pub mod OperationLemmas
+pub mod NameLemmas

@@ -303,3 +303,17 @@ pub tells : (c : Census) (own : Stake) (k : Kind) (n : ℕ) → IsConsistentCens
 tells c own k n good counted is may =
     tells_of c own k (outcome c own (op_of k)) (stepped_word n k)
     (step_is c own k n (subst (λ (m : ℕ). IsBalanced c m) (sym is) (balance_of c good)) counted may)
+
+-- what a step on the word comes to is what the operation comes to, with its change
+pub steps_as : (c : Census) (own : Stake) (k : Kind) (a : After) (n m : ℕ) → IsBalanced c n → IsCounted c own
+    → allows own (op_of k) ≡ true → stepped_word n k ≡ Ok (m, a)
+    → outcome c own (op_of k) ≡ moved (gained k a).0 (gained k a).1 (change_of k)
+steps_as c own k a n m b counted may step =
+    pick_then (allows own (op_of k)) _ _ may ∙ allowed_is c own k counted may
+    ∙ by (field_step (fields_of c) k) (ap (λ (f : Word). packed_result (field_step f k)) (sym (same_fields c n b)) ∙ step)
+  where
+    by : (r : Result (Word × After) Refused) → packed_result r ≡ Ok (m, a)
+        → outcome_of k r ≡ moved (gained k a).0 (gained k a).1 (change_of k)
+    by (Ok (g, x)) e =
+        ap (λ (p : ℕ × After). moved (gained k p.1).0 (gained k p.1).1 (change_of k)) (same_pair (packed g, x) (m, a) e)
+    by (Err x) e = absurd (cc)

@@ -7,4 +7,5 @@ pub mod LockInvariant
 pub mod Replay
 pub mod WordStep
 pub mod Machine
+pub mod OperationCounts
 pub mod Laws

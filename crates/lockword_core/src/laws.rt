@@ -1,7 +1,7 @@
 //! What the definitions come to, in the words of the subject. Each law is the contract of a function
 //! that does nothing.
 
-ghost use Rattle.std.specs.Prelude.{◌≡◌, ◌<◌, ◌≤◌, ◌+◌, ℕ, List, [], ◌∷◌, ◌++◌, Some, is_some, count_by, length, slice_set, slice_index_or};
+ghost use Rattle.std.specs.Prelude.{◌≡◌, ◌<◌, ◌≤◌, ◌+◌, ℕ, true, List, [], ◌∷◌, ◌++◌, Some, is_some, count_by, length, slice_set, slice_index_or};
 ghost use Rattle.std.specs.Ordering.{nat_cmp};
 ghost use Rattle.std.specs.Map.{values_of};
 ghost use Rattle.std.specs.BTreeMap.{insert_entry};
@@ -11,7 +11,8 @@ ghost use Rattle.lockword_core.specs.declared.stake.Stake.{Stake};
 ghost use Rattle.lockword_core.specs.declared.stake.Op.{Op};
 ghost use Rattle.lockword_core.specs.declared.stake.Answer.{Answer};
 ghost use Rattle.lockword_core.specs.declared.word.Word.{Word};
-ghost use Rattle.lockword_core.specs.declared.word.TheConstants.{NO_WORD};
+ghost use Rattle.lockword_core.specs.declared.word.TheConstants.{CLOSED, READ_LOCK, WRITE_LOCK, REFERENCE, READ_WAITER, WRITE_WAITER, NO_WORD, MAX_REFERENCES, MAX_WAITERS};
+ghost use Rattle.lockword_core.specs.declared.signals.TheConstants.{MAX_SIGNALS};
 ghost use Rattle.lockword_core.specs.declared.transition.Kind.{Kind};
 ghost use Rattle.lockword_core.specs.Word.{bit, IsWord, packed};
 ghost use Rattle.lockword_core.specs.LockState.{LockState, empty, Census, census, stake_of, Counted, locks, part, count, number, encoded};
@@ -19,6 +20,7 @@ ghost use Rattle.lockword_core.specs.LockInvariant.{IsConsistent, IsConsistentCe
 ghost use Rattle.lockword_core.specs.Transition.{Change, moved, outcome, changed, transition};
 ghost use Rattle.lockword_core.specs.Replay.{state_after, answers_of};
 ghost use Rattle.lockword_core.specs.WordStep.{op_of};
+ghost use Rattle.lockword_core.specs.OperationCounts.{NoneRefused, is_destroy, made_in, operations_of, AddsUp};
 ghost use Rattle.lockword_core.specs.Laws.{CountsStakes, is_done, is_last, ReturnedTheLast};
 
 /// The empty state is consistent, every transition keeps a state consistent, and so every list of
@@ -48,6 +50,34 @@ pub fn the_last_return_destroys_once()
     ensures last_once { (events : List Event) → count_by is_last (answers_of empty events) ≤ 1 }
     ensures destroyer { (events : List Event) (holder : ℕ)
         → (state_after empty events).destroyed_by ≡ Some holder → ReturnedTheLast events holder }
+{}
+
+/// What is for good: no further list of events takes back the closed flag, or who destroyed.
+pub fn what_is_done_stays_done()
+    ensures closed { (s : LockState) (events : List Event) → s.closed ≡ true
+        → (state_after s events).closed ≡ true }
+    ensures destroyed { (s : LockState) (events : List Event) (holder : ℕ) → IsConsistent s
+        → s.destroyed_by ≡ Some holder → (state_after s events).destroyed_by ≡ Some holder }
+{}
+
+/// Operations of which none was refused add up to what they lead to: what was taken is held or queued
+/// for, or was given back; a signal that was given lies ready, or was taken; there was one close if the
+/// descriptor is closed and one destroy if it is destroyed; and who made the destroy is the holder that
+/// gave back the last reference after the close.
+pub fn operations_add_up()
+    ensures adds_up { (events : List Event) → NoneRefused events
+        → AddsUp (made_in events) (census (state_after empty events)) }
+    ensures destroyer { (events : List Event) (holder : ℕ) → NoneRefused events
+        → 0 < count_by is_destroy (operations_of holder events) → ReturnedTheLast events holder }
+{}
+
+/// The layout and its limits in figures, as `docs/lock-word.md` draws them.
+pub fn the_layout_in_figures()
+    ensures bits { (CLOSED ≡ 1) × (READ_LOCK ≡ 2) × (WRITE_LOCK ≡ 4) }
+    ensures units { (REFERENCE ≡ 8) × (READ_WAITER ≡ 8388608) × (WRITE_WAITER ≡ 8796093022208) }
+    ensures no_word { NO_WORD ≡ 9223372036854775808 }
+    ensures limits { (MAX_REFERENCES ≡ 1048575) × (MAX_WAITERS ≡ 1048575) }
+    ensures signals { MAX_SIGNALS ≡ 4294967295 }
 {}
 
 /// A word has one reading: fields that pack to the same word are the same.

@@ -3,3 +3,4 @@ pub mod EventLemmas
 pub mod ProgressLemmas
 pub mod TextLemmas
 pub mod TraceLemmas
+pub mod Words

@@ -2,3 +2,4 @@ pub mod Script
 pub mod TraceOutput
 pub mod TraceOutcome
 pub mod Progress
+pub mod Words

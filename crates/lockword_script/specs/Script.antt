@@ -24,7 +24,8 @@ operation_name op.Destroy = codes "destroy"
 
 -- the text names so many holders from the first on: a holder alone, or `first+count`
 abbrev pub NamesHolders : List ℕ → ℕ → ℕ → Type 0
-NamesHolders text first count = ((count ≡ 1) × (text ≡ decimal first)) ⊎ (text ≡ decimal first ++ (codes "+" ++ decimal count))
+NamesHolders text first count =
+    ((count ≡ 1) × (text ≡ decimal first)) ⊎ (text ≡ decimal first ++ (codes "+" ++ decimal count))
 
 -- the line says that so many holders from the first on, one after the other, ask for the operation
 pub record Says (line : List ℕ) (first count : ℕ) (asked : Op) : Type 0 where
@@ -41,4 +42,5 @@ IsBadLine line = (first count : ℕ) (asked : Op) → Says line first count aske
 -- the operation asked for by so many holders from the first on, in turn
 abbrev pub events_of : ℕ → ℕ → Op → List Event
 events_of first zero asked = []
-events_of first (suc count) asked = record { holder = first; op = asked } ∷ events_of (first + 1) count asked
+events_of first (suc count) asked =
+    record { holder = first; op = asked } ∷ events_of (first + 1) count asked

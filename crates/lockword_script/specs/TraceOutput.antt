@@ -1,17 +1,9 @@
 -- The text that a script prints, as a relation on whole texts.
-use Rattle.std.specs.Prelude.{◌≤◌, ◌<◌, ◌+◌, ◌-◌, ℕ, List, [], ◌∷◌, ◌++◌, ◌⊎◌, Option, Some, None, codes}
-use Rattle.std.specs.Fmt.{decimal}
-use Rattle.std.specs.Int.{w64, to_be_bytes}
-use Rattle.hex.specs.Hex.{encode_lower}
-use Rattle.stream_base.specs.Lines.{lines_of}
-use Rattle.stream_base.specs.declared.direction.Dir.TheVariants.{Read, Write}
-use Rattle.lockword_core.specs.declared.stake.Op.{Op}
-use Rattle.lockword_core.specs.declared.stake.Answer.{Answer}
+use Rattle.lockword_script.specs.Words.{◌≤◌, ◌<◌, ◌+◌, ◌-◌, ℕ, List, [], ◌∷◌, ◌++◌, ◌⊎◌, Option}
+use Rattle.lockword_script.specs.Words.{Some, None, codes, decimal, w64, to_be_bytes, encode_lower}
+use Rattle.lockword_script.specs.Words.{lines_of, Read, Write, Op, Answer, signals_in, LockState}
+use Rattle.lockword_script.specs.Words.{empty, census, encoded, transition, state_after}
 use Rattle.lockword_core.specs.declared.stake.Answer.TheVariants as answer
-use Rattle.lockword_core.specs.Signals.{signals_in}
-use Rattle.lockword_core.specs.LockState.{LockState, empty, census, encoded}
-use Rattle.lockword_core.specs.Transition.{transition}
-use Rattle.lockword_core.specs.Replay.{state_after}
 use Rattle.lockword_script.specs.Script.{Says, IsBadLine, events_of}
 use Rattle.lockword_script.specs.declared.script.TheConstants.{MAX_LINES}
 use Rattle.lockword_script.specs.declared.outcome.End.{End}
@@ -46,17 +38,23 @@ destroyer_text (Some holder) = decimal holder
 -- the printed line of an answer, a word, the signals of readers and of writers, and who destroyed
 abbrev pub printed_line : Answer → ℕ → ℕ → ℕ → Option ℕ → List ℕ
 printed_line given word reading writing destroyed_by =
-    answer_name given ++ (codes " " ++ (word_text word ++ (codes " " ++ (decimal reading ++ (codes " " ++ (decimal writing ++ (codes " " ++ (destroyer_text destroyed_by ++ codes "\n"))))))))
+    answer_name given ++ (codes " " ++ (word_text word
+    ++ (codes " " ++ (decimal reading ++
+    (codes " " ++ (decimal writing ++ (codes " "
+    ++ (destroyer_text destroyed_by ++ codes "\n"))))))))
 
 -- the printed line of one event: its answer, and the state after it
 abbrev pub printed_of_event : LockState → ℕ → Op → List ℕ
 printed_of_event state holder asked =
     let next = transition state holder asked in
-    printed_line next.1 (encoded (census next.0)) (signals_in Read next.0.signals) (signals_in Write next.0.signals) next.0.destroyed_by
+    printed_line next.1 (encoded (census next.0)) (signals_in Read next.0.signals)
+    (signals_in Write next.0.signals) next.0.destroyed_by
 
 -- the one printed line of so many events in turn: that of the last of them
 unfoldable pub printed_of_events : LockState → ℕ → ℕ → Op → List ℕ
-printed_of_events state first count asked = printed_of_event (state_after state (events_of first (count - 1) asked)) (first + (count - 1)) asked
+printed_of_events state first count asked =
+    printed_of_event (state_after state (events_of first (count - 1) asked))
+    (first + (count - 1)) asked
 
 -- what is printed for a bad line
 unfoldable pub printed_of_bad_line : ℕ → List ℕ
@@ -67,12 +65,14 @@ pub data Prints : ℕ → LockState → List (List ℕ) → List ℕ → End →
   -- no line is left
   whole : {number : ℕ} {state : LockState} → Prints number state [] [] Whole
   -- the first line is good: its events are carried out, and the other lines follow
-  good : {number : ℕ} {state : LockState} {line : List ℕ} {lines : List (List ℕ)} {end : End} (first count : ℕ) (asked : Op) (text : List ℕ)
+  good : {number : ℕ} {state : LockState} {line : List ℕ} {lines : List (List ℕ)} {end : End}
+      (first count : ℕ) (asked : Op) (text : List ℕ)
       → number ≤ MAX_LINES → Says line first count asked
       → Prints (number + 1) (state_after state (events_of first count asked)) lines text end
       → Prints number state (line ∷ lines) (printed_of_events state first count asked ++ text) end
   -- the first line is one too many, or bad: it ends the text
-  bad : {number : ℕ} {state : LockState} {line : List ℕ} {lines : List (List ℕ)} → (MAX_LINES < number) ⊎ IsBadLine line
+  bad : {number : ℕ} {state : LockState} {line : List ℕ} {lines : List (List ℕ)}
+      → (MAX_LINES < number) ⊎ IsBadLine line
       → Prints number state (line ∷ lines) (printed_of_bad_line number) (BadLine number)
 
 -- the script prints this text and ends so

@@ -3,7 +3,7 @@
 ghost use Rattle.std.specs.Prelude.{◌≡◌, ◌<◌, ℕ, List, length, take};
 ghost use Rattle.stream_base.specs.Lines.{lines_of};
 ghost use Rattle.lockword_core.specs.declared.stake.Op.{Op};
-ghost use Rattle.lockword_script.specs.declared.script.TheConstants.{MAX_LINE_BYTES};
+ghost use Rattle.lockword_script.specs.declared.script.TheConstants.{HOLDERS, MAX_LINE_BYTES, MAX_LINES};
 ghost use Rattle.lockword_script.specs.Script.{Says, IsBadLine};
 ghost use Rattle.lockword_script.specs.TraceOutput.{IsTextOf};
 ghost use Rattle.lockword_script.specs.declared.outcome.End.{End};
@@ -37,4 +37,11 @@ pub fn only_the_first_bad_line_counts()
     ensures { (script other text : List ℕ) (number : ℕ) → IsTextOf script text (End.BadLine number)
         → take number (lines_of script) ≡ take number (lines_of other)
         → IsTextOf other text (End.BadLine number) }
+{}
+
+/// The limits of a script in figures: 4,194,304 holders, lines of 23 bytes, and 16,777,216 lines.
+pub fn the_limits_in_figures()
+    ensures holders { HOLDERS ≡ 4194304 }
+    ensures line_bytes { MAX_LINE_BYTES ≡ 23 }
+    ensures lines { MAX_LINES ≡ 16777216 }
 {}

@@ -4,7 +4,6 @@
 
 pub mod laws;
 mod outcome;
-mod partial_line;
 mod printed_line;
 mod script;
 mod script_run;

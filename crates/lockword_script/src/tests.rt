@@ -144,13 +144,13 @@ impl Write for SlowWriter<'_> {
 const HELD_AND_KEPT: &str = "held 0000000000000008 0 0 -\nkept 0000000000000000 0 0 -\n";
 
 #[test]
-fn lines_at_their_limits(rt: HostRuntime) {
+fn lines_at_their_limits_are_good_or_bad(rt: HostRuntime) {
     a_line_says_one_thing();
     a_long_line_is_bad();
     one_script_has_one_text();
     each_script_has_a_text();
     only_the_first_bad_line_counts();
-    let rows: [(&str, &str, End); 7] = [
+    let rows: [(&str, &str, End); 9] = [
         ("", "", End::Whole),
         ("1 incref\n1 decref", HELD_AND_KEPT, End::Whole),
         (
@@ -159,6 +159,8 @@ fn lines_at_their_limits(rt: HostRuntime) {
             End::Whole,
         ),
         ("1000000+1000000 rsignals", "bad line 1\n", End::BadLine(1)),
+        ("xxxxxxxxxxxxxxxxxxxxxxxx", "bad line 1\n", End::BadLine(1)),
+        ("\0", "bad line 1\n", End::BadLine(1)),
         ("1 incref\r\n", "bad line 1\n", End::BadLine(1)),
         ("0+2 incref\n", "held 0000000000000010 0 0 -\n", End::Whole),
         (
@@ -204,7 +206,7 @@ fn an_answer_is_passed_on_before_the_next_read(rt: HostRuntime) {
 }
 
 #[test]
-fn broken_readers(rt: HostRuntime) {
+fn a_broken_reader_leaves_the_text_of_whole_lines(rt: HostRuntime) {
     let rows = [
         (0, false, Ok(End::Whole), HELD_AND_KEPT),
         (1_024, false, Ok(End::Whole), HELD_AND_KEPT),
@@ -228,7 +230,7 @@ fn broken_readers(rt: HostRuntime) {
 }
 
 #[test]
-fn broken_writers(rt: HostRuntime) {
+fn a_broken_writer_leaves_a_front_of_the_text(rt: HostRuntime) {
     let stopped = Err(TraceFault::Write);
     // Interruptions, bytes by a write, room, what comes when it is full, flushes that succeed.
     let rows = [

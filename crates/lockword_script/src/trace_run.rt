@@ -1,9 +1,7 @@
 //! The run of a script from a source to a sink. What is ready is written and flushed before each read,
 //! so whoever types a line has its answer before the run waits for the next one.
 
-ghost use Rattle.std.specs.Prelude.{◌≡◌, ◌<◌, ◌≤◌, ◌++◌, ℕ, List, true, IfOk, IfErr, OnOk, OnErr, IfSome, length, take};
-ghost use Rattle.std.specs.Io.KnownBytes.{Appends, IsAtEnd};
-ghost use Rattle.stream_base.specs.Attempt.{WriteStopped};
+ghost use Rattle.lockword_script.specs.Words.{◌≡◌, ◌<◌, ◌≤◌, ◌++◌, ℕ, List, true, IfOk, IfErr, OnOk, OnErr, IfSome, length, take, Appends, IsAtEnd, WriteStopped};
 ghost use Rattle.lockword_script.specs.TraceOutput.{IsTextOf};
 ghost use Rattle.lockword_script.specs.TraceOutcome.{ExplainsSink, ExplainsSource, Leaves, SinkIsWell, SourceIsWell};
 
@@ -13,11 +11,8 @@ use std::alloc::Global;
 use std::io::{Read, Write};
 use stream_base::reader_source::ReaderSource;
 use stream_base::sink::{Sink, deliver_to, flush_to};
-use stream_base::source::{Source, read_from};
+use stream_base::source::Source;
 use stream_base::writer_sink::WriterSink;
-
-/// The most bytes that one read takes.
-const CHUNK_BYTES: usize = 4_096;
 
 /// Runs a script: reads it to its end or to its first bad line, and writes its text. What the source has
 /// left after a bad line, and in what state a fault leaves a device, is not said.
@@ -57,18 +52,17 @@ pub fn trace_on<S: Source, K: Sink>(
 {
     let mut run = ScriptRun::new(alloc);
     let mut out = Vec::new(alloc);
-    let mut chunk = [0u8; CHUNK_BYTES];
     // The caller may have written something already, and the first read may wait.
     if let Err(_) = flush_to(sink) {
         return Err(TraceFault::Write);
     }
     'chunks: loop {
-        let count = match read_from(source, &mut chunk) {
+        let count = match run.lines.fill(source) {
             Ok(count) => count,
             Err(_) => return Err(TraceFault::Read),
         };
         out.clear();
-        let advanced = run.advance(&chunk[..count], &mut out);
+        let advanced = run.advance(count, &mut out);
         if let Err(_) = deliver_to(sink, out.as_slice()) {
             return Err(TraceFault::Write);
         }

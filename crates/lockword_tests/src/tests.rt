@@ -20,6 +20,7 @@ mod queued;
 mod reference_rows;
 mod references;
 mod threads;
+mod waiter_limit;
 mod waits;
 
 ghost use Rattle.std.specs.Prelude.{◌≡◌};

@@ -127,6 +127,12 @@ fn counts_stop_at_their_limits(rt: HostRuntime) {
              toomany 000007ffff80000a 0 0 -\n",
         ),
         good_row(
+            "1 wlock\n2+1048575 wlock\n0 wlock\n0 close\n",
+            "held 000000000000000c 0 0 -\nqueued 7ffff8000000000c 0 0 -\n\
+             toomany 7ffff8000000000c 0 0 -\nclosing 0000000000000015 0 0 -\n",
+        ),
+        good_row("4194303 incref\n", "held 0000000000000008 0 0 -\n"),
+        good_row(
             "1+1048574 incref\n0 rlock\n2000000 rlock\n",
             "held 00000000007ffff0 0 0 -\nheld 00000000007ffffa 0 0 -\n\
              queued 0000000000fffffa 0 0 -\n",

@@ -1,5 +1,5 @@
 -- Sockets and halves, as callers see them.
-use Rattle.std.specs.Prelude.{Bool, true, false}
+use Rattle.std.specs.Prelude.{Bool, true, false, Option}
 use Rattle.std.specs.Arc.{arc_value}
 use Rattle.readiness.specs.declared.addr.Addr.{Addr}
 use Rattle.readiness.specs.declared.addr.Addr.TheVariants.{Tcp as TcpAddr, Unix as UnixAddr}
@@ -9,7 +9,7 @@ use Rattle.readiness.specs.declared.sock.Listen.{Listen}
 use Rattle.readiness.specs.declared.sock.Listen.TheVariants.{Tcp as TcpListen, Unix as UnixListen}
 use Rattle.readiness.specs.declared.resources.ReadHalf.{ReadHalf}
 use Rattle.readiness.specs.declared.resources.WriteHalf.{WriteHalf}
-use Rattle.readiness.specs.declared.resources.Acceptor.{Acceptor}
+use Rattle.rwloops.specs.declared.outcome.DevKind.{DevKind}
 
 -- the address is one of TCP
 abbrev pub is_tcp_addr : Addr → Bool
@@ -26,10 +26,6 @@ abbrev pub is_tcp_listener : Listen → Bool
 is_tcp_listener (TcpListen listener) = true
 is_tcp_listener (UnixListen listener) = false
 
--- what an acceptor accepts from
-abbrev pub listener_of : Acceptor → Listen
-listener_of acceptor = acceptor.listen
-
 module _ {A : Type 0} where
   -- the socket that a half reads from
   abbrev pub read_from : ReadHalf A → Sock
@@ -38,3 +34,7 @@ module _ {A : Type 0} where
   -- the socket that a half writes to
   abbrev pub written_to : WriteHalf A → Sock
   written_to half = arc_value half.sock
+
+  -- what the connection came to, where a shut has to tell it
+  abbrev pub failure_of : WriteHalf A → Option DevKind
+  failure_of half = half.failed

@@ -21,19 +21,20 @@ use rwloops::{DevKind, Fault};
 use std::alloc::{Allocator, Global};
 use std::net::Net;
 use std::sync::{Arc, Mutex, Wait};
-use std::thread::yield_now;
 use stream_base::{Dir, OutOfMemory};
-
-/// The turns without an event that don't block, before one does. Under load a poller then sleeps less
-/// often than it is woken.
-const QUIET_TURNS: u32 = 50;
 
 const DEVICE: Fault = Fault::Device(DevKind::Other);
 
 /// What has a cell that is told of readiness and of the clock.
 pub trait HasCell {
+    ghost use Rattle.fd_descriptor.specs.declared.poll_cell.PollCell.{PollCell};
+
+    /// The cell.
+    ghost cell_in: { Self → PollCell };
+
     /// The cell of the entry's descriptor.
-    fn cell(&self) -> &PollCell;
+    fn cell(&self) -> &PollCell
+        ensures own { result.now ≡ cell_in self.now };
 }
 
 /// A poller with its waker, whose token is the greatest there is and names no entry.
@@ -42,7 +43,6 @@ pub struct Poller<A: Allocator = Global> {
     poll: Poll,
     heard: Heard<A>,
     waker: Arc<Waker, A>,
-    quiet: u32,
 }
 
 // Tells the entries what the events make ready, while the table is held.
@@ -105,12 +105,7 @@ impl<A: Allocator> Poller<A> {
         let Ok(waker) = Arc::new(alloc, waker) else {
             return Err(Fault::OutOfMemory);
         };
-        Ok(Poller {
-            poll,
-            heard,
-            waker,
-            quiet: 0,
-        })
+        Ok(Poller { poll, heard, waker })
     }
 
     /// Has turns tell of a connection under this token, until the connection is dropped.
@@ -164,15 +159,9 @@ impl<A: Allocator> Poller<A> {
         ensures faults { IfErr result (λ fault. fault ≡ Fault.Device DevKind.Other) }
     {
         let next = tick_due(rt, now, table, timers);
-        let may_block = self.quiet >= QUIET_TURNS;
-        let ms = if may_block { wait_ms(now, next) } else { 0 };
-        self.heard.hear(&mut self.poll, ms)?;
+        self.heard.hear(&mut self.poll, wait_ms(now, next))?;
         let evs = self.heard.evs();
-        if evs.is_empty() {
-            self.quiet = self.quiet.saturating_add(1);
-            yield_now();
-        } else {
-            self.quiet = 0;
+        if !evs.is_empty() {
             notify_entries(rt, evs, &table.lock(rt));
         }
         Ok(())

@@ -1,10 +1,10 @@
 //! The halves of sockets, and what a descriptor makes of them. A socket is closed when its last half
 //! is dropped.
 
-ghost use Rattle.std.specs.Prelude.{◌≡◌, ◌≤◌, Ok, IfOk, length};
+ghost use Rattle.std.specs.Prelude.{◌≡◌, ◌≤◌, Ok, None, IfOk, length};
 ghost use Rattle.std.specs.Arc.{arc_value};
 ghost use Rattle.rwloops.specs.Outcome.{IsCountWithin};
-ghost use Rattle.readiness.specs.Sockets.{read_from, written_to, listener_of};
+ghost use Rattle.readiness.specs.Sockets.{read_from, written_to, failure_of};
 
 use crate::sock::{Listen, Sock};
 use crate::system_error::{accepted_of, kind_of, outcome_of};
@@ -14,18 +14,12 @@ use std::alloc::{Allocator, Global};
 use std::io::{Read, Write};
 use std::net::Shutdown;
 use std::sync::Arc;
-use std::thread::yield_now;
 use stream_base::OutOfMemory;
-
-/// The most tries again, each after a yield, before a read says that it would block. A peer that
-/// answers soon is then read without a wait in the system.
-const MOST_TRIES: u32 = 32;
 
 /// What is read from a socket.
 #[derive(Drop)]
 pub struct ReadHalf<A: Allocator = Global> {
     sock: Arc<Sock, A>,
-    tries: u32,
 }
 
 /// What is written to a socket.
@@ -41,14 +35,12 @@ impl Sock {
     pub fn split<A: Allocator>(self, alloc: A) -> Result<(ReadHalf<A>, WriteHalf<A>), OutOfMemory>
         ensures read { IfOk result (λ halves. read_from halves.0 ≡ self) }
         ensures written { IfOk result (λ halves. written_to halves.1 ≡ self) }
+        ensures unfailed { IfOk result (λ halves. failure_of halves.1 ≡ None) }
     {
         let sock = Arc::new(alloc, self)?;
         let other = Arc::try_clone(&sock)?;
         Ok((
-            ReadHalf {
-                sock,
-                tries: MOST_TRIES,
-            },
+            ReadHalf { sock },
             WriteHalf {
                 sock: other,
                 failed: None,
@@ -57,11 +49,12 @@ impl Sock {
     }
 }
 
-impl<A: Allocator> ReadHalf<A> {
-    fn read_once(&mut self, buf: &mut [u8]) -> Outcome
-        ensures within { IsCountWithin (length buf.new) result }
-        ensures same { read_from self.new ≡ read_from self.old }
-    {
+impl<A: Allocator> TryRead for ReadHalf<A> {
+    ghost tells = { λ _ _. ⊥ };
+
+    // It doesn't try again before it says that it would block: a yield gives the processor to a busy
+    // neighbour for milliseconds, and a spin keeps it from the peer.
+    fn try_read(&mut self, buf: &mut [u8]) -> Outcome {
         outcome_of(match &*self.sock {
             Sock::Tcp(stream) => {
                 let mut reader = stream;
@@ -72,28 +65,6 @@ impl<A: Allocator> ReadHalf<A> {
                 reader.read(buf)
             }
         })
-    }
-}
-
-impl<A: Allocator> TryRead for ReadHalf<A> {
-    ghost tells = { λ _ _. ⊥ };
-
-    // It tries a few times more where it would block, more often after that served.
-    fn try_read(&mut self, buf: &mut [u8]) -> Outcome {
-        let first = self.read_once(buf);
-        if first != Outcome::WouldBlock {
-            return first;
-        }
-        for _ in 0..self.tries {
-            yield_now();
-            let next = self.read_once(buf);
-            if next != Outcome::WouldBlock {
-                self.tries = self.tries.saturating_mul(2).min(MOST_TRIES);
-                return next;
-            }
-        }
-        self.tries = (self.tries / 2).max(1);
-        Outcome::WouldBlock
     }
 }
 
@@ -163,32 +134,17 @@ impl Resource for SockRes {
     }
 }
 
-/// What is accepted from a listener.
-#[derive(Drop)]
-pub struct Acceptor {
-    listen: Listen,
-}
-
-impl Acceptor {
-    /// Accepts from this listener.
-    pub fn new(listen: Listen) -> Acceptor
-        ensures { listener_of result ≡ listen }
-    {
-        Acceptor { listen }
-    }
-}
-
 /// The write half of a listener, which is written nothing.
 #[derive(Drop)]
 pub struct NoWrites;
 
-impl TryAccept for Acceptor {
+impl TryAccept for Listen {
     type T = Sock;
 
     ghost tells = { λ _ _. ⊥ };
 
     fn try_accept(&mut self) -> AcceptOutcome<Sock> {
-        accepted_of(self.listen.accept())
+        accepted_of(self.accept())
     }
 }
 
@@ -196,11 +152,11 @@ impl TryAccept for Acceptor {
 pub struct ListenRes;
 
 impl Resource for ListenRes {
-    type R = Acceptor;
+    type R = Listen;
 
     type W = NoWrites;
 
-    fn destroy(read: Acceptor, write: NoWrites) -> Result<(), DevKind>
+    fn destroy(read: Listen, write: NoWrites) -> Result<(), DevKind>
         ensures { result ≡ Ok tt }
     {
         drop(read);

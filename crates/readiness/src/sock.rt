@@ -10,7 +10,7 @@ use mio::{Interest, Registry, Token};
 use rwloops::DevKind;
 use std::io;
 
-/// A connection, made or being made. A TCP one that comes from `connect` or from an `Acceptor` sends
+/// A connection, made or being made. A TCP one that comes from `connect` or from a listener sends
 /// small writes at once (`TCP_NODELAY`), as Go's do.
 #[derive(Drop)]
 pub enum Sock {

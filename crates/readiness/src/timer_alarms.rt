@@ -1,8 +1,9 @@
 //! Alarms that are timers under a lock, and that wake the poller which waits for them.
 
 ghost use Rattle.std.specs.Prelude.{◌≡◌, ◌↔◌, true, OnOk, OnErr};
+ghost use Rattle.std.specs.Arc.{arc_value};
 ghost use Rattle.deadline_core.specs.declared.deadline.Dirs.{Dirs};
-ghost use Rattle.readiness.specs.Alarms.{ComesFirst, armed_for, disarmed_for};
+ghost use Rattle.readiness.specs.Alarms.{ComesFirst, armed_for, disarmed_for, timers_of, woken_by};
 
 use deadline_core::{Dirs, Timers};
 use fd_descriptor::Alarms;
@@ -64,7 +65,10 @@ pub struct TimerAlarms<T: Wait + Drop, A: Allocator = Global> {
 
 impl<T: Wait + Drop, A: Allocator> TimerAlarms<T, A> {
     /// Alarms on these timers, which `Poller::turn` takes too, and this waker of that poller.
-    pub fn new(rt: T, timers: Arc<Mutex<Timers<A>>, A>, waker: Arc<Waker, A>) -> TimerAlarms<T, A> {
+    pub fn new(rt: T, timers: Arc<Mutex<Timers<A>>, A>, waker: Arc<Waker, A>) -> TimerAlarms<T, A>
+        ensures timers { timers_of result ≡ arc_value timers }
+        ensures waker { woken_by result ≡ arc_value waker }
+    {
         TimerAlarms { rt, timers, waker }
     }
 }

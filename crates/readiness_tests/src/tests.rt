@@ -1,5 +1,10 @@
-//! A table of descriptors with its poller, which a test turns by itself or leaves to a thread.
+//! A table of descriptors with its poller, which a test turns by itself or leaves to a thread. What
+//! can't be set up ends the test's process there, so that a test is one straight line.
 
+ghost use Rattle.std.specs.Prelude.{◌≡◌};
+ghost use Rattle.std.specs.Arc.{arc_value};
+
+mod alarms;
 mod batch_rows;
 mod bulk;
 mod connecting;
@@ -9,18 +14,17 @@ mod open_files;
 mod paths;
 mod waiting;
 
-use conntable::ConnTable;
-use fd_descriptor::{AcceptOutcome, FdHandle, PollCell, TryAccept};
+use fd_descriptor::{AcceptOutcome, Fault, FdHandle, PollCell, Resource, TryAccept};
 use readiness::{
-    Acceptor, Addr, HasCell, Listen, ListenRes, NoWrites, Poller, Sock, SockRes, TimerAlarms,
-    Timers, connect, listen,
+    Addr, ConnTable, HasCell, Holds, Listen, ListenRes, Poller, Sock, SockRes, TimerAlarms, Timers,
+    Waker, connect, listen,
 };
 use std::alloc::Global;
 use std::fs::Files;
 use std::net::Net;
+use std::process::Abort;
 use std::sync::atomic::{AtomicU64, Ordering};
 use std::sync::{Arc, Mutex, Wait};
-use std::test::Fail;
 use std::thread;
 use std::thread::{JoinHandle, Threads};
 use std::time::{Clock, Duration, Instant};
@@ -30,15 +34,25 @@ const TURNS: u32 = 10_000;
 
 const LOOPBACK: [u8; 4] = [127, 0, 0, 1];
 
-/// What a table holds of a descriptor.
+/// What a table holds of a descriptor, of a connection or of a listener. The test alone has handles.
 #[derive(Drop)]
 struct Entry {
     cell: Arc<PollCell>,
 }
 
 impl HasCell for Entry {
+    ghost cell_in = { λ entry. arc_value entry.cell };
+
     fn cell(&self) -> &PollCell {
         &*self.cell
+    }
+}
+
+impl<X: Resource> Holds<X> for Entry {
+    fn holding(cell: Arc<PollCell>, _handle: FdHandle<X>) -> Entry
+        ensures tells { arc_value result.cell ≡ arc_value cell }
+    {
+        Entry { cell }
     }
 }
 
@@ -51,14 +65,6 @@ struct Shared {
     turns: AtomicU64,
 }
 
-/// The answer, or the test's failure at this step.
-fn or_fail<T, E: Drop>(done: Result<T, E>, step: &str) -> Result<T, Fail> {
-    match done {
-        Ok(value) => Ok(value),
-        Err(_) => Err(Fail::new(step)),
-    }
-}
-
 /// A poller with its table, and a clock that starts with it.
 #[derive(Drop)]
 struct World<R: Clock + Copy + Drop> {
@@ -69,85 +75,77 @@ struct World<R: Clock + Copy + Drop> {
     shared: Arc<Shared>,
 }
 
-impl<R: Wait + Threads + Net + Files + Clock + Copy + Drop> World<R> {
-    fn new(rt: R, alloc: Global) -> Result<World<R>, Fail> {
-        let poller = or_fail(Poller::new(&rt, alloc), "poller")?;
-        let timers = Arc::new(alloc, Mutex::new(Timers::new(alloc)))?;
+impl<R: Wait + Threads + Net + Files + Clock + Abort + Copy + Drop> World<R> {
+    fn new(rt: R, alloc: Global) -> World<R> {
         let shared = Shared {
             table: Mutex::new(ConnTable::new(alloc)),
-            timers,
+            timers: Arc::new(alloc, Mutex::new(Timers::new(alloc))).expect(&rt, "timers"),
             stop: AtomicU64::new(0),
             turns: AtomicU64::new(0),
         };
-        Ok(World {
+        World {
             rt,
             alloc,
-            start: Instant::now(&rt)?,
-            poller,
-            shared: Arc::new(alloc, shared)?,
-        })
+            start: Instant::now(&rt).expect(&rt, "clock"),
+            poller: Poller::new(&rt, alloc).expect(&rt, "poller"),
+            shared: Arc::new(alloc, shared).expect(&rt, "world"),
+        }
     }
 
     /// A descriptor on this socket, whose key is the id of its entry.
-    fn add(&self, sock: Sock) -> Result<FdHandle<SockRes>, Fail> {
-        let mut sock = sock;
-        let mut table = self.shared.table.lock(&self.rt);
-        let (id, token) = or_fail(table.vacant(), "room")?;
-        or_fail(self.poller.register(&mut sock, token), "register")?;
-        let (read, write) = or_fail(sock.split(self.alloc), "split")?;
-        let handle = or_fail(
-            FdHandle::<SockRes>::open(self.alloc, read, write, id),
-            "open",
-        )?;
-        let cell = or_fail(handle.cell(), "cell")?;
-        let _ = or_fail(table.insert(Entry { cell }), "insert")?;
-        Ok(handle)
+    fn add(&self, sock: Sock) -> FdHandle<SockRes> {
+        let rt = self.rt;
+        let mut table = self.shared.table.lock(&rt);
+        let held = self.poller.hold(self.alloc, &mut *table, sock);
+        let (_, handle) = held.expect(&rt, "held");
+        handle
     }
 
     /// A descriptor on this listener, as for a connection.
-    fn add_listener(&self, listener: Listen) -> Result<FdHandle<ListenRes>, Fail> {
-        let mut listener = listener;
-        let mut table = self.shared.table.lock(&self.rt);
-        let (id, token) = or_fail(table.vacant(), "room")?;
-        let registered = self.poller.register_listener(&mut listener, token);
-        or_fail(registered, "register")?;
-        let acceptor = Acceptor::new(listener);
-        let opened = FdHandle::<ListenRes>::open(self.alloc, acceptor, NoWrites, id);
-        let handle = or_fail(opened, "open")?;
-        let cell = or_fail(handle.cell(), "cell")?;
-        let _ = or_fail(table.insert(Entry { cell }), "insert")?;
-        Ok(handle)
+    fn add_listener(&self, listener: Listen) -> FdHandle<ListenRes> {
+        let rt = self.rt;
+        let mut table = self.shared.table.lock(&rt);
+        let held = self.poller.hold_listener(self.alloc, &mut *table, listener);
+        let (_, handle) = held.expect(&rt, "held");
+        handle
     }
 
     /// Both ends of a connection that was accepted at this address.
-    fn pair(&self, addr: &Addr) -> Result<(FdHandle<SockRes>, FdHandle<SockRes>), Fail> {
-        let (near, far) = socks(&self.rt, addr)?;
-        Ok((self.add(near)?, self.add(far)?))
+    fn pair(&self, addr: &Addr) -> (FdHandle<SockRes>, FdHandle<SockRes>) {
+        let (near, far) = socks(&self.rt, addr);
+        (self.add(near), self.add(far))
     }
 
-    fn alarms(&self) -> Result<TimerAlarms<R>, Fail> {
-        let timers = Arc::try_clone(&self.shared.timers)?;
-        let waker = or_fail(self.poller.waker(), "waker")?;
-        Ok(TimerAlarms::new(self.rt, timers, waker))
+    fn alarms(&self) -> TimerAlarms<R> {
+        let rt = self.rt;
+        let timers = Arc::try_clone(&self.shared.timers).expect(&rt, "timers");
+        TimerAlarms::new(rt, timers, self.waker())
+    }
+
+    fn waker(&self) -> Arc<Waker> {
+        self.poller.waker().expect(&self.rt, "waker")
+    }
+
+    /// What a test keeps where the world goes to a thread.
+    fn keep(&self) -> Arc<Shared> {
+        Arc::try_clone(&self.shared).expect(&self.rt, "world")
     }
 
     /// One turn at this moment. It says whether the system let it.
     fn turn(&mut self, now: u64) -> bool {
-        let World {
-            rt,
-            poller,
-            shared,
-            ..
-        } = self;
-        let turned = poller.turn(rt, now, &shared.table, &*shared.timers);
-        shared.turns.fetch_add(1, Ordering::SeqCst);
-        turned == Ok(())
+        turn_at(&self.rt, now, &mut self.poller, &self.shared)
     }
 }
 
+fn turn_at<R: Wait>(rt: &R, now: u64, poller: &mut Poller, shared: &Shared) -> bool {
+    let turned = poller.turn(rt, now, &shared.table, &*shared.timers);
+    shared.turns.fetch_add(1, Ordering::SeqCst);
+    turned.is_ok()
+}
+
 /// The nanoseconds since a moment, or the most there are where the clock fails.
-fn nanos_since<C: Clock>(clock: &C, start: Instant) -> u64 {
-    match start.elapsed(clock) {
+fn nanos_since<R: Clock>(rt: &R, start: Instant) -> u64 {
+    match start.elapsed(rt) {
         Ok(passed) => u64::try_from(passed.as_nanos()).unwrap_or(u64::MAX),
         Err(_) => u64::MAX,
     }
@@ -159,66 +157,66 @@ fn turn_on<R: Wait + Clock>(rt: &R, start: Instant, poller: &mut Poller, shared:
         if shared.stop.load(Ordering::SeqCst) > 0 {
             return true;
         }
-        let now = nanos_since(rt, start);
-        let turned = poller.turn(rt, now, &shared.table, &*shared.timers);
-        shared.turns.fetch_add(1, Ordering::SeqCst);
-        if turned.is_err() {
+        if !turn_at(rt, nanos_since(rt, start), poller, shared) {
             return false;
         }
     }
     unreachable!()
 }
 
-fn spawn_turning<R>(
+fn spawn_turning<R: Wait + Threads + Clock + Abort + Copy + Drop + Send + Sync + 'static>(
     rt: R,
     start: Instant,
     poller: Poller,
     shared: Arc<Shared>,
-) -> Option<JoinHandle<bool>>
-where
-    R: Wait + Threads + Clock + Copy + Drop + Send + Sync + 'static,
-{
-    let job = move || {
-        let mut poller = poller;
-        turn_on(&rt, start, &mut poller, &shared)
-    };
-    thread::spawn(&rt, job).ok()
+) -> JoinHandle<bool> {
+    let mut poller = poller;
+    thread::spawn(&rt, move || turn_on(&rt, start, &mut poller, &shared)).expect(&rt, "thread")
 }
 
 /// A poller's thread, which ends when it is stopped.
 #[derive(Drop)]
 struct Turning {
     thread: JoinHandle<bool>,
-    waker: Arc<readiness::Waker>,
+    waker: Arc<Waker>,
     shared: Arc<Shared>,
 }
 
 impl Turning {
     /// Leaves the turns of this world to a thread.
-    fn start<R>(world: World<R>) -> Result<Turning, Fail>
+    fn start<R>(world: World<R>) -> Turning
     where
-        R: Wait + Threads + Net + Files + Clock + Copy + Drop + Send + Sync + 'static,
+        R: Wait + Threads + Net + Files + Clock + Abort + Copy + Drop + Send + Sync + 'static,
     {
-        let rt = world.rt;
-        let waker = or_fail(world.poller.waker(), "waker")?;
-        let shared = Arc::try_clone(&world.shared)?;
-        let thread = spawn_turning(rt, world.start, world.poller, world.shared);
-        let Some(thread) = thread else {
-            return Err(Fail::new("thread"));
-        };
-        Ok(Turning {
+        let waker = world.waker();
+        let shared = world.keep();
+        let thread = spawn_turning(world.rt, world.start, world.poller, world.shared);
+        Turning {
             thread,
             waker,
             shared,
-        })
+        }
     }
 
-    /// Stops the thread, and says whether every turn was made.
-    fn stop<T: Wait + Threads>(self, rt: &T) -> bool {
+    /// Stops the thread, in which every turn has to have been made.
+    fn stop<R: Wait + Threads + Abort>(self, rt: &R) {
         self.shared.stop.store(1, Ordering::SeqCst);
         let _ = self.waker.wake();
-        self.thread.join(rt)
+        assert!(rt; self.thread.join(rt), "every turn was made");
     }
+}
+
+fn share<R: Abort>(rt: &R, handle: &mut FdHandle<SockRes>) -> FdHandle<SockRes> {
+    handle.share().expect(rt, "share")
+}
+
+/// Reads once on a handle of its own, in a thread of its own.
+fn start_read<R: Wait + Threads + Abort + Copy + Drop + Send + Sync + 'static>(
+    rt: R,
+    handle: &mut FdHandle<SockRes>,
+) -> JoinHandle<Result<usize, Fault>> {
+    let mut reader = share(&rt, handle);
+    thread::spawn(&rt, move || reader.read(&rt, &mut [0; 8])).expect(&rt, "thread")
 }
 
 /// Any port of loopback that is free.
@@ -234,34 +232,47 @@ fn reach(addr: &Addr, listener: &Listen) -> Addr {
     }
 }
 
+fn listening<R: Net + Files + Abort>(rt: &R, addr: &Addr) -> Listen {
+    listen(rt, addr).expect(rt, "listen")
+}
+
+fn connected<R: Net + Abort>(rt: &R, addr: &Addr) -> Sock {
+    connect(rt, addr).expect(rt, "connect")
+}
+
 /// Accepts once there is a connection.
-fn accept_soon<C: Clock>(clock: &C, acceptor: &mut Acceptor) -> Result<Sock, Fail> {
+fn accept_soon<R: Clock + Abort>(rt: &R, listener: &mut Listen) -> Sock {
+    let mut taken = None;
     for _ in 0..TURNS {
-        match acceptor.try_accept() {
-            AcceptOutcome::Took(sock) => return Ok(sock),
-            AcceptOutcome::WouldBlock => thread::sleep(clock, Duration::from_millis(1)),
-            _ => return Err(Fail::new("accept")),
+        match listener.try_accept() {
+            AcceptOutcome::Took(sock) => {
+                taken = Some(sock);
+                break;
+            }
+            _ => pause(rt, 1),
         }
     }
-    Err(Fail::new("nobody came"))
+    taken.expect(rt, "nobody came")
 }
 
 /// Both ends of a connection at this address.
-fn socks<R: Net + Files + Clock>(rt: &R, addr: &Addr) -> Result<(Sock, Sock), Fail> {
-    let listener = or_fail(listen(rt, addr), "listen")?;
-    let reached = reach(addr, &listener);
-    let near = or_fail(connect(rt, &reached), "connect")?;
-    let far = accept_soon(rt, &mut Acceptor::new(listener))?;
-    Ok((near, far))
+fn socks<R: Net + Files + Clock + Abort>(rt: &R, addr: &Addr) -> (Sock, Sock) {
+    let mut listener = listening(rt, addr);
+    let near = connected(rt, &reach(addr, &listener));
+    (near, accept_soon(rt, &mut listener))
+}
+
+fn pause<R: Clock>(rt: &R, ms: u64) {
+    thread::sleep(rt, Duration::from_millis(ms));
 }
 
 /// Waits until the count is at least so much, and says whether it came to that.
-fn comes_to<C: Clock>(clock: &C, count: &AtomicU64, least: u64) -> bool {
+fn comes_to<R: Clock>(rt: &R, count: &AtomicU64, least: u64) -> bool {
     for _ in 0..TURNS {
         if count.load(Ordering::SeqCst) >= least {
             return true;
         }
-        thread::sleep(clock, Duration::from_millis(1));
+        pause(rt, 1);
     }
     false
 }

@@ -1,6 +1,6 @@
 -- Addresses of rules and of sockets.
-use Rattle.relay_admin.specs.declared.addr.Addr.{Addr as RuleAddr}
-use Rattle.relay_admin.specs.declared.addr.Addr.TheVariants as rule
+use Rattle.relay_admin.specs.declared.rules.addr.Addr.{Addr as RuleAddr}
+use Rattle.relay_admin.specs.declared.rules.addr.Addr.TheVariants as rule
 use Rattle.readiness.specs.declared.addr.Addr.{Addr}
 use Rattle.readiness.specs.declared.addr.Addr.TheVariants as socket
 

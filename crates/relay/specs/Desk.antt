@@ -2,8 +2,8 @@
 use Rattle.std.specs.Prelude.{Result, Ok, Err}
 use Rattle.rwloops.specs.declared.fault.Fault.{Fault}
 use Rattle.rwloops.specs.declared.fault.Fault.TheVariants as fault
-use Rattle.relay_admin.specs.declared.desk_answer.DeskAnswer.{DeskAnswer}
-use Rattle.relay_admin.specs.declared.desk_answer.DeskAnswer.TheVariants.{Fine, Closed, Busy, NoMemory}
+use Rattle.relay_admin.specs.declared.admin.desk.DeskAnswer.{DeskAnswer}
+use Rattle.relay_admin.specs.declared.admin.desk.DeskAnswer.TheVariants.{Fine, Closed, Busy, NoMemory}
 
 -- the answer to a close or a deadline that ended so: a device's fault at the destroy leaves it closed
 abbrev pub desk_answer : Result (Unit {0}) Fault → DeskAnswer

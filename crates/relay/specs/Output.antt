@@ -7,6 +7,10 @@ use Rattle.std.specs.Io.KnownBytes.{Appends}
 abbrev pub listening_line : ℕ → List ℕ
 listening_line rules = codes "listening " ++ decimal rules ++ 10 ∷ []
 
+-- the line of a relay that listens was written, with some number of rules
+abbrev pub SaysItListens : Option (List ℕ) → Option (List ℕ) → Type 0
+SaysItListens old new = (rules : ℕ) × Appends old new (listening_line rules)
+
 -- the line of the totals
 abbrev pub totals_line : ℕ → ℕ → List ℕ
 totals_line up down = codes "up " ++ decimal up ++ codes " down " ++ decimal down ++ 10 ∷ []

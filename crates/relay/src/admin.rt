@@ -1,14 +1,19 @@
 //! The admin thread: sessions one after the other, over a poller of its own. So the admin socket and
 //! its sessions are in no list of connections, and a relay that has stopped for a fault ends them too.
 
+ghost use Rattle.std.specs.Prelude.{◌≡◌};
+ghost use Rattle.std.specs.Result.{result_ok};
+ghost use Rattle.relay.specs.Session.{told_to_session};
+
 use crate::clock::Moments;
 use crate::desk::RelayDesk;
 use crate::shared::Shared;
 use deadline_core::Refusal;
-use readiness::{Acceptor, Poller, ReadHalf, Sock, WriteHalf};
+use fd_descriptor::HalfClose;
+use readiness::{Listen, Poller, ReadHalf, Sock, WriteHalf};
 use relay_admin::{AdminEnd, serve_admin};
 use relay_core::{AcceptEnded, AcceptGate, accept_worker};
-use rwloops::{Fault, Waits};
+use rwloops::{Fault, Waits, WriteFault};
 use std::alloc::Global;
 use std::io;
 use std::io::{ErrorKind, Read, Write};
@@ -24,7 +29,7 @@ const SESSION_TOKEN: u64 = 2;
 /// The admin socket with its poller.
 #[derive(Drop)]
 pub(crate) struct Door {
-    pub(crate) acceptor: Acceptor,
+    pub(crate) listener: Listen,
     pub(crate) poller: Arc<Mutex<Poller>>,
 }
 
@@ -70,6 +75,23 @@ struct SessionReader<U: Ledger, D: Ledger, R: Wait + Copy> {
     waits: DoorWaits<U, D, R>,
 }
 
+// What a session is told of a write of so many bytes. The replies of a client that has gone are
+// dropped as if they were written, so that each line that it had sent is still carried out, `stop` too.
+fn told_to_session(len: usize, written: Result<usize, WriteFault>) -> io::Result<usize>
+    ensures { result_ok result ≡ told_to_session len written }
+{
+    match written {
+        Ok(count) => Ok(count),
+        Err(
+            WriteFault {
+                fault: Fault::Device(_),
+                count: _,
+            },
+        ) => Ok(len),
+        Err(_) => Err(ErrorKind::BrokenPipe.into()),
+    }
+}
+
 #[derive(Drop)]
 struct SessionWriter<U: Ledger, D: Ledger, R: Wait + Copy> {
     half: WriteHalf,
@@ -90,10 +112,12 @@ impl<U: Ledger, D: Ledger, R: Wait + Copy> Read for SessionReader<U, D, R> {
 impl<U: Ledger, D: Ledger, R: Wait + Copy> Write for SessionWriter<U, D, R> {
     fn write(&mut self, bytes: &[u8]) -> io::Result<usize> {
         let rt = self.waits.rt;
-        match rwloops::write(&rt, &mut self.half, bytes, &mut self.waits) {
-            Ok(count) => Ok(count),
-            Err(_) => Err(ErrorKind::BrokenPipe.into()),
+        let written = rwloops::write(&rt, &mut self.half, bytes, &mut self.waits);
+        // A client that is there after all sees the end, and doesn't wait for a reply that was dropped.
+        if written.is_err() {
+            let _ = self.half.shut();
         }
+        told_to_session(bytes.len(), written)
     }
 
     fn flush(&mut self) -> io::Result<()> {
@@ -105,7 +129,7 @@ impl<U: Ledger, D: Ledger, R: Wait + Copy> Write for SessionWriter<U, D, R> {
 #[derive(Drop)]
 pub(crate) struct AdminGate<U: Ledger, D: Ledger, R: Wait + Clock + Copy, C: Moments + Drop> {
     pub(crate) alloc: Global,
-    pub(crate) acceptor: Acceptor,
+    pub(crate) listener: Listen,
     pub(crate) waits: DoorWaits<U, D, R>,
     pub(crate) clock: C,
 }
@@ -150,7 +174,7 @@ where
 
     fn accept(&mut self) -> Result<Sock, Fault> {
         let rt = self.waits.rt;
-        rwloops::accept(&rt, &mut self.acceptor, &mut self.waits)
+        rwloops::accept(&rt, &mut self.listener, &mut self.waits)
     }
 
     // A session that says stop has the main thread stop the relay; the next accept is then refused.

@@ -1,5 +1,8 @@
 //! Closing what stands in the relay's table.
 
+ghost use Rattle.std.specs.Prelude.{Result, IfSome};
+ghost use Rattle.rwloops.specs.declared.fault.Fault.{Fault};
+
 use conntable::ConnTable;
 use deadline_core::Timers;
 use rwloops::Fault;
@@ -8,8 +11,12 @@ use stream_base::Dir;
 
 /// What closes once it is taken out of the table.
 pub trait Closes {
+    /// This answer is told: that of its close.
+    ghost tells: { Self → Result (Unit {0}) Fault → Type 0 };
+
     /// Closes, and waits until the last user has left.
-    fn close<R: Wait>(self, rt: &R) -> Result<(), Fault>;
+    fn close<R: Wait>(self, rt: &R) -> Result<(), Fault>
+        ensures told { tells self result };
 }
 
 /// Closes the connection or listener with this id, and gives its answer; `None` says that another did.
@@ -21,7 +28,10 @@ pub fn close_by_id<T: Closes, R: Wait>(
     table: &Mutex<ConnTable<T>>,
     timers: &Mutex<Timers>,
     id: u64,
-) -> Option<Result<(), Fault>> {
+) -> Option<Result<(), Fault>>
+    // What the table and the timers have can't be told, since both are shared.
+    ensures { IfSome result (λ answer. (entry : T) × T.tells entry answer) }
+{
     let removed = table.lock(rt).remove(id);
     let Ok(entry) = removed else {
         return None;

@@ -1,5 +1,8 @@
 //! The end of a relay: nothing that it opened or started is left.
 
+ghost use Rattle.std.specs.Prelude.{◌≡◌, IfErr};
+ghost use Rattle.relay.specs.declared.fault.ServeFault.{ServeFault};
+
 use crate::fault::ServeFault;
 use crate::relay::Relay;
 use crate::threads::Helpers;
@@ -16,7 +19,9 @@ fn gathered<L: Ledger, R: Wait>(
     rt: &R,
     alloc: Global,
     book: &Mutex<Book<L>>,
-) -> Result<u64, ServeFault> {
+) -> Result<u64, ServeFault>
+    ensures faults { IfErr result (λ fault. fault ≡ ServeFault.Memory) }
+{
     match book.lock(rt).gather(Vec::new(alloc)) {
         Ok(total) => Ok(total),
         Err(back) => {
@@ -57,7 +62,9 @@ where
         self,
         rt: &R,
         helpers: Helpers,
-    ) -> Result<(u64, u64), ServeFault> {
+    ) -> Result<(u64, u64), ServeFault>
+        ensures faults { IfErr result (λ fault. fault ≡ ServeFault.Memory) }
+    {
         let mut relay = self;
         relay.shared.stop();
         helpers.wake_admin();

@@ -1,9 +1,13 @@
 //! What stands in the relay's table.
 
+ghost use Rattle.std.specs.Prelude.{◌≡◌, ⊤};
+ghost use Rattle.std.specs.Arc.{arc_value};
+ghost use Rattle.relay.specs.Entry.{entry_cell};
+
 use crate::closing::Closes;
 use deadline_core::Deadline;
 use fd_descriptor::{Alarms, FdHandle, PollCell};
-use readiness::{HasCell, ListenRes, SockRes};
+use readiness::{HasCell, Holds, ListenRes, SockRes};
 use rwloops::Fault;
 use std::sync::{Arc, Mutex, Wait};
 
@@ -52,23 +56,41 @@ pub(crate) struct Entry {
 }
 
 impl HasCell for Entry {
+    ghost cell_in = { entry_cell };
+
     fn cell(&self) -> &PollCell {
         &*self.cell
     }
 }
 
-impl Entry {
-    pub(crate) fn new(cell: Arc<PollCell>, handle: Handle) -> Entry {
-        let handle = Mutex::new(handle);
+impl Holds<SockRes> for Entry {
+    fn holding(cell: Arc<PollCell>, handle: FdHandle<SockRes>) -> Entry
+        ensures tells { entry_cell result ≡ arc_value cell }
+    {
+        let handle = Mutex::new(Handle::Conn(handle));
         Entry { cell, handle }
     }
+}
 
+impl Holds<ListenRes> for Entry {
+    fn holding(cell: Arc<PollCell>, handle: FdHandle<ListenRes>) -> Entry
+        ensures tells { entry_cell result ≡ arc_value cell }
+    {
+        let handle = Mutex::new(Handle::Listener(handle));
+        Entry { cell, handle }
+    }
+}
+
+impl Entry {
     pub(crate) fn share<R: Wait>(&self, rt: &R) -> Result<Handle, Fault> {
         self.handle.lock(rt).share()
     }
 }
 
 impl Closes for Entry {
+    // What other threads did to the handle before isn't known.
+    ghost tells = { λ _ _. ⊤ };
+
     fn close<R: Wait>(self, rt: &R) -> Result<(), Fault> {
         self.handle.lock(rt).close(rt)
     }

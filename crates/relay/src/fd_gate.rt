@@ -14,7 +14,7 @@ use std::sync::Wait;
 /// the deadline of its own direction to that long from now; where that is refused it is the answer, of
 /// a write with count 0.
 #[derive(Drop)]
-pub struct FdGate<X: Resource, R: Wait + Drop, C: Moments + Drop, A: Alarms + Drop> {
+pub struct FdGate<X: Resource, R, C, A> {
     rt: R,
     clock: C,
     alarms: A,
@@ -23,7 +23,7 @@ pub struct FdGate<X: Resource, R: Wait + Drop, C: Moments + Drop, A: Alarms + Dr
     target: FdHandle<X>,
 }
 
-impl<X: Resource, R: Wait + Drop, C: Moments + Drop, A: Alarms + Drop> FdGate<X, R, C, A> {
+impl<X: Resource, R: Wait, C: Moments, A: Alarms> FdGate<X, R, C, A> {
     /// A gate with this idle time in milliseconds, or with none.
     pub fn new(
         rt: R,
@@ -80,9 +80,9 @@ where
     X: Resource,
     X::R: TryRead,
     X::W: TryWrite + HalfClose,
-    R: Wait + Drop,
-    C: Moments + Drop,
-    A: Alarms + Drop,
+    R: Wait,
+    C: Moments,
+    A: Alarms,
 {
     // What a socket carried can't be told.
     ghost tells = { λ _ _. ⊥ };

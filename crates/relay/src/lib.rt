@@ -34,6 +34,6 @@ pub use clock::{Moments, RelayClock};
 pub use closing::{Closes, close_by_id};
 pub use fault::ServeFault;
 pub use fd_gate::FdGate;
-pub use pair::{AtEnd, Done, start_pair};
+pub use pair::{AtEnd, CopyOf, Done, Worker, start_pair};
 pub use rules_file::text_of;
 pub use serving::serve;

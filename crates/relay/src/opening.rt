@@ -5,13 +5,13 @@ ghost use Rattle.relay.specs.Addr.{socket_address};
 
 use crate::admin::Door;
 use crate::bound_paths::BoundPaths;
-use crate::entry::{Entry, Handle};
+use crate::entry::Entry;
 use crate::fault::ServeFault;
 use crate::threads::Unstarted;
 use arrayvec::ArrayString;
 use conntable::ConnTable;
 use fd_descriptor::FdHandle;
-use readiness::{Acceptor, Addr, ListenRes, NoWrites, Poller, Waker, listen};
+use readiness::{Addr, HoldFault, ListenRes, Poller, Waker, listen};
 use relay_admin::Rule;
 use std::alloc::Global;
 use std::fs::Files;
@@ -60,26 +60,14 @@ fn open_listener<R: Net + Files>(
     rule: &Rule,
     bound: &mut BoundPaths<'_>,
 ) -> Result<FdHandle<ListenRes>, ServeFault> {
-    let Ok(mut socket) = listen(rt, &address_of(&rule.listen)) else {
+    let Ok(socket) = listen(rt, &address_of(&rule.listen)) else {
         return Err(ServeFault::Listen(rule.name));
     };
     bound.note_listener();
-    let Ok((id, token)) = table.vacant() else {
-        return Err(ServeFault::Memory);
-    };
-    if poller.register_listener(&mut socket, token).is_err() {
-        return Err(ServeFault::Device);
-    }
-    let opened = FdHandle::<ListenRes>::open(alloc, Acceptor::new(socket), NoWrites, id);
-    let Ok(mut handle) = opened else {
-        return Err(ServeFault::Memory);
-    };
-    let (Ok(cell), Ok(listener)) = (handle.cell(), handle.share()) else {
-        return Err(ServeFault::Memory);
-    };
-    match table.insert(Entry::new(cell, Handle::Listener(handle))) {
-        Ok(_) => Ok(listener),
-        Err(_) => Err(ServeFault::Memory),
+    match poller.hold_listener(alloc, table, socket) {
+        Ok((_, listener)) => Ok(listener),
+        Err(HoldFault::Device(_)) => Err(ServeFault::Device),
+        Err(HoldFault::Table(_) | HoldFault::OutOfMemory) => Err(ServeFault::Memory),
     }
 }
 
@@ -107,8 +95,8 @@ fn open_door<R: Net + Files>(
     let Ok(poller) = Arc::new(alloc, Mutex::new(poller)) else {
         return Err(ServeFault::Memory);
     };
-    let acceptor = Acceptor::new(socket);
-    Ok(Door { acceptor, poller })
+    let listener = socket;
+    Ok(Door { listener, poller })
 }
 
 /// Opens all of a relay's sockets. After a fault none of them is left, and `bound` says which paths

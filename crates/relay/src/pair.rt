@@ -1,10 +1,14 @@
 //! The two workers of a connection, on threads of their own.
 
+ghost use Rattle.std.specs.Prelude.{◌≡◌, IfOk, IfErr, IfSome};
+ghost use Rattle.relay.specs.Worker.{IsLeftBy};
+
 use relay_core::{BUFFER_BYTES, CopyGate, Ended, copy_worker};
 use relay_ledger::{Book, CarriedShare, Full};
+use std::snapshot::Snapshot;
 use std::sync::ledger::Ledger;
 use std::sync::{Arc, Mutex, Wait};
-use std::thread::{Builder, JoinHandle, Threads};
+use std::thread::{Builder, Promise, PromisedHandle, Threads};
 
 /// The stack of a worker's thread, in bytes: the least that the system gives, with the buffer on it.
 pub(crate) const STACK_BYTES: usize = 131_072;
@@ -16,6 +20,21 @@ pub struct Done<L: Ledger> {
     pub ended: Ended,
     pub share: Option<CarriedShare<L>>,
 }
+
+/// What the join of a worker's thread tells: what it leaves is that of a copy through this gate, as the
+/// gate was when it was handed over.
+#[derive(Drop)]
+pub struct CopyOf<G> {
+    pub gate: Snapshot<G>,
+}
+
+impl<G: CopyGate, L: Ledger> Promise<Done<L>> for CopyOf<G> {
+    ghost kept_by = { λ p done. (after : G)
+        × IsLeftBy (G.tells p.gate.value) (G.tells after) done.ended done.share };
+}
+
+/// The thread of a worker.
+pub type Worker<G, L> = PromisedHandle<Done<L>, CopyOf<G>>;
 
 /// Has the book take back the share of a worker that was joined, so that none piles up.
 pub(crate) fn settle<L: Ledger, R: Wait>(rt: &R, book: &Mutex<Book<L>>, done: Done<L>) {
@@ -31,7 +50,9 @@ pub trait AtEnd {
 }
 
 // A worker from its first read to its end. Its buffer lies on the stack of its thread.
-fn work<G: CopyGate, L: Ledger, R: Wait>(rt: &R, gate: &mut G, book: &Mutex<Book<L>>) -> Done<L> {
+fn work<G: CopyGate, L: Ledger, R: Wait>(rt: &R, gate: &mut G, book: &Mutex<Book<L>>) -> Done<L>
+    ensures { IsLeftBy (G.tells gate.old) (G.tells gate.new) result.ended result.share }
+{
     let opened = book.lock(rt).open_share();
     match opened {
         Ok(mut share) => {
@@ -47,25 +68,27 @@ fn work<G: CopyGate, L: Ledger, R: Wait>(rt: &R, gate: &mut G, book: &Mutex<Book
     }
 }
 
-fn start<G, L, E, R>(
-    rt: R,
-    gate: G,
-    book: Arc<Mutex<Book<L>>>,
-    at_end: E,
-) -> Option<JoinHandle<Done<L>>>
+fn start<G, L, E, R>(rt: R, gate: G, book: Arc<Mutex<Book<L>>>, at_end: E) -> Option<Worker<G, L>>
 where
     G: CopyGate + Drop + Send + 'static,
     L: Ledger + Send + Sync + 'static,
     E: AtEnd + Drop + Send + 'static,
     R: Wait + Threads + Copy + Send + 'static,
+    ensures { IfSome result (λ worker. worker.promise.gate.value ≡ gate) }
 {
-    let job = move || {
+    let promise = CopyOf {
+        gate: Snapshot::of(&gate),
+    };
+    let job = move || -> Done<L>
+        ensures { (after : G) × IsLeftBy (G.tells gate) (G.tells after) result.ended result.share }
+    {
         let mut gate = gate;
         let done = work(&rt, &mut gate, &book);
         at_end.ended(done.ended);
         done
     };
-    Builder::new().stack_size(STACK_BYTES).spawn(&rt, job).ok()
+    let builder = Builder::new().stack_size(STACK_BYTES);
+    builder.spawn_with(&rt, promise, job).ok()
 }
 
 /// Starts both workers. Where a thread is refused it gives the join of the one that was started, if
@@ -78,7 +101,7 @@ pub fn start_pair<GU, GD, U, D, E, R>(
     down_book: Arc<Mutex<Book<D>>>,
     up_end: E,
     down_end: E,
-) -> Result<(JoinHandle<Done<U>>, JoinHandle<Done<D>>), Option<JoinHandle<Done<U>>>>
+) -> Result<(Worker<GU, U>, Worker<GD, D>), Option<Worker<GU, U>>>
 where
     GU: CopyGate + Drop + Send + 'static,
     GD: CopyGate + Drop + Send + 'static,
@@ -86,6 +109,10 @@ where
     D: Ledger + Send + Sync + 'static,
     E: AtEnd + Drop + Send + 'static,
     R: Wait + Threads + Copy + Send + 'static,
+    ensures up { IfOk result (λ workers. workers.0.promise.gate.value ≡ up) }
+    ensures down { IfOk result (λ workers. workers.1.promise.gate.value ≡ down) }
+    ensures alone { IfErr result (λ started.
+        IfSome started (λ worker. worker.promise.gate.value ≡ up)) }
 {
     let Some(up) = start(rt, up, up_book, up_end) else {
         return Err(None);

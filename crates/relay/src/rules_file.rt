@@ -1,52 +1,67 @@
 //! Reading a rules file.
 
-ghost use Rattle.std.specs.Prelude.{◌≡◌, ◌≤◌, length, IfOk};
+ghost use Rattle.std.specs.Prelude.{◌≡◌, ◌<◌, ◌≤◌, length, IfOk, IfErr};
+ghost use Rattle.std.specs.Io.KnownBytes.{Consumes, IsAtEnd};
+ghost use Rattle.relay.specs.ServeFault.{IsReadFault};
 
 use crate::fault::ServeFault;
+use relay_admin::Rules;
 use std::alloc::Global;
 use std::fs;
 use std::fs::Files;
-use std::io::Read;
 use stream_base::reader_source::ReaderSource;
-use stream_base::source::read_from;
+use stream_base::source::{Source, read_from};
 
 /// One byte more than a rules file may have.
 const MOST_BYTES: usize = 65_537;
 
-// Reads until the buffer is full or the reader is at its end, and gives the count.
-fn fill<R: Read>(reader: &mut R, buf: &mut [u8]) -> Result<usize, ServeFault>
-    ensures { length buf.new ≡ length buf.old }
+/// The most bytes of one read.
+const READ_BYTES: usize = 4_096;
+
+// The bytes of a source up to its end, or its first 65,537 where it has more.
+fn text_on<S: Source>(alloc: Global, source: &mut S) -> Result<Vec<u8>, ServeFault>
+    requires uninterrupted { S.interruptions source.old ≡ 0 }
+    ensures most { IfOk result (λ text. length text.items ≤ 65537) }
+    ensures bytes { IfOk result (λ text.
+        Consumes (S.remaining source.old) (S.remaining source.new) text.items) }
+    ensures whole { IfOk result (λ text.
+        length text.items < 65537 → IsAtEnd (S.remaining source.new)) }
+    ensures faults { IfErr result (λ fault. IsReadFault fault) }
 {
-    let mut filled = 0usize;
-    for _ in 0..u64::MAX {
-        let Some(rest) = buf.get_mut(filled..) else {
-            return Ok(filled);
+    let mut text = Vec::new(alloc);
+    let mut buf = [0u8; READ_BYTES];
+    while text.len() < MOST_BYTES {
+        let most = (MOST_BYTES - text.len()).min(READ_BYTES);
+        let Ok(count) = read_from(source, &mut buf[..most]) else {
+            return Err(ServeFault::RulesFile);
         };
-        if rest.is_empty() {
-            return Ok(filled);
+        if count == 0 {
+            return Ok(text);
         }
-        let mut source = ReaderSource::new(reader);
-        match read_from(&mut source, rest) {
-            Ok(0) => return Ok(filled),
-            Ok(count) => filled = filled.saturating_add(count),
-            Err(_) => return Err(ServeFault::RulesFile),
+        if text.extend_from_slice(&buf[..count]).is_err() {
+            return Err(ServeFault::Memory);
         }
     }
-    Ok(filled)
+    Ok(text)
 }
 
 /// The bytes of a file, or its first 65,537 where it has more, which are enough to see that it is too
 /// long. The faults are `RulesFile`, where it can't be opened or read, and `Memory`.
 pub fn text_of<R: Files>(rt: &R, alloc: Global, path: &str) -> Result<Vec<u8>, ServeFault>
     ensures most { IfOk result (λ text. length text.items ≤ 65537) }
+    ensures faults { IfErr result (λ fault. IsReadFault fault) }
 {
     let Ok(mut file) = fs::open(rt, path) else {
         return Err(ServeFault::RulesFile);
     };
-    let Ok(mut text) = Vec::from_elem(alloc, 0u8, MOST_BYTES) else {
-        return Err(ServeFault::Memory);
-    };
-    let filled = fill(&mut file, text.as_mut_slice())?;
-    text.truncate(filled);
-    Ok(text)
+    text_on(alloc, &mut ReaderSource::new(&mut file))
+}
+
+/// The rules in a file.
+pub(crate) fn rules_in<R: Files>(rt: &R, alloc: Global, path: &str) -> Result<Rules, ServeFault> {
+    let text = text_of(rt, alloc, path)?;
+    match Rules::parse(text.as_slice()) {
+        Ok(rules) => Ok(rules),
+        Err(fault) => Err(ServeFault::of_rules(fault)),
+    }
 }

@@ -1,8 +1,9 @@
 //! The lines of a relay on standard output.
 
-ghost use Rattle.std.specs.Prelude.{◌≡◌, OnOk};
+ghost use Rattle.std.specs.Prelude.{◌≡◌, OnOk, IfErr};
 ghost use Rattle.std.specs.Io.KnownBytes.{Appends};
 ghost use Rattle.relay.specs.Output.{listening_line, totals_line};
+ghost use Rattle.relay.specs.declared.fault.ServeFault.{ServeFault};
 
 use crate::fault::ServeFault;
 use arrayvec::ArrayString;
@@ -13,7 +14,8 @@ use stream_base::writer_sink::WriterSink;
 
 // Writes a line whole and flushes it.
 fn say<W: Write>(writer: &mut W, line: &ArrayString<64>) -> Result<(), ServeFault>
-    ensures { OnOk result (Appends (W.contents writer.old) (W.contents writer.new) line.now.bytes) }
+    ensures said { OnOk result (Appends (W.contents writer.old) (W.contents writer.new) line.now.bytes) }
+    ensures faults { IfErr result (λ fault. fault ≡ ServeFault.Device) }
 {
     let mut sink = WriterSink::new(writer);
     match deliver_to(&mut sink, line.as_bytes()) {
@@ -24,8 +26,9 @@ fn say<W: Write>(writer: &mut W, line: &ArrayString<64>) -> Result<(), ServeFaul
 
 /// Says that the relay listens by so many rules.
 pub(crate) fn say_listening<W: Write>(writer: &mut W, rules: u64) -> Result<(), ServeFault>
-    ensures { OnOk result
+    ensures said { OnOk result
         (Appends (W.contents writer.old) (W.contents writer.new) (listening_line rules)) }
+    ensures faults { IfErr result (λ fault. fault ≡ ServeFault.Device) }
 {
     let mut line = ArrayString::new();
     let mut digits = Buffer::new();
@@ -37,8 +40,9 @@ pub(crate) fn say_listening<W: Write>(writer: &mut W, rules: u64) -> Result<(), 
 
 /// Says how many bytes were copied to the targets, and how many to the clients.
 pub(crate) fn say_totals<W: Write>(writer: &mut W, up: u64, down: u64) -> Result<(), ServeFault>
-    ensures { OnOk result
+    ensures said { OnOk result
         (Appends (W.contents writer.old) (W.contents writer.new) (totals_line up down)) }
+    ensures faults { IfErr result (λ fault. fault ≡ ServeFault.Device) }
 {
     let mut line = ArrayString::new();
     let mut digits = Buffer::new();

@@ -1,22 +1,24 @@
 //! A relay from its rules file to its end.
 
-ghost use Rattle.std.specs.Prelude.{◌≡◌, ℕ, OnOk};
-ghost use Rattle.std.specs.Io.KnownBytes.{Appends};
-ghost use Rattle.relay.specs.Output.{WritesBothLines, listening_line};
+ghost use Rattle.std.specs.Prelude.{◌≡◌, ◌⊎◌, Err, OnOk, IfErr};
+ghost use Rattle.relay.specs.Output.{WritesBothLines, SaysItListens};
+ghost use Rattle.relay.specs.ServeFault.{IsRunFault};
 
+use crate::admin::Door;
 use crate::bound_paths::BoundPaths;
 use crate::entry::Entry;
 use crate::fault::ServeFault;
 use crate::opening::{Opened, open};
 use crate::relay::Relay;
-use crate::rules_file::text_of;
+use crate::rules_file::rules_in;
 use crate::saying::{say_listening, say_totals};
 use crate::shared::Shared;
 use crate::threads::{Helpers, Unstarted};
 use conntable::ConnTable;
 use deadline_core::Timers;
-use readiness::Waker;
-use relay_admin::{Rule, Rules};
+use fd_descriptor::FdHandle;
+use readiness::{ListenRes, Waker};
+use relay_admin::Rule;
 use relay_ledger::Book;
 use std::alloc::{AllocError, Global};
 use std::fs::Files;
@@ -98,17 +100,77 @@ where
     U: Ledger + Send + Sync + 'static,
     D: Ledger + Send + Sync + 'static,
     R: Wait + Threads + Net + Clock + Copy + Send + Sync + 'static,
-    ensures { OnOk result ((rules : ℕ)
-        × Appends (W.contents writer.old) (W.contents writer.new) (listening_line rules)) }
+    ensures said { OnOk result (SaysItListens (W.contents writer.old) (W.contents writer.new)) }
+    ensures faults { IfErr result (λ fault. IsRunFault fault) }
 {
     let rules = relay.rules.len();
     say_listening(writer, rules as u64)?;
     relay.turn_until_stop(rt)
 }
 
-// The relay from its opening to its end. Its threads are started before it says that it listens, so
+// Starts the relay's threads, and then runs it. They are started before it says that it listens, so
 // that nothing which is refused after that ends it.
-fn relayed<U, D, R, W: Write>(
+fn start_and_run<U, D, R, W: Write>(
+    rt: R,
+    relay: &mut Relay<'_, U, D>,
+    helpers: &mut Helpers,
+    listeners: Vec<FdHandle<ListenRes>>,
+    door: Door,
+    writer: &mut W,
+) -> Result<(), ServeFault>
+where
+    U: Ledger + Send + Sync + 'static,
+    D: Ledger + Send + Sync + 'static,
+    R: Wait + Threads + Net + Clock + Copy + Send + Sync + 'static,
+    ensures said { OnOk result (SaysItListens (W.contents writer.old) (W.contents writer.new)) }
+    ensures faults { IfErr result (λ fault. IsRunFault fault) }
+{
+    helpers.start(rt, relay, listeners, door)?;
+    run(rt, relay, writer)
+}
+
+// The totals of a relay that ran well, or else why it didn't.
+fn totals_after(
+    ran: Result<(), ServeFault>,
+    gathered: Result<(u64, u64), ServeFault>,
+) -> Result<(u64, u64), ServeFault>
+    ensures ran { IfErr ran (λ fault. result ≡ Err fault) }
+    ensures gathered { OnOk ran (result ≡ gathered) }
+{
+    match ran {
+        Ok(()) => gathered,
+        Err(fault) => Err(fault),
+    }
+}
+
+// An opened relay to its end, whatever comes.
+fn run_to_the_end<U, D, R, W: Write>(
+    rt: R,
+    relay: Relay<'_, U, D>,
+    unstarted: Unstarted,
+    writer: &mut W,
+) -> Result<(u64, u64), ServeFault>
+where
+    U: Ledger + Send + Sync + 'static,
+    D: Ledger + Send + Sync + 'static,
+    R: Wait + Threads + Net + Clock + Copy + Send + Sync + 'static,
+    ensures said { OnOk result (SaysItListens (W.contents writer.old) (W.contents writer.new)) }
+    ensures faults { IfErr result (λ fault. IsRunFault fault) }
+{
+    let mut relay = relay;
+    let Unstarted {
+        listeners,
+        door,
+        door_waker,
+    } = unstarted;
+    let mut helpers = Helpers::none(relay.alloc, door_waker);
+    let ran = start_and_run(rt, &mut relay, &mut helpers, listeners, door, writer);
+    let gathered = relay.end(&rt, helpers);
+    totals_after(ran, gathered)
+}
+
+// The relay from its opening to its end.
+fn open_and_run<U, D, R, W: Write>(
     rt: R,
     alloc: Global,
     rules: &[Rule],
@@ -122,27 +184,36 @@ where
     U: Ledger + Send + Sync + 'static,
     D: Ledger + Send + Sync + 'static,
     R: Wait + Threads + Net + Clock + Files + Copy + Send + Sync + 'static,
-    ensures { OnOk result ((rules : ℕ)
-        × Appends (W.contents writer.old) (W.contents writer.new) (listening_line rules)) }
+    ensures said { OnOk result (SaysItListens (W.contents writer.old) (W.contents writer.new)) }
+    ensures unwritten { IfErr result (λ fault. IsRunFault fault
+        ⊎ (W.contents writer.new ≡ W.contents writer.old)) }
 {
     let (relay, unstarted) = opened(&rt, alloc, rules, admin, up, down, bound)?;
-    let mut relay = relay;
-    let Unstarted {
-        listeners,
-        door,
-        door_waker,
-    } = unstarted;
-    let mut helpers = Helpers::none(alloc, door_waker);
-    let started = helpers.start(rt, &relay, listeners, door);
-    let ran = match started {
-        Ok(()) => run(rt, &mut relay, writer),
-        Err(fault) => Err(fault),
-    };
-    let gathered = relay.end(&rt, helpers);
-    match ran {
-        Ok(()) => gathered,
-        Err(fault) => Err(fault),
-    }
+    run_to_the_end(rt, relay, unstarted, writer)
+}
+
+// A relay by these rules, of which no bound path is left.
+fn relayed<U, D, R, W: Write>(
+    rt: R,
+    alloc: Global,
+    rules: &[Rule],
+    admin: &str,
+    up: Book<U>,
+    down: Book<D>,
+    writer: &mut W,
+) -> Result<(u64, u64), ServeFault>
+where
+    U: Ledger + Send + Sync + 'static,
+    D: Ledger + Send + Sync + 'static,
+    R: Wait + Threads + Net + Clock + Files + Copy + Send + Sync + 'static,
+    ensures said { OnOk result (SaysItListens (W.contents writer.old) (W.contents writer.new)) }
+    ensures unwritten { IfErr result (λ fault. IsRunFault fault
+        ⊎ (W.contents writer.new ≡ W.contents writer.old)) }
+{
+    let mut bound = BoundPaths::new(rules, admin);
+    let totals = open_and_run(rt, alloc, rules, admin, up, down, &mut bound, writer);
+    bound.remove_all(&rt);
+    totals
 }
 
 /// Runs a relay by the rules file at the path `rules`, with its admin socket at the path `admin`,
@@ -169,27 +240,21 @@ where
     requires down_parts { down.parts ≡ D.parts }
     requires down_all { down.parts ≡ 4294967296 }
     ensures written { OnOk result (WritesBothLines (W.contents writer.old) (W.contents writer.new)) }
+    // Where the rules or a socket are at fault, nothing was written.
+    ensures unwritten { IfErr result (λ fault. IsRunFault fault
+        ⊎ (W.contents writer.new ≡ W.contents writer.old)) }
 {
     let alloc = rt.alloc();
     let (up, down) = (Book::<U>::new(up), Book::<D>::new(down));
-    let text = text_of(&rt, alloc, rules.as_str())?;
-    let rules = match Rules::parse(text.as_slice()) {
-        Ok(rules) => rules,
-        Err(fault) => return Err(ServeFault::of_rules(fault)),
-    };
-    drop(text);
-    let mut bound = BoundPaths::new(rules.as_slice(), admin.as_str());
-    let relayed = relayed(
+    let rules = rules_in(&rt, alloc, rules.as_str())?;
+    let (up, down) = relayed(
         rt,
         alloc,
         rules.as_slice(),
         admin.as_str(),
         up,
         down,
-        &mut bound,
         writer,
-    );
-    bound.remove_all(&rt);
-    let (up, down) = relayed?;
+    )?;
     say_totals(writer, up, down)
 }

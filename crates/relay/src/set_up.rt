@@ -3,7 +3,6 @@
 ghost use Rattle.std.specs.Prelude.{◌≡◌, []};
 
 use crate::clock::RelayClock;
-use crate::entry::{Entry, Handle};
 use crate::fd_gate::FdGate;
 use crate::opening::address_of;
 use crate::pair::{settle, start_pair};
@@ -18,12 +17,11 @@ use std::sync::{Arc, Wait};
 use std::thread::Threads;
 use std::time::Clock;
 
-/// One side of a pair that stands in the table: its id, and a handle for each worker.
+/// One side of a pair that stands in the table: its id, and a handle.
 #[derive(Drop)]
 struct Side {
     id: u64,
-    reader: FdHandle<SockRes>,
-    writer: FdHandle<SockRes>,
+    handle: FdHandle<SockRes>,
 }
 
 impl<'a, U, D> Relay<'a, U, D>
@@ -31,22 +29,10 @@ where
     U: Ledger + Send + Sync + 'static,
     D: Ledger + Send + Sync + 'static,
 {
-    // Registers and inserts a socket, under one hold of the table's lock, so that the token and the
-    // id that were vacant are the entry's.
     fn add_side<R: Wait>(&self, rt: &R, sock: Sock) -> Option<Side> {
-        let mut sock = sock;
         let mut table = self.shared.table.lock(rt);
-        let (id, token) = table.vacant().ok()?;
-        self.poller.register(&mut sock, token).ok()?;
-        let (read, write) = sock.split(self.alloc).ok()?;
-        let mut handle = FdHandle::<SockRes>::open(self.alloc, read, write, id).ok()?;
-        let cell = handle.cell().ok()?;
-        let reader = handle.share().ok()?;
-        let writer = handle.share().ok()?;
-        match table.insert(Entry::new(cell, Handle::Conn(handle))) {
-            Ok(_) => Some(Side { id, reader, writer }),
-            Err(_) => None,
-        }
+        let (id, handle) = self.poller.hold(self.alloc, &mut *table, sock).ok()?;
+        Some(Side { id, handle })
     }
 
     fn end_of<R: Wait + Drop>(&self, rt: R, state: &Arc<PairState>) -> Option<PairEnd<U, D, R>> {
@@ -80,10 +66,16 @@ where
         let down_book = Arc::try_clone(&self.shared.down).ok()?;
         let up_end = self.end_of(rt, &state)?;
         let down_end = self.end_of(rt, &state)?;
-        let up = self.gate(rt, idle_ms, client.reader, target.writer)?;
-        let down = self.gate(rt, idle_ms, target.reader, client.writer)?;
+        let (mut client, mut target) = (client.handle, target.handle);
+        let to_client = client.share().ok()?;
+        let to_target = target.share().ok()?;
+        let up = self.gate(rt, idle_ms, client, to_target)?;
+        let down = self.gate(rt, idle_ms, target, to_client)?;
         match start_pair(rt, up, down, up_book, down_book, up_end, down_end) {
-            Ok((up, down)) => self.pairs.push(LivePair { up, down, state }).ok(),
+            Ok((up, down)) => {
+                let (up, down) = (up.forget_promise(), down.forget_promise());
+                self.pairs.push(LivePair { up, down, state }).ok()
+            }
             Err(started) => {
                 if let Some(up) = started {
                     state.close(&rt, &self.shared);

@@ -1,5 +1,8 @@
 //! The accept threads and the admin thread.
 
+ghost use Rattle.std.specs.Prelude.{◌≡◌, IfErr};
+ghost use Rattle.relay.specs.declared.fault.ServeFault.{ServeFault};
+
 use crate::accepting::RuleGate;
 use crate::admin::{AdminGate, Door, DoorWaits, serve_sessions};
 use crate::clock::RelayClock;
@@ -36,6 +39,7 @@ fn spawn_acceptor<G, R>(rt: R, gate: G) -> Result<JoinHandle<()>, ServeFault>
 where
     G: AcceptGate + Drop + Send + 'static,
     R: Wait + Threads + Copy + Send + 'static,
+    ensures faults { IfErr result (λ fault. fault ≡ ServeFault.Memory) }
 {
     let job = move || {
         let mut gate = gate;
@@ -51,6 +55,7 @@ fn spawn_admin<G, R>(rt: R, gate: G) -> Result<JoinHandle<()>, ServeFault>
 where
     G: AcceptGate + Drop + Send + 'static,
     R: Wait + Threads + Copy + Send + 'static,
+    ensures faults { IfErr result (λ fault. fault ≡ ServeFault.Memory) }
 {
     let job = move || {
         let mut gate = gate;
@@ -84,6 +89,7 @@ impl Helpers {
         U: Ledger + Send + Sync + 'static,
         D: Ledger + Send + Sync + 'static,
         R: Wait + Threads + Clock + Copy + Send + Sync + 'static,
+        ensures faults { IfErr result (λ fault. fault ≡ ServeFault.Memory) }
     {
         if self.acceptors.reserve(listeners.len()).is_err() {
             return Err(ServeFault::Memory);
@@ -105,10 +111,10 @@ impl Helpers {
         let Ok(shared) = Arc::try_clone(&relay.shared) else {
             return Err(ServeFault::Memory);
         };
-        let Door { acceptor, poller } = door;
+        let Door { listener, poller } = door;
         let gate = AdminGate {
             alloc: relay.alloc,
-            acceptor,
+            listener,
             waits: DoorWaits { rt, poller, shared },
             clock: RelayClock::new(rt, relay.start),
         };

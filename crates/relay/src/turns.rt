@@ -1,5 +1,8 @@
 //! The main thread's turns: what the poller and the clock say, who ended, who was accepted.
 
+ghost use Rattle.std.specs.Prelude.{IfErr};
+ghost use Rattle.relay.specs.ServeFault.{IsRunFault};
+
 use crate::clock::{Moments, RelayClock};
 use crate::fault::ServeFault;
 use crate::pair::settle;
@@ -62,6 +65,7 @@ where
     pub(crate) fn turn_until_stop<R>(&mut self, rt: R) -> Result<(), ServeFault>
     where
         R: Wait + Threads + Net + Clock + Copy + Send + Sync + 'static,
+        ensures faults { IfErr result (λ fault. IsRunFault fault) }
     {
         let clock = RelayClock::new(rt, self.start);
         for _ in rt.forever() {

@@ -1,13 +1,4 @@
-pub mod TextLemmas
-pub mod NumberLemmas
 pub mod GrammarBytes
-pub mod RulesSound
-pub mod RulesComplete
-pub mod RuleLines
-pub mod LineSteps
-pub mod CommandLemmas
-pub mod LineTranscripts
-pub mod SessionLemmas
-pub mod SessionEnds
-pub mod RulesVerdict
-pub mod OneDialogue
+pub mod NumberLemmas
+pub mod TextLemmas
+pub mod Words

@@ -1,5 +1,6 @@
 -- A number within bounds is read from its decimal text, and from no other.
-use Rattle.std.proofs.Common.{◌≡◌, ◌≢◌, ◌∙◌, sym, ap, refl, ℕ, ◌^◌, ◌≤◌, ◌<◌, List, [], ◌∷◌, true, ◌&&◌, Option, Some, None, arith, rules}
+use Rattle.std.proofs.Common.{◌≡◌, ◌≢◌, ◌∙◌, sym, ap, refl, ℕ, ◌^◌, ◌≤◌, ◌<◌, List, [], ◌∷◌, true, ◌&&◌, Option, Some}
+use Rattle.std.proofs.Common.{None, arith, rules}
 use Rattle.std.specs.Prelude.{nat_le, if◌then◌else◌}
 use Rattle.std.specs.Char.{is_ascii_digit}
 use Rattle.std.specs.Str.{all_ascii_digits, bytes_eq}
@@ -25,7 +26,8 @@ Lacks-decimal byte n other wide = of_digits (decimal n) (decimal_digits n wide)
   where
     of_digits : (digits : List ℕ) → all_ascii_digits digits ≡ true → Lacks byte digits
     of_digits [] e = tt
-    of_digits (x ∷ digits) e = let p = both (is_ascii_digit x) (all_ascii_digits digits) e in (other x p.0, of_digits digits p.1)
+    of_digits (x ∷ digits) e = let p = both (is_ascii_digit x) (all_ascii_digits digits) e in
+        (other x p.0, of_digits digits p.1)
 
 bounds : (low high n : ℕ) → (nat_le low n && nat_le n high) ≡ true → (low ≤ n) × (n ≤ high)
 bounds low high n e = (grind (arith, nat_tests), grind (arith, nat_tests))
@@ -33,7 +35,8 @@ bounds low high n e = (grind (arith, nat_tests), grind (arith, nat_tests))
 within : (low high n : ℕ) → low ≤ n → n ≤ high → (nat_le low n && nat_le n high) ≡ true
 within low high n lo hi = grind (arith, nat_tests)
 
-pub within_sound : (low high : ℕ) (text : List ℕ) (n : ℕ) → number_within low high text ≡ Some n → (text ≡ decimal n) × (low ≤ n) × (n ≤ high)
+pub within_sound : (low high : ℕ) (text : List ℕ) (n : ℕ) → number_within low high text ≡ Some n
+    → (text ≡ decimal n) × (low ≤ n) × (n ≤ high)
 unfolding number_within
 within_sound low high text n e =
     let v : ℕ = value_from 0 text in
@@ -45,8 +48,12 @@ within_sound low high text n e =
     let hi : v ≤ high = b.1 in
     (same_bytes text (decimal v) tests.0 ∙ ap decimal same, omega arith, omega arith)
 
-of_value : (low high v n : ℕ) → v ≡ n → low ≤ n → n ≤ high → (if bytes_eq (decimal n) (decimal v) && (nat_le low v && nat_le v high) then Some v else None) ≡ Some n
-of_value low high v n e lo hi = rw e (guard_true (bytes_eq (decimal n) (decimal n) && (nat_le low n && nat_le n high)) n (both_true (bytes_eq (decimal n) (decimal n)) (nat_le low n && nat_le n high) (bytes_itself (decimal n)) (within low high n lo hi)))
+of_value : (low high v n : ℕ) → v ≡ n → low ≤ n → n ≤ high
+    → (if bytes_eq (decimal n) (decimal v) && (nat_le low v && nat_le v high) then Some v else None) ≡ Some n
+of_value low high v n e lo hi =
+    rw e (guard_true (bytes_eq (decimal n) (decimal n) && (nat_le low n && nat_le n high)) n
+    (both_true (bytes_eq (decimal n) (decimal n)) (nat_le low n && nat_le n high) (bytes_itself (decimal n))
+    (within low high n lo hi)))
 
 pub within_complete : (low high n : ℕ) → n < 2 ^ 64 → low ≤ n → n ≤ high → number_within low high (decimal n) ≡ Some n
 unfolding number_within
@@ -54,17 +61,23 @@ within_complete low high n wide lo hi = of_value low high (value_from 0 (decimal
 
 -- ---- What the reader of numbers answered
 
-pub number_found : (low high : ℕ) (text : List ℕ) (n : ℕ) → n < 2 ^ 64 → text ≡ decimal n → low ≤ n → n ≤ high → Some n ≡ number_within low high text
-number_found low high text n wide spelled lo hi = sym (ap (number_within low high) spelled ∙ within_complete low high n wide lo hi)
+pub number_found : (low high : ℕ) (text : List ℕ) (n : ℕ) → n < 2 ^ 64 → text ≡ decimal n → low ≤ n → n ≤ high
+    → Some n ≡ number_within low high text
+number_found low high text n wide spelled lo hi =
+    sym (ap (number_within low high) spelled ∙ within_complete low high n wide lo hi)
 
 none_is : {A : Type 0} (o : Option A) → ((x : A) → o ≡ Some x → ⊥) → None ≡ o
 none_is (Some x) h = absurd (h x refl)
 none_is None h = refl
 
-pub number_refused : (low high : ℕ) (text : List ℕ) → high < 2 ^ 64 → ((n : ℕ) → n < 2 ^ 64 → text ≢ decimal n) → None ≡ number_within low high text
-number_refused low high text wide other = none_is (number_within low high text) (λ n e. let s = within_sound low high text n e in let hi : n ≤ high = s.2 in other n (omega arith) s.0)
+pub number_refused : (low high : ℕ) (text : List ℕ) → high < 2 ^ 64 → ((n : ℕ) → n < 2 ^ 64 → text ≢ decimal n)
+    → None ≡ number_within low high text
+number_refused low high text wide other =
+    none_is (number_within low high text) (λ n e. let s = within_sound low high text n e in let hi : n ≤ high = s.2 in
+    other n (omega arith) s.0)
 
-pub number_outside : (low high : ℕ) (text : List ℕ) (n : ℕ) → high < 2 ^ 64 → n < 2 ^ 64 → text ≡ decimal n → (low ≤ n → n ≤ high → ⊥) → None ≡ number_within low high text
+pub number_outside : (low high : ℕ) (text : List ℕ) (n : ℕ) → high < 2 ^ 64 → n < 2 ^ 64 → text ≡ decimal n
+    → (low ≤ n → n ≤ high → ⊥) → None ≡ number_within low high text
 number_outside low high text n wide small spelled out =
     none_is (number_within low high text) (λ m e.
     let s = within_sound low high text m e in

@@ -1,5 +1,7 @@
 -- Reading a text from the left: tests, parts, and where a byte stands first.
-use Rattle.std.proofs.Common.{◌≡◌, ◌≢◌, ◌∙◌, sym, ap, refl, subst, ℕ, ◌+◌, ◌≤◌, ◌<◌, List, [], ◌∷◌, ◌++◌, length, get_or, take, drop, Bool, true, false, not, ◌&&◌, Option, Some, None, append_assoc, append-nil, arith, inl, inr}
+use Rattle.std.proofs.Common.{◌≡◌, ◌≢◌, ◌∙◌, sym, ap, refl, subst, ℕ, ◌+◌, ◌≤◌, ◌<◌, List, [], ◌∷◌, ◌++◌, length}
+use Rattle.std.proofs.Common.{get_or, take, drop, Bool, true, false, not, ◌&&◌, Option, Some, None, append_assoc}
+use Rattle.std.proofs.Common.{append-nil, arith, inl, inr}
 use Rattle.std.specs.Prelude.{◌==◌, ◌⊎◌, if◌then◌else◌}
 use Rattle.std.specs.List.{list_all}
 use Rattle.std.specs.Str.{bytes_eq}
@@ -31,7 +33,8 @@ both false y e = absurd (cc)
 pub both_true : (x y : Bool) → x ≡ true → y ≡ true → (x && y) ≡ true
 both_true x y p q = rw (p, q) refl
 
-pub bind_some : {A B : Type 0} (o : Option A) (f : A → Option B) (y : B) → (o >>= f) ≡ Some y → (x : A) × (o ≡ Some x) × (f x ≡ Some y)
+pub bind_some : {A B : Type 0} (o : Option A) (f : A → Option B) (y : B) → (o >>= f) ≡ Some y
+    → (x : A) × (o ≡ Some x) × (f x ≡ Some y)
 bind_some (Some x) f y e = (x, refl, e)
 bind_some None f y e = absurd (cc)
 
@@ -58,7 +61,8 @@ pub same_bytes : (xs ys : List ℕ) → bytes_eq xs ys ≡ true → xs ≡ ys
 same_bytes xs ys e = (bytes_eq-Decides xs ys).0 e
 
 pub other_bytes : (xs ys : List ℕ) → bytes_eq xs ys ≡ false → xs ≢ ys
-other_bytes xs ys e same = let t : bytes_eq xs ys ≡ true = (bytes_eq-Decides xs ys).1 same in let h : true ≡ false = sym t ∙ e in absurd (cc)
+other_bytes xs ys e same = let t : bytes_eq xs ys ≡ true = (bytes_eq-Decides xs ys).1 same in let h : true ≡ false =
+    sym t ∙ e in absurd (cc)
 
 pub bytes_itself : (xs : List ℕ) → bytes_eq xs xs ≡ true
 bytes_itself xs = (bytes_eq-Decides xs xs).1 refl
@@ -69,9 +73,11 @@ pub Lacks-append : (b : ℕ) (xs ys : List ℕ) → Lacks b xs → Lacks b ys �
 Lacks-append b [] ys h k = k
 Lacks-append b (x ∷ xs) ys h k = (h.0, Lacks-append b xs ys h.1 k)
 
-pub Lacks-from_list_all : (b : ℕ) (test : ℕ → Bool) (xs : List ℕ) → ((x : ℕ) → test x ≡ true → x ≢ b) → list_all test xs ≡ true → Lacks b xs
+pub Lacks-from_list_all : (b : ℕ) (test : ℕ → Bool) (xs : List ℕ) → ((x : ℕ) → test x ≡ true → x ≢ b)
+    → list_all test xs ≡ true → Lacks b xs
 Lacks-from_list_all b test [] other h = tt
-Lacks-from_list_all b test (x ∷ xs) other h = let p = both (test x) (list_all test xs) h in (other x p.0, Lacks-from_list_all b test xs other p.1)
+Lacks-from_list_all b test (x ∷ xs) other h = let p = both (test x) (list_all test xs) h in
+    (other x p.0, Lacks-from_list_all b test xs other p.1)
 
 -- a test that a word lacks the byte
 abbrev pub word_lacks : ℕ → List ℕ → Bool
@@ -80,7 +86,8 @@ word_lacks byte (x ∷ word) = not (x == byte) && word_lacks byte word
 
 pub Lacks-word : (byte : ℕ) (word : List ℕ) → word_lacks byte word ≡ true → Lacks byte word
 Lacks-word byte [] e = tt
-Lacks-word byte (x ∷ word) e = let p = both (not (x == byte)) (word_lacks byte word) e in (differs x byte p.0, Lacks-word byte word p.1)
+Lacks-word byte (x ∷ word) e = let p = both (not (x == byte)) (word_lacks byte word) e in
+    (differs x byte p.0, Lacks-word byte word p.1)
   where
     differs : (x byte : ℕ) → not (x == byte) ≡ true → x ≢ byte
     differs x byte e same = grind (arith, nat_tests)
@@ -91,37 +98,45 @@ pub split-here : (byte x : ℕ) (text : List ℕ) → x ≡ byte → split_at_fi
 unfolding split_at_first
 split-here byte x text same = by_test (x == byte) (grind (arith, nat_tests))
   where
-    by_test : (b : Bool) → b ≡ true → (if b then Some ([], text) else onto_first x (split_at_first byte text)) ≡ Some ([], text)
+    by_test : (b : Bool) → b ≡ true → (if b then Some ([], text) else onto_first x (split_at_first byte text)) ≡ Some
+        ([], text)
     by_test b e = rw e refl
 
-pub split-later : (byte x : ℕ) (text : List ℕ) → x ≢ byte → split_at_first byte (x ∷ text) ≡ onto_first x (split_at_first byte text)
+pub split-later : (byte x : ℕ) (text : List ℕ) → x ≢ byte
+    → split_at_first byte (x ∷ text) ≡ onto_first x (split_at_first byte text)
 unfolding split_at_first
 split-later byte x text other = by_test (x == byte) (grind (arith, nat_tests))
   where
-    by_test : (b : Bool) → b ≡ false → (if b then Some ([], text) else onto_first x (split_at_first byte text)) ≡ onto_first x (split_at_first byte text)
+    by_test : (b : Bool) → b ≡ false → (if b then Some ([], text) else onto_first x (split_at_first byte text))
+        ≡ onto_first x (split_at_first byte text)
     by_test b e = rw e refl
 
 pub split-empty : (byte : ℕ) → split_at_first byte [] ≡ None
 unfolding split_at_first
 split-empty byte = refl
 
-pub split_complete : (byte : ℕ) (front rest : List ℕ) → Lacks byte front → split_at_first byte (front ++ byte ∷ rest) ≡ Some (front, rest)
+pub split_complete : (byte : ℕ) (front rest : List ℕ) → Lacks byte front
+    → split_at_first byte (front ++ byte ∷ rest) ≡ Some (front, rest)
 split_complete byte [] rest lacks = split-here byte byte rest refl
-split_complete byte (x ∷ front) rest lacks = split-later byte x (front ++ byte ∷ rest) lacks.0 ∙ ap (onto_first x) (split_complete byte front rest lacks.1)
+split_complete byte (x ∷ front) rest lacks = split-later byte x (front ++ byte ∷ rest) lacks.0
+    ∙ ap (onto_first x) (split_complete byte front rest lacks.1)
 
 -- the parts are these, and the first lacks the byte
 abbrev pub Splits : ℕ → List ℕ → List ℕ × List ℕ → Type 0
 Splits byte text parts = (text ≡ parts.0 ++ byte ∷ parts.1) × Lacks byte parts.0
 
-onto_some : (x : ℕ) (o : Option (List ℕ × List ℕ)) (parts : List ℕ × List ℕ) → onto_first x o ≡ Some parts → (rest : List ℕ × List ℕ) × (o ≡ Some rest) × (parts ≡ (x ∷ rest.0, rest.1))
+onto_some : (x : ℕ) (o : Option (List ℕ × List ℕ)) (parts : List ℕ × List ℕ) → onto_first x o ≡ Some parts
+    → (rest : List ℕ × List ℕ) × (o ≡ Some rest) × (parts ≡ (x ∷ rest.0, rest.1))
 onto_some x (Some rest) parts e = (rest, refl, cc)
 onto_some x None parts e = absurd (cc)
 
-pub split_sound : (byte : ℕ) (text : List ℕ) (parts : List ℕ × List ℕ) → split_at_first byte text ≡ Some parts → Splits byte text parts
+pub split_sound : (byte : ℕ) (text : List ℕ) (parts : List ℕ × List ℕ) → split_at_first byte text ≡ Some parts
+    → Splits byte text parts
 split_sound byte [] parts e = absurd (let h : None ≡ Some parts = sym (split-empty byte) ∙ e in cc)
 split_sound byte (x ∷ text) parts e = by_byte (λ rest h. split_sound byte text rest h) (cases_eq x byte)
   where
-    by_byte : ((rest : List ℕ × List ℕ) → split_at_first byte text ≡ Some rest → Splits byte text rest) → (x ≡ byte) ⊎ (x ≡ byte → ⊥) → Splits byte (x ∷ text) parts
+    by_byte : ((rest : List ℕ × List ℕ) → split_at_first byte text ≡ Some rest → Splits byte text rest)
+        → (x ≡ byte) ⊎ (x ≡ byte → ⊥) → Splits byte (x ∷ text) parts
     by_byte sound (inl same) =
         let given : Some ([], text) ≡ Some parts = sym (split-here byte x text same) ∙ e in
         let is : ([], text) ≡ parts = cc in
@@ -140,8 +155,10 @@ split_none byte [] e = tt
 split_none byte (x ∷ text) e = by_byte (λ h. split_none byte text h) (cases_eq x byte)
   where
     by_byte : (split_at_first byte text ≡ None → Lacks byte text) → (x ≡ byte) ⊎ (x ≡ byte → ⊥) → Lacks byte (x ∷ text)
-    by_byte lacks (inl same) = let parts : List ℕ × List ℕ = ([], text) in let found : Some parts ≡ None = sym (split-here byte x text same) ∙ e in absurd (cc)
-    by_byte lacks (inr other) = (other, lacks (onto_none x (split_at_first byte text) (sym (split-later byte x text other) ∙ e)))
+    by_byte lacks (inl same) = let parts : List ℕ × List ℕ = ([], text) in let found : Some parts ≡ None =
+        sym (split-here byte x text same) ∙ e in absurd (cc)
+    by_byte lacks (inr other) =
+        (other, lacks (onto_none x (split_at_first byte text) (sym (split-later byte x text other) ∙ e)))
 
 -- ---- The loop that looks for the byte
 
@@ -150,11 +167,14 @@ abbrev pub onto_all : List ℕ → Option (List ℕ × List ℕ) → Option (Lis
 onto_all front (Some parts) = Some (front ++ parts.0, parts.1)
 onto_all front None = None
 
-onto_all-onto_first : (front : List ℕ) (x : ℕ) (o : Option (List ℕ × List ℕ)) → onto_all front (onto_first x o) ≡ onto_all (front ++ x ∷ []) o
+onto_all-onto_first : (front : List ℕ) (x : ℕ) (o : Option (List ℕ × List ℕ))
+    → onto_all front (onto_first x o) ≡ onto_all (front ++ x ∷ []) o
 onto_all-onto_first front x (Some parts) = ap (λ f. Some (f, parts.1)) (sym (append_assoc front (x ∷ []) parts.0))
 onto_all-onto_first front x None = refl
 
-pub split_on : (byte : ℕ) (text : List ℕ) (i : ℕ) → i < length text → get_or text i 0 ≢ byte → split_at_first byte text ≡ onto_all (take i text) (split_at_first byte (drop i text)) → split_at_first byte text ≡ onto_all (take (i + 1) text) (split_at_first byte (drop (i + 1) text))
+pub split_on : (byte : ℕ) (text : List ℕ) (i : ℕ) → i < length text → get_or text i 0 ≢ byte
+    → split_at_first byte text ≡ onto_all (take i text) (split_at_first byte (drop i text))
+    → split_at_first byte text ≡ onto_all (take (i + 1) text) (split_at_first byte (drop (i + 1) text))
 split_on byte text i within other before =
     before
     ∙ ap (λ t. onto_all (take i text) (split_at_first byte t)) (drop_more text i 0 within)
@@ -162,12 +182,18 @@ split_on byte text i within other before =
     ∙ onto_all-onto_first (take i text) (get_or text i 0) (split_at_first byte (drop (i + 1) text))
     ∙ ap (λ t. onto_all t (split_at_first byte (drop (i + 1) text))) (sym (take_more text i 0 within))
 
-pub split_found : (byte : ℕ) (text : List ℕ) (i : ℕ) → i < length text → get_or text i 0 ≡ byte → split_at_first byte text ≡ onto_all (take i text) (split_at_first byte (drop i text)) → split_at_first byte text ≡ Some (take i text, drop (i + 1) text)
+pub split_found : (byte : ℕ) (text : List ℕ) (i : ℕ) → i < length text → get_or text i 0 ≡ byte
+    → split_at_first byte text ≡ onto_all (take i text) (split_at_first byte (drop i text))
+    → split_at_first byte text ≡ Some (take i text, drop (i + 1) text)
 split_found byte text i within same before =
     before
     ∙ ap (λ t. onto_all (take i text) (split_at_first byte t)) (drop_more text i 0 within)
     ∙ ap (onto_all (take i text)) (split-here byte (get_or text i 0) (drop (i + 1) text) same)
     ∙ ap (λ t. Some (t, drop (i + 1) text)) (append-nil (take i text))
 
-pub split_not_found : (byte : ℕ) (text : List ℕ) (i : ℕ) → length text ≤ i → split_at_first byte text ≡ onto_all (take i text) (split_at_first byte (drop i text)) → split_at_first byte text ≡ None
-split_not_found byte text i past before = before ∙ ap (λ t. onto_all (take i text) (split_at_first byte t)) (drop_all i text past) ∙ ap (onto_all (take i text)) (split-empty byte)
+pub split_not_found : (byte : ℕ) (text : List ℕ) (i : ℕ) → length text ≤ i
+    → split_at_first byte text ≡ onto_all (take i text) (split_at_first byte (drop i text))
+    → split_at_first byte text ≡ None
+split_not_found byte text i past before =
+    before ∙ ap (λ t. onto_all (take i text) (split_at_first byte t)) (drop_all i text past)
+    ∙ ap (onto_all (take i text)) (split-empty byte)

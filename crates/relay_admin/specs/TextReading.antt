@@ -1,5 +1,6 @@
 -- Reading a text from left to right, as the code does. No public clause cites this module.
-use Rattle.std.specs.Prelude.{◌≡◌, ◌==◌, ◌+◌, ◌-◌, ◌*◌, ℕ, ◌&&◌, List, [], ◌∷◌, Option, Some, None, nat_le, if◌then◌else◌}
+use Rattle.std.specs.Prelude.{◌≡◌, ◌==◌, ◌+◌, ◌-◌, ◌*◌, ℕ, ◌&&◌, List, [], ◌∷◌, Option, Some, None}
+use Rattle.std.specs.Prelude.{nat_le, if◌then◌else◌}
 use Rattle.std.specs.Fmt.{decimal}
 use Rattle.std.specs.Str.{bytes_eq}
 
@@ -22,7 +23,8 @@ onto_first byte None = None
 -- what stands before the first such byte, and what stands behind it
 unfoldable pub split_at_first : ℕ → List ℕ → Option (List ℕ × List ℕ)
 split_at_first byte [] = None
-split_at_first byte (x ∷ text) = if x == byte then Some ([], text) else onto_first x (split_at_first byte text)
+split_at_first byte (x ∷ text) =
+    if x == byte then Some ([], text) else onto_first x (split_at_first byte text)
 
 -- the value of the digits behind those that have this value
 abbrev pub value_from : ℕ → List ℕ → ℕ
@@ -32,5 +34,6 @@ value_from value (digit ∷ digits) = value_from (10 * value + (digit - 48)) dig
 -- the number from low to high whose decimal text this is
 unfoldable pub number_within : ℕ → ℕ → List ℕ → Option ℕ
 number_within low high text =
-    if bytes_eq text (decimal (value_from 0 text)) && (nat_le low (value_from 0 text) && nat_le (value_from 0 text) high)
+    if bytes_eq text (decimal (value_from 0 text))
+    && (nat_le low (value_from 0 text) && nat_le (value_from 0 text) high)
     then Some (value_from 0 text) else None

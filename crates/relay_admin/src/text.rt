@@ -1,6 +1,23 @@
-//! Cutting a text at a byte.
+//! Reading a text: its parts, and its numbers within bounds.
 
-ghost use Rattle.relay_admin.specs.TextReading.{Views, split_at_first};
+ghost use Rattle.std.specs.Prelude.{◌≡◌, ◌≤◌, IfSome};
+ghost use Rattle.relay_admin.specs.TextReading.{Views, number_within, split_at_first};
+
+use stream_base::decimal::parse_decimal;
+
+/// The number from `low` to `high` that the text spells, and none where it spells none.
+pub(crate) fn number_between(low: u64, high: u64, text: &[u8]) -> Option<u64>
+    ensures value { result ≡ number_within low high text.now }
+    ensures bounds { IfSome result (λ n. (low ≤ n) × (n ≤ high)) }
+{
+    let Some(n) = parse_decimal(text) else {
+        return None;
+    };
+    if n < low || high < n {
+        return None;
+    }
+    Some(n)
+}
 
 /// What stands before the first such byte, and what stands behind it.
 pub(crate) fn split_once(text: &[u8], byte: u8) -> Option<(&[u8], &[u8])>

@@ -1,5 +1,6 @@
 -- Sums over the credits of shares.
-use Rattle.std.proofs.Common.{◌≡◌, ◌∙◌, sym, ap, ℕ, ◌+◌, ◌<◌, List, [], ◌∷◌, ◌++◌, length, get_or, set, arith, length-append, length-set}
+use Rattle.std.proofs.Common.{◌≡◌, ◌∙◌, sym, ap, ℕ, ◌+◌, ◌<◌, List, [], ◌∷◌, ◌++◌, length, get_or, set, arith}
+use Rattle.std.proofs.Common.{length-append, length-set}
 use Rattle.std.specs.Prelude.{sum, sum_by}
 use Rattle.std.proofs.lemmas.Grind.{common_steps}
 use Rattle.std.proofs.lemmas.List.Sums.{sum_by-set}
@@ -14,22 +15,26 @@ sums-push : (credits : List (List ℕ)) → sum_by sum (credits ++ [] ∷ []) �
 sums-push credits = grind (arith, common_steps)
 
 -- one credit more of one share adds itself to the sum of all
-sums-credit : (credits : List (List ℕ)) (share n : ℕ) → share < length credits → sum_by sum (set credits share (get_or credits share [] ++ n ∷ [])) ≡ sum_by sum credits + n
+sums-credit : (credits : List (List ℕ)) (share n : ℕ) → share < length credits
+    → sum_by sum (set credits share (get_or credits share [] ++ n ∷ [])) ≡ sum_by sum credits + n
 sums-credit credits share n within =
     let moved = sum_by-set sum credits share (get_or credits share [] ++ n ∷ []) [] within in
     let grown = sum-push (get_or credits share []) n in
     omega (arith, moved, grown)
 
 -- a share taken out of a list takes its credits out of the sum
-sums-without : (before after : List (List ℕ)) (credits : List ℕ) → sum_by sum (before ++ credits ∷ after) ≡ sum_by sum (before ++ after) + sum credits
+sums-without : (before after : List (List ℕ)) (credits : List ℕ)
+    → sum_by sum (before ++ credits ∷ after) ≡ sum_by sum (before ++ after) + sum credits
 sums-without before after credits = grind (arith, common_steps)
 
 -- a share more adds its credits to the sum
-sums-with : (credits : List ℕ) (others : List (List ℕ)) → sum_by sum (credits ∷ others) ≡ sum_by sum others + sum credits
+sums-with : (credits : List ℕ) (others : List (List ℕ))
+    → sum_by sum (credits ∷ others) ≡ sum_by sum others + sum credits
 sums-with credits others = grind (arith, common_steps)
 
 -- a list without one of its elements is one shorter
-length-without : {A : Type 0} (before after : List A) (a : A) → length (before ++ a ∷ after) ≡ length (before ++ after) + 1
+length-without : {A : Type 0} (before after : List A) (a : A)
+    → length (before ++ a ∷ after) ≡ length (before ++ after) + 1
 length-without before after a = grind (arith, common_steps)
 
 pub credits_are_conserved : CreditsAreConserved

@@ -1,7 +1,8 @@
 -- What a caller sees of a book, and how the calls change it.
 use Rattle.std.specs.Prelude.{◌≡◌, ◌<◌, ◌+◌, ◌-◌, ◌⊎◌, ℕ, Bool, true, false, List, length}
 
--- the sum of all credits, how many shares are open, the sum of the amounts of the shares that were settled, and whether
+-- the sum of all credits, how many shares are open, the sum of the amounts of the shares that were
+-- settled, and whether
 -- all that were open were gathered
 pub record Account : Type 0 where
   pub total : ℕ
@@ -19,7 +20,8 @@ Adds old new n = new ≡ record old { total = old.total + n }
 
 -- a share of this amount was taken back, and the total keeps what it was credited
 abbrev pub Settles : Account → Account → ℕ → Type 0
-Settles old new amount = new ≡ record old { opened = old.opened - 1; settled = old.settled + amount }
+Settles old new amount =
+    new ≡ record old { opened = old.opened - 1; settled = old.settled + amount }
 
 -- all open shares were taken back, and the book keeps its total and its count
 abbrev pub Gathers : Account → Account → Type 0

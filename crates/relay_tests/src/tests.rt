@@ -2,6 +2,7 @@
 
 mod closing;
 mod echo;
+mod most_pairs;
 mod pairs;
 mod start_faults;
 mod steering;
@@ -177,11 +178,17 @@ where
     Ok(port)
 }
 
-/// The next connection of a target.
-fn accepted(listener: &TcpListener) -> Result<TcpStream, Fail> {
-    let (stream, _) = listener.accept()?;
-    stream.set_read_timeout(Some(Duration::from_secs(LONGEST_READ_SECONDS)))?;
-    Ok(stream)
+/// The next connection of a target, once somebody connects.
+fn accepted<C: Clock>(clock: &C, listener: &TcpListener) -> Result<TcpStream, Fail> {
+    listener.set_nonblocking(true)?;
+    for _ in 0..TURNS {
+        if let Ok((stream, _)) = listener.accept() {
+            stream.set_read_timeout(Some(Duration::from_secs(LONGEST_READ_SECONDS)))?;
+            return Ok(stream);
+        }
+        thread::sleep(clock, Duration::from_millis(1));
+    }
+    Err(Fail::new("nobody connects to the target"))
 }
 
 /// Whether these bytes come next.

@@ -3,7 +3,8 @@ use Rattle.std.specs.Prelude.{◌≡◌, Bool, true, false, ◌&&◌, List, Resu
 use Rattle.std.specs.List.{list_all}
 use Rattle.stream_base.specs.declared.direction.Dir.TheVariants.{Read}
 use Rattle.rwloops.specs.declared.outcome.AcceptOutcome.{AcceptOutcome}
-use Rattle.rwloops.specs.declared.outcome.AcceptOutcome.TheVariants.{Took, Interrupted, Aborted, WouldBlock, Broken}
+use Rattle.rwloops.specs.declared.outcome.AcceptOutcome.TheVariants.{Took, Interrupted, Aborted}
+use Rattle.rwloops.specs.declared.outcome.AcceptOutcome.TheVariants.{WouldBlock, Broken}
 use Rattle.rwloops.specs.declared.fault.Fault.{Fault}
 use Rattle.rwloops.specs.declared.fault.Fault.TheVariants.{Device, TooManyRetries}
 use Rattle.rwloops.specs.declared.retries.Next.{Next}
@@ -31,9 +32,11 @@ accept_goes_on Aborted = true
 accept_goes_on WouldBlock = true
 accept_goes_on _ = false
 
--- each outcome lets the accept go on, and no more than `MAX_RETRIES` in a row are `Interrupted` or `Aborted`
+-- each outcome lets the accept go on, and no more than `MAX_RETRIES` in a row are `Interrupted` or
+-- `Aborted`
 abbrev pub accept_is_inconclusive : {T : Type 0} → List (AcceptOutcome T) → Bool
-accept_is_inconclusive outcomes = list_all accept_goes_on outcomes && has_short_rows is_retried outcomes
+accept_is_inconclusive outcomes = list_all accept_goes_on outcomes && has_short_rows is_retried
+    outcomes
 
 -- what a decisive outcome comes to
 abbrev pub accept_decision : {T : Type 0} → AcceptOutcome T → Next T
@@ -45,10 +48,17 @@ accept_decision (Broken kind) = Failed (Device kind)
 
 -- how an accept takes its outcomes
 abbrev pub accept_rules : (T : Type 0) → OutcomeRules (AcceptOutcome T) T
-accept_rules T = record { dir = Read; blocks = accept_blocks; is_inconclusive = accept_is_inconclusive; decision = accept_decision }
+accept_rules T = record {
+  dir = Read;
+  blocks = accept_blocks;
+  is_inconclusive =
+      accept_is_inconclusive;
+  decision = accept_decision;
+}
 
 -- the loop has been fed these outcomes, and goes on
-pub record AcceptStandsFor {T : Type 0} (loop : AcceptLoop T) (fed : List (AcceptOutcome T)) : Type 0 where
+pub record AcceptStandsFor {T : Type 0} (loop : AcceptLoop T)
+    (fed : List (AcceptOutcome T)) : Type 0 where
   pub row : loop.retries.in_a_row ≡ newest_row is_retried fed
   pub inconclusive : IsTrue (accept_is_inconclusive fed)
 
@@ -63,5 +73,7 @@ AcceptAnswers (Failed fault) tries result = result ≡ Err fault
 AcceptAnswers _ tries result = ⊥
 
 -- what an accept tried, asked and answered
-abbrev pub AcceptTrace : {T : Type 0} → List (AcceptOutcome T) → List WaitCall → Result T Fault → Type 0
-AcceptTrace {T = T} tries calls result = OutcomeTrace (accept_rules T) IsAcceptTry AcceptAnswers tries calls result
+abbrev pub AcceptTrace : {T : Type 0} → List (AcceptOutcome T) → List WaitCall → Result T Fault →
+    Type 0
+AcceptTrace {T = T} tries calls result =
+    OutcomeTrace (accept_rules T) IsAcceptTry AcceptAnswers tries calls result

@@ -1,18 +1,21 @@
 -- The outcome trace of a write. Lists are newest first.
-use Rattle.std.specs.Prelude.{◌≡◌, ℕ, zero, suc, ◌-◌, min, Bool, true, false, ◌&&◌, List, [], ◌∷◌, ◌++◌, map, take, drop, length, nat_lt, Result, Ok, Err, IsTrue}
+use Rattle.std.specs.Prelude.{◌≡◌, ℕ, zero, suc, ◌-◌, min, Bool, true, false, ◌&&◌, List, [], ◌∷◌}
+use Rattle.std.specs.Prelude.{◌++◌, map, take, drop, length, nat_lt, Result, Ok, Err, IsTrue}
 use Rattle.std.specs.List.{list_all}
 use Rattle.stream_base.specs.declared.direction.Dir.TheVariants.{Write}
 use Rattle.rwloops.specs.declared.limits.TheConstants.{MAX_TRY_BYTES}
 use Rattle.rwloops.specs.declared.outcome.DevKind.TheVariants.{Aborted as DeviceAborted}
 use Rattle.rwloops.specs.declared.outcome.Outcome.{Outcome}
-use Rattle.rwloops.specs.declared.outcome.Outcome.TheVariants.{Count, Interrupted, Aborted, WouldBlock, Broken}
+use Rattle.rwloops.specs.declared.outcome.Outcome.TheVariants.{Count, Interrupted, Aborted}
+use Rattle.rwloops.specs.declared.outcome.Outcome.TheVariants.{WouldBlock, Broken}
 use Rattle.rwloops.specs.declared.fault.Fault.TheVariants.{UnexpectedEof, Device, TooManyRetries}
 use Rattle.rwloops.specs.declared.fault.WriteFault.{WriteFault}
 use Rattle.rwloops.specs.declared.retries.Next.{Next}
 use Rattle.rwloops.specs.declared.retries.Next.TheVariants.{Wait, Done, Failed}
 use Rattle.rwloops.specs.declared.write_loop.WriteLoop.{WriteLoop}
 use Rattle.rwloops.specs.RetryBound.{newest_row, has_short_rows}
-use Rattle.rwloops.specs.Outcome.{is_interrupted, is_would_block, count_in, sum_of_counts, IsCountWithin}
+use Rattle.rwloops.specs.Outcome.{is_interrupted, is_would_block, count_in, sum_of_counts}
+use Rattle.rwloops.specs.Outcome.{IsCountWithin}
 use Rattle.rwloops.specs.Waits.{WaitCall, Prepared}
 use Rattle.rwloops.specs.OutcomeTrace.{OutcomeRules, over, OutcomeTrace}
 
@@ -24,9 +27,11 @@ write_goes_on Interrupted = true
 write_goes_on WouldBlock = true
 write_goes_on _ = false
 
--- each outcome lets the write go on, bytes are left, and no more than `MAX_RETRIES` in a row are `Interrupted`
+-- each outcome lets the write go on, bytes are left, and no more than `MAX_RETRIES` in a row are
+-- `Interrupted`
 abbrev pub write_is_inconclusive : ℕ → List Outcome → Bool
-write_is_inconclusive len outcomes = list_all write_goes_on outcomes && (nat_lt (sum_of_counts outcomes) len && has_short_rows is_interrupted outcomes)
+write_is_inconclusive len outcomes = list_all write_goes_on outcomes &&
+    (nat_lt (sum_of_counts outcomes) len && has_short_rows is_interrupted outcomes)
 
 -- what a decisive outcome comes to
 abbrev pub write_decision : ℕ → Outcome → Next ℕ
@@ -39,7 +44,13 @@ write_decision len (Broken kind) = Failed (Device kind)
 
 -- how a write of so many bytes takes its outcomes
 abbrev pub write_rules : ℕ → OutcomeRules Outcome ℕ
-write_rules len = record { dir = Write; blocks = is_would_block; is_inconclusive = write_is_inconclusive len; decision = write_decision len }
+write_rules len = record {
+  dir = Write;
+  blocks = is_would_block;
+  is_inconclusive =
+      write_is_inconclusive len;
+  decision = write_decision len;
+}
 
 -- the loop has been fed these outcomes of a write of so many bytes, and goes on
 pub record WriteStandsFor (loop : WriteLoop) (len : ℕ) (fed : List Outcome) : Type 0 where
@@ -90,16 +101,20 @@ taken_bytes (made ∷ earlier) = taken_bytes earlier ++ take (count_in made.outc
 -- the answer of a write that is over: all bytes, or the fault with the sum of the counts
 abbrev pub WriteAnswers : Next ℕ → List WriteTry → Result ℕ WriteFault → Type 0
 WriteAnswers (Done len) tries result = (result ≡ Ok len) × (count_of tries ≡ len)
-WriteAnswers (Failed fault) tries result = result ≡ Err (record { fault = fault; count = count_of tries })
+WriteAnswers (Failed fault) tries result =
+    result ≡ Err (record { fault = fault; count = count_of tries })
 WriteAnswers _ tries result = ⊥
 
 -- what a write tried, asked and answered
-pub data WriteTrace (bytes : List ℕ) (tries : List WriteTry) (calls : List WaitCall) (result : Result ℕ WriteFault) : Type 0 where
+pub data WriteTrace (bytes : List ℕ) (tries : List WriteTry) (calls : List WaitCall)
+    (result : Result ℕ WriteFault) : Type 0 where
   -- no bytes, and prepare was granted: nothing is tried
-  Empty : (length bytes ≡ 0) → (tries ≡ []) → (calls ≡ Prepared Write (Ok tt) ∷ []) → (result ≡ Ok 0)
+  Empty : (length bytes ≡ 0) → (tries ≡ []) → (calls ≡ Prepared Write (Ok tt) ∷ []) →
+      (result ≡ Ok 0)
       → WriteTrace bytes tries calls result
   -- bytes to write, or a prepare that was refused
-  Tried : OutcomeTrace (write_try_rules (length bytes)) (IsWriteTry bytes) WriteAnswers tries calls result → WriteTrace bytes tries calls result
+  Tried : OutcomeTrace (write_try_rules (length bytes))
+      (IsWriteTry bytes) WriteAnswers tries calls result → WriteTrace bytes tries calls result
 
 -- the loop knows the sum of the counts, with this try's; only private functions cite it
 abbrev pub HasWritten : WriteLoop → WriteTry → List WriteTry → Type 0

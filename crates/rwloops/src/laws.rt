@@ -2,6 +2,7 @@
 //! newest first.
 ghost use Rattle.std.specs.Prelude.{◌≡◌, ◌+◌, ◌<◌, ◌≤◌, ◌↔◌, ℕ, List, [], ◌∷◌, ◌++◌, length, map, take, Result, IsTrue, IsFalse};
 ghost use Rattle.std.specs.List.{AllPass};
+ghost use Rattle.rwloops.specs.declared.limits.TheConstants.{MAX_RETRIES, MAX_TRY_BYTES};
 ghost use Rattle.rwloops.specs.declared.fault.Fault.{Fault};
 ghost use Rattle.rwloops.specs.declared.fault.WriteFault.{WriteFault};
 ghost use Rattle.rwloops.specs.declared.outcome.Outcome.{Outcome};
@@ -107,4 +108,10 @@ pub fn outcomes_decide_an_accept<T>()
     ensures { (tries others : List (AcceptOutcome T)) (calls asked : List WaitCall)
         (result answer : Result T Fault) → AcceptTrace tries calls result
         → AcceptTrace others asked answer → tries ≡ others → calls ≡ asked → result ≡ answer }
+{}
+
+/// The limits of a call in figures: 1,024 inconclusive answers in a row, and 1,073,741,824 bytes a try.
+pub fn the_limits_in_figures()
+    ensures retries { MAX_RETRIES ≡ 1024 }
+    ensures try_bytes { MAX_TRY_BYTES ≡ 1073741824 }
 {}

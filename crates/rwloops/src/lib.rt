@@ -4,7 +4,7 @@
 
 mod accept_loop;
 mod fault;
-mod laws;
+pub mod laws;
 mod limits;
 mod outcome;
 mod read_loop;
@@ -16,11 +16,6 @@ mod write_loop;
 
 pub use accept_loop::{AcceptLoop, TryAccept, accept};
 pub use fault::{Fault, WriteFault};
-pub use laws::{
-    accept_rows_are_bounded, decisive_try_ends_a_read, decisive_try_ends_a_write,
-    decisive_try_ends_an_accept, no_written_byte_is_offered_again, read_rows_are_bounded,
-    write_rows_are_bounded, written_bytes_are_the_first,
-};
 pub use limits::{MAX_RETRIES, MAX_TRY_BYTES, chunk_of};
 pub use outcome::{AcceptOutcome, DevKind, Outcome};
 pub use read_loop::{ReadLoop, TryRead, read};

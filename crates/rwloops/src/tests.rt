@@ -17,6 +17,8 @@ const TRIED: u64 = 2;
 
 const WAITED: u64 = 3;
 
+const RESET: (Outcome, u32) = (Outcome::Broken(DevKind::Reset), 1);
+
 // One more digit for what was done, as far as they fit.
 fn note(log: &Cell<u64>, done: u64) {
     log.set(log.get().saturating_mul(10).saturating_add(done));
@@ -346,6 +348,36 @@ fn writes_answer_as_their_rows_say(rt: HostRuntime) {
     let row = Row {
         name: "length 10, in three",
         script: &[(Outcome::Count(4), 2), (Outcome::Count(9), 1)],
+        grants: 1,
+        tries: 3,
+    };
+    check_write(&rt, row, b"0123456789", Ok(10));
+}
+
+#[test]
+fn a_reset_counts_the_pieces_before_it(rt: HostRuntime) {
+    let scripts: [(&'static [(Outcome, u32)], usize, u32); 3] = [
+        (&[RESET], 0, 1),
+        (&[(Outcome::Count(4), 1), RESET], 4, 2),
+        (
+            &[(Outcome::Count(4), 1), (Outcome::Count(3), 1), RESET],
+            7,
+            3,
+        ),
+    ];
+    for (script, count, tries) in scripts {
+        let row = Row {
+            name: "length 10 in 4, 3 and 3, a reset in place of one",
+            script,
+            grants: 1,
+            tries,
+        };
+        let fault = Fault::Device(DevKind::Reset);
+        check_write(&rt, row, b"0123456789", Err(WriteFault { fault, count }));
+    }
+    let row = Row {
+        name: "length 10 in 4, 3 and 3",
+        script: &[(Outcome::Count(4), 1), (Outcome::Count(3), 2), RESET],
         grants: 1,
         tries: 3,
     };

@@ -22,7 +22,8 @@ pub appends_nothing : (a : Option (List ℕ)) → Appends a a []
 appends_nothing None = tt
 appends_nothing (Some xs) = sym (append-nil xs)
 
-pub appends_then_appends : (a b c : Option (List ℕ)) (xs ys : List ℕ) → Appends a b xs → Appends b c ys → Appends a c (xs ++ ys)
+pub appends_then_appends : (a b c : Option (List ℕ)) (xs ys : List ℕ) → Appends a b xs → Appends b c ys
+    → Appends a c (xs ++ ys)
 appends_then_appends None b c xs ys h k = tt
 appends_then_appends (Some x) None c xs ys h k = absurd h
 appends_then_appends (Some x) (Some y) None xs ys h k = absurd k
@@ -46,11 +47,13 @@ pub consumes_nothing : (a : Option (List ℕ)) → Consumes a a []
 consumes_nothing None = tt
 consumes_nothing (Some xs) = refl
 
-pub consumes_then_consumes : (a b c : Option (List ℕ)) (xs ys : List ℕ) → Consumes a b xs → Consumes b c ys → Consumes a c (xs ++ ys)
+pub consumes_then_consumes : (a b c : Option (List ℕ)) (xs ys : List ℕ) → Consumes a b xs → Consumes b c ys
+    → Consumes a c (xs ++ ys)
 consumes_then_consumes None b c xs ys h k = tt
 consumes_then_consumes (Some x) None c xs ys h k = absurd h
 consumes_then_consumes (Some x) (Some y) None xs ys h k = absurd k
-consumes_then_consumes (Some x) (Some y) (Some z) xs ys h k = h ∙ ap (λ (l : List ℕ). xs ++ l) k ∙ sym (append_assoc xs ys z)
+consumes_then_consumes (Some x) (Some y) (Some z) xs ys h k = h ∙ ap (λ (l : List ℕ). xs ++ l) k
+    ∙ sym (append_assoc xs ys z)
 
 pub consumes_then_keeps : (a b c : Option (List ℕ)) (xs : List ℕ) → Consumes a b xs → Keeps b c → Consumes a c xs
 consumes_then_keeps None b c xs h k = tt
@@ -67,13 +70,15 @@ keeps_then_consumes (Some x) (Some y) (Some z) xs k h = sym k ∙ h
 -- ---- The whole text is what was consumed and what is left
 
 -- what holds of the bytes consumed with whatever follows them holds of the whole text
-pub of_whole_text : (P : List ℕ → Type 0) (a b : Option (List ℕ)) (xs : List ℕ) → Consumes a b xs → ((rest : List ℕ) → P (xs ++ rest)) → IfSome a P
+pub of_whole_text : (P : List ℕ → Type 0) (a b : Option (List ℕ)) (xs : List ℕ) → Consumes a b xs
+    → ((rest : List ℕ) → P (xs ++ rest)) → IfSome a P
 of_whole_text P None b xs h f = tt
 of_whole_text P (Some x) None xs h f = absurd h
 of_whole_text P (Some x) (Some y) xs h f = subst P (sym h) (f y)
 
 -- at the end the bytes consumed are the whole text
-pub of_ended_text : (P : List ℕ → Type 0) (a b : Option (List ℕ)) (xs : List ℕ) → Consumes a b xs → IsAtEnd b → P xs → IfSome a P
+pub of_ended_text : (P : List ℕ → Type 0) (a b : Option (List ℕ)) (xs : List ℕ) → Consumes a b xs → IsAtEnd b → P xs
+    → IfSome a P
 of_ended_text P None b xs h e p = tt
 of_ended_text P (Some x) None xs h e p = absurd h
 of_ended_text P (Some x) (Some y) xs h e p = subst P (sym (h ∙ ap (λ (l : List ℕ). xs ++ l) e ∙ append-nil xs)) p

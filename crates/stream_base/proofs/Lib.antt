@@ -2,3 +2,5 @@ pub mod AttemptLemmas
 pub mod DecimalLemmas
 pub mod KnownBytesLemmas
 pub mod LineLemmas
+pub mod LineReaderLemmas
+pub mod Words

@@ -1,5 +1,6 @@
 -- What a decoder that goes over a text byte by byte needs to know of its lines.
-use Rattle.std.proofs.Common.{inl, inr, append-nil, ◌≡◌, ◌≢◌, ◌∙◌, sym, ap, refl, subst, ℕ, ◌+◌, ◌<◌, List, [], ◌∷◌, ◌++◌, length, get_or, take, Bool, true, false, arith, append_assoc, length-append}
+use Rattle.std.proofs.Common.{inl, inr, append-nil, ◌≡◌, ◌≢◌, ◌∙◌, sym, ap, refl, subst, ℕ, ◌+◌, ◌<◌, List, [], ◌∷◌}
+use Rattle.std.proofs.Common.{◌++◌, length, get_or, take, Bool, true, false, arith, append_assoc, length-append}
 use Rattle.std.specs.Prelude.{All, ◌==◌, if◌then◌else◌}
 use Rattle.std.proofs.lemmas.List.{take_more}
 use Rattle.std.proofs.lemmas.Bool.Decides.{nat_tests}
@@ -19,8 +20,10 @@ pub lacks-push : (b c : ℕ) (xs : List ℕ) → Lacks b xs → c ≢ b → Lack
 lacks-push b c xs h other = lacks-append b xs (c ∷ []) h (other, tt)
 
 -- one more byte of a text that is another
-pub lacks-take_more : (b : ℕ) (xs : List ℕ) (i : ℕ) → i < length xs → Lacks b (take i xs) → get_or xs i 0 ≢ b → Lacks b (take (i + 1) xs)
-lacks-take_more b xs i h l other = subst (Lacks b) (sym (take_more xs i 0 h)) (lacks-push b (get_or xs i 0) (take i xs) l other)
+pub lacks-take_more : (b : ℕ) (xs : List ℕ) (i : ℕ) → i < length xs → Lacks b (take i xs) → get_or xs i 0 ≢ b
+    → Lacks b (take (i + 1) xs)
+lacks-take_more b xs i h l other =
+    subst (Lacks b) (sym (take_more xs i 0 h)) (lacks-push b (get_or xs i 0) (take i xs) l other)
 
 -- a text that has the byte doesn't lack it
 pub lacks_not : (b : ℕ) (xs ys : List ℕ) → Lacks b (xs ++ b ∷ ys) → ⊥
@@ -55,20 +58,23 @@ lines_of-cons c text h = chosen (c == 10) ([] ∷ lines_of text) (onto_first_lin
 -- a line, its line feed and more
 pub lines_of-ended_line : (line more : List ℕ) → Lacks 10 line → lines_of (line ++ 10 ∷ more) ≡ line ∷ lines_of more
 lines_of-ended_line [] more l = refl
-lines_of-ended_line (c ∷ line) more l = lines_of-cons c (line ++ 10 ∷ more) l.0 ∙ ap (onto_first_line c) (lines_of-ended_line line more l.1)
+lines_of-ended_line (c ∷ line) more l = lines_of-cons c (line ++ 10 ∷ more) l.0
+    ∙ ap (onto_first_line c) (lines_of-ended_line line more l.1)
 
 -- a last line without its line feed
 pub lines_of-last_line : (line : List ℕ) → Lacks 10 line → 0 < length line → lines_of line ≡ line ∷ []
 lines_of-last_line [] l some = absurd (omega arith)
 lines_of-last_line (c ∷ []) l some = lines_of-cons c [] l.0
-lines_of-last_line (c ∷ d ∷ line) l some = lines_of-cons c (d ∷ line) l.0 ∙ ap (onto_first_line c) (lines_of-last_line (d ∷ line) l.1 (omega arith))
+lines_of-last_line (c ∷ d ∷ line) l some = lines_of-cons c (d ∷ line) l.0
+    ∙ ap (onto_first_line c) (lines_of-last_line (d ∷ line) l.1 (omega arith))
 
 -- no byte, no line
 pub lines_of-empty : (text : List ℕ) → length text ≡ 0 → lines_of text ≡ []
 lines_of-empty [] e = refl
 lines_of-empty (c ∷ text) e = absurd (omega arith)
 
-onto_some : (c : ℕ) (ls : List (List ℕ)) → (more : List ℕ) × (lines : List (List ℕ)) × (onto_first_line c ls ≡ (c ∷ more) ∷ lines)
+onto_some : (c : ℕ) (ls : List (List ℕ)) → (more : List ℕ) × (lines : List (List ℕ))
+    × (onto_first_line c ls ≡ (c ∷ more) ∷ lines)
 onto_some c [] = ([], [], refl)
 onto_some c (l ∷ ls) = (l, ls, refl)
 
@@ -78,12 +84,19 @@ pub record BeginsFirstLine (front text : List ℕ) : Type 0 where
   pub lines : List (List ℕ)
   pub are : lines_of text ≡ (front ++ more) ∷ lines
 
-pub first_line_begins : (front rest : List ℕ) → Lacks 10 front → 0 < length front → BeginsFirstLine front (front ++ rest)
+pub first_line_begins : (front rest : List ℕ) → Lacks 10 front → 0 < length front
+    → BeginsFirstLine front (front ++ rest)
 first_line_begins [] rest l some = absurd (omega arith)
-first_line_begins (c ∷ []) rest l some = let o = onto_some c (lines_of rest) in record { more = o.0; lines = o.1; are = lines_of-cons c rest l.0 ∙ o.2 }
+first_line_begins (c ∷ []) rest l some = let o = onto_some c (lines_of rest) in
+    record { more = o.0; lines = o.1; are = lines_of-cons c rest l.0 ∙ o.2 }
 first_line_begins (c ∷ d ∷ front) rest l some =
     let r = first_line_begins (d ∷ front) rest l.1 (omega arith) in
-    record { more = r.more; lines = r.lines; are = lines_of-cons c (d ∷ front ++ rest) l.0 ∙ ap (onto_first_line c) r.are }
+    record {
+      more = r.more;
+      lines = r.lines;
+      are = lines_of-cons c (d ∷ front ++ rest) l.0
+          ∙ ap (onto_first_line c) r.are;
+    }
 
 -- a text with a first line that is longer than the limit
 pub record HasLongFirstLine (limit : ℕ) (text : List ℕ) : Type 0 where
@@ -93,7 +106,8 @@ pub record HasLongFirstLine (limit : ℕ) (text : List ℕ) : Type 0 where
   pub are : lines_of text ≡ line ∷ lines
 
 -- a line of as many bytes as the limit, and one more that is no line feed: too long, whatever follows
-pub long_first_line : (limit : ℕ) (kept : List ℕ) (b : ℕ) (rest : List ℕ) → Lacks 10 kept → b ≢ 10 → length kept ≡ limit → HasLongFirstLine limit (kept ++ (b ∷ [] ++ rest))
+pub long_first_line : (limit : ℕ) (kept : List ℕ) (b : ℕ) (rest : List ℕ) → Lacks 10 kept → b ≢ 10 → length kept ≡ limit
+    → HasLongFirstLine limit (kept ++ (b ∷ [] ++ rest))
 long_first_line limit kept b rest l other full =
     let longer : length (kept ++ b ∷ []) ≡ limit + 1 = omega (arith, length-append kept (b ∷ [])) in
     let r = first_line_begins (kept ++ b ∷ []) rest (lacks-push 10 b kept l other) (omega arith) in
@@ -101,7 +115,9 @@ long_first_line limit kept b rest l other full =
       line = (kept ++ b ∷ []) ++ r.more;
       lines = r.lines;
       long = omega (arith, length-append (kept ++ b ∷ []) r.more);
-      are = subst (λ (t : List ℕ). lines_of t ≡ ((kept ++ b ∷ []) ++ r.more) ∷ r.lines) (append_assoc kept (b ∷ []) rest) r.are;
+      are =
+          subst (λ (t : List ℕ). lines_of t ≡ ((kept ++ b ∷ []) ++ r.more) ∷ r.lines)
+          (append_assoc kept (b ∷ []) rest) r.are;
     }
 
 -- a text with a first line
@@ -114,7 +130,8 @@ pub record HasFirstLine (text : List ℕ) : Type 0 where
 pub some_first_line : (b : ℕ) (text : List ℕ) → HasFirstLine (b ∷ text)
 some_first_line b text = by_test (b == 10) (lines_of text) refl
   where
-    by_test : (t : Bool) (ls : List (List ℕ)) → lines_of (b ∷ text) ≡ (if t then [] ∷ ls else onto_first_line b ls) → HasFirstLine (b ∷ text)
+    by_test : (t : Bool) (ls : List (List ℕ)) → lines_of (b ∷ text) ≡ (if t then [] ∷ ls else onto_first_line b ls)
+        → HasFirstLine (b ∷ text)
     by_test true ls e = record { line = []; lines = ls; are = e }
     by_test false ls e = let o = onto_some b ls in record { line = b ∷ o.0; lines = o.1; are = e ∙ o.2 }
 
@@ -127,45 +144,56 @@ some_first_line_after (c ∷ front) b rest = some_first_line c (front ++ b ∷ r
 
 pub ended_lines-append : (f g : List (List ℕ)) → ended_lines (f ++ g) ≡ ended_lines f ++ ended_lines g
 ended_lines-append [] g = refl
-ended_lines-append (line ∷ f) g = ap (λ (t : List ℕ). line ++ 10 ∷ t) (ended_lines-append f g) ∙ sym (append_assoc line (10 ∷ ended_lines f) (ended_lines g))
+ended_lines-append (line ∷ f) g = ap (λ (t : List ℕ). line ++ 10 ∷ t) (ended_lines-append f g)
+    ∙ sym (append_assoc line (10 ∷ ended_lines f) (ended_lines g))
 
 -- ---- Bytes that end lines
 
 pub ends_none : (kept : List ℕ) → EndsLines kept [] [] kept
 ends_none kept = record { same = append-nil kept; cut = λ rest. refl }
 
--- one more byte of a line
-pub ends_push : (kept kept' : List ℕ) (b : ℕ) → kept' ≡ kept ++ b ∷ [] → EndsLines kept (b ∷ []) [] kept'
-ends_push kept kept' b e = record {
+-- more of a line
+pub ends_part : (kept kept' part : List ℕ) → kept' ≡ kept ++ part → EndsLines kept part [] kept'
+ends_part kept kept' part e = record {
   same = sym e;
-  cut = λ rest. ap lines_of (sym (append_assoc kept (b ∷ []) rest) ∙ ap (λ (k : List ℕ). k ++ rest) (sym e));
+  cut = λ rest. ap lines_of (sym (append_assoc kept part rest) ∙ ap (λ (k : List ℕ). k ++ rest) (sym e));
 }
 
 -- a line feed
 pub ends_line : (kept : List ℕ) (b : ℕ) → Lacks 10 kept → b ≡ 10 → EndsLines kept (b ∷ []) (kept ∷ []) []
-ends_line kept b l e = subst (λ (c : ℕ). EndsLines kept (c ∷ []) (kept ∷ []) []) (sym e) (record { same = sym (append-nil (kept ++ 10 ∷ [])); cut = λ rest. lines_of-ended_line kept rest l })
+ends_line kept b l e =
+    subst (λ (c : ℕ). EndsLines kept (c ∷ []) (kept ∷ []) []) (sym e)
+    (record { same = sym (append-nil (kept ++ 10 ∷ [])); cut = λ rest. lines_of-ended_line kept rest l })
 
 -- bytes after bytes
-pub ends_then : (a b c : List ℕ) (x y : List ℕ) (f g : List (List ℕ)) → EndsLines a x f b → EndsLines b y g c → EndsLines a (x ++ y) (f ++ g) c
+pub ends_then : (a b c : List ℕ) (x y : List ℕ) (f g : List (List ℕ)) → EndsLines a x f b → EndsLines b y g c
+    → EndsLines a (x ++ y) (f ++ g) c
 ends_then a b c x y f g h k = record {
   same =
-      sym (append_assoc a x y) ∙ ap (λ (t : List ℕ). t ++ y) h.same ∙ append_assoc (ended_lines f) b y ∙ ap (λ (t : List ℕ). ended_lines f ++ t) k.same
-      ∙ sym (append_assoc (ended_lines f) (ended_lines g) c) ∙ ap (λ (t : List ℕ). t ++ c) (sym (ended_lines-append f g));
+      sym (append_assoc a x y) ∙ ap (λ (t : List ℕ). t ++ y) h.same ∙ append_assoc (ended_lines f) b y
+      ∙ ap (λ (t : List ℕ). ended_lines f ++ t) k.same
+      ∙ sym (append_assoc (ended_lines f) (ended_lines g) c)
+      ∙ ap (λ (t : List ℕ). t ++ c) (sym (ended_lines-append f g));
   cut = λ rest.
-      ap (λ (t : List ℕ). lines_of (a ++ t)) (append_assoc x y rest) ∙ h.cut (y ++ rest) ∙ ap (λ (t : List (List ℕ)). f ++ t) (k.cut rest)
+      ap (λ (t : List ℕ). lines_of (a ++ t)) (append_assoc x y rest) ∙ h.cut (y ++ rest)
+      ∙ ap (λ (t : List (List ℕ)). f ++ t) (k.cut rest)
       ∙ sym (append_assoc f g (lines_of (c ++ rest)));
 }
 
 -- the lines of all the bytes so far
-pub lines_so_far : (kept bytes : List ℕ) (lines : List (List ℕ)) → EndsLines [] bytes lines kept → lines_of bytes ≡ lines ++ lines_of kept
-lines_so_far kept bytes lines h = ap lines_of (sym (append-nil bytes)) ∙ h.cut [] ∙ ap (λ (t : List ℕ). lines ++ lines_of t) (append-nil kept)
+pub lines_so_far : (kept bytes : List ℕ) (lines : List (List ℕ)) → EndsLines [] bytes lines kept
+    → lines_of bytes ≡ lines ++ lines_of kept
+lines_so_far kept bytes lines h = ap lines_of (sym (append-nil bytes)) ∙ h.cut []
+    ∙ ap (λ (t : List ℕ). lines ++ lines_of t) (append-nil kept)
 
 -- ---- Which lines a text has
 
-pub lines_of-ended_lines : (lines : List (List ℕ)) (rest : List ℕ) → All (Lacks 10) lines → lines_of (ended_lines lines ++ rest) ≡ lines ++ lines_of rest
+pub lines_of-ended_lines : (lines : List (List ℕ)) (rest : List ℕ) → All (Lacks 10) lines
+    → lines_of (ended_lines lines ++ rest) ≡ lines ++ lines_of rest
 lines_of-ended_lines [] rest a = refl
 lines_of-ended_lines (line ∷ lines) rest a =
-    ap lines_of (append_assoc line (10 ∷ ended_lines lines) rest) ∙ lines_of-ended_line line (ended_lines lines ++ rest) (All-head (Lacks 10) line lines a)
+    ap lines_of (append_assoc line (10 ∷ ended_lines lines) rest)
+    ∙ lines_of-ended_line line (ended_lines lines ++ rest) (All-head (Lacks 10) line lines a)
     ∙ ap (λ (t : List (List ℕ)). line ∷ t) (lines_of-ended_lines lines rest (All-tail (Lacks 10) line lines a))
 
 feed_is_of_lines : (text : List ℕ) → IsOfLines text → IsOfLines (10 ∷ text)
@@ -177,12 +205,15 @@ feed_is_of_lines text r = record {
   is = ap (λ (t : List ℕ). 10 ∷ t) r.is;
 }
 
-byte_is_of_lines : (b : ℕ) (text : List ℕ) → b ≢ 10 → (lines : List (List ℕ)) (last : List ℕ) → All (Lacks 10) lines → Lacks 10 last → text ≡ ended_lines lines ++ last → IsOfLines (b ∷ text)
-byte_is_of_lines b text other [] last a l e = record { lines = []; last = b ∷ last; unbroken = a; unended = (other, l); is = ap (λ (t : List ℕ). b ∷ t) e }
+byte_is_of_lines : (b : ℕ) (text : List ℕ) → b ≢ 10 → (lines : List (List ℕ)) (last : List ℕ) → All (Lacks 10) lines
+    → Lacks 10 last → text ≡ ended_lines lines ++ last → IsOfLines (b ∷ text)
+byte_is_of_lines b text other [] last a l e =
+    record { lines = []; last = b ∷ last; unbroken = a; unended = (other, l); is = ap (λ (t : List ℕ). b ∷ t) e }
 byte_is_of_lines b text other (line ∷ lines) last a l e = record {
   lines = (b ∷ line) ∷ lines;
   last = last;
-  unbroken = All-cons (Lacks 10) (b ∷ line) lines (other, All-head (Lacks 10) line lines a) (All-tail (Lacks 10) line lines a);
+  unbroken =
+      All-cons (Lacks 10) (b ∷ line) lines (other, All-head (Lacks 10) line lines a) (All-tail (Lacks 10) line lines a);
   unended = l;
   is = ap (λ (t : List ℕ). b ∷ t) e;
 }

@@ -1,5 +1,6 @@
 -- What attempts to read, write and flush do to what a source or a sink tells.
-use Rattle.std.specs.Prelude.{◌≡◌, ◌==◌, ◌+◌, ◌-◌, ◌^◌, ◌⊎◌, ◌||◌, ℕ, Bool, true, false, List, [], ◌∷◌, min, take, Result, Ok, Err}
+use Rattle.std.specs.Prelude.{◌≡◌, ◌==◌, ◌+◌, ◌-◌, ◌^◌, ◌⊎◌, ◌||◌, ℕ, Bool, true, false, List, []}
+use Rattle.std.specs.Prelude.{◌∷◌, min, take, Result, Ok, Err}
 use Rattle.stream_base.specs.declared.attempt.AttemptError.{AttemptError}
 use Rattle.stream_base.specs.declared.attempt.AttemptError.TheVariants.{Interrupted, Failed}
 use Rattle.stream_base.specs.declared.attempt.TheConstants.{MAX_INTERRUPTIONS}

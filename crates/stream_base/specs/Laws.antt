@@ -9,11 +9,13 @@ OneNumberASpelling = (m n : ℕ) → m < 2 ^ 64 → n < 2 ^ 64 → decimal m ≡
 
 -- lines, each with its line feed, are the lines of their text
 abbrev pub EndedLinesAreLines : Type 0
-EndedLinesAreLines = (lines : List (List ℕ)) → All (Lacks line_feed) lines → lines_of (ended_lines lines) ≡ lines
+EndedLinesAreLines = (lines : List (List ℕ)) → All (Lacks line_feed) lines
+    → lines_of (ended_lines lines) ≡ lines
 
 -- a last line without its line feed is one more
 abbrev pub UnendedLineIsALine : Type 0
-UnendedLineIsALine = (lines : List (List ℕ)) (last : List ℕ) → All (Lacks line_feed) lines → Lacks line_feed last → 0 < length last
+UnendedLineIsALine = (lines : List (List ℕ)) (last : List ℕ) → All (Lacks line_feed) lines
+    → Lacks line_feed last → 0 < length last
     → lines_of (ended_lines lines ++ last) ≡ lines ++ last ∷ []
 
 -- a text that is lines, each with its line feed, and what comes after them

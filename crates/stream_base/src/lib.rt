@@ -6,6 +6,7 @@ pub mod attempt;
 pub mod decimal;
 mod direction;
 pub mod laws;
+pub mod line_reader;
 pub mod reader_source;
 pub mod sink;
 pub mod source;

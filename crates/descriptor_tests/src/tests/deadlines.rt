@@ -1,60 +1,46 @@
 //! Deadlines set by one thread for calls of another, and the alarms that go with them.
 
 use super::scripted::{ALWAYS_BLOCKS, BLOCKS, END, Script, Told, Try};
-use super::{KEY, Plain, comes_to, open_plain, share, start_read, start_two_reads};
-use deadline_core::{Deadline, Dirs, Timers};
+use super::{KEY, Plain, Silent, comes_to, open_plain, share, start_read, start_two_reads};
+use deadline_core::{Deadline, Dirs};
 use fd_descriptor::{Alarms, PollCell};
 use rwloops::{Fault, Outcome, WriteFault};
-use std::alloc::Global;
 use std::process::Abort;
 use std::sync::{Mutex, Wait};
 use std::test::Fail;
 use std::time::Clock;
 use stream_base::{Dir, OutOfMemory};
 
-/// Timers under a lock, which a caller takes after the cell's and never before it.
+/// What was asked of alarms: for this key and these directions a tick at this moment, or none.
+type Asked = (u64, Dirs, Option<u64>);
+
+/// Alarms that keep what was asked of them last.
 #[derive(Drop)]
-struct TimerAlarms<T: Wait + Drop> {
-    timers: Mutex<Timers>,
+struct Noted<T: Wait + Drop> {
     rt: T,
+    last: Mutex<Option<Asked>>,
 }
 
-impl<T: Wait + Drop> TimerAlarms<T> {
-    fn new(rt: T, alloc: Global) -> TimerAlarms<T> {
-        TimerAlarms {
-            timers: Mutex::new(Timers::new(alloc)),
-            rt,
-        }
+impl<T: Wait + Drop> Noted<T> {
+    fn new(rt: T) -> Noted<T> {
+        let last = Mutex::new(None);
+        Noted { rt, last }
     }
 
-    fn next(&self) -> Option<u64> {
-        self.timers.lock(&self.rt).next()
-    }
-
-    /// Takes the timers that are due out, and says whether they are these.
-    fn are_due(&self, now: u64, want: &[(u64, Dir)]) -> bool {
-        self.timers.lock(&self.rt).due(now).as_slice() == want
+    /// What was asked last, which is then forgotten.
+    fn asked(&self) -> Option<Asked> {
+        self.last.lock(&self.rt).take()
     }
 }
 
-impl<T: Wait + Drop> Alarms for TimerAlarms<T> {
+impl<T: Wait + Drop> Alarms for Noted<T> {
     fn arm(&self, key: u64, dirs: Dirs, at: u64) -> Result<(), OutOfMemory> {
-        let mut timers = self.timers.lock(&self.rt);
-        match dirs {
-            Dirs::Read => timers.arm(key, Dir::Read, at),
-            Dirs::Write => timers.arm(key, Dir::Write, at),
-            Dirs::Both => timers.arm_both(key, at),
-        }
+        *self.last.lock(&self.rt) = Some((key, dirs, Some(at)));
+        Ok(())
     }
 
     fn disarm(&self, key: u64, dirs: Dirs) {
-        let mut timers = self.timers.lock(&self.rt);
-        if dirs != Dirs::Write {
-            timers.disarm(key, Dir::Read);
-        }
-        if dirs != Dirs::Read {
-            timers.disarm(key, Dir::Write);
-        }
+        *self.last.lock(&self.rt) = Some((key, dirs, None));
     }
 }
 
@@ -83,12 +69,11 @@ const LATE: Result<usize, Fault> = Err(Fault::DeadlineExceeded);
 #[test]
 fn a_deadline_ends_a_parked_read(rt: HostRuntime) -> Result<(), Fail> {
     let told = Told::shared(rt.alloc())?;
-    let alarms = TimerAlarms::new(rt, rt.alloc());
     let mut handle = open_plain(rt, rt.alloc(), &told, ALWAYS_BLOCKS, None)?;
     let cell = handle.cell()?;
     let reading = start_two_reads(rt, &mut handle)?;
     assert!(rt; comes_to(&rt, &told.tries, 1));
-    let set = handle.set_read_deadline(&rt, Deadline::At(100), 0, &alarms);
+    let set = handle.set_read_deadline(&rt, Deadline::At(100), 0, &Silent);
     assert!(rt; set == Ok(()));
     cell.tick(&rt, 99);
     cell.tick(&rt, 100);
@@ -99,27 +84,29 @@ fn a_deadline_ends_a_parked_read(rt: HostRuntime) -> Result<(), Fail> {
 #[test]
 fn a_deadline_that_has_passed_ends_a_parked_read_at_once(rt: HostRuntime) -> Result<(), Fail> {
     let told = Told::shared(rt.alloc())?;
-    let alarms = TimerAlarms::new(rt, rt.alloc());
+    let alarms = Noted::new(rt);
     let mut handle = open_plain(rt, rt.alloc(), &told, ALWAYS_BLOCKS, None)?;
     let reading = start_read(rt, &mut handle)?;
     assert!(rt; comes_to(&rt, &told.tries, 1));
     let set = handle.set_deadline(&rt, Deadline::At(100), 100, &alarms);
     assert!(rt; set == Ok(()));
     assert!(rt; reading.join(&rt) == LATE);
-    assert!(rt; alarms.next().is_none(), "no alarm for what has passed");
+    assert!(rt;
+        alarms.asked() == Some((KEY, Dirs::Both, None)),
+        "no alarm for what has passed"
+    );
     Ok(())
 }
 
 #[test]
 fn a_later_deadline_replaces_the_earlier(rt: HostRuntime) -> Result<(), Fail> {
     let told = Told::shared(rt.alloc())?;
-    let alarms = TimerAlarms::new(rt, rt.alloc());
     let mut handle = open_plain(rt, rt.alloc(), &told, THEN_THREE, None)?;
     let cell = handle.cell()?;
     let reading = start_two_reads(rt, &mut handle)?;
     assert!(rt; comes_to(&rt, &told.tries, 1));
     for at in [100, 200] {
-        let set = handle.set_deadline(&rt, Deadline::At(at), 0, &alarms);
+        let set = handle.set_deadline(&rt, Deadline::At(at), 0, &Silent);
         assert!(rt; set == Ok(()), "{at}");
     }
     cell.tick(&rt, 100);
@@ -136,7 +123,7 @@ fn a_later_deadline_replaces_the_earlier(rt: HostRuntime) -> Result<(), Fail> {
 #[test]
 fn no_deadline_lifts_the_earlier(rt: HostRuntime) -> Result<(), Fail> {
     let told = Told::shared(rt.alloc())?;
-    let alarms = TimerAlarms::new(rt, rt.alloc());
+    let alarms = Noted::new(rt);
     let mut handle = open_plain(rt, rt.alloc(), &told, THEN_THREE, None)?;
     let cell = handle.cell()?;
     let reading = start_read(rt, &mut handle)?;
@@ -145,7 +132,10 @@ fn no_deadline_lifts_the_earlier(rt: HostRuntime) -> Result<(), Fail> {
         let set = handle.set_read_deadline(&rt, deadline, 0, &alarms);
         assert!(rt; set == Ok(()));
     }
-    assert!(rt; alarms.next().is_none(), "no alarm is left");
+    assert!(rt;
+        alarms.asked() == Some((KEY, Dirs::Read, None)),
+        "no alarm is left"
+    );
     cell.tick(&rt, 100);
     cell.notify(&rt, Dir::Read);
     assert!(rt; reading.join(&rt) == Ok(3));
@@ -156,14 +146,20 @@ fn no_deadline_lifts_the_earlier(rt: HostRuntime) -> Result<(), Fail> {
 fn set_one_each<T: Wait + Clock + Copy + Drop + Abort>(
     rt: T,
     handle: &mut Plain<T>,
-    alarms: &TimerAlarms<T>,
+    alarms: &Noted<T>,
 ) {
     let read = handle.set_read_deadline(&rt, Deadline::At(100), 0, alarms);
     assert!(rt; read == Ok(()), "a read deadline");
-    assert!(rt; alarms.are_due(100, &[(KEY, Dir::Read)]), "for reads");
+    assert!(rt;
+        alarms.asked() == Some((KEY, Dirs::Read, Some(100))),
+        "for reads"
+    );
     let write = handle.set_write_deadline(&rt, Deadline::At(200), 0, alarms);
     assert!(rt; write == Ok(()), "a write deadline");
-    assert!(rt; alarms.are_due(200, &[(KEY, Dir::Write)]), "for writes");
+    assert!(rt;
+        alarms.asked() == Some((KEY, Dirs::Write, Some(200))),
+        "for writes"
+    );
 }
 
 /// Reads are expired at 100, and writes are not before 200.
@@ -186,7 +182,7 @@ fn expire_in_turn<T: Wait + Clock + Copy + Drop + Abort>(
 #[test]
 fn each_deadline_is_for_its_directions(rt: HostRuntime) -> Result<(), Fail> {
     let told = Told::shared(rt.alloc())?;
-    let alarms = TimerAlarms::new(rt, rt.alloc());
+    let alarms = Noted::new(rt);
     let mut handle = open_plain(rt, rt.alloc(), &told, ALWAYS_BLOCKS, None)?;
     let cell = handle.cell()?;
     set_one_each(rt, &mut handle, &alarms);
@@ -198,7 +194,7 @@ fn each_deadline_is_for_its_directions(rt: HostRuntime) -> Result<(), Fail> {
         "a new deadline, not expired"
     );
     assert!(rt;
-        alarms.are_due(300, &[(KEY, Dir::Read), (KEY, Dir::Write)]),
+        alarms.asked() == Some((KEY, Dirs::Both, Some(300))),
         "for both"
     );
     Ok(())
@@ -207,26 +203,26 @@ fn each_deadline_is_for_its_directions(rt: HostRuntime) -> Result<(), Fail> {
 #[test]
 fn a_closed_descriptor_arms_nothing(rt: HostRuntime) -> Result<(), Fail> {
     let told = Told::shared(rt.alloc())?;
-    let alarms = TimerAlarms::new(rt, rt.alloc());
+    let alarms = Noted::new(rt);
     let mut handle = open_plain(rt, rt.alloc(), &told, ALWAYS_BLOCKS, None)?;
     let mut other = share(&mut handle)?;
     let set = handle.set_deadline(&rt, Deadline::At(100), 0, &alarms);
     assert!(rt; set == Ok(()));
+    assert!(rt; alarms.asked() == Some((KEY, Dirs::Both, Some(100))));
     assert!(rt; handle.close(&rt) == Ok(()));
     let again = other.set_deadline(&rt, Deadline::At(50), 0, &alarms);
     assert!(rt; again == Err(Fault::Closed));
     let lifted = other.set_deadline(&rt, Deadline::Never, 0, &alarms);
     assert!(rt; lifted == Err(Fault::Closed));
-    assert!(rt; alarms.next() == Some(100), "neither armed nor disarmed");
+    assert!(rt; alarms.asked().is_none(), "neither armed nor disarmed");
     Ok(())
 }
 
 #[test]
 fn a_refused_alarm_changes_no_deadline(rt: HostRuntime) -> Result<(), Fail> {
     let told = Told::shared(rt.alloc())?;
-    let alarms = TimerAlarms::new(rt, rt.alloc());
     let mut handle = open_plain(rt, rt.alloc(), &told, ALWAYS_BLOCKS, None)?;
-    let set = handle.set_deadline(&rt, Deadline::At(100), 0, &alarms);
+    let set = handle.set_deadline(&rt, Deadline::At(100), 0, &Silent);
     assert!(rt; set == Ok(()));
     let refused = handle.set_deadline(&rt, Deadline::At(50), 0, &Full);
     assert!(rt; refused == Err(Fault::OutOfMemory));

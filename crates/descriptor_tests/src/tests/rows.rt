@@ -245,6 +245,41 @@ fn a_handle_writes_as_the_rows_say(rt: HostRuntime) -> Result<(), Fail> {
 }
 
 #[test]
+fn a_handle_counts_the_pieces_before_a_reset(rt: HostRuntime) -> Result<(), Fail> {
+    let four = (Try::Gives(Outcome::Count(4)), 1);
+    let three = (Try::Gives(Outcome::Count(3)), 1);
+    let fault = Fault::Device(DevKind::Reset);
+    // After the last step comes a reset.
+    for (steps, tries, want) in [
+        (
+            [END, END, END, END, END],
+            1,
+            Err(WriteFault { fault, count: 0 }),
+        ),
+        (
+            [four, END, END, END, END],
+            2,
+            Err(WriteFault { fault, count: 4 }),
+        ),
+        (
+            [four, three, END, END, END],
+            3,
+            Err(WriteFault { fault, count: 7 }),
+        ),
+        ([four, three, three, END, END], 3, Ok(10)),
+    ] {
+        let row = Row {
+            name: "length 10 in 4, 3 and 3, a reset in place of one",
+            steps,
+            deadline_set_at: None,
+            tries,
+        };
+        check_write(rt, rt.alloc(), row, b"0123456789", want)?;
+    }
+    Ok(())
+}
+
+#[test]
 fn a_handle_accepts_as_the_rows_say(rt: HostRuntime) -> Result<(), Fail> {
     let alloc = rt.alloc();
     let row = Row {

@@ -53,7 +53,7 @@ pub(super) fn all_are_refused<R: Wait + Abort>(
 fn an_open_word_grants_what_is_asked_and_takes_it_back(rt: HostRuntime) -> Result<(), Fail> {
     let (word, seat) = LockWord::new(rt.alloc(), 7u64, 2u64)?;
     let held = reference(&rt, &word, seat);
-    let seat = kept(&rt, &word, decref(&rt, &word, held));
+    let seat = kept(&rt, &word, decref(&word, held));
     let mut held = reading(&rt, &word, seat);
     assert_eq!(rt; *held.half(&word), 7, "the read half");
     let seat = kept(&rt, &word, read_unlock(&rt, &word, held));
@@ -71,7 +71,7 @@ fn a_closer_without_company_is_last(rt: HostRuntime) -> Result<(), Fail> {
     let closing = closed(&rt, &word, seat);
     all_are_refused(&rt, &word, other, &Refusal::Closed);
     assert!(rt; !word.is_done(&mut spare), "not yet destroyed");
-    let halves = destroyed(&rt, &word, drop_closing(&rt, &word, closing));
+    let halves = destroyed(&rt, &word, drop_closing(&word, closing));
     assert!(rt; halves.0 == 7 && halves.1 == 2, "the halves");
     let mut spare = wait_done(&rt, &word, spare);
     assert!(rt; word.is_done(&mut spare), "destroyed");
@@ -84,7 +84,7 @@ fn close_and_leave<R: Wait + Abort>(rt: &R, word: &Counters, seat: CounterSeat)
     requires seat { IsSeatOf word.now (seat_place seat) }
 {
     let closing = closed(rt, word, seat);
-    let _seat = kept(rt, word, drop_closing(rt, word, closing));
+    let _seat = kept(rt, word, drop_closing(word, closing));
 }
 
 #[test]
@@ -93,7 +93,7 @@ fn a_reference_that_outlives_the_close_is_last(rt: HostRuntime) -> Result<(), Fa
     let (one, two) = word.split(seat);
     let held = reference(&rt, &word, one);
     close_and_leave(&rt, &word, two);
-    let halves = destroyed(&rt, &word, decref(&rt, &word, held));
+    let halves = destroyed(&rt, &word, decref(&word, held));
     assert_eq!(rt; halves.0, 7, "the read half");
     Ok(())
 }

@@ -128,7 +128,7 @@ fn close_after<R: Wait + Abort + Clock>(
 {
     wait_for(rt, &tally.added, turns);
     let closing = closed(rt, word, seat);
-    let _seat = leave(word, drop_closing(rt, word, closing), tally);
+    let _seat = leave(word, drop_closing(word, closing), tally);
 }
 
 #[derive(Clone, Copy)]

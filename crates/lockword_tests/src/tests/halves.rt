@@ -1,7 +1,7 @@
 //! Halves that count their drops.
 
 use super::{owes_nobody, wrong};
-use lockword::{Close, DropClosing, LockWord};
+use lockword::{Close, Freed, LockWord};
 use std::sync::atomic::{AtomicU64, Ordering};
 use std::test::Fail;
 
@@ -41,7 +41,7 @@ fn halves_that_were_taken_are_not_dropped_again(rt: HostRuntime) -> Result<(), F
     )?;
     let closing = want!(&rt; word.try_close(seat), Close::Closing);
     owes_nobody(&rt, &closing);
-    let mut last = want!(&rt; word.try_drop_closing(closing), DropClosing::Last);
+    let mut last = want!(&rt; word.drop_closing(closing), Freed::Last);
     let (read, write) = last.halves(&word);
     let _seat = word.mark_done(last);
     drop(word);

@@ -62,7 +62,7 @@ fn give_all_back<R: Wait + Abort>(rt: &R, all: Vec<Held<'_>>) {
     for _ in rt.forever() {
         match all.pop() {
             Some(Held { word, held }) => {
-                let _seat = kept(rt, word, decref(rt, word, held));
+                let _seat = kept(rt, word, decref(word, held));
             }
             None => break,
         }

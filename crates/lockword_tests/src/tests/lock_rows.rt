@@ -5,8 +5,8 @@ ghost use Rattle.lockword.specs.TransitionOutcomes.{IsSeatOf};
 
 use super::{CounterSeat, Counters, destroy, owes_nobody, shows, wrong};
 use lockword::{
-    Close, DropClosing, DropRef, Incref, LockRead, LockWord, LockWrite, ReadLock, ReadWait, Signal,
-    SignalClosing, UnlockRead, UnlockWrite, WakeRead, WakeWrite,
+    Close, Freed, Incref, LockRead, LockWord, LockWrite, ReadLock, ReadWait, Signal, SignalClosing,
+    UnlockRead, UnlockWrite, WakeRead, WakeWrite,
 };
 use std::process::Abort;
 use std::test::Fail;
@@ -83,7 +83,7 @@ fn a_closer_signals_the_queued_reader(rt: HostRuntime) -> Result<(), Fail> {
     let _two = want!(&rt; word.try_lock_read(two), LockRead::Closed);
     shows(&rt, &word, &mut spare, 0x13, "2 rlock again");
     owes_nobody(&rt, &closing);
-    let _three = want!(&rt; word.try_drop_closing(closing), DropClosing::Kept);
+    let _three = want!(&rt; word.drop_closing(closing), Freed::Kept);
     shows(&rt, &word, &mut spare, 0xb, "3 decref");
     let last = want!(&rt; word.try_unlock_read(lock), UnlockRead::Last);
     shows(&rt, &word, &mut spare, 0x1, "1 runlock");
@@ -124,7 +124,7 @@ fn try_calls_succeed_alone(rt: HostRuntime) -> Result<(), Fail> {
     let closing = want!(&rt; word.try_close(three), Close::Closing);
     shows(&rt, &word, &mut spare, 0x9, "3 close");
     owes_nobody(&rt, &closing);
-    let mut last = want!(&rt; word.try_drop_closing(closing), DropClosing::Last);
+    let mut last = want!(&rt; word.drop_closing(closing), Freed::Last);
     shows(&rt, &word, &mut last, 0x1, "3 decref");
     let _one = want!(&rt; word.try_signal(owing), Signal::Signalled);
     shows(&rt, &word, &mut wait, 0x1, "1 rsignal");
@@ -144,7 +144,7 @@ fn rounds<R: Abort>(rt: &R, word: &Counters, seat: CounterSeat, count: u64) -> C
     let mut seat = seat;
     for _ in 0..count {
         let held = want!(rt; word.try_incref(seat), Incref::Held);
-        let free = want!(rt; word.try_drop_ref(held), DropRef::Kept);
+        let free = want!(rt; word.drop_ref(held), Freed::Kept);
         let reader = want!(rt; word.try_lock_read(free), LockRead::Held);
         let free = want!(rt; word.try_unlock_read(reader), UnlockRead::Free);
         let writer = want!(rt; word.try_lock_write(free), LockWrite::Held);

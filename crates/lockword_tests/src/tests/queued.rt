@@ -103,7 +103,7 @@ fn close_over_the_queues<R: Wait + Abort + Clock>(
 {
     let seat = wait_for_both_queues(rt, word, seat);
     let closing = closed(rt, word, seat);
-    let _seat = kept(rt, word, drop_closing(rt, word, closing));
+    let _seat = kept(rt, word, drop_closing(word, closing));
     wait_for(rt, &tally.refused, 6);
     tally.released.store(1, Ordering::SeqCst);
 }

@@ -1,7 +1,7 @@
 //! The words of worked rows of references and of the close, seen through a spare seat.
 
 use super::{owes_nobody, shows, wrong};
-use lockword::{Close, DropClosing, DropRef, Incref, LockWord};
+use lockword::{Close, Freed, Incref, LockWord};
 use std::test::Fail;
 
 #[test]
@@ -11,7 +11,7 @@ fn a_reference_is_eight_and_goes_back_to_zero(rt: HostRuntime) -> Result<(), Fai
     shows(&rt, &word, &mut spare, 0, "a new word");
     let held = want!(&rt; word.try_incref(one), Incref::Held);
     shows(&rt, &word, &mut spare, 0x8, "1 incref");
-    let _one = want!(&rt; word.try_drop_ref(held), DropRef::Kept);
+    let _one = want!(&rt; word.drop_ref(held), Freed::Kept);
     shows(&rt, &word, &mut spare, 0, "1 decref");
     Ok(())
 }
@@ -27,7 +27,7 @@ fn the_closer_is_last_and_destroys(rt: HostRuntime) -> Result<(), Fail> {
     let two = want!(&rt; word.try_close(two), Close::Closed);
     shows(&rt, &word, &mut spare, 0x9, "2 close");
     let mut two = want!(&rt; word.try_incref(two), Incref::Closed);
-    let mut last = want!(&rt; word.try_drop_closing(closing), DropClosing::Last);
+    let mut last = want!(&rt; word.drop_closing(closing), Freed::Last);
     shows(&rt, &word, &mut spare, 0x1, "1 decref");
     assert!(rt; !word.is_done(&mut two), "not yet destroyed");
     let (read, write) = last.halves(&word);

@@ -72,7 +72,7 @@ fn halves_after<R: Threads + Wait + Abort + Clock + Sync>(
     let (spare, seat) = word.split(seat);
     all_play(rt, &word, seat, ways, &());
     let closing = closed(rt, &word, spare);
-    Ok(destroyed(rt, &word, drop_closing(rt, &word, closing)))
+    Ok(destroyed(rt, &word, drop_closing(&word, closing)))
 }
 
 #[test]

@@ -19,7 +19,7 @@ fn destroy_later<R: Wait + Abort + Clock>(rt: &R, word: &Counters, seat: Counter
     requires seat { IsSeatOf word.now (seat_place seat) }
 {
     let closing = closed(rt, word, seat);
-    match drop_closing(rt, word, closing) {
+    match drop_closing(word, closing) {
         Freed::Kept(seat) => wrong(rt, "somebody else has a reference", seat),
         Freed::Last(last) => {
             thread::sleep(rt, Duration::from_millis(50));

@@ -1,18 +1,16 @@
 //! Worked rows of batches and of waits.
 
-use super::or_fail;
 use readiness::{ConnTable, Ev, Ready, batch_of, wait_ms};
-use std::test::Fail;
 
 fn ready(id: u64, read: bool, write: bool) -> Ready {
     Ready { id, read, write }
 }
 
 #[test]
-fn a_batch_names_what_is_there(rt: HostRuntime) -> Result<(), Fail> {
+fn a_batch_names_what_is_there(rt: HostRuntime) {
     let mut table = ConnTable::new(rt.alloc());
-    let (_, gone) = or_fail(table.insert('a'), "first")?;
-    let (_, token) = or_fail(table.insert('b'), "second")?;
+    let (_, gone) = table.insert('a').expect(&rt, "first");
+    let (_, token) = table.insert('b').expect(&rt, "second");
     assert!(rt; table.remove(1) == Ok('a'));
     let none = Ev::default();
     let events = [
@@ -50,11 +48,10 @@ fn a_batch_names_what_is_there(rt: HostRuntime) -> Result<(), Fail> {
         ready(2, false, false),
     ];
     assert!(rt; batch_of(&events, &table).as_slice() == wanted.as_slice());
-    Ok(())
 }
 
 #[test]
-fn waits_come_to_their_moment(rt: HostRuntime) -> Result<(), Fail> {
+fn waits_come_to_their_moment(rt: HostRuntime) {
     for (now, next, ms) in [
         (0, Some(1_500_000), 2),
         (0, Some(5_000_000_000), 1_000),
@@ -66,5 +63,4 @@ fn waits_come_to_their_moment(rt: HostRuntime) -> Result<(), Fail> {
     ] {
         assert_eq!(rt; wait_ms(now, next), ms);
     }
-    Ok(())
 }

@@ -1,12 +1,15 @@
 //! Many connections at once.
 
-use super::{Turning, World, any_port};
+use super::{Turning, World, any_port, share};
 use fd_descriptor::{Fault, FdHandle};
 use readiness::SockRes;
-use std::alloc::Global;
+use std::fs::Files;
+use std::net::Net;
+use std::process::Abort;
 use std::sync::Wait;
-use std::test::Fail;
 use std::thread;
+use std::thread::{JoinHandle, Threads};
+use std::time::Clock;
 
 const CONNECTIONS: u64 = 64;
 
@@ -21,7 +24,7 @@ fn byte_at(connection: u64, place: u64) -> u8 {
 }
 
 /// Echoes until the end, then shuts; says whether all went well.
-fn echoes<T: Wait>(rt: &T, handle: &mut FdHandle<SockRes>) -> bool {
+fn echoes<R: Wait>(rt: &R, handle: &mut FdHandle<SockRes>) -> bool {
     let mut buf = [0; 4096];
     for _ in rt.forever() {
         match handle.read(rt, &mut buf) {
@@ -38,7 +41,7 @@ fn echoes<T: Wait>(rt: &T, handle: &mut FdHandle<SockRes>) -> bool {
 }
 
 /// Writes the stream, then shuts; says whether all went well.
-fn sends<T: Wait>(rt: &T, handle: &mut FdHandle<SockRes>, connection: u64) -> bool {
+fn sends<R: Wait>(rt: &R, handle: &mut FdHandle<SockRes>, connection: u64) -> bool {
     let mut sent = 0u64;
     let mut chunk = [0u8; CHUNK];
     for _ in 0..BYTES / CHUNK as u64 {
@@ -66,7 +69,7 @@ fn are_at(bytes: &[u8], connection: u64, place: u64) -> bool {
 }
 
 /// Reads until the end, and gives the number of bytes, or none where a byte was wrong.
-fn reads_all<T: Wait>(rt: &T, handle: &mut FdHandle<SockRes>, connection: u64) -> Option<u64> {
+fn reads_all<R: Wait>(rt: &R, handle: &mut FdHandle<SockRes>, connection: u64) -> Option<u64> {
     let mut buf = [0; 4096];
     let mut place = 0u64;
     for _ in rt.forever() {
@@ -84,26 +87,71 @@ fn reads_all<T: Wait>(rt: &T, handle: &mut FdHandle<SockRes>, connection: u64) -
     unreachable!()
 }
 
+/// A connection whose one end echoes, while the other sends its stream and reads it back.
+#[derive(Drop)]
+struct Echo {
+    echoing: JoinHandle<bool>,
+    sending: JoinHandle<bool>,
+    reading: JoinHandle<Option<u64>>,
+}
+
+fn start_echoing<R: Wait + Threads + Abort + Copy + Drop + Send + Sync + 'static>(
+    rt: R,
+    far: FdHandle<SockRes>,
+) -> JoinHandle<bool> {
+    let mut far = far;
+    thread::spawn(&rt, move || echoes(&rt, &mut far)).expect(&rt, "thread")
+}
+
+fn start_sending<R: Wait + Threads + Abort + Copy + Drop + Send + Sync + 'static>(
+    rt: R,
+    near: FdHandle<SockRes>,
+    connection: u64,
+) -> JoinHandle<bool> {
+    let mut near = near;
+    thread::spawn(&rt, move || sends(&rt, &mut near, connection)).expect(&rt, "thread")
+}
+
+fn start_reading<R: Wait + Threads + Abort + Copy + Drop + Send + Sync + 'static>(
+    rt: R,
+    near: FdHandle<SockRes>,
+    connection: u64,
+) -> JoinHandle<Option<u64>> {
+    let mut near = near;
+    thread::spawn(&rt, move || reads_all(&rt, &mut near, connection)).expect(&rt, "thread")
+}
+
+fn start<R: Wait + Threads + Net + Files + Clock + Abort + Copy + Drop + Send + Sync + 'static>(
+    world: &World<R>,
+    connection: u64,
+) -> Echo {
+    let rt = world.rt;
+    let (mut near, far) = world.pair(&any_port());
+    let writer = share(&rt, &mut near);
+    Echo {
+        echoing: start_echoing(rt, far),
+        sending: start_sending(rt, writer, connection),
+        reading: start_reading(rt, near, connection),
+    }
+}
+
+fn ends<R: Threads + Wait + Abort>(rt: &R, echo: Echo) {
+    assert!(rt; echo.reading.join(rt) == Some(BYTES));
+    assert!(rt; echo.sending.join(rt));
+    assert!(rt; echo.echoing.join(rt));
+}
+
 #[test]
-fn sixty_four_connections_echo_a_megabyte_each(rt: HostRuntime) -> Result<(), Fail> {
-    let alloc: Global = rt.alloc();
-    let world = World::new(rt, alloc)?;
-    let mut workers = Vec::new(alloc);
-    let mut readers = Vec::new(alloc);
+fn sixty_four_connections_echo_a_megabyte_each(rt: HostRuntime) {
+    let world = World::new(rt, rt.alloc());
+    let mut running = Vec::new(rt.alloc());
     for connection in 0..CONNECTIONS {
-        let (mut near, mut far) = world.pair(&any_port())?;
-        let mut writer = near.share().map_err(|_| Fail::new("share"))?;
-        workers.push(thread::spawn(&rt, move || echoes(&rt, &mut far))?)?;
-        workers.push(thread::spawn(&rt, move || sends(&rt, &mut writer, connection))?)?;
-        readers.push(thread::spawn(&rt, move || reads_all(&rt, &mut near, connection))?)?;
+        let started = running.push(start(&world, connection));
+        assert!(rt; started.is_ok());
     }
-    let turning = Turning::start(world)?;
-    for reader in readers {
-        assert!(rt; reader.join(&rt) == Some(BYTES));
+    let turning = Turning::start(world);
+    for echo in running {
+        ends(&rt, echo);
     }
-    for worker in workers {
-        assert!(rt; worker.join(&rt));
-    }
-    assert!(rt; turning.stop(&rt));
-    Ok(())
+    turning.stop(&rt);
 }

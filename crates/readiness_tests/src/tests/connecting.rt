@@ -1,54 +1,66 @@
 //! A shut while the connection is being made: the queue of the listener is full, so that the client
 //! stays in SYN-SENT until somebody is accepted.
 
-use super::{Turning, World, accept_soon, any_port, or_fail, reach};
+use super::{Turning, World, accept_soon, any_port, connected, listening, pause, reach, share};
 use fd_descriptor::{Fault, FdHandle};
 use libc::net as c;
-use readiness::{Acceptor, Addr, Listen, SockRes, connect, listen};
+use readiness::{Listen, Sock, SockRes};
+use std::alloc::Global;
+use std::fs::Files;
+use std::net::Net;
 use std::os::fd::AsRawFd;
-use std::test::Fail;
+use std::process::Abort;
+use std::sync::Wait;
 use std::thread;
-use std::time::Duration;
+use std::thread::{JoinHandle, Threads};
+use std::time::Clock;
 
 /// A listener whose queue takes two.
-fn short_queue(rt: &HostRuntime) -> Result<(Listen, Addr), Fail> {
-    let listener = or_fail(listen(rt, &any_port()), "listen")?;
+fn short_queue<R: Net + Files + Abort>(rt: &R) -> Listen {
+    let listener = listening(rt, &any_port());
     if let Listen::Tcp(tcp) = &listener {
-        if c::listen(tcp.as_raw_fd(), 1) != 0 {
-            return Err(Fail::new("a short queue"));
-        }
+        assert!(rt; c::listen(tcp.as_raw_fd(), 1) == 0, "a short queue");
     }
-    let addr = reach(&any_port(), &listener);
-    Ok((listener, addr))
+    listener
+}
+
+fn start_shut<R: Wait + Threads + Abort + Copy + Drop + Send + Sync + 'static>(
+    rt: R,
+    handle: &mut FdHandle<SockRes>,
+) -> JoinHandle<Result<(), Fault>> {
+    let mut shutter = share(&rt, handle);
+    thread::spawn(&rt, move || shutter.close_write(&rt)).expect(&rt, "thread")
+}
+
+/// The other end reads the end, and writes back.
+fn reads_the_end_and_writes<
+    R: Wait + Threads + Net + Files + Clock + Abort + Copy + Drop + Send + Sync + 'static,
+>(rt: R, alloc: Global, served: Sock) {
+    let world = World::new(rt, alloc);
+    let mut served = world.add(served);
+    let turning = Turning::start(world);
+    let read = served.read(&rt, &mut [0; 8]);
+    assert!(rt; read == Err(Fault::EndOfFile), "the shut came");
+    assert!(rt; served.write(&rt, b"bye") == Ok(3));
+    turning.stop(&rt);
 }
 
 #[test]
-fn a_shut_waits_for_its_connection(rt: HostRuntime) -> Result<(), Fail> {
-    let world = World::new(rt, rt.alloc())?;
-    let (listener, addr) = short_queue(&rt)?;
-    let first = or_fail(connect(&rt, &addr), "first")?;
-    let second = or_fail(connect(&rt, &addr), "second")?;
-    let mut client = world.add(or_fail(connect(&rt, &addr), "third")?)?;
-    let turning = Turning::start(world)?;
-    let mut shutter = client.share().map_err(|_| Fail::new("share"))?;
-    let shutting = thread::spawn(&rt, move || shutter.close_write(&rt))?;
-    thread::sleep(&rt, Duration::from_millis(50));
-    let mut acceptor = Acceptor::new(listener);
-    let _one = accept_soon(&rt, &mut acceptor)?;
-    let _two = accept_soon(&rt, &mut acceptor)?;
-    let served = accept_soon(&rt, &mut acceptor)?;
+fn a_shut_waits_for_its_connection(rt: HostRuntime) {
+    let world = World::new(rt, rt.alloc());
+    let mut listener = short_queue(&rt);
+    let addr = reach(&any_port(), &listener);
+    let _queued = [connected(&rt, &addr), connected(&rt, &addr)];
+    let mut client = world.add(connected(&rt, &addr));
+    let turning = Turning::start(world);
+    let shutting = start_shut(rt, &mut client);
+    pause(&rt, 50);
+    let _taken = [
+        accept_soon(&rt, &mut listener),
+        accept_soon(&rt, &mut listener),
+    ];
+    let served = accept_soon(&rt, &mut listener);
     assert!(rt; shutting.join(&rt) == Ok(()));
-    assert!(rt; turning.stop(&rt));
-    drop((first, second));
-    let mut world = World::new(rt, rt.alloc())?;
-    let mut served: FdHandle<SockRes> = world.add(served)?;
-    let turning = Turning::start(world)?;
-    assert!(rt;
-        served.read(&rt, &mut [0; 8]) == Err(Fault::EndOfFile),
-        "the shut came"
-    );
-    assert!(rt; served.write(&rt, b"bye") == Ok(3));
-    assert!(rt; turning.stop(&rt));
-    drop(client);
-    Ok(())
+    turning.stop(&rt);
+    reads_the_end_and_writes(rt, rt.alloc(), served);
 }

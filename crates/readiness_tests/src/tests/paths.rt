@@ -1,19 +1,19 @@
 //! Unix sockets: paths of the test's own, their lengths, stale ones, and a full queue.
 
-use super::{Turning, World, or_fail};
+use super::{Turning, World, connected, listening};
 use arrayvec::ArrayString;
 use fd_descriptor::DevKind;
 use libc::net as c;
 use readiness::{Addr, Listen, connect, listen};
 use std::os::fd::AsRawFd;
-use std::test::Fail;
 use std::{env, fs, process};
 
 /// A path in the test's own folder, with this name in it.
-pub(super) fn own_path(rt: &HostRuntime, name: &str) -> Result<ArrayString<100>, Fail> {
-    let file = format!(in rt.alloc(); "hobrintza-{}-{}", process::id(rt.process()), name)?;
-    let path = env::temp_dir(rt)?.join(rt.alloc(), file.as_str())?;
-    or_fail(ArrayString::from(path.as_str()), "a short path")
+pub(super) fn own_path(rt: &HostRuntime, name: &str) -> Option<ArrayString<100>> {
+    let id = process::id(rt.process());
+    let file = format!(in rt.alloc(); "hobrintza-{id}-{name}").ok()?;
+    let path = env::temp_dir(rt).ok()?.join(rt.alloc(), file.as_str());
+    ArrayString::from(path.ok()?.as_str()).ok()
 }
 
 /// The path made longer, to exactly so many bytes, if it takes them.
@@ -28,58 +28,47 @@ fn lengthened(path: ArrayString<100>, len: usize) -> Option<ArrayString<100>> {
 }
 
 #[test]
-fn a_path_of_100_bytes_serves_and_101_are_no_address(rt: HostRuntime) -> Result<(), Fail> {
-    let short = own_path(&rt, "x")?;
+fn a_path_of_100_bytes_serves_and_101_are_no_address(rt: HostRuntime) {
+    let short = own_path(&rt, "x").expect(&rt, "a path");
     assert!(rt; lengthened(short, 101).is_none());
-    let Some(path) = lengthened(short, 100) else {
-        return Err(Fail::new("a path of 100 bytes"));
-    };
-    let world = World::new(rt, rt.alloc())?;
-    let (mut near, mut far) = world.pair(&Addr::Unix(path))?;
-    let turning = Turning::start(world)?;
+    let path = lengthened(short, 100).expect(&rt, "a path of 100 bytes");
+    let world = World::new(rt, rt.alloc());
+    let (mut near, mut far) = world.pair(&Addr::Unix(path));
+    let turning = Turning::start(world);
     assert!(rt; near.write(&rt, b"hello") == Ok(5));
     assert!(rt; far.read(&rt, &mut [0; 8]) == Ok(5));
-    assert!(rt; turning.stop(&rt));
-    fs::remove_file(&rt, path.as_str())?;
-    Ok(())
+    turning.stop(&rt);
+    assert!(rt; fs::remove_file(&rt, path.as_str()).is_ok());
 }
 
 #[test]
-fn a_stale_path_refuses(rt: HostRuntime) -> Result<(), Fail> {
-    let path = own_path(&rt, "stale")?;
+fn a_stale_path_refuses(rt: HostRuntime) {
+    let path = own_path(&rt, "stale").expect(&rt, "a path");
     let addr = Addr::Unix(path);
-    assert!(rt;
-        connect(&rt, &addr).err() == Some(DevKind::Other),
-        "no such path"
-    );
-    let listener = or_fail(listen(&rt, &addr), "listen")?;
+    let nowhere = connect(&rt, &addr).err();
+    assert!(rt; nowhere == Some(DevKind::Other), "no such path");
+    let listener = listening(&rt, &addr);
     assert!(rt; listener.port().is_none());
-    assert!(rt; listen(&rt, &addr).err() == Some(DevKind::Other), "taken");
+    let taken = listen(&rt, &addr).err();
+    assert!(rt; taken == Some(DevKind::Other), "taken");
     drop(listener);
-    assert!(rt;
-        connect(&rt, &addr).err() == Some(DevKind::Refused),
-        "stale"
-    );
-    assert!(rt;
-        listen(&rt, &addr).err() == Some(DevKind::Other),
-        "it stays"
-    );
-    fs::remove_file(&rt, path.as_str())?;
-    Ok(())
+    let stale = connect(&rt, &addr).err();
+    assert!(rt; stale == Some(DevKind::Refused), "stale");
+    let stays = listen(&rt, &addr).err();
+    assert!(rt; stays == Some(DevKind::Other), "it stays");
+    assert!(rt; fs::remove_file(&rt, path.as_str()).is_ok());
 }
 
 #[test]
-fn a_full_unix_queue_is_told_at_once(rt: HostRuntime) -> Result<(), Fail> {
-    let path = own_path(&rt, "full")?;
+fn a_full_unix_queue_is_told_at_once(rt: HostRuntime) {
+    let path = own_path(&rt, "full").expect(&rt, "a path");
     let addr = Addr::Unix(path);
-    let listener = or_fail(listen(&rt, &addr), "listen")?;
+    let listener = listening(&rt, &addr);
     if let Listen::Unix(listener) = &listener {
         assert_eq!(rt; c::listen(listener.as_raw_fd(), 1), 0);
     }
-    let first = or_fail(connect(&rt, &addr), "first")?;
-    let second = or_fail(connect(&rt, &addr), "second")?;
-    assert!(rt; connect(&rt, &addr).err() == Some(DevKind::Other));
-    drop((first, second));
-    fs::remove_file(&rt, path.as_str())?;
-    Ok(())
+    let _queued = [connected(&rt, &addr), connected(&rt, &addr)];
+    let full = connect(&rt, &addr).err();
+    assert!(rt; full == Some(DevKind::Other));
+    assert!(rt; fs::remove_file(&rt, path.as_str()).is_ok());
 }

@@ -1,113 +1,106 @@
 //! Calls that wait, and what ends them: a turn at their deadline, a close, a waker.
 
-use super::{Entry, Turning, World, any_port, comes_to, nanos_since, or_fail, reach};
+use super::{
+    Turning, World, any_port, comes_to, connected, listening, nanos_since, pause, reach, share,
+    start_read,
+};
 use fd_descriptor::{Deadline, Fault, FdHandle};
-use readiness::{Poller, SockRes, connect, listen};
+use readiness::{ListenRes, Poller, SockRes};
+use std::fs::Files;
+use std::net::Net;
+use std::process::Abort;
 use std::sync::atomic::{AtomicU64, Ordering};
 use std::sync::{Arc, Wait};
-use std::test::Fail;
 use std::thread;
-use std::time::{Duration, Instant};
+use std::thread::{JoinHandle, Threads};
+use std::time::{Clock, Instant};
 
 const LATE: Result<usize, Fault> = Err(Fault::DeadlineExceeded);
 
 #[test]
-fn a_deadline_ends_a_parked_read_at_the_turn_of_its_moment(rt: HostRuntime) -> Result<(), Fail> {
-    let mut world = World::new(rt, rt.alloc())?;
-    let alarms = world.alarms()?;
-    let (mut near, _far) = world.pair(&any_port())?;
-    let mut reader = near.share().map_err(|_| Fail::new("share"))?;
-    let set = near.set_read_deadline(&rt, Deadline::At(100), 0, &alarms);
+fn a_deadline_ends_a_parked_read_at_the_turn_of_its_moment(rt: HostRuntime) {
+    let mut world = World::new(rt, rt.alloc());
+    let (mut near, _far) = world.pair(&any_port());
+    let set = near.set_read_deadline(&rt, Deadline::At(100), 0, &world.alarms());
     assert!(rt; set == Ok(()));
-    let reading = thread::spawn(&rt, move || reader.read(&rt, &mut [0; 8]))?;
+    let reading = start_read(rt, &mut near);
     assert!(rt; world.turn(99));
-    assert!(rt;
-        world.shared.timers.lock(&rt).next() == Some(100),
-        "not due at 99"
-    );
+    let next = world.shared.timers.lock(&rt).next();
+    assert!(rt; next == Some(100), "not due at 99");
     assert!(rt; world.turn(100));
     assert!(rt; reading.join(&rt) == LATE);
-    assert!(rt; world.shared.timers.lock(&rt).next().is_none(), "taken out");
-    Ok(())
+    let next = world.shared.timers.lock(&rt).next();
+    assert!(rt; next.is_none(), "taken out");
 }
 
 #[test]
-fn a_deadline_that_is_set_while_the_poller_sleeps_ends_a_read(rt: HostRuntime) -> Result<(), Fail> {
-    let world = World::new(rt, rt.alloc())?;
-    let alarms = world.alarms()?;
-    let (mut near, _far) = world.pair(&any_port())?;
+fn a_deadline_that_is_set_while_the_poller_sleeps_ends_a_read(rt: HostRuntime) {
+    let world = World::new(rt, rt.alloc());
+    let alarms = world.alarms();
+    let (mut near, _far) = world.pair(&any_port());
     let start = world.start;
-    let turning = Turning::start(world)?;
-    let mut reader = near.share().map_err(|_| Fail::new("share"))?;
-    let reading = thread::spawn(&rt, move || reader.read(&rt, &mut [0; 8]))?;
-    thread::sleep(&rt, Duration::from_millis(50));
+    let turning = Turning::start(world);
+    let reading = start_read(rt, &mut near);
+    pause(&rt, 50);
     let now = nanos_since(&rt, start);
     let at = now.saturating_add(20_000_000);
     let set = near.set_read_deadline(&rt, Deadline::At(at), now, &alarms);
     assert!(rt; set == Ok(()));
     assert!(rt; reading.join(&rt) == LATE);
     assert!(rt; nanos_since(&rt, start) >= at, "no earlier than its moment");
-    assert!(rt; turning.stop(&rt));
-    Ok(())
+    turning.stop(&rt);
 }
 
 #[test]
-fn a_close_ends_a_parked_read_and_the_peer_reads_the_end(rt: HostRuntime) -> Result<(), Fail> {
-    let world = World::new(rt, rt.alloc())?;
-    let (mut near, mut far) = world.pair(&any_port())?;
-    let shared = Arc::try_clone(&world.shared)?;
-    let turning = Turning::start(world)?;
-    let mut reader = near.share().map_err(|_| Fail::new("share"))?;
-    let reading = thread::spawn(&rt, move || reader.read(&rt, &mut [0; 8]))?;
-    thread::sleep(&rt, Duration::from_millis(20));
+fn a_close_ends_a_parked_read_and_the_peer_reads_the_end(rt: HostRuntime) {
+    let world = World::new(rt, rt.alloc());
+    let (mut near, mut far) = world.pair(&any_port());
+    let shared = world.keep();
+    let turning = Turning::start(world);
+    let reading = start_read(rt, &mut near);
+    pause(&rt, 20);
     let removed = shared.table.lock(&rt).remove(1);
     assert!(rt; removed.is_ok(), "the entry goes first");
     assert!(rt; near.close(&rt) == Ok(()));
     assert!(rt; reading.join(&rt) == Err(Fault::Closed));
     assert!(rt; far.read(&rt, &mut [0; 8]) == Err(Fault::EndOfFile));
-    assert!(rt; turning.stop(&rt));
-    Ok(())
+    turning.stop(&rt);
 }
 
 #[test]
-fn a_due_key_without_an_entry_is_passed_over(rt: HostRuntime) -> Result<(), Fail> {
-    let mut world = World::new(rt, rt.alloc())?;
-    let alarms = world.alarms()?;
-    let (mut near, _far) = world.pair(&any_port())?;
-    let (mut gone, _gone_far) = world.pair(&any_port())?;
+fn a_due_key_without_an_entry_is_passed_over(rt: HostRuntime) {
+    let mut world = World::new(rt, rt.alloc());
+    let alarms = world.alarms();
+    let (mut near, _far) = world.pair(&any_port());
+    let (mut gone, _gone_far) = world.pair(&any_port());
     let first = gone.set_deadline(&rt, Deadline::At(100), 0, &alarms);
     let second = near.set_deadline(&rt, Deadline::At(100), 0, &alarms);
     assert!(rt; (first, second) == (Ok(()), Ok(())));
-    let removed: Result<Entry, conntable::Refusal> = world.shared.table.lock(&rt).remove(3);
+    let removed = world.shared.table.lock(&rt).remove(3);
     assert!(rt; removed.is_ok());
     assert!(rt; world.turn(100));
     assert!(rt; near.read(&rt, &mut [0; 8]) == LATE);
-    assert!(rt;
-        world.shared.timers.lock(&rt).next().is_none(),
-        "all are taken out"
-    );
-    Ok(())
+    let next = world.shared.timers.lock(&rt).next();
+    assert!(rt; next.is_none(), "all are taken out");
 }
 
 #[test]
-fn a_wake_ends_a_turn_and_is_told_to_no_entry(rt: HostRuntime) -> Result<(), Fail> {
-    let world = World::new(rt, rt.alloc())?;
-    let shared = Arc::try_clone(&world.shared)?;
-    let waker = or_fail(world.poller.waker(), "waker")?;
-    let (near, far) = world.pair(&any_port())?;
-    let turning = Turning::start(world)?;
+fn a_wake_ends_a_turn_and_is_told_to_no_entry(rt: HostRuntime) {
+    let world = World::new(rt, rt.alloc());
+    let shared = world.keep();
+    let waker = world.waker();
+    let (_near, _far) = world.pair(&any_port());
+    let turning = Turning::start(world);
     for _ in 0..100u32 {
         let turns = shared.turns.load(Ordering::SeqCst);
-        waker.wake()?;
+        assert!(rt; waker.wake().is_ok());
         assert!(rt; comes_to(&rt, &shared.turns, turns.saturating_add(1)));
     }
-    drop((near, far));
-    assert!(rt; turning.stop(&rt));
-    Ok(())
+    turning.stop(&rt);
 }
 
 /// Reads on until a fault, and gives it.
-fn reads_until<T: Wait>(rt: &T, handle: &mut FdHandle<SockRes>) -> Fault {
+fn reads_until<R: Wait>(rt: &R, handle: &mut FdHandle<SockRes>) -> Fault {
     for _ in rt.forever() {
         if let Err(fault) = handle.read(rt, &mut [0; 8]) {
             return fault;
@@ -116,66 +109,88 @@ fn reads_until<T: Wait>(rt: &T, handle: &mut FdHandle<SockRes>) -> Fault {
     unreachable!()
 }
 
-#[test]
-fn closes_from_other_threads_end_what_waits(rt: HostRuntime) -> Result<(), Fail> {
-    let world = World::new(rt, rt.alloc())?;
-    let turning = {
-        let mut readers = Vec::new(rt.alloc());
-        let mut handles = Vec::new(rt.alloc());
-        for _ in 0..4u32 {
-            let (mut near, far) = world.pair(&any_port())?;
-            let mut reader = near.share().map_err(|_| Fail::new("share"))?;
-            readers.push(thread::spawn(&rt, move || reads_until(&rt, &mut reader))?)?;
-            handles.push((near, far))?;
-        }
-        let turning = Turning::start(world)?;
-        for (near, far) in handles {
-            let mut near = near;
-            assert!(rt; near.close(&rt) == Ok(()));
-            drop(far);
-        }
-        for reader in readers {
-            assert!(rt; reader.join(&rt) == Fault::Closed);
-        }
-        turning
-    };
-    assert!(rt; turning.stop(&rt));
-    Ok(())
+/// A descriptor that a thread reads until a fault.
+#[derive(Drop)]
+struct Read {
+    near: FdHandle<SockRes>,
+    _far: FdHandle<SockRes>,
+    reading: JoinHandle<Fault>,
+}
+
+fn start_reading_on<
+    R: Wait + Threads + Net + Files + Clock + Abort + Copy + Drop + Send + Sync + 'static,
+>(world: &World<R>) -> Read {
+    let rt = world.rt;
+    let (mut near, far) = world.pair(&any_port());
+    let mut reader = share(&rt, &mut near);
+    let reading = thread::spawn(&rt, move || reads_until(&rt, &mut reader));
+    Read {
+        near,
+        _far: far,
+        reading: reading.expect(&rt, "thread"),
+    }
+}
+
+fn ends_closed<R: Wait + Threads + Abort>(rt: &R, read: Read) {
+    let mut near = read.near;
+    assert!(rt; near.close(rt) == Ok(()));
+    assert!(rt; read.reading.join(rt) == Fault::Closed);
 }
 
 #[test]
-fn a_wait_without_a_table_lasts_a_second_or_until_a_wake(rt: HostRuntime) -> Result<(), Fail> {
-    let mut poller = or_fail(Poller::new(&rt, rt.alloc()), "poller")?;
-    let start = Instant::now(&rt)?;
+fn closes_from_other_threads_end_what_waits(rt: HostRuntime) {
+    let world = World::new(rt, rt.alloc());
+    let first = start_reading_on(&world);
+    let second = start_reading_on(&world);
+    let third = start_reading_on(&world);
+    let turning = Turning::start(world);
+    ends_closed(&rt, first);
+    ends_closed(&rt, second);
+    ends_closed(&rt, third);
+    turning.stop(&rt);
+}
+
+#[test]
+fn a_wait_without_a_table_lasts_a_second_or_until_a_wake(rt: HostRuntime) {
+    let mut poller = Poller::new(&rt, rt.alloc()).expect(&rt, "poller");
+    let start = Instant::now(&rt).expect(&rt, "clock");
     assert!(rt; poller.wait_any() == Ok(()));
     assert!(rt; nanos_since(&rt, start) >= 900_000_000, "nobody woke it");
-    let waker = or_fail(poller.waker(), "waker")?;
-    waker.wake()?;
+    let waker = poller.waker().expect(&rt, "waker");
+    assert!(rt; waker.wake().is_ok());
     assert!(rt; poller.wait_any() == Ok(()));
-    Ok(())
+}
+
+/// Accepts twice in a thread, and counts the first: whether it took one, and how the second ended.
+fn start_accepting<R: Wait + Threads + Abort + Copy + Drop + Send + Sync + 'static>(
+    rt: R,
+    acceptor: FdHandle<ListenRes>,
+    taken: Arc<AtomicU64>,
+) -> JoinHandle<(bool, Option<Fault>)> {
+    let mut acceptor = acceptor;
+    let started = thread::spawn(&rt, move || {
+        let first = acceptor.accept(&rt).is_ok();
+        taken.fetch_add(1, Ordering::SeqCst);
+        (first, acceptor.accept(&rt).err())
+    });
+    started.expect(&rt, "thread")
 }
 
 #[test]
-fn a_parked_accept_takes_who_comes_and_a_close_ends_it(rt: HostRuntime) -> Result<(), Fail> {
-    let world = World::new(rt, rt.alloc())?;
-    let listener = or_fail(listen(&rt, &any_port()), "listen")?;
+fn a_parked_accept_takes_who_comes_and_a_close_ends_it(rt: HostRuntime) {
+    let world = World::new(rt, rt.alloc());
+    let listener = listening(&rt, &any_port());
     let addr = reach(&any_port(), &listener);
-    let mut handle = world.add_listener(listener)?;
-    let mut acceptor = handle.share().map_err(|_| Fail::new("share"))?;
-    let turning = Turning::start(world)?;
-    let taken = Arc::new(rt.alloc(), AtomicU64::new(0))?;
-    let told = Arc::try_clone(&taken)?;
-    let accepting = thread::spawn(&rt, move || {
-        let first = acceptor.accept(&rt).is_ok();
-        told.fetch_add(1, Ordering::SeqCst);
-        (first, acceptor.accept(&rt).err())
-    })?;
-    thread::sleep(&rt, Duration::from_millis(20));
-    let client = or_fail(connect(&rt, &addr), "connect")?;
+    let mut handle = world.add_listener(listener);
+    let acceptor = handle.share().expect(&rt, "share");
+    let turning = Turning::start(world);
+    let taken = Arc::new(rt.alloc(), AtomicU64::new(0)).expect(&rt, "count");
+    let told = Arc::try_clone(&taken).expect(&rt, "count");
+    let accepting = start_accepting(rt, acceptor, told);
+    pause(&rt, 20);
+    let _client = connected(&rt, &addr);
     assert!(rt; comes_to(&rt, &taken, 1));
     assert!(rt; handle.close(&rt) == Ok(()));
     assert!(rt; accepting.join(&rt) == (true, Some(Fault::Closed)));
-    drop(client);
-    assert!(rt; turning.stop(&rt));
-    Ok(())
+    turning.stop(&rt);
 }

@@ -1,6 +1,8 @@
 //! The order in which an entry is closed: taken out, closed with the table's lock given back, and only
 //! then without alarms.
 
+ghost use Rattle.std.specs.Prelude.{⊤};
+
 use super::TURNS;
 use conntable::ConnTable;
 use deadline_core::Timers;
@@ -40,6 +42,8 @@ struct Looked<R: Clock + Drop> {
 }
 
 impl<C: Clock + Drop> Closes for Looked<C> {
+    ghost tells = { λ _ _. ⊤ };
+
     fn close<R: Wait>(self, _rt: &R) -> Result<(), Fault> {
         self.marks.closing.fetch_add(1, Ordering::SeqCst);
         if comes(&self.clock, &self.marks.looked) {

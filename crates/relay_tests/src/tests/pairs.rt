@@ -17,20 +17,20 @@ use std::thread;
 use std::thread::Threads;
 use std::time::{Clock, Duration};
 
-/// Gives three bytes and then the end. A write marks the round; one that waits holds until the other
-/// gate's write marked it.
+/// Gives three bytes and then the end. A write says that it has begun, and ends once the other gate's
+/// write has.
 #[derive(Drop)]
 struct OneRound<R: Clock + Drop> {
     rt: R,
-    marked: Arc<AtomicU64>,
-    waits: bool,
+    own: Arc<AtomicU64>,
+    other: Arc<AtomicU64>,
     was_read: bool,
 }
 
 impl<R: Clock + Drop> OneRound<R> {
-    fn is_marked(&self) -> bool {
+    fn other_begins(&self) -> bool {
         for _ in 0..TURNS {
-            if self.marked.load(Ordering::SeqCst) > 0 {
+            if self.other.load(Ordering::SeqCst) > 0 {
                 return true;
             }
             thread::sleep(&self.rt, Duration::from_millis(1));
@@ -51,14 +51,14 @@ impl<R: Clock + Drop> CopyGate for OneRound<R> {
     }
 
     fn write(&mut self, bytes: &[u8]) -> Result<usize, WriteFault> {
-        if self.waits && !self.is_marked() {
-            return Err(WriteFault {
-                fault: Fault::Closed,
-                count: 0,
-            });
+        self.own.fetch_add(1, Ordering::SeqCst);
+        if self.other_begins() {
+            return Ok(bytes.len());
         }
-        self.marked.fetch_add(1, Ordering::SeqCst);
-        Ok(bytes.len())
+        Err(WriteFault {
+            fault: Fault::Closed,
+            count: 0,
+        })
     }
 
     fn close_write(&mut self) -> Result<(), Fault> {
@@ -100,7 +100,7 @@ fn leaves<L: Ledger, R: Wait>(
     }
 }
 
-/// Runs a pair whose first worker waits in its write for the write of the second.
+/// Runs a pair of which each worker waits in its write for the other's.
 fn both_run<U, D, R>(rt: R, alloc: Global, up: Blank, down: Blank) -> Result<bool, Fail>
 where
     U: Ledger + Send + Sync + 'static,
@@ -115,18 +115,21 @@ where
 {
     let up_book = Arc::new(alloc, Mutex::new(Book::<U>::new(up)))?;
     let down_book = Arc::new(alloc, Mutex::new(Book::<D>::new(down)))?;
-    let marked = Arc::new(alloc, AtomicU64::new(0))?;
+    let (one, two) = (
+        Arc::new(alloc, AtomicU64::new(0))?,
+        Arc::new(alloc, AtomicU64::new(0))?,
+    );
     let ended = Arc::new(alloc, AtomicU64::new(0))?;
     let first = OneRound {
         rt,
-        marked: Arc::try_clone(&marked)?,
-        waits: true,
+        own: Arc::try_clone(&one)?,
+        other: Arc::try_clone(&two)?,
         was_read: false,
     };
     let second = OneRound {
         rt,
-        marked: Arc::try_clone(&marked)?,
-        waits: false,
+        own: two,
+        other: one,
         was_read: false,
     };
     let first_end = Counted {

@@ -17,7 +17,7 @@ fn closing_one_side_ends_the_pair(rt: HostRuntime) -> Result<(), Fail> {
     let thread = thread::spawn(&rt, move || served(rt, &rules, &socket))?;
     let running = Running { thread, admin };
     let mut client = reach(&rt, port)?;
-    let mut peer = accepted(&listener)?;
+    let mut peer = accepted(&rt, &listener)?;
     client.write_all(b"hello")?;
     assert!(rt; hears(&mut peer, b"hello"));
     running.comes_to(
@@ -60,7 +60,7 @@ fn a_deadline_ends_a_pair_and_one_that_is_lifted_lets_a_listener_accept(
             .as_str()
             == "ids 1\nok\n"
     );
-    let mut peer = accepted(&listener)?;
+    let mut peer = accepted(&rt, &listener)?;
     client.write_all(b"hello")?;
     assert!(rt; hears(&mut peer, b"hello"));
     assert!(rt; running.ask(&rt, alloc, "deadline 2 30\n")?.as_str() == "ok\n");
@@ -82,7 +82,7 @@ fn the_silent_way_ends_a_pair_after_its_idle_time(rt: HostRuntime) -> Result<(),
     let thread = thread::spawn(&rt, move || served(rt, &rules, &socket))?;
     let running = Running { thread, admin };
     let mut client = reach(&rt, port)?;
-    let _peer = accepted(&listener)?;
+    let _peer = accepted(&rt, &listener)?;
     // The client speaks all the time, and the target never: its silence ends the pair.
     let mut turns = 0u32;
     for _ in 0..TURNS {
@@ -112,7 +112,7 @@ fn a_stop_ends_pairs_that_stand(rt: HostRuntime) -> Result<(), Fail> {
     let running = Running { thread, admin };
     let mut first = reach(&rt, port)?;
     let mut second = reach(&rt, port)?;
-    let mut peer = accepted(&listener)?;
+    let mut peer = accepted(&rt, &listener)?;
     first.write_all(b"hello")?;
     second.write_all(b"hello")?;
     assert!(rt; hears(&mut peer, b"hello"));

@@ -12,5 +12,6 @@ returns c =
     let reading : List ℕ = decimal c.args.shown.reading in
     let writing : List ℕ = decimal c.args.shown.writing in
     let destroyer : List ℕ = destroyer_text c.args.shown.destroyed_by in
-    let pieces : c.append-6.new.out.items ≡ (((((((((before ++ name) ++ 32 ∷ []) ++ word) ++ 32 ∷ []) ++ reading) ++ 32 ∷ []) ++ writing) ++ 32 ∷ []) ++ destroyer) ++ 10 ∷ [] = cc in
+    let pieces : c.append-6.new.out.items ≡ (((((((((before ++ name) ++ 32 ∷ []) ++ word) ++ 32 ∷ []) ++ reading)
+    ++ 32 ∷ []) ++ writing) ++ 32 ∷ []) ++ destroyer) ++ 10 ∷ [] = cc in
     pieces ∙ simp append_assoc

@@ -1,6 +1,6 @@
 use Rattle.std.proofs.Common.{ap}
-use Rattle.relay_admin.specs.Addr.{address_text}
-use Rattle.relay_admin.proofs.RulesVerdict.{one_address}
+use Rattle.relay_admin.specs.rules.Addr.{address_text}
+use Rattle.relay_admin.proofs.rules.OneVerdict.{one_address}
 use Rattle.relay_admin.proofs.laws.one_text_an_address.Goals as goal
 
 pub returns : goal.returns

@@ -1,4 +1,4 @@
-use Rattle.relay_admin.proofs.RulesVerdict.{one_rule, one_list_of_rules, one_fault, no_rules_with_fault}
+use Rattle.relay_admin.proofs.rules.OneVerdict.{one_rule, one_list_of_rules, one_fault, no_rules_with_fault}
 use Rattle.relay_admin.proofs.laws.one_verdict_a_text.Goals as goal
 
 pub returns : goal.returns

@@ -12,7 +12,8 @@ returns-then-text-i c =
     ∙ ap (λ (t : List ℕ). Some (take c.loop-i.i c.args.text.now, t)) (tail_is c.args.text.now c.loop-i.i)
 
 pub loop-i-preserved : goal.loop-i-preserved
-loop-i-preserved c = split_on c.args.byte c.args.text.now c.loop-i.i c.loop-i-test.true c.if-text-i.false c.loop-i.invariant
+loop-i-preserved c =
+    split_on c.args.byte c.args.text.now c.loop-i.i c.loop-i-test.true c.if-text-i.false c.loop-i.invariant
 
 pub returns : goal.returns
 returns c = split_not_found c.args.byte c.args.text.now c.loop-i.i c.loop-i-test.false c.loop-i.invariant

@@ -20,11 +20,19 @@ returns-in-Err g c = record {
 
 -- prepare was granted
 pub loop-init : goal.loop-init
-loop-init g c = record { tries = []; told = λ earlier h. h; asked = c.in-Ok.ensures.told; offered = tt; stands = c.new-accepting.ensures }
+loop-init g c = record {
+  tries = [];
+  told = λ earlier h. h;
+  asked = c.in-Ok.ensures.told;
+  offered = tt;
+  stands =
+      c.new-accepting.ensures;
+}
 
 -- the loop tries again at once
 pub loop-preserved-in-Try : goal.loop-preserved-in-Try
-loop-preserved-in-Try g c = tries_on _ _ _ _ _ _ _ _ _ _ _ (accept_goes_on_with _) (accept_goes_on_with _) c.loop.invariant c.try_once.ensures c.in-Try.is
+loop-preserved-in-Try g c = tries_on _ _ _ _ _ _ _ _ _ _ _ (accept_goes_on_with _)
+    (accept_goes_on_with _) c.loop.invariant c.try_once.ensures c.in-Try.is
 
 -- the loop waited, and tries again
 pub loop-preserved : goal.loop-preserved
@@ -35,18 +43,24 @@ loop-preserved g c =
 -- the wait was refused
 pub returns-in-Err-wait : goal.returns-in-Err-wait
 returns-in-Err-wait g c = record {
-  trace = wait_refused _ _ _ _ _ _ _ _ _ _ _ (accept_goes_on_with _) (accept_goes_on_with _) _ _ (g.W.Waits.tells c.wait.new.self) c.in-Err-wait.refusal
-      c.loop.invariant c.try_once.ensures c.in-Err-wait.ensures.told c.in-Wait.is (λ made earlier none. ap Err c.from-in-Err-wait.ensures);
+  trace = wait_refused _ _ _ _ _ _ _ _ _ _ _ (accept_goes_on_with _) (accept_goes_on_with _) _ _
+      (g.W.Waits.tells c.wait.new.self) c.in-Err-wait.refusal
+      c.loop.invariant c.try_once.ensures c.in-Err-wait.ensures.told c.in-Wait.is
+      (λ made earlier none. ap Err c.from-in-Err-wait.ensures);
 }
 
 -- a connection was taken
 pub returns-in-Done : goal.returns-in-Done
 returns-in-Done g c = record {
-  trace = decided _ _ _ _ _ _ _ _ _ _ _ (accept_goes_on_with _) (accept_goes_on_with _) _ _ c.loop.invariant c.try_once.ensures (ap is_open c.in-Done.is) (answers_taken _ _ c.in-Done.is);
+  trace = decided _ _ _ _ _ _ _ _ _ _ _ (accept_goes_on_with _)
+      (accept_goes_on_with _) _ _ c.loop.invariant c.try_once.ensures (ap is_open c.in-Done.is)
+      (answers_taken _ _ c.in-Done.is);
 }
 
 -- a decisive fault
 pub returns-in-Failed : goal.returns-in-Failed
 returns-in-Failed g c = record {
-  trace = decided _ _ _ _ _ _ _ _ _ _ _ (accept_goes_on_with _) (accept_goes_on_with _) _ _ c.loop.invariant c.try_once.ensures (ap is_open c.in-Failed.is) (answers_fault _ _ c.in-Failed.is);
+  trace = decided _ _ _ _ _ _ _ _ _ _ _ (accept_goes_on_with _)
+      (accept_goes_on_with _) _ _ c.loop.invariant c.try_once.ensures (ap is_open c.in-Failed.is)
+      (answers_fault _ _ c.in-Failed.is);
 }

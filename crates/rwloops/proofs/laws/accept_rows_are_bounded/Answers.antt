@@ -8,7 +8,9 @@ use Rattle.rwloops.proofs.laws.accept_rows_are_bounded.Goals as goal
 
 pub returns : goal.returns
 returns g c = λ outcomes. (
-  λ quiet. let parts = and_parts (list_all accept_goes_on outcomes) (has_short_rows is_retried outcomes) quiet in
+  λ undecided. let parts = and_parts (list_all accept_goes_on outcomes)
+      (has_short_rows is_retried outcomes) undecided in
       (AllPass-from_list_all accept_goes_on outcomes parts.0, short_rows is_retried outcomes parts.1),
-  λ facts. both _ _ (list_all-from_AllPass accept_goes_on outcomes facts.0) (short_rows_by_cuts is_retried outcomes facts.1),
+  λ facts. both _ _ (list_all-from_AllPass accept_goes_on outcomes facts.0)
+      (short_rows_by_cuts is_retried outcomes facts.1),
 )

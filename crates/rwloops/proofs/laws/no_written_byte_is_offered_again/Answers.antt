@@ -9,5 +9,6 @@ pub returns : goal.returns
 returns c = λ bytes tries newer between older later made calls result trace is. (
   count_of (between ++ (made ∷ older)),
   later_begins_after between older made,
-  (try_among (IsWriteTry bytes) newer (between ++ (made ∷ older)) later (subst (EachTry (IsWriteTry bytes)) is (each_write_offered bytes tries calls result trace))).offered,
+  (try_among (IsWriteTry bytes) newer (between ++ (made ∷ older)) later
+      (subst (EachTry (IsWriteTry bytes)) is (each_write_offered bytes tries calls result trace))).offered,
 )

@@ -9,7 +9,9 @@ use Rattle.rwloops.proofs.laws.read_rows_are_bounded.Goals as goal
 
 pub returns : goal.returns
 returns c = λ outcomes. (
-  λ quiet. let parts = and_parts (list_all read_goes_on outcomes) (has_short_rows is_interrupted outcomes) quiet in
+  λ undecided. let parts = and_parts (list_all read_goes_on outcomes)
+      (has_short_rows is_interrupted outcomes) undecided in
       (AllPass-from_list_all read_goes_on outcomes parts.0, short_rows is_interrupted outcomes parts.1),
-  λ facts. both _ _ (list_all-from_AllPass read_goes_on outcomes facts.0) (short_rows_by_cuts is_interrupted outcomes facts.1),
+  λ facts. both _ _ (list_all-from_AllPass read_goes_on outcomes facts.0)
+      (short_rows_by_cuts is_interrupted outcomes facts.1),
 )

@@ -11,10 +11,14 @@ use Rattle.rwloops.proofs.laws.write_rows_are_bounded.Goals as goal
 
 pub returns : goal.returns
 returns c = λ len outcomes. (
-  λ quiet.
-      let parts = and_parts (list_all write_goes_on outcomes) (nat_lt (sum_of_counts outcomes) len && has_short_rows is_interrupted outcomes) quiet in
-      let rows = and_parts (nat_lt (sum_of_counts outcomes) len) (has_short_rows is_interrupted outcomes) parts.1 in
-      (AllPass-from_list_all write_goes_on outcomes parts.0, sum_below len outcomes quiet, short_rows is_interrupted outcomes rows.1),
+  λ undecided.
+      let parts = and_parts (list_all write_goes_on outcomes)
+      (nat_lt (sum_of_counts outcomes) len && has_short_rows is_interrupted outcomes) undecided in
+      let rows = and_parts (nat_lt (sum_of_counts outcomes) len) (has_short_rows is_interrupted outcomes) parts.1 in (
+        AllPass-from_list_all write_goes_on outcomes parts.0,
+        sum_below len outcomes undecided,
+        short_rows is_interrupted outcomes rows.1,
+      ),
   λ facts. both _ _ (list_all-from_AllPass write_goes_on outcomes facts.0)
       (both _ _ (below_test (sum_of_counts outcomes) len facts.1) (short_rows_by_cuts is_interrupted outcomes facts.2)),
 )

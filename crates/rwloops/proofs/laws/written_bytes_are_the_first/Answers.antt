@@ -9,7 +9,9 @@ pub returns : goal.returns
 returns c = record {
   sum = λ bytes tries calls result trace. sum_within bytes tries (each_write_offered bytes tries calls result trace);
   each = λ bytes tries newer older made calls result trace is.
-      (try_among (IsWriteTry bytes) newer older made (subst (EachTry (IsWriteTry bytes)) is (each_write_offered bytes tries calls result trace))).count;
-  taken = λ bytes tries calls result trace. taken_are_first bytes tries (each_write_offered bytes tries calls result trace);
+      (try_among (IsWriteTry bytes) newer older made
+      (subst (EachTry (IsWriteTry bytes)) is (each_write_offered bytes tries calls result trace))).count;
+  taken = λ bytes tries calls result trace. taken_are_first bytes tries
+      (each_write_offered bytes tries calls result trace);
   fault = λ bytes tries calls failed trace. (part_count bytes tries calls failed trace).0;
 }

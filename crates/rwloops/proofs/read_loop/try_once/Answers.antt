@@ -10,7 +10,8 @@ returns g c = λ earlier stands. record {
   told = c.try_read-outcome.ensures.told;
   offered = record { room = search rules; count = search (rules, c.try_read-outcome.ensures.within) };
   holds =
-      let fits : count_in c.try_read-outcome.result ≤ length c.try_read-outcome.new.buf = search (rules, c.try_read-outcome.ensures.within) in
+      let fits : count_in c.try_read-outcome.result ≤ length c.try_read-outcome.new.buf =
+      search (rules, c.try_read-outcome.ensures.within) in
       rw take-append-le refl;
   answer = c.feed.ensures.answer (map read_outcome earlier) stands;
   stands = c.feed.ensures.stands (map read_outcome earlier) stands;

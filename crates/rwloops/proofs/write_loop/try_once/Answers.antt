@@ -7,7 +7,8 @@ pub returns-clause-turn : goal.returns-clause-turn
 returns-clause-turn g c = λ earlier stands.
     let len = length c.args.bytes.now in
     let done : c.count.result ≡ count_of earlier = c.count.ensures ∙ stands.count in
-    let fits = offered_count c.args.bytes.now c.count.result earlier c.offer-outcome.result done c.offer-outcome.ensures.within in
+    let fits = offered_count c.args.bytes.now c.count.result earlier c.offer-outcome.result done
+    c.offer-outcome.ensures.within in
     record {
       made = record { offered = chunk_after c.args.bytes.now c.count.result; outcome = c.offer-outcome.result };
       told = c.offer-outcome.ensures.told;

@@ -4,5 +4,6 @@ use Rattle.rwloops.proofs.TraceLemmas.{IsSoFar}
 use Rattle.rwloops.proofs.write_loop.write.Given as goal
 
 abbrev pub invariant-loop : goal.invariant-loop
-invariant-loop g l = IsSoFar (write_try_rules (length l.bytes)) (IsWriteTry l.bytes) (g.H.TryWrite.tells l.fn.half) (g.H.TryWrite.tells l.half) (g.W.Waits.tells l.fn.waits) (g.W.Waits.tells l.waits)
+invariant-loop g l = IsSoFar (write_try_rules (length l.bytes)) (IsWriteTry l.bytes) (g.H.TryWrite.tells l.fn.half)
+    (g.H.TryWrite.tells l.half) (g.W.Waits.tells l.fn.waits) (g.W.Waits.tells l.waits)
     (StandsForTries l.writing (length l.bytes))

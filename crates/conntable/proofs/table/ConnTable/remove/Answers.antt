@@ -7,12 +7,15 @@ use Rattle.conntable.proofs.table.ConnTable.remove.Goals as goal
 pub returns-in_default-clause-unknown : goal.returns-in_default-clause-unknown
 returns-in_default-clause-unknown g c =
     let es = entries_at c.self.inside.slots c.self.inside.index.entries in
-    subst (λ t. HasNoId c.args.id t.entries) c.self.view_is (unknown c.args.id es (by_id_none c.self.inside.slots c.self.inside.index.entries es c.args.id c.self.invariant.1 (sym c.in_default.ensures.value)))
+    subst (λ t. HasNoId c.args.id t.entries) c.self.view_is
+    (unknown c.args.id es (by_id_none c.self.inside.slots c.self.inside.index.entries es c.args.id
+    c.self.invariant.1 (sym c.in_default.ensures.value)))
 
 pub remove-value-requires : goal.remove-value-requires
 remove-value-requires g c =
     let es = entries_at c.self.inside.slots c.self.inside.index.entries in
-    let there = by_id_there c.self.inside.slots c.self.inside.index.entries es c.args.id c.in-Some.key c.self.invariant.1 (sym c.in-Some.ensures.value) in
+    let there = by_id_there c.self.inside.slots c.self.inside.index.entries es c.args.id c.in-Some.key
+    c.self.invariant.1 (sym c.in-Some.ensures.value) in
     subst IsSome (sym there.1) refl
 
 pub invariant_of-self-2 : goal.invariant_of-self-2

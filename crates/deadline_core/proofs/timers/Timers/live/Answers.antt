@@ -5,4 +5,5 @@ use Rattle.deadline_core.proofs.TimerOrderLemmas.{armed_len, slot_cmp_is}
 use Rattle.deadline_core.proofs.timers.Timers.live.Goals as goal
 
 pub returns : goal.returns
-returns g c = c.len.ensures.len ∙ sym (armed_len c.self.inside.moments (subst (λ R. tree.IsOrdered R c.self.inside.moments) slot_cmp_is c.len.ensures.ordered)) ∙ ap len c.self.view_is
+returns g c = c.len.ensures.len ∙ sym (armed_len c.self.inside.moments
+    (subst (λ R. tree.IsOrdered R c.self.inside.moments) slot_cmp_is c.len.ensures.ordered)) ∙ ap len c.self.view_is

@@ -13,5 +13,7 @@ returns-clause-none g c =
 pub returns-clause-taken : goal.returns-clause-taken
 returns-clause-taken g c =
     let new = c.pop_first_due-first.new.moments in
-    some_then c.pop_first_due-first.result (λ first. Sets c.self.inside.moments new first.0 None) (λ first. armed_in new ≡ remove c.args.self.now first.0)
-    (λ first sets. armed_taken c.self.inside.moments new first.0 sets ∙ ap (λ m. remove m first.0) c.self.view_is) c.pop_first_due-first.ensures.taken
+    some_then c.pop_first_due-first.result (λ first. Sets c.self.inside.moments new first.0 None)
+    (λ first. armed_in new ≡ remove c.args.self.now first.0)
+    (λ first sets. armed_taken c.self.inside.moments new first.0 sets ∙ ap (λ m. remove m first.0) c.self.view_is)
+    c.pop_first_due-first.ensures.taken

@@ -1,7 +1,8 @@
 use Rattle.std.proofs.Common.{rules, arith, ◌≡◌, ap, ◌∙◌, true}
 use Rattle.lockword_core.specs.declared.stake.Op.TheVariants as op
+use Rattle.lockword_core.specs.declared.stake.Answer.TheVariants as answer
 use Rattle.lockword_core.specs.Transition.{allows}
-use Rattle.lockword.proofs.WakeupSteps.{counts, rings, takes_one}
+use Rattle.lockword.proofs.WakeupSteps.{counts, signals, takes_one}
 use Rattle.lockword.proofs.holders.LockWord.try_take.Goals as goal
 
 pub load-found-requires : goal.load-found-requires
@@ -14,4 +15,4 @@ compare_exchange-requires g c =
     let told = c.load-found.ensures.2 in
     let way = c.in-Some.ensures in
     let may : allows c.load-found.new.seat.me.0.stake (op.Wake c.args.dir) ≡ true = ap (λ me. allows me.0.stake (op.Wake c.args.dir)) told.1 ∙ c.requires.allowed in
-    (search rules, omega arith, rings _ _ c.args.dir _ _ _ _ _ _ c.semaphore-word.ensures.value (takes_one c.args.dir _ _ _ may way.some way.takes_one))
+    (search rules, omega arith, signals _ _ c.args.dir _ _ _ _ _ _ (λ d. op.Wake d) answer.Woken c.semaphore-word.ensures.value (takes_one c.args.dir _ _ _ may way.some way.takes_one))

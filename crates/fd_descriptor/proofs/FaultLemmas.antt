@@ -1,0 +1,18 @@
+-- A loop's own fault is one that the call may tell, whatever the handle has seen.
+use Rattle.std.specs.Prelude.{ℕ, Result, Ok, Err, IfErr}
+use Rattle.std.proofs.Common.{inr}
+use Rattle.rwloops.specs.declared.fault.Fault.{Fault}
+use Rattle.rwloops.specs.declared.fault.WriteFault.{WriteFault}
+use Rattle.fd_descriptor.specs.HandleCalls.{Call, Writes, IsOwnFault, MayTell}
+use Rattle.fd_descriptor.specs.Marks.{Marks}
+
+pub own_fault : {T : Type 0} (call : Call) (before after : Marks) (answer : Result T Fault) →
+    IfErr answer (IsOwnFault call) → IfErr answer (MayTell call before after)
+own_fault call before after (Ok given) own = tt
+own_fault call before after (Err told) own = inr own
+
+pub own_write_fault : (before after : Marks) (answer : Result ℕ WriteFault) →
+    IfErr answer (λ failed. IsOwnFault Writes failed.fault) →
+    IfErr answer (λ failed. MayTell Writes before after failed.fault)
+own_write_fault before after (Ok count) own = tt
+own_write_fault before after (Err failed) own = inr own

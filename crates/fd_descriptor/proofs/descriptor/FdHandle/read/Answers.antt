@@ -1,0 +1,9 @@
+use Rattle.std.proofs.Common.{rules}
+use Rattle.fd_descriptor.specs.HandleCalls.{Reads}
+use Rattle.fd_descriptor.specs.Marks.{marks_in}
+use Rattle.fd_descriptor.proofs.FaultLemmas.{own_fault}
+use Rattle.fd_descriptor.proofs.descriptor.FdHandle.read.Goals as goal
+
+pub returns-clause-allowed : goal.returns-clause-allowed
+returns-clause-allowed g c =
+    own_fault Reads (marks_in c.args.self.now.seat) (marks_in c.with_half.new.seat) c.in_ok-with_half.field-0 (search rules)

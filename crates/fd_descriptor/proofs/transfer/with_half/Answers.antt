@@ -1,5 +1,0 @@
-use Rattle.std.proofs.Common.{refl}
-use Rattle.fd_descriptor.proofs.transfer.with_half.Goals as goal
-
-pub returns-clause-did : goal.returns-clause-did
-returns-clause-did g c = (_, _, record { shown = _; shows = refl; left = _; met = c.act-answer.ensures; leaves = refl })

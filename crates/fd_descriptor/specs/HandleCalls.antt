@@ -1,0 +1,62 @@
+-- The calls of a handle, and which faults each may tell.
+use Rattle.std.specs.Prelude.{◌≡◌, ◌⊎◌, true, false, Result, Ok, Err}
+use Rattle.fdmutex.specs.declared.answers.Refusal.{Refusal}
+use Rattle.fdmutex.specs.declared.answers.Refusal.TheVariants as refusal
+use Rattle.rwloops.specs.declared.fault.Fault.{Fault}
+use Rattle.rwloops.specs.declared.fault.Fault.TheVariants as fault
+use Rattle.fd_descriptor.specs.Marks.{Marks, SawTheEnd}
+
+-- what a handle is asked to do
+pub data Call : Type 0 where
+  Reads : Call
+  Accepts : Call
+  Writes : Call
+  Shuts : Call
+  SetsDeadline : Call
+  Closes : Call
+
+-- the fault that a refusal of the lock word is to the caller of a handle
+abbrev pub lock_fault : Refusal → Fault
+lock_fault refusal.Closed = fault.Closed
+lock_fault (refusal.TooMany w) = fault.TooMany
+
+-- The faults of the lock word, which every call may tell: it was seen closed; or no reference, or
+-- no place to wait for a lock, is left, and nothing was done on a descriptor not seen closed.
+abbrev pub IsLockFault : Marks → Marks → Fault → Type 0
+IsLockFault before after fault.Closed = after.closed ≡ true
+IsLockFault before after fault.TooMany = (after ≡ before) × (before.closed ≡ false)
+IsLockFault before after _ = ⊥
+
+-- The table of the other faults that each call may tell; what has no row is never told. `Closed`
+-- stands where a poll state decides, which is closing as soon as a closer comes, whatever the handle
+-- has seen.
+abbrev pub IsOwnFault : Call → Fault → Type 0
+IsOwnFault Reads fault.Closed = Unit {0}
+IsOwnFault Reads fault.DeadlineExceeded = Unit {0}
+IsOwnFault Reads fault.EndOfFile = Unit {0}
+IsOwnFault Reads (fault.Device kind) = Unit {0}
+IsOwnFault Reads fault.TooManyRetries = Unit {0}
+IsOwnFault Accepts fault.Closed = Unit {0}
+IsOwnFault Accepts fault.DeadlineExceeded = Unit {0}
+IsOwnFault Accepts (fault.Device kind) = Unit {0}
+IsOwnFault Accepts fault.TooManyRetries = Unit {0}
+IsOwnFault Writes fault.Closed = Unit {0}
+IsOwnFault Writes fault.DeadlineExceeded = Unit {0}
+IsOwnFault Writes fault.UnexpectedEof = Unit {0}
+IsOwnFault Writes (fault.Device kind) = Unit {0}
+IsOwnFault Writes fault.TooManyRetries = Unit {0}
+IsOwnFault Shuts (fault.Device kind) = Unit {0}
+IsOwnFault SetsDeadline fault.Closed = Unit {0}
+IsOwnFault SetsDeadline fault.OutOfMemory = Unit {0}
+IsOwnFault Closes (fault.Device kind) = Unit {0}
+IsOwnFault _ _ = ⊥
+
+-- a call may tell this fault
+abbrev pub MayTell : Call → Marks → Marks → Fault → Type 0
+MayTell call before after told = IsLockFault before after told ⊎ IsOwnFault call told
+
+-- a close that is Ok, or tells the fault of destroying the halves, has seen the end
+abbrev pub HasEnded : Result (Unit {0}) Fault → Marks → Type 0
+HasEnded (Ok u) after = SawTheEnd after
+HasEnded (Err (fault.Device kind)) after = SawTheEnd after
+HasEnded _ after = Unit {0}

@@ -1,0 +1,39 @@
+-- What has been seen of a descriptor's end, by the seat of its lock word that a handle holds.
+use Rattle.std.specs.Prelude.{◌≡◌, true, false, Option, Some, None}
+use Rattle.lockword.specs.declared.holders.Seat.{Seat}
+use Rattle.lockword.specs.declared.holders.LockWord.{LockWord}
+use Rattle.lockword.specs.Marks.{WordId, word_of, marks_of as marks_at}
+use Rattle.lockword.specs.Places.{seat_place, last_place}
+use Rattle.lockword.specs.TransitionOutcomes.{word_id}
+use Rattle.lockword.specs.declared.holders.Freed.{Freed}
+use Rattle.lockword.specs.declared.holders.Freed.TheVariants as left
+pub use Rattle.lockword.specs.declared.local_view.Marks.{Marks}
+
+-- what was seen stays seen
+abbrev pub KeepsMarks : Marks → Marks → Type 0
+KeepsMarks before after =
+    (before.closed ≡ true → after.closed ≡ true) × (before.done ≡ true → after.done ≡ true)
+
+-- the descriptor was seen closed, and its halves destroyed
+abbrev pub SawTheEnd : Marks → Type 0
+SawTheEnd marks = (marks.closed ≡ true) × (marks.done ≡ true)
+
+module _ {R W : Type 0} where
+  -- what the seat that a handle holds has seen
+  abbrev pub marks_in : Option (Seat R W) → Marks
+  marks_in None = record { closed = false; done = false }
+  marks_in (Some s) = marks_at (seat_place s)
+
+  -- the word of the seat, where there is a seat
+  abbrev pub word_in : Option (Seat R W) → Option WordId
+  word_in None = None
+  word_in (Some s) = Some (word_of (seat_place s))
+
+  -- there is a seat, and it is one of this word's
+  abbrev pub HoldsSeatOf : LockWord R W → Option (Seat R W) → Type 0
+  HoldsSeatOf w seat = word_in seat ≡ Some (word_id w)
+
+  -- what the seat has seen of which this is left
+  abbrev pub marks_left : Freed R W → Marks
+  marks_left (left.Kept s) = marks_at (seat_place s)
+  marks_left (left.Last l) = marks_at (last_place l)

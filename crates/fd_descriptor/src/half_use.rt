@@ -1,0 +1,114 @@
+//! The use of a half under its direction's lock.
+//!
+//! A half is borrowed from the value of its lock, so that a use before the lock or after its return
+//! doesn't compile.
+
+ghost use Rattle.std.specs.Prelude.{◌≡◌, ◌≤◌, ◌<◌, true, length, Ok, Err, IfOk, IfErr};
+ghost use Rattle.fd_descriptor.specs.HalfUse.{Did};
+ghost use Rattle.fd_descriptor.specs.HandleCalls.{Reads, Accepts, Writes, IsLockFault, IsOwnFault};
+ghost use Rattle.fd_descriptor.specs.Marks.{HoldsSeatOf, KeepsMarks, marks_in};
+
+use crate::descriptor::Fd;
+use crate::leave::{leave, lock_fault};
+use crate::poll_cell::{CellWaits, PollCell};
+use crate::resource::{HalfClose, Resource};
+use fdmutex::{lock, unlock};
+use lockword::{Guards, Seat};
+use rwloops::{DevKind, Fault, TryAccept, TryRead, TryWrite, Waits, WriteFault};
+use std::alloc::Allocator;
+use std::sync::Wait;
+use stream_base::Dir;
+
+/// Takes the lock of a direction, lends its half to `act`, and gives the lock back. It answers what
+/// `act` did, or why there was no lock.
+pub(crate) fn with_half<D, X, A, T, Y, F>(
+    rt: &T,
+    fd: &Fd<X, A>,
+    seat: &mut Option<Seat<X::R, X::W>>,
+    act: F,
+) -> Result<Y, Fault>
+where
+    D: Guards<X::R, X::W>,
+    X: Resource,
+    A: Allocator,
+    T: Wait,
+    F: FnOnce(&mut D::Guarded) -> Y,
+    requires seat { HoldsSeatOf fd.now.word seat.old }
+    requires act { F.IsAlwaysCallable act }
+    ensures seat { HoldsSeatOf fd.now.word seat.new }
+    ensures marks { KeepsMarks (marks_in seat.old) (marks_in seat.new) }
+    ensures closed { (marks_in seat.old).closed ≡ true → result ≡ Err Fault.Closed }
+    ensures no_lock { IfErr result (IsLockFault (marks_in seat.old) (marks_in seat.new)) }
+    ensures did { IfOk result (λ answer. Did F.FnOnce act answer) }
+{
+    let word = &fd.word;
+    let Some(free) = seat.take() else {
+        unreachable!()
+    };
+    let mut held = match lock::<D, X::R, X::W, T>(rt, word, free) {
+        Ok(held) => held,
+        Err((left, refusal)) => {
+            *seat = Some(left);
+            return Err(lock_fault(refusal));
+        }
+    };
+    let answer = act(held.half(word));
+    *seat = Some(leave::<X>(word, unlock(rt, word, held)));
+    Ok(answer)
+}
+
+/// Reads from a half, waiting in a cell.
+pub(crate) fn read_in<H: TryRead, T: Wait>(
+    rt: &T,
+    cell: &PollCell,
+    half: &mut H,
+    buf: &mut [u8],
+) -> Result<usize, Fault>
+    ensures within { IfOk result (λ count. count ≤ length buf.old) }
+    ensures some { 0 < length buf.old → IfOk result (λ count. 0 < count) }
+    ensures empty { length buf.old ≡ 0 → result ≡ Ok 0 }
+    ensures faults { IfErr result (IsOwnFault Reads) }
+{
+    rwloops::read(rt, half, buf, &mut CellWaits::new(cell, rt))
+}
+
+/// Accepts from a half, waiting in a cell.
+pub(crate) fn accept_in<H: TryAccept, T: Wait>(
+    rt: &T,
+    cell: &PollCell,
+    half: &mut H,
+) -> Result<H::T, Fault>
+    ensures faults { IfErr result (IsOwnFault Accepts) }
+{
+    rwloops::accept(rt, half, &mut CellWaits::new(cell, rt))
+}
+
+/// Writes to a half, waiting in a cell.
+pub(crate) fn write_in<H: TryWrite, T: Wait>(
+    rt: &T,
+    cell: &PollCell,
+    half: &mut H,
+    bytes: &[u8],
+) -> Result<usize, WriteFault>
+    ensures whole { IfOk result (λ count. count ≡ length bytes.now) }
+    ensures part { IfErr result (λ failed. failed.count ≤ length bytes.now) }
+    ensures faults { IfErr result (λ failed. IsOwnFault Writes failed.fault) }
+    ensures nothing { IfErr result (λ failed. failed.fault ≡ Fault.TooMany → failed.count ≡ 0) }
+{
+    rwloops::write(rt, half, bytes, &mut CellWaits::new(cell, rt))
+}
+
+/// Shuts a half once its connection is made. A deadline or a close ends the wait, and then the half
+/// is shut as it is.
+pub(crate) fn shut_connected<H: HalfClose, W: Waits>(
+    rt: &impl Wait,
+    half: &mut H,
+    waits: &mut W,
+) -> Result<(), DevKind> {
+    for _ in rt.forever() {
+        if !half.is_connecting() || waits.wait(Dir::Write).is_err() {
+            return half.shut();
+        }
+    }
+    unreachable!()
+}

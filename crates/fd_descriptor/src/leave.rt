@@ -1,0 +1,58 @@
+//! How a call leaves its descriptor, from what is given back to the seat that is left.
+//!
+//! Whoever gives the last reference of a closed word back destroys the halves there and then. Only a
+//! close that destroys tells the device's fault; any other call has an answer of its own.
+
+ghost use Rattle.std.specs.Prelude.{◌≡◌};
+ghost use Rattle.lockword.specs.Marks.{marks_of as marks_at};
+ghost use Rattle.lockword.specs.Places.{seat_place, last_place};
+ghost use Rattle.lockword.specs.TransitionOutcomes.{IsSeatOf, HasNotTaken};
+ghost use Rattle.fdmutex.specs.Refusal.{IsFreedOf};
+ghost use Rattle.fd_descriptor.specs.HandleCalls.{lock_fault};
+ghost use Rattle.fd_descriptor.specs.Marks.{KeepsMarks, SawTheEnd, marks_left};
+
+use crate::resource::Resource;
+use fdmutex::{Freed, Refusal};
+use lockword::{Last, LockWord, Seat};
+use rwloops::{DevKind, Fault};
+
+/// Destroys the halves, and says so to all that wait for it.
+pub(crate) fn finish<X: Resource>(
+    word: &LockWord<X::R, X::W>,
+    last: Last<X::R, X::W>,
+) -> (Seat<X::R, X::W>, Result<(), DevKind>)
+    requires seat { IsSeatOf word.now (last_place last) }
+    requires not_taken { HasNotTaken (last_place last) }
+    ensures seat { IsSeatOf word.now (seat_place result.0) }
+    ensures marks { SawTheEnd (marks_at (seat_place result.0)) }
+{
+    let mut last = last;
+    let (read, write) = last.halves(word);
+    let told = X::destroy(read, write);
+    (word.mark_done(last), told)
+}
+
+/// The seat that is left of what was given back.
+pub(crate) fn leave<X: Resource>(
+    word: &LockWord<X::R, X::W>,
+    freed: Freed<X::R, X::W>,
+) -> Seat<X::R, X::W>
+    requires { IsFreedOf word.now freed }
+    ensures seat { IsSeatOf word.now (seat_place result) }
+    ensures marks { KeepsMarks (marks_left freed) (marks_at (seat_place result)) }
+{
+    match freed {
+        Freed::Kept(seat) => seat,
+        Freed::Last(last) => finish::<X>(word, last).0,
+    }
+}
+
+/// What a refusal of the lock word is to the caller of a handle.
+pub(crate) fn lock_fault(refusal: Refusal) -> Fault
+    ensures { result ≡ lock_fault refusal }
+{
+    match refusal {
+        Refusal::Closed => Fault::Closed,
+        Refusal::TooMany(_) => Fault::TooMany,
+    }
+}

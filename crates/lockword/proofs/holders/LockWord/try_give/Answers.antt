@@ -1,0 +1,18 @@
+use Rattle.std.proofs.Common.{rules, arith, ◌≡◌, ap, ◌∙◌, true}
+use Rattle.lockword_core.specs.declared.stake.Op.TheVariants as op
+use Rattle.lockword_core.specs.declared.stake.Answer.TheVariants as answer
+use Rattle.lockword_core.specs.Transition.{allows}
+use Rattle.lockword.proofs.WakeupSteps.{counts, signals, gives_one}
+use Rattle.lockword.proofs.holders.LockWord.try_give.Goals as goal
+
+pub load-found-requires : goal.load-found-requires
+load-found-requires g c = let words = c.args.self.now.words in let small = c.semaphore-word.ensures.is_word in (search rules, omega arith, counts _ _ c.args.dir _ _ _ _ c.semaphore-word.ensures.value)
+
+pub compare_exchange-requires : goal.compare_exchange-requires
+compare_exchange-requires g c =
+    let words = c.args.self.now.words in
+    let small = c.semaphore-word.ensures.is_word in
+    let told = c.load-found.ensures.2 in
+    let way = c.in-Some.ensures in
+    let may : allows c.load-found.new.seat.me.0.stake (op.Signal c.args.dir) ≡ true = ap (λ me. allows me.0.stake (op.Signal c.args.dir)) told.1 ∙ c.requires.allowed in
+    (search rules, omega arith, signals _ _ c.args.dir _ _ _ _ _ _ (λ d. op.Signal d) answer.Signalled c.semaphore-word.ensures.value (gives_one c.args.dir _ _ _ may way.room way.adds_one))

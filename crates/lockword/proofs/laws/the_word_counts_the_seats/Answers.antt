@@ -1,0 +1,11 @@
+use Rattle.lockword.proofs.RuleLaws.{counts_seats, one_lock, one_place}
+use Rattle.lockword.proofs.laws.the_word_counts_the_seats.Goals as goal
+
+pub returns-clause-counts : goal.returns-clause-counts
+returns-clause-counts g c s fields read = counts_seats s fields read
+
+pub returns-clause-one_lock : goal.returns-clause-one_lock
+returns-clause-one_lock g c s d reached = one_lock s d reached
+
+pub returns-clause-one_place : goal.returns-clause-one_place
+returns-clause-one_place g c s d reached = one_place s d reached

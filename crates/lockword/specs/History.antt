@@ -1,0 +1,46 @@
+-- The operations that stand behind a running word: what all seats did so far, in one order.
+use Rattle.std.specs.Prelude.{◌≡◌, ℕ, true, List, [], ◌∷◌, ◌++◌, is_some, slice_index, slice_index_or}
+use Rattle.stream_base.specs.declared.direction.Dir.{Dir}
+use Rattle.lockword_core.specs.declared.stake.Event.{Event}
+use Rattle.lockword_core.specs.declared.stake.Op.{Op}
+use Rattle.lockword_core.specs.declared.stake.Answer.{Answer}
+use Rattle.lockword_core.specs.declared.stake.Stake.TheVariants as stake
+use Rattle.lockword_core.specs.Word.{bit}
+use Rattle.lockword_core.specs.Signals.{signals_in}
+use Rattle.lockword_core.specs.LockState.{LockState, empty, census, stake_of, encoded}
+use Rattle.lockword_core.specs.Transition.{transition}
+use Rattle.lockword_core.specs.Replay.{state_after}
+use Rattle.lockword_core.specs.OperationCounts.{operations_of}
+use Rattle.lockword.specs.declared.local_view.LocalView.{LocalView}
+use Rattle.lockword.specs.declared.shared_rule.TheConstants.{STATE, DONE}
+use Rattle.lockword.specs.Directions.{semaphore}
+use Rattle.lockword.specs.LocalView.{stakes_of, deeds_of}
+
+-- the words are those of this state, and each seat has what the holder of its number has
+pub record Matches (state : LockState) (words : List ℕ) (views : List LocalView) : Type 0 where
+  pub stakes : (seat : ℕ) → slice_index_or (stakes_of views) seat stake.Free ≡ stake_of state seat
+  pub state_word : slice_index words STATE ≡ encoded (census state)
+  pub semaphores : (d : Dir) → slice_index words (semaphore d) ≡ signals_in d state.signals
+  pub done_word : slice_index words DONE ≡ bit (is_some state.destroyed_by)
+
+-- the list is one interleaving of what all seats did: of each seat it has what that seat did, in
+-- that seat's order
+pub record Interleaves (history : List Event) (views : List LocalView) : Type 0 where
+  pub deeds : (seat : ℕ) → slice_index_or (deeds_of views) seat [] ≡ operations_of seat history
+
+-- after this list the seat of this number has this view
+pub record IsView (history : List Event) (seat : ℕ) (v : LocalView) : Type 0 where
+  pub did : v.did ≡ operations_of seat history
+  pub stake : stake_of (state_after empty history) seat ≡ v.stake
+  pub saw_closed : v.saw.closed ≡ true → (state_after empty history).closed ≡ true
+  pub saw_done : v.saw.done ≡ true → is_some (state_after empty history).destroyed_by ≡ true
+
+-- after some list of operations by the word's seats, one that has the first view makes this
+-- operation, is answered so, and has the stake of the second view
+pub record IsMade (op : Op) (answer : Answer) (v w : LocalView) : Type 0 where
+  pub history : List Event
+  pub seat : ℕ
+  pub own : IsView history seat v
+  pub answered : (transition (state_after empty history) seat op).1 ≡ answer
+  pub stake : stake_of (transition (state_after empty history) seat op).0 seat ≡ w.stake
+  pub did : w.did ≡ v.did ++ op ∷ []

@@ -1,0 +1,76 @@
+//! What the rule of a running word comes to. The rule holds between any two atomic steps of any number
+//! of threads; each law is the contract of a function that does nothing.
+
+ghost use Rattle.std.specs.Prelude.{◌≡◌, ◌≤◌, ◌<◌, ◌+◌, ◌==◌, ◌&&◌, ℕ, true, count_by, slice_index};
+ghost use mathlib.Core.Option.{some};
+ghost use lib.ListN.{get_elem?};
+ghost use Rattle.stream_base.specs.declared.direction.Dir.{Dir};
+ghost use Rattle.lockword_core.specs.declared.word.Word.{Word};
+ghost use Rattle.lockword_core.specs.Word.{bit};
+ghost use Rattle.lockword_core.specs.LockState.{references, locks, lasts};
+ghost use Rattle.lockword_core.specs.OperationCounts.{is_close, is_destroy, AddsUp};
+ghost use Rattle.lockword_core.specs.Laws.{ReturnedTheLast};
+ghost use Rattle.lockword.specs.declared.local_view.LocalView.{LocalView};
+ghost use Rattle.lockword.specs.declared.shared_rule.TheConstants.{DONE};
+ghost use Rattle.lockword.specs.LocalView.{made_by_seats};
+ghost use Rattle.lockword.specs.SharedInvariant.{IsReached};
+ghost use Rattle.lockword.specs.TransitionOutcomes.{IsOnlyClosed};
+ghost use Rattle.lockword.specs.Moment.{Moment, IsRead};
+ghost use Rattle.lockword.specs.Laws.{seats_census, over_seats, IsInOnePlace, CountsSeats, ComesOfDeeds};
+
+/// At every moment what all seats of the word have done interleaves into one list of operations, of
+/// which none is refused and which leads to the words and stakes of that moment: so the laws of
+/// `lockword_core` over every list of operations hold of it.
+pub fn the_word_comes_of_what_its_seats_did<R, W>()
+    ensures { (s : Moment R W) (fields : Word) → IsRead s fields → ComesOfDeeds s fields }
+{}
+
+/// At every moment the lock bits and counts of the word are those of the stakes of all seats, at most
+/// one seat reads and at most one writes, and each half is in one place.
+pub fn the_word_counts_the_seats<R, W>()
+    ensures counts { (s : Moment R W) (fields : Word) → IsRead s fields → CountsSeats s fields }
+    ensures one_lock { (s : Moment R W) (d : Dir) → IsReached s → over_seats (locks d) s ≤ 1 }
+    ensures one_place { (s : Moment R W) (d : Dir) → IsReached s → IsInOnePlace d s }
+{}
+
+/// A closed word without references has one `Last` or was destroyed, and no other has either; once it
+/// was destroyed nobody has a reference, a lock or `Last`, and the word is the flag alone.
+pub fn the_last_seat_destroys<R, W>()
+    ensures one_last { (s : Moment R W) (fields : Word) → IsRead s fields
+        → over_seats lasts s + slice_index s.words DONE ≡ bit (fields.closed && (fields.refs == 0)) }
+    ensures no_last { (s : Moment R W) → IsReached s → slice_index s.words DONE ≡ 1
+        → over_seats lasts s ≡ 0 }
+    ensures no_reference { (s : Moment R W) → IsReached s → slice_index s.words DONE ≡ 1
+        → over_seats references s ≡ 0 }
+    ensures no_lock { (s : Moment R W) (d : Dir) → IsReached s → slice_index s.words DONE ≡ 1
+        → over_seats (locks d) s ≡ 0 }
+    ensures only_closed { (s : Moment R W) (fields : Word) → IsRead s fields
+        → slice_index s.words DONE ≡ 1 → IsOnlyClosed fields }
+{}
+
+/// What a seat saw is so, at that moment and at every later one: no call takes a mark back, and the
+/// law holds of each moment at which a seat has the mark.
+pub fn what_a_seat_saw_is_so<R, W>()
+    ensures closed { (s : Moment R W) (fields : Word) (seat : ℕ) (v : LocalView) → IsRead s fields
+        → get_elem? s.views seat ≡ some v → v.saw.closed ≡ true → fields.closed ≡ true }
+    ensures done { (s : Moment R W) (seat : ℕ) (v : LocalView) → IsReached s
+        → get_elem? s.views seat ≡ some v → v.saw.done ≡ true → slice_index s.words DONE ≡ 1 }
+{}
+
+/// What all seats of a word together have ever done adds up to what they have now: what was taken is
+/// held or queued for, or was given back; a signal that was given lies ready, or was taken; the close
+/// was made once if the word is closed, and the destroy at most once, by the seat that gave back the
+/// last reference after the close. No call takes back what its seat has made, and no seat leaves the
+/// count.
+pub fn what_all_seats_did_adds_up<R, W>()
+    ensures adds_up { (s : Moment R W) (fields : Word) → IsRead s fields
+        → AddsUp (made_by_seats s.views) (seats_census s fields) }
+    ensures closes { (s : Moment R W) (fields : Word) → IsRead s fields
+        → made_by_seats s.views is_close ≡ bit fields.closed }
+    ensures destroys { (s : Moment R W) → IsReached s
+        → made_by_seats s.views is_destroy ≡ slice_index s.words DONE }
+    ensures one_destroy { (s : Moment R W) → IsReached s → made_by_seats s.views is_destroy ≤ 1 }
+    ensures destroyer { (s : Moment R W) (seat : ℕ) (v : LocalView) (reached : IsReached s)
+        → get_elem? s.views seat ≡ some v → 0 < count_by is_destroy v.did
+        → ReturnedTheLast reached.history seat }
+{}

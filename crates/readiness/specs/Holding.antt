@@ -1,0 +1,27 @@
+-- What holding a socket adds to a table, and why it is refused.
+use Rattle.std.specs.Prelude.{◌≡◌}
+use Rattle.std.specs.Arc.{arc_value}
+use Rattle.conntable.specs.ConnTable.{Table, Inserts, next_token}
+use Rattle.conntable.specs.Refusals.{Refuses, HasRoom}
+use Rattle.fd_descriptor.specs.declared.poll_cell.PollCell.{PollCell}
+use Rattle.rwloops.specs.declared.outcome.DevKind.{DevKind}
+use Rattle.rwloops.specs.declared.outcome.DevKind.TheVariants.{Other}
+use Rattle.readiness.specs.declared.holding.Held.{Held}
+use Rattle.readiness.specs.declared.holding.HoldFault.{HoldFault}
+use Rattle.readiness.specs.declared.holding.HoldFault.TheVariants as why
+
+-- the cell of an entry that has no more than its descriptor
+abbrev pub entry_cell : {X R W : Type 0} → Held X R W → PollCell
+entry_cell held = arc_value held.cell
+
+-- one entry more, under the id and the token that were next; what turns tell it comes to this cell
+pub record HoldsNext {T : Type 0} (cell_in : T → PollCell) (old new : Table T) (cell : PollCell) : Type 0 where
+  pub value : T
+  pub inserts : Inserts old new old.next_id (next_token old) value
+  pub tells : cell_in value ≡ cell
+
+-- a socket isn't held for this reason: the table refuses, or it had room and the system or the memory refused
+abbrev pub IsHoldFault : {T : Type 0} → Table T → HoldFault → Type 0
+IsHoldFault t (why.Table refusal) = Refuses t refusal
+IsHoldFault t (why.Device kind) = HasRoom t × (kind ≡ Other)
+IsHoldFault t why.OutOfMemory = HasRoom t

@@ -1,0 +1,158 @@
+//! Holding a socket: a descriptor is made of it, which stands in a table under the token by which a
+//! poller tells of it, and whose timers find it by its id.
+
+ghost use Rattle.std.specs.Prelude.{◌≡◌, false, IfOk, IfErr, OnErr};
+ghost use Rattle.std.specs.Arc.{arc_value};
+ghost use Rattle.conntable.specs.Refusals.{HasRoom};
+ghost use Rattle.fd_descriptor.specs.FdHandle.{key_of, cell_of, saw_closed};
+ghost use Rattle.readiness.specs.declared.holding.HoldFault.{HoldFault};
+ghost use Rattle.readiness.specs.Holding.{HoldsNext, IsHoldFault, entry_cell};
+
+use crate::poller::{HasCell, Poller};
+use crate::resources::{ListenRes, NoWrites, SockRes};
+use crate::sock::{Listen, Sock};
+use conntable::{ConnTable, Refusal};
+use fd_descriptor::{FdHandle, PollCell, Resource};
+use rwloops::DevKind;
+use std::alloc::{Allocator, Global};
+use std::sync::Arc;
+use stream_base::OutOfMemory;
+
+/// Why a socket isn't held. It is closed by then, and the table is as it was.
+#[derive(Clone, Copy, Debug, PartialEq, Eq, Drop)]
+pub enum HoldFault {
+    /// The table takes no entry more.
+    Table(Refusal),
+    /// The poller can't be told of the socket: `DevKind::Other`.
+    Device(DevKind),
+    /// Memory for the descriptor was refused.
+    OutOfMemory,
+}
+
+impl From<Refusal> for HoldFault {
+    ghost from_gives = { λ refusal fault. fault ≡ HoldFault.Table refusal };
+
+    fn from(refusal: Refusal) -> HoldFault {
+        HoldFault::Table(refusal)
+    }
+}
+
+impl From<DevKind> for HoldFault {
+    ghost from_gives = { λ kind fault. fault ≡ HoldFault.Device kind };
+
+    fn from(kind: DevKind) -> HoldFault {
+        HoldFault::Device(kind)
+    }
+}
+
+impl From<OutOfMemory> for HoldFault {
+    ghost from_gives = { λ _ fault. fault ≡ HoldFault.OutOfMemory };
+
+    fn from(_: OutOfMemory) -> HoldFault {
+        HoldFault::OutOfMemory
+    }
+}
+
+/// An entry of a table, for a descriptor on such a resource.
+pub trait Holds<X: Resource>: HasCell + Drop {
+    /// The entry with the descriptor's cell, which turns tell, and a handle, by which who takes the
+    /// entry out closes the descriptor.
+    fn holding(cell: Arc<PollCell>, handle: FdHandle<X>) -> Self
+        ensures tells { Self.cell_in result ≡ arc_value cell };
+}
+
+/// An entry that has no more than its descriptor.
+#[derive(Drop)]
+pub struct Held<X: Resource> {
+    cell: Arc<PollCell>,
+    /// Closes the descriptor, once the entry is taken out and the table's lock given up.
+    pub handle: FdHandle<X>,
+}
+
+impl<X: Resource> HasCell for Held<X> {
+    ghost cell_in = { entry_cell };
+
+    fn cell(&self) -> &PollCell {
+        &*self.cell
+    }
+}
+
+impl<X: Resource> Holds<X> for Held<X> {
+    fn holding(cell: Arc<PollCell>, handle: FdHandle<X>) -> Held<X>
+        ensures tells { entry_cell result ≡ arc_value cell }
+    {
+        Held { cell, handle }
+    }
+}
+
+// Puts a descriptor into a table with room, and gives its id with another handle on it.
+fn enter<X: Resource, T: Holds<X>, B: Allocator + Copy>(
+    table: &mut ConnTable<T, B>,
+    handle: FdHandle<X>,
+) -> Result<(u64, FdHandle<X>), HoldFault>
+    requires room { HasRoom table.old }
+    ensures id { IfOk result (λ held. held.0 ≡ table.old.next_id) }
+    ensures key { IfOk result (λ held. key_of held.1 ≡ key_of handle) }
+    ensures open { saw_closed handle ≡ false → IfOk result (λ held. saw_closed held.1 ≡ false) }
+    ensures added { IfOk result (λ held.
+        HoldsNext T.cell_in table.old table.new (cell_of held.1)) }
+    ensures kept { OnErr result (table.new ≡ table.old) }
+    ensures why { IfErr result (IsHoldFault table.old) }
+{
+    let mut handle = handle;
+    let cell = handle.cell()?;
+    let Ok(other) = handle.share() else {
+        return Err(HoldFault::OutOfMemory);
+    };
+    match table.insert(T::holding(cell, handle)) {
+        Ok((id, _)) => Ok((id, other)),
+        Err((_, refusal)) => Err(HoldFault::Table(refusal)),
+    }
+}
+
+impl<A: Allocator> Poller<A> {
+    /// Holds a connection: turns with this table tell its descriptor from now on, and the descriptor's
+    /// key is its id, so that due timers find it. It gives the id and a handle; the entry has another.
+    /// Where anything is refused the socket is dropped, which closes it.
+    pub fn hold<T: Holds<SockRes>, B: Allocator + Copy>(
+        &self,
+        alloc: Global,
+        table: &mut ConnTable<T, B>,
+        sock: Sock,
+    ) -> Result<(u64, FdHandle<SockRes>), HoldFault>
+        ensures id { IfOk result (λ held. held.0 ≡ table.old.next_id) }
+        ensures key { IfOk result (λ held. key_of held.1 ≡ held.0) }
+        ensures open { IfOk result (λ held. saw_closed held.1 ≡ false) }
+        ensures added { IfOk result (λ held.
+            HoldsNext T.cell_in table.old table.new (cell_of held.1)) }
+        ensures kept { OnErr result (table.new ≡ table.old) }
+        ensures why { IfErr result (IsHoldFault table.old) }
+    {
+        let mut sock = sock;
+        let (id, token) = table.vacant()?;
+        self.register(&mut sock, token)?;
+        let (read, write) = sock.split(alloc)?;
+        enter(table, FdHandle::open(alloc, read, write, id)?)
+    }
+
+    /// Holds a listener, as `hold` does a connection.
+    pub fn hold_listener<T: Holds<ListenRes>, B: Allocator + Copy>(
+        &self,
+        alloc: Global,
+        table: &mut ConnTable<T, B>,
+        listen: Listen,
+    ) -> Result<(u64, FdHandle<ListenRes>), HoldFault>
+        ensures id { IfOk result (λ held. held.0 ≡ table.old.next_id) }
+        ensures key { IfOk result (λ held. key_of held.1 ≡ held.0) }
+        ensures open { IfOk result (λ held. saw_closed held.1 ≡ false) }
+        ensures added { IfOk result (λ held.
+            HoldsNext T.cell_in table.old table.new (cell_of held.1)) }
+        ensures kept { OnErr result (table.new ≡ table.old) }
+        ensures why { IfErr result (IsHoldFault table.old) }
+    {
+        let mut listen = listen;
+        let (id, token) = table.vacant()?;
+        self.register_listener(&mut listen, token)?;
+        enter(table, FdHandle::open(alloc, listen, NoWrites, id)?)
+    }
+}

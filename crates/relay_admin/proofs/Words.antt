@@ -1,0 +1,49 @@
+-- The words and lemmas that several proofs cite, from one place.
+pub use Rattle.relay_admin.specs.TextReading.{◌>>=◌}
+unfoldable pub use Rattle.relay_admin.specs.TextReading.{split_at_first, number_within}
+pub use Rattle.relay_admin.specs.admin.Command.{IsDeadline, IsCommand, after_text, command_text, SpellsCommand}
+unfoldable pub use Rattle.relay_admin.specs.admin.CommandReading.{after_at, deadline_at, close_at, worded_at}
+unfoldable pub use Rattle.relay_admin.specs.admin.CommandReading.{command_at}
+pub use Rattle.relay_admin.specs.admin.Devices.{IsFlushedOrUntouched}
+pub use Rattle.relay_admin.specs.admin.Progress.{Position, start, IsReady, Meanwhile, Advances, progress_of}
+pub use Rattle.relay_admin.specs.admin.Progress.{AnswersLine, Closes}
+pub use Rattle.relay_admin.specs.admin.Reply.{Exchange, IsQuestion, bad_command}
+pub use Rattle.relay_admin.specs.admin.Transcript.{LineTranscript, too_long, no_command, quits, stops, asks, ended}
+pub use Rattle.relay_admin.specs.admin.Transcript.{Transcript, no_line, last_line, line_limit, line_then, questions_of}
+pub use Rattle.relay_admin.specs.admin.Transcript.{Ending, IsTranscriptOf, Serves, ServesWholeLines, cut_off, cut_line}
+pub use Rattle.relay_admin.specs.declared.admin.command.Command.{Command}
+pub use Rattle.relay_admin.specs.declared.admin.dialogue.TheConstants.{MAX_LINES, MAX_LINE_BYTES}
+pub use Rattle.relay_admin.specs.declared.admin.end.AdminEnd.{AdminEnd}
+pub use Rattle.relay_admin.specs.declared.rules.file.RulesFault.{RulesFault}
+pub use Rattle.relay_admin.specs.declared.rules.rule.Rule.{Rule}
+pub use Rattle.relay_admin.specs.rules.Addr.{Address, tcp, unix}
+pub use Rattle.relay_admin.specs.rules.Fault.{CanStandTogether, HasName, LacksName, HasListen, LacksListen, LineFault}
+pub use Rattle.relay_admin.specs.rules.Fault.{bad_line, too_many, same_name, same_listen, FirstFault, SaysRules}
+pub use Rattle.relay_admin.specs.rules.Fault.{SaysFault}
+pub use Rattle.relay_admin.specs.rules.Grammar.{space, Entry, IsSkipped, SpellsRule, Spell, nothing, skipped, rule}
+pub use Rattle.relay_admin.specs.rules.Grammar.{entry_of, entries_of}
+pub use Rattle.relay_admin.specs.rules.Reading.{is_skipped, same_address, finds_name, finds_listen, TakesGoodLine}
+pub use Rattle.relay_admin.specs.rules.Reading.{skips, adds}
+pub use Rattle.std.proofs.Common.{◌≡◌, ◌≢◌, ◌∙◌, sym, ap, refl, subst, ℕ, ◌≤◌, List, ◌∷◌, ◌++◌, Bool, true, false}
+pub use Rattle.std.proofs.Common.{Option, Some, None, arith, ◌+◌, ◌<◌, [], length, inl, inr, ◌*◌, get_or, take, drop}
+pub use Rattle.std.proofs.Common.{append_assoc, length-append, append-nil, ◌^◌, ◌&&◌, suc, Ok, Err}
+pub use Rattle.std.proofs.Math.Seq.{get_or-append_seam}
+pub use Rattle.std.proofs.lemmas.Bool.Decides.{nat_tests}
+pub use Rattle.std.proofs.lemmas.List.{map-append, take_more, take-append-drop, drop_more, length-map}
+pub use Rattle.std.proofs.lemmas.List.{get_or_append_left}
+pub use Rattle.std.proofs.lemmas.List.Folds.{Any-from_list_any, list_any_at}
+pub use Rattle.std.proofs.lemmas.List.Quantifiers.{all_pairs_push}
+pub use Rattle.std.specs.Char.{is_ascii_digit}
+pub use Rattle.std.specs.Fmt.{decimal}
+pub use Rattle.std.specs.Io.KnownBytes.{Appends, Consumes, Keeps, IsAtEnd}
+pub use Rattle.std.specs.Prelude.{if◌then◌else◌, codes, IfSome, IfNone, ◌⊎◌, ◌==◌, Result}
+pub use Rattle.std.specs.Str.{bytes_eq, all_ascii_digits}
+pub use Rattle.stream_base.proofs.KnownBytesLemmas.{appends_nothing, appends_then_appends, keeps_then_keeps}
+pub use Rattle.stream_base.proofs.KnownBytesLemmas.{consumes_then_consumes, consumes_then_keeps, of_whole_text}
+pub use Rattle.stream_base.proofs.KnownBytesLemmas.{of_ended_text}
+pub use Rattle.stream_base.proofs.LineLemmas.{HasLongFirstLine, ends_none, ends_then, lines_of-empty}
+pub use Rattle.stream_base.proofs.LineLemmas.{lines_of-last_line, lines_of-ended_line, lines_so_far}
+pub use Rattle.stream_base.proofs.LineReaderLemmas.{LineEnds, LineGrows}
+pub use Rattle.stream_base.specs.Fronts.{AppendsFront}
+pub use Rattle.stream_base.specs.LineReader.{Reading}
+pub use Rattle.stream_base.specs.Lines.{EndsLines, Lacks, line_feed, lines_of}

@@ -1,0 +1,5 @@
+pub mod CommandLemmas
+pub mod LineTranscripts
+pub mod OneDialogue
+pub mod SessionEnds
+pub mod SessionLemmas

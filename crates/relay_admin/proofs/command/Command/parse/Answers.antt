@@ -1,8 +1,0 @@
-use Rattle.relay_admin.proofs.CommandLemmas.{command_is, no_command_is}
-use Rattle.relay_admin.proofs.command.Command.parse.Goals as goal
-
-pub returns-clause-command : goal.returns-clause-command
-returns-clause-command c = command_is _ _ c.read_command.ensures
-
-pub returns-clause-none : goal.returns-clause-none
-returns-clause-none c = no_command_is _ _ c.read_command.ensures

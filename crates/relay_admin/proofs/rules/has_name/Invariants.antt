@@ -1,7 +1,0 @@
-use Rattle.std.proofs.Common.{◌≡◌, drop}
-use Rattle.relay_admin.specs.RulesGrammar.{entry_of, entries_of}
-use Rattle.relay_admin.specs.RulesReading.{finds_name}
-use Rattle.relay_admin.proofs.rules.has_name.Given as goal
-
-abbrev pub invariant-loop-other : goal.invariant-loop-other
-invariant-loop-other l = finds_name (entry_of l.rule).name (entries_of l.rules) ≡ finds_name (entry_of l.rule).name (entries_of (drop l.other-index l.rules))

@@ -1,0 +1,120 @@
+-- How far a session has come, and what bytes do to it. No public clause cites this module.
+use Rattle.relay_admin.specs.Words.{◌≡◌, ◌≢◌, ◌≤◌, ◌<◌, ◌+◌, ◌*◌, ℕ, Bool, List, [], ◌∷◌, ◌++◌}
+use Rattle.relay_admin.specs.Words.{length, Option, None, Result, Ok, Err, Appends, lines_of}
+use Rattle.relay_admin.specs.Words.{line_feed, Lacks, EndsLines, WriteStopped}
+use Rattle.relay_admin.specs.declared.admin.end.AdminEnd.{AdminEnd}
+use Rattle.relay_admin.specs.declared.admin.end.AdminEnd.TheVariants as ends
+use Rattle.relay_admin.specs.declared.admin.dialogue.Step.{Step}
+use Rattle.relay_admin.specs.declared.admin.dialogue.Step.TheVariants as step
+use Rattle.relay_admin.specs.declared.admin.dialogue.Dialogue.{Dialogue}
+use Rattle.relay_admin.specs.declared.admin.dialogue.TheConstants.{MAX_LINES, MAX_LINE_BYTES}
+use Rattle.relay_admin.specs.admin.Reply.{Exchange, AddsExchanges}
+use Rattle.relay_admin.specs.admin.Transcript.{LineTranscript, Ending, ended, cut_off, Transcript}
+use Rattle.relay_admin.specs.admin.Devices.{IsFlushedOrUntouched}
+
+-- the number of the line that is read, and what has come of it
+pub record Position : Type 0 where
+  pub number : ℕ
+  pub kept : List ℕ
+
+-- nothing is read
+abbrev pub start : Position
+start = record { number = 1; kept = [] }
+
+-- the position of a session
+abbrev pub position : Dialogue → Position
+position dialogue = record { number = dialogue.number; kept = dialogue.lines.held }
+
+-- the bytes that were read and not yet looked at
+abbrev pub ahead_of : Dialogue → List ℕ
+ahead_of dialogue = dialogue.lines.ahead
+
+-- a session that may read on
+pub record IsReady (at : Position) : Type 0 where
+  pub numbered : at.number ≤ MAX_LINES
+  pub short : length at.kept ≤ MAX_LINE_BYTES
+  pub unended : Lacks line_feed at.kept
+
+-- rises by one with each byte at least
+abbrev pub progress_of : Position → ℕ
+progress_of at = (MAX_LINE_BYTES + 1) * at.number + length at.kept
+
+-- what one line brought
+pub record AnswersLine (asked asked' : Option (List Exchange)) (line reply : List ℕ)
+    (end : Option AdminEnd) : Type 0 where
+  pub exchanges : List Exchange
+  pub told : AddsExchanges asked asked' exchanges
+  pub are : LineTranscript line exchanges reply end
+
+-- what was asked and written meanwhile is so
+pub record Meanwhile (asked asked' : Option (List Exchange)) (contents contents' : Option (List ℕ))
+    (P : List Exchange → List ℕ → Type 0) : Type 0 where
+  pub exchanges : List Exchange
+  pub replies : List ℕ
+  pub told : AddsExchanges asked asked' exchanges
+  pub written : Appends contents contents' replies
+  pub holds : P exchanges replies
+
+-- these bytes end some lines, which bring these questions and replies and lead on to the new
+-- position
+pub record Advances (old new : Position) (bytes : List ℕ) (exchanges : List Exchange)
+    (replies : List ℕ) : Type 0 where
+  pub lines : List (List ℕ)
+  pub ends : EndsLines old.kept bytes lines new.kept
+  pub carry : (rest : List (List ℕ)) (more : List Exchange) (text : List ℕ) (ending : Ending)
+      → Transcript new.number rest more text ending
+      → Transcript old.number (lines ++ rest) (exchanges ++ more) (replies ++ text) ending
+
+-- with these bytes the transcript stops, whatever follows
+abbrev pub Closes : Position → List ℕ → List Exchange → List ℕ → Ending → Type 0
+Closes old bytes exchanges replies ending =
+    (rest : List ℕ) → Transcript old.number (lines_of (old.kept ++ (bytes ++ rest))) exchanges
+    replies ending
+
+-- what bytes came to
+abbrev pub LinesComeTo : Step → Position → Position → List ℕ
+    → Option (List Exchange) → Option (List Exchange) → Option (List ℕ) → Option (List ℕ) → Type 0
+LinesComeTo step.GoesOn old new bytes asked asked' contents contents' =
+    IsReady new × (progress_of old + length bytes ≤ progress_of new)
+    × Meanwhile asked asked' contents contents'
+    (λ exchanges replies. Advances old new bytes exchanges replies)
+LinesComeTo (step.Ended end) old new bytes asked asked' contents contents' =
+    (end ≢ ends.End) × Meanwhile asked asked' contents contents'
+    (λ exchanges replies. Closes old bytes exchanges replies (ended end))
+LinesComeTo step.CutOff old new bytes asked asked' contents contents' =
+    Meanwhile asked asked' contents contents'
+    (λ exchanges replies. Closes old bytes exchanges replies cut_off)
+
+-- what a whole line came to
+abbrev pub LineComesTo : Step → Position → Position
+    → Option (List Exchange) → Option (List Exchange) → Option (List ℕ) → Option (List ℕ) → Type 0
+LineComesTo step.GoesOn old new asked asked' contents contents' =
+    (old.number < MAX_LINES) × (new ≡ record { number = old.number + 1; kept = [] })
+    × Meanwhile asked asked' contents contents'
+    (λ exchanges replies. LineTranscript old.kept exchanges replies None)
+LineComesTo (step.Ended end) old new asked asked' contents contents' =
+    (end ≢ ends.End) × Meanwhile asked asked' contents contents'
+    (λ exchanges replies. (lines : List (List ℕ))
+    → Transcript old.number (old.kept ∷ lines) exchanges replies (ended end))
+LineComesTo step.CutOff old new asked asked' contents contents' =
+    Meanwhile asked asked' contents contents'
+    (λ exchanges replies. (lines : List (List ℕ))
+    → Transcript old.number (old.kept ∷ lines) exchanges replies cut_off)
+
+-- what the end of the bytes came to
+abbrev pub EndComesTo : {E : Type 0} → Result AdminEnd E → Position
+    → Option (List Exchange) → Option (List Exchange) → Option (List ℕ) → Option (List ℕ) → Type 0
+EndComesTo (Ok end) old asked asked' contents contents' =
+    Meanwhile asked asked' contents contents'
+    (λ exchanges replies. Transcript old.number (lines_of old.kept) exchanges replies (ended end))
+EndComesTo (Err fault) old asked asked' contents contents' =
+    Meanwhile asked asked' contents contents'
+    (λ exchanges replies. Transcript old.number (lines_of old.kept) exchanges replies cut_off)
+
+-- how the sink stands after bytes
+abbrev pub SinkAfter : Step → Option (List ℕ) → Option (List ℕ)
+    → Bool → Bool → Bool → ℕ → Bool → Type 0
+SinkAfter step.CutOff contents contents' flushed flushed' failed interruptions took_nothing =
+    WriteStopped failed interruptions took_nothing
+SinkAfter _ contents contents' flushed flushed' failed interruptions took_nothing =
+    (interruptions ≡ 0) × IsFlushedOrUntouched contents contents' flushed flushed'

@@ -1,0 +1,76 @@
+-- What a desk is asked and answers, and the reply to each answer.
+use Rattle.std.specs.Prelude.{◌≡◌, ◌⊎◌, ℕ, List, [], ◌∷◌, ◌++◌, Option, Some, None, codes}
+use Rattle.std.specs.List.{flat_map}
+use Rattle.std.specs.Fmt.{decimal}
+use Rattle.relay_admin.specs.rules.Grammar.{space}
+use Rattle.relay_admin.specs.declared.admin.command.Command.{Command}
+use Rattle.relay_admin.specs.declared.admin.command.Command.TheVariants as command
+use Rattle.relay_admin.specs.declared.admin.reply_text.TheConstants.{DONE, BAD_COMMAND}
+use Rattle.relay_admin.specs.declared.admin.reply_text.TheConstants.{NO_SUCH_CONNECTION, CLOSED}
+use Rattle.relay_admin.specs.declared.admin.reply_text.TheConstants.{BUSY, OUT_OF_MEMORY}
+use Rattle.relay_admin.specs.declared.admin.desk.DeskAnswer.{DeskAnswer}
+use Rattle.relay_admin.specs.declared.admin.desk.DeskAnswer.TheVariants as variant
+
+-- an answer, by what it says
+pub data Answer : Type 0 where
+  ids : List ℕ → Answer
+  totals : ℕ → ℕ → Answer
+  fine : Answer
+  unknown : Answer
+  closed : Answer
+  busy : Answer
+  no_memory : Answer
+
+-- what an answer of the program says
+abbrev pub answer_of : DeskAnswer → Answer
+answer_of (variant.Ids list) = ids list.items
+answer_of (variant.Totals up down) = totals up down
+answer_of variant.Fine = fine
+answer_of variant.Unknown = unknown
+answer_of variant.Closed = closed
+answer_of variant.Busy = busy
+answer_of variant.NoMemory = no_memory
+
+-- the reply to an answer, with its line feed
+abbrev pub reply_text : Answer → List ℕ
+reply_text (ids list) = codes "ids" ++ flat_map (λ id. space ∷ decimal id) list ++ 10 ∷ []
+reply_text (totals up down) =
+    codes "totals up " ++ (decimal up ++ (codes " down " ++ (decimal down ++ 10 ∷ [])))
+reply_text fine = DONE.now
+reply_text unknown = NO_SUCH_CONNECTION.now
+reply_text closed = CLOSED.now
+reply_text busy = BUSY.now
+reply_text no_memory = OUT_OF_MEMORY.now
+
+-- the reply to a line that is no command
+abbrev pub bad_command : List ℕ
+bad_command = BAD_COMMAND.now
+
+-- the answer's own reply, or, where that takes memory, that there was none
+abbrev pub IsReplyTo : Answer → List ℕ → Type 0
+IsReplyTo (ids list) reply = (reply ≡ reply_text (ids list)) ⊎ (reply ≡ reply_text no_memory)
+IsReplyTo (totals up down) reply =
+    (reply ≡ reply_text (totals up down)) ⊎ (reply ≡ reply_text no_memory)
+IsReplyTo answer reply = reply ≡ reply_text answer
+
+-- a question to the desk, by the command that asks it, and the answer
+pub record Exchange : Type 0 where
+  pub question : Command
+  pub answer : Answer
+
+-- these exchanges came to those before; a desk may stop telling them, and then never begins again
+abbrev pub AddsExchanges : Option (List Exchange) → Option (List Exchange) → List Exchange → Type 0
+AddsExchanges before None added = Unit {0}
+AddsExchanges None (Some after) added = ⊥
+AddsExchanges (Some before) (Some after) added = after ≡ before ++ added
+
+-- one exchange came to those before
+abbrev pub Exchanges : Option (List Exchange) → Option (List Exchange) → Command → Answer → Type 0
+Exchanges before after question answer =
+    AddsExchanges before after (record { question = question; answer = answer } ∷ [])
+
+-- a command that the desk is asked
+abbrev pub IsQuestion : Command → Type 0
+IsQuestion command.Quit = ⊥
+IsQuestion command.Stop = ⊥
+IsQuestion _ = Unit {0}

@@ -1,0 +1,105 @@
+-- An admin session on whole texts: which lines bring which questions, replies and end.
+use Rattle.relay_admin.specs.Words.{◌≡◌, ◌≢◌, ◌≤◌, ◌<◌, ◌+◌, ℕ, List, [], ◌∷◌, ◌++◌, length, map}
+use Rattle.relay_admin.specs.Words.{take, Option, Some, None, IfSome, Appends, Consumes, lines_of}
+use Rattle.relay_admin.specs.Words.{ended_lines, line_feed, Lacks}
+use Rattle.relay_admin.specs.declared.admin.command.Command.{Command}
+use Rattle.relay_admin.specs.declared.admin.command.Command.TheVariants as command
+use Rattle.relay_admin.specs.declared.admin.dialogue.TheConstants.{MAX_LINES, MAX_LINE_BYTES}
+use Rattle.relay_admin.specs.declared.admin.end.AdminEnd.{AdminEnd}
+use Rattle.relay_admin.specs.declared.admin.end.AdminEnd.TheVariants as ends
+use Rattle.relay_admin.specs.declared.admin.end.AdminFault.{AdminFault}
+use Rattle.relay_admin.specs.declared.admin.end.AdminFault.TheVariants as faults
+use Rattle.relay_admin.specs.admin.Command.{IsCommand, SpellsCommand, command_text}
+use Rattle.relay_admin.specs.admin.Reply.{Answer, fine, reply_text, bad_command, IsReplyTo}
+use Rattle.relay_admin.specs.admin.Reply.{Exchange, AddsExchanges, IsQuestion}
+
+-- a line, what is asked for it, the reply, and how the session ends by it, if it does
+pub data LineTranscript : List ℕ → List Exchange → List ℕ → Option AdminEnd → Type 0 where
+  too_long : (line : List ℕ) → MAX_LINE_BYTES < length line
+      → LineTranscript line [] bad_command (Some ends.TooLong)
+  no_command : (line : List ℕ) → length line ≤ MAX_LINE_BYTES
+      → ((c : Command) → IsCommand c → line ≢ command_text c)
+      → LineTranscript line [] bad_command None
+  quits : LineTranscript (command_text command.Quit) [] (reply_text fine) (Some ends.Quit)
+  stops : LineTranscript (command_text command.Stop) [] (reply_text fine) (Some ends.Stop)
+  asks : (line : List ℕ) (c : Command) (answer : Answer) (reply : List ℕ)
+      → length line ≤ MAX_LINE_BYTES → SpellsCommand line c → IsQuestion c → IsReplyTo answer reply
+      → LineTranscript line (record { question = c; answer = answer } ∷ []) reply None
+
+-- how a transcript stops: as the session ended, or because a reply couldn't be written or flushed
+pub data Ending : Type 0 where
+  ended : AdminEnd → Ending
+  cut_off : Ending
+
+-- lines, of which the first has this number, with the questions and replies that they bring, and
+-- how that stops
+pub data Transcript : ℕ → List (List ℕ) → List Exchange → List ℕ → Ending → Type 0 where
+  -- no line is left
+  no_line : {n : ℕ} → Transcript n [] [] [] (ended ends.End)
+  -- a line that ends the session, whatever follows
+  last_line : {n : ℕ} {line : List ℕ} {lines : List (List ℕ)} {exchanges : List Exchange}
+      {reply : List ℕ} {end : AdminEnd}
+      → LineTranscript line exchanges reply (Some end)
+      → Transcript n (line ∷ lines) exchanges reply (ended end)
+  -- the last line that a session may have, whatever follows
+  line_limit : {line : List ℕ} {lines : List (List ℕ)} {exchanges : List Exchange} {reply : List ℕ}
+      → LineTranscript line exchanges reply None
+      → Transcript MAX_LINES (line ∷ lines) exchanges reply (ended ends.TooManyLines)
+  -- a line after which the session goes on
+  line_then : {n : ℕ} {line : List ℕ} {lines : List (List ℕ)} {exchanges more : List Exchange}
+      {reply replies : List ℕ} {ending : Ending}
+      → n < MAX_LINES → LineTranscript line exchanges reply None
+      → Transcript (n + 1) lines more replies ending
+      → Transcript n (line ∷ lines) (exchanges ++ more) (reply ++ replies) ending
+  -- a line of whose reply a front was written, or the whole and not flushed
+  cut_line : {n : ℕ} {line : List ℕ} {lines : List (List ℕ)} {exchanges : List Exchange}
+      {reply : List ℕ} {end : Option AdminEnd} (k : ℕ)
+      → LineTranscript line exchanges reply end
+      → Transcript n (line ∷ lines) exchanges (take k reply) cut_off
+
+-- the whole text brings these questions and replies, and stops so
+abbrev pub IsTranscriptOf : List ℕ → List Exchange → List ℕ → Ending → Type 0
+IsTranscriptOf text exchanges replies ending = Transcript 1 (lines_of text) exchanges replies ending
+
+-- the whole lines of these bytes bring these questions and replies, and none of them ends the
+-- session
+pub record IsTranscriptOfWholeLines (bytes : List ℕ) (exchanges : List Exchange)
+    (replies : List ℕ) : Type 0 where
+  pub lines : List (List ℕ)
+  pub more : List ℕ
+  pub split : bytes ≡ ended_lines lines ++ more
+  pub unended : Lacks line_feed more
+  pub are : Transcript 1 lines exchanges replies (ended ends.End)
+
+-- what was asked, without the answers
+abbrev pub questions_of : List Exchange → List Command
+questions_of exchanges = map (λ (exchange : Exchange). exchange.question) exchanges
+
+-- what was asked and written meanwhile; where the source tells its text, it is the text's
+pub record Serves (remaining : Option (List ℕ)) (asked asked' : Option (List Exchange))
+    (contents contents' : Option (List ℕ)) (ending : Ending) : Type 0 where
+  pub exchanges : List Exchange
+  pub replies : List ℕ
+  pub told : AddsExchanges asked asked' exchanges
+  pub written : Appends contents contents' replies
+  pub are : IfSome remaining (λ text. IsTranscriptOf text exchanges replies ending)
+
+-- what was read, asked and written meanwhile: that of all whole lines that were read
+pub record ServesWholeLines (remaining remaining' : Option (List ℕ))
+    (asked asked' : Option (List Exchange))
+    (contents contents' : Option (List ℕ)) : Type 0 where
+  pub bytes : List ℕ
+  pub exchanges : List Exchange
+  pub replies : List ℕ
+  pub consumed : Consumes remaining remaining' bytes
+  pub told : AddsExchanges asked asked' exchanges
+  pub written : Appends contents contents' replies
+  pub are : IsTranscriptOfWholeLines bytes exchanges replies
+
+-- what was asked and written before a fault
+abbrev pub ServesBeforeFault : AdminFault → Option (List ℕ) → Option (List ℕ)
+    → Option (List Exchange) → Option (List Exchange) → Option (List ℕ) → Option (List ℕ) → Type 0
+ServesBeforeFault faults.Read remaining remaining' asked asked' contents contents' =
+    ServesWholeLines remaining remaining' asked asked' contents contents'
+ServesBeforeFault faults.Write remaining remaining' asked asked' contents contents' =
+    Serves remaining asked asked' contents contents' cut_off

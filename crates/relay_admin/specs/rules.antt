@@ -1,0 +1,5 @@
+pub mod Addr
+pub mod Fault
+pub mod Grammar
+pub mod Reading
+pub mod Verdict

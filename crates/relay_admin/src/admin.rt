@@ -1,0 +1,19 @@
+//! The admin socket: what a client asks, what it is answered, and the session that carries both.
+//!
+//! | To add | Goes to |
+//! |---|---|
+//! | a command | `command`: its variant and its line; `line_answer`: what it brings |
+//! | a question to the desk | `desk`: the question, and an answer if it is a new one |
+//! | a reply | `reply_text`: its words; `reply`: which answer has it |
+
+pub mod command;
+pub mod desk;
+pub mod dialogue;
+pub mod end;
+#[cfg(test)]
+pub mod fake_desk;
+pub mod line_answer;
+pub mod reply;
+pub mod reply_bytes;
+pub mod reply_text;
+pub mod session;

@@ -1,0 +1,54 @@
+//! The desk that a session asks, and what it answers.
+
+ghost use Rattle.std.specs.Prelude.{List, Option};
+ghost use Rattle.relay_admin.specs.declared.admin.command.Command.TheVariants as commands;
+ghost use Rattle.relay_admin.specs.admin.Reply.{Exchange, Exchanges, answer_of};
+
+use std::alloc::Global;
+
+/// What a desk answers to a question.
+#[derive(Debug, Drop)]
+pub enum DeskAnswer {
+    /// The ids, in the order in which they are replied.
+    Ids(Vec<u64>),
+    /// The bytes copied from clients to targets, and from targets to clients.
+    Totals(u64, u64),
+    /// It was done. A device's fault at closing is no matter of the caller's.
+    Fine,
+    /// No connection or listener has this id.
+    Unknown,
+    /// The connection is closed already.
+    Closed,
+    /// The connection has as many references as it may.
+    Busy,
+    /// Memory was refused.
+    NoMemory,
+}
+
+/// What a session asks: once for each `List`, `Totals`, `CloseConn` and `DeadlineOf`, in the order
+/// of the lines, and for nothing else.
+pub trait Desk {
+    // The questions so far with their answers, where the desk still tells them.
+    ghost exchanges: { Self → Option (List Exchange) };
+
+    /// The ids of all connections and listeners, rising: `Ids` or `NoMemory`.
+    fn ids(&mut self, alloc: Global) -> DeskAnswer
+        ensures { Exchanges (exchanges self.old) (exchanges self.new)
+            commands.List (answer_of result) };
+
+    /// The bytes copied up and down so far: `Totals`.
+    fn totals(&mut self) -> DeskAnswer
+        ensures { Exchanges (exchanges self.old) (exchanges self.new)
+            commands.Totals (answer_of result) };
+
+    /// Closes the connection or listener with this id.
+    fn close(&mut self, id: u64) -> DeskAnswer
+        ensures { Exchanges (exchanges self.old) (exchanges self.new)
+            (commands.CloseConn id) (answer_of result) };
+
+    /// Sets the deadline of both directions to `after_ms` milliseconds from now, 0 being expired at
+    /// once and a moment past the greatest `u64` the greatest; or, at `None`, to none.
+    fn deadline(&mut self, alloc: Global, id: u64, after_ms: Option<u32>) -> DeskAnswer
+        ensures { Exchanges (exchanges self.old) (exchanges self.new)
+            (commands.DeadlineOf id after_ms) (answer_of result) };
+}

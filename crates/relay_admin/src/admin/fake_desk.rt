@@ -1,0 +1,62 @@
+//! A desk for tests.
+
+ghost use Rattle.std.specs.Prelude.{None};
+
+use crate::admin::desk::{Desk, DeskAnswer};
+use std::alloc::Global;
+
+/// A desk with these ids and totals, which counts its questions.
+#[derive(Drop)]
+pub(crate) struct FakeDesk {
+    pub(crate) ids: &'static [u64],
+    pub(crate) totals: (u64, u64),
+    pub(crate) asked: u64,
+}
+
+impl FakeDesk {
+    pub(crate) fn new() -> FakeDesk {
+        FakeDesk {
+            ids: &[1, 2],
+            totals: (12, 0),
+            asked: 0,
+        }
+    }
+
+    fn count(&mut self) {
+        self.asked = self.asked.saturating_add(1);
+    }
+}
+
+impl Desk for FakeDesk {
+    ghost exchanges = { λ _. None };
+
+    fn ids(&mut self, alloc: Global) -> DeskAnswer {
+        self.count();
+        match Vec::from_slice(alloc, self.ids) {
+            Ok(ids) => DeskAnswer::Ids(ids),
+            Err(_) => DeskAnswer::NoMemory,
+        }
+    }
+
+    fn totals(&mut self) -> DeskAnswer {
+        self.count();
+        let (up, down) = self.totals;
+        DeskAnswer::Totals(up, down)
+    }
+
+    fn close(&mut self, id: u64) -> DeskAnswer {
+        self.count();
+        match id {
+            1 => DeskAnswer::Fine,
+            2 => DeskAnswer::Closed,
+            3 => DeskAnswer::Busy,
+            4 => DeskAnswer::NoMemory,
+            _ => DeskAnswer::Unknown,
+        }
+    }
+
+    fn deadline(&mut self, _alloc: Global, _id: u64, _after_ms: Option<u32>) -> DeskAnswer {
+        self.count();
+        DeskAnswer::Fine
+    }
+}

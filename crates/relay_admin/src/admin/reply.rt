@@ -1,0 +1,83 @@
+//! The reply to what a desk answered.
+
+ghost use Rattle.std.specs.Prelude.{◌≡◌, IfOk, OnErr};
+ghost use Rattle.relay_admin.specs.admin.Reply.{IsReplyTo, answer_of, reply_text};
+ghost use Rattle.relay_admin.specs.admin.Reply as answers;
+ghost use Rattle.relay_admin.specs.admin.ReplyBytes.{bytes_of};
+
+use crate::admin::command::Command;
+use crate::admin::desk::DeskAnswer;
+use crate::admin::reply_bytes::Reply;
+use crate::admin::reply_text::{BUSY, CLOSED, DONE, NO_SUCH_CONNECTION, OUT_OF_MEMORY};
+use std::alloc::{Allocator, Global};
+use stream_base::OutOfMemory;
+
+/// The reply to an answer, with its line feed. It hangs on the answer alone, whatever the command
+/// is. The only fault is want of memory.
+pub fn reply_of(
+    alloc: Global,
+    _command: &Command,
+    answer: &DeskAnswer,
+) -> Result<Vec<u8>, OutOfMemory>
+    ensures { IfOk result (λ reply. reply.items ≡ reply_text (answer_of answer.now)) }
+{
+    reply_in(alloc, answer)
+}
+
+/// The reply to an answer, in memory of this allocator.
+fn reply_in<A: Allocator + Copy>(alloc: A, answer: &DeskAnswer) -> Result<Vec<u8, A>, OutOfMemory>
+    ensures { IfOk result (λ reply. reply.items ≡ reply_text (answer_of answer.now)) }
+{
+    match answer {
+        DeskAnswer::Ids(ids) => ids_reply(alloc, ids.as_slice()),
+        DeskAnswer::Totals(up, down) => {
+            Ok(format!(in alloc; "totals up {up} down {down}\n")?.into_bytes())
+        }
+        DeskAnswer::Fine => Vec::from_slice(alloc, DONE),
+        DeskAnswer::Unknown => Vec::from_slice(alloc, NO_SUCH_CONNECTION),
+        DeskAnswer::Closed => Vec::from_slice(alloc, CLOSED),
+        DeskAnswer::Busy => Vec::from_slice(alloc, BUSY),
+        DeskAnswer::NoMemory => Vec::from_slice(alloc, OUT_OF_MEMORY),
+    }
+}
+
+fn ids_reply<A: Allocator + Copy>(alloc: A, ids: &[u64]) -> Result<Vec<u8, A>, OutOfMemory>
+    ensures { IfOk result (λ reply. reply.items ≡ reply_text (answers.ids ids.now)) }
+{
+    let mut text = String::new(alloc);
+    text.push_str("ids")?;
+    for id in ids {
+        let word = format!(in alloc; " {id}")?;
+        text.push_str(&word)?;
+    }
+    text.push_str("\n")?;
+    Ok(text.into_bytes())
+}
+
+/// The reply to an answer, or that memory was refused. Only `Ids` and `Totals` take memory.
+pub(crate) fn reply_to<A: Allocator + Copy>(alloc: A, answer: &DeskAnswer) -> Reply<A>
+    ensures { IsReplyTo (answer_of answer.now) (bytes_of result) }
+{
+    match answer {
+        DeskAnswer::Ids(_) => made_or_refused(reply_in(alloc, answer)),
+        DeskAnswer::Totals(_, _) => made_or_refused(reply_in(alloc, answer)),
+        DeskAnswer::Fine => Reply::Fixed(DONE),
+        DeskAnswer::Unknown => Reply::Fixed(NO_SUCH_CONNECTION),
+        DeskAnswer::Closed => Reply::Fixed(CLOSED),
+        DeskAnswer::Busy => Reply::Fixed(BUSY),
+        DeskAnswer::NoMemory => Reply::Fixed(OUT_OF_MEMORY),
+    }
+}
+
+fn made_or_refused<A: Allocator>(made: Result<Vec<u8, A>, OutOfMemory>) -> Reply<A>
+    ensures made { IfOk made (λ text. bytes_of result ≡ text.items) }
+    ensures refused { OnErr made (bytes_of result ≡ reply_text answers.no_memory) }
+{
+    match made {
+        Ok(text) => Reply::Made(text),
+        Err(_) => Reply::Fixed(OUT_OF_MEMORY),
+    }
+}
+
+#[cfg(test)]
+mod tests;

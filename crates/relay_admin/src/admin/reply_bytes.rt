@@ -1,0 +1,26 @@
+//! A reply that is to be written.
+
+ghost use Rattle.std.specs.Prelude.{◌≡◌};
+
+use std::alloc::Allocator;
+
+/// The bytes of a reply: a fixed text, or one that was made and is freed with the value.
+#[derive(Drop)]
+pub(crate) enum Reply<A: Allocator> {
+    Fixed(&'static [u8]),
+    Made(Vec<u8, A>),
+}
+
+impl<A: Allocator> Reply<A> {
+    ghost use Rattle.relay_admin.specs.admin.ReplyBytes.{bytes_of};
+
+    /// Its bytes.
+    pub(crate) fn as_slice(&self) -> &[u8]
+        ensures { result.now ≡ bytes_of self.now }
+    {
+        match self {
+            Reply::Fixed(text) => text,
+            Reply::Made(text) => text.as_slice(),
+        }
+    }
+}

@@ -1,0 +1,20 @@
+//! The words of replies, each with its line feed. They stand here alone: replies are made of them, and
+//! contracts cite them.
+
+/// What was asked is done.
+pub const DONE: &[u8] = b"ok\n";
+
+/// The line is no command, or is too long to be one.
+pub const BAD_COMMAND: &[u8] = b"error 400 bad command\n";
+
+/// No connection and no listener has the id.
+pub const NO_SUCH_CONNECTION: &[u8] = b"error 404 no such connection\n";
+
+/// The connection is closed already.
+pub const CLOSED: &[u8] = b"error 409 closed\n";
+
+/// The connection has as many references as it may.
+pub const BUSY: &[u8] = b"error 409 busy\n";
+
+/// Memory was refused.
+pub const OUT_OF_MEMORY: &[u8] = b"error 507 out of memory\n";

@@ -1,0 +1,94 @@
+//! A session of the admin socket, from bytes to bytes.
+
+ghost use Rattle.relay_admin.specs.Words.{◌≡◌, IfOk, IfErr, IsAtEnd};
+ghost use Rattle.relay_admin.specs.admin.Transcript.{Serves, ServesBeforeFault, ended};
+ghost use Rattle.relay_admin.specs.admin.Devices.{ComesOf, IsFlushedUnlessCut};
+
+use crate::admin::desk::Desk;
+use crate::admin::dialogue::{Dialogue, Step};
+use crate::admin::end::{AdminEnd, AdminFault};
+use std::alloc::Global;
+use std::io::{Read, Write};
+use stream_base::reader_source::ReaderSource;
+use stream_base::sink::Sink;
+use stream_base::source::Source;
+use stream_base::writer_sink::WriterSink;
+
+/// Answers the lines of a source up to its end, or to a line that ends the session. A line of more
+/// than 64 bytes ends it at its 65th byte; no read is made after the line that ends it, nor after
+/// line 65,536. Each reply is written and flushed before the next read. Memory is taken for a reply
+/// to `Ids` or `Totals` alone, and freed before the next line; where it is refused, the reply is
+/// `error 507 out of memory`, and the session goes on.
+pub fn serve_on<S: Source, K: Sink, D: Desk>(
+    alloc: Global,
+    source: &mut S,
+    sink: &mut K,
+    desk: &mut D,
+) -> Result<AdminEnd, AdminFault>
+    requires source_uninterrupted { S.interruptions source.old ≡ 0 }
+    requires sink_uninterrupted { K.interruptions sink.old ≡ 0 }
+    // The questions and the replies are those of the text.
+    ensures ok { IfOk result (λ end. Serves (S.remaining source.old)
+        (D.exchanges desk.old) (D.exchanges desk.new)
+        (K.contents sink.old) (K.contents sink.new) (ended end)) }
+    // `End` comes only at the source's end.
+    ensures end { IfOk result (λ end. end ≡ AdminEnd.End → IsAtEnd (S.remaining source.new)) }
+    // `Read` leaves the replies to all whole lines that were read, `Write` a front of the replies.
+    ensures err { IfErr result (λ fault. ServesBeforeFault fault
+        (S.remaining source.old) (S.remaining source.new)
+        (D.exchanges desk.old) (D.exchanges desk.new)
+        (K.contents sink.old) (K.contents sink.new)) }
+    ensures flushed { IsFlushedUnlessCut result (K.contents sink.old) (K.contents sink.new)
+        (K.flushed sink.old) (K.flushed sink.new) }
+    // The device has failed, was interrupted 1,025 times in a row, or a write took nothing. Of a
+    // device that had not failed before, the first is a failure in this session.
+    ensures cause { IfErr result (λ fault. ComesOf fault
+        (S.failed source.new) (S.interruptions source.new)
+        (K.failed sink.new) (K.interruptions sink.new) (K.took_nothing sink.new)) }
+    ensures source_same { S.stays source.old source.new }
+    ensures sink_same { K.stays sink.old sink.new }
+{
+    let mut dialogue = Dialogue::new();
+    loop {
+        let n = match dialogue.lines.fill(source) {
+            Ok(n) => n,
+            Err(_) => return Err(AdminFault::Read),
+        };
+        if n == 0 {
+            return match dialogue.finish(alloc, alloc, sink, desk) {
+                Ok(end) => Ok(end),
+                Err(_) => Err(AdminFault::Write),
+            };
+        }
+        match dialogue.answer_lines(alloc, alloc, sink, desk) {
+            Step::GoesOn => {}
+            Step::Ended(end) => return Ok(end),
+            Step::CutOff => return Err(AdminFault::Write),
+        }
+    }
+}
+
+/// `serve_on` over a reader and a writer of std's. What they answer at a fault tells no cause in
+/// proofs; that is said of `serve_on`.
+pub fn serve_admin<R: Read, W: Write, D: Desk>(
+    alloc: Global,
+    reader: &mut R,
+    writer: &mut W,
+    desk: &mut D,
+) -> Result<AdminEnd, AdminFault>
+    ensures ok { IfOk result (λ end. Serves (R.remaining reader.old)
+        (D.exchanges desk.old) (D.exchanges desk.new)
+        (W.contents writer.old) (W.contents writer.new) (ended end)) }
+    ensures end { IfOk result (λ end. end ≡ AdminEnd.End → IsAtEnd (R.remaining reader.new)) }
+    ensures err { IfErr result (λ fault. ServesBeforeFault fault
+        (R.remaining reader.old) (R.remaining reader.new)
+        (D.exchanges desk.old) (D.exchanges desk.new)
+        (W.contents writer.old) (W.contents writer.new)) }
+{
+    let mut source = ReaderSource::new(reader);
+    let mut sink = WriterSink::new(writer);
+    serve_on(alloc, &mut source, &mut sink, desk)
+}
+
+#[cfg(test)]
+mod tests;

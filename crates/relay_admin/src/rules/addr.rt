@@ -1,0 +1,108 @@
+//! Where a rule listens and where it connects to.
+
+ghost use Rattle.std.specs.Prelude.{◌≡◌, ◌≤◌, true, length};
+ghost use Rattle.std.specs.List.{list_all};
+ghost use Rattle.relay_admin.specs.rules.Addr.{address_of, is_path, is_visible};
+ghost use Rattle.relay_admin.specs.rules.Reading.{address_at, path_at, tcp_at, same_address};
+ghost use Rattle.relay_admin.specs.TextReading.{Views};
+
+use crate::text::{number_between, split_once};
+use arrayvec::ArrayString;
+use std::str;
+
+/// An address: `Tcp` has the four bytes of an IPv4 address and a port, `Unix` the path of a socket.
+#[derive(Clone, Copy, Debug, PartialEq, Eq, Drop)]
+pub enum Addr {
+    Tcp([u8; 4], u16),
+    Unix(ArrayString<100>),
+}
+
+/// The address that a text spells, and none where it spells none.
+#[tactic(auto, unfolding(crate::specs::rules::Reading::address_at))]
+pub(crate) fn addr_of(text: &[u8]) -> Option<Addr>
+    ensures { Views address_of result (address_at text.now) }
+{
+    let (kind, rest) = split_once(text, b':')?;
+    if kind == b"tcp".as_slice() {
+        tcp_of(rest)
+    } else if kind == b"unix".as_slice() {
+        path_of(rest)
+    } else {
+        None
+    }
+}
+
+/// Whether both are one address.
+pub(crate) fn is_same_addr(one: &Addr, other: &Addr) -> bool
+    ensures { result ≡ same_address (address_of one.now) (address_of other.now) }
+{
+    match (one, other) {
+        (Addr::Tcp(a, port), Addr::Tcp(b, other_port)) => {
+            a[0] == b[0] && a[1] == b[1] && a[2] == b[2] && a[3] == b[3] && *port == *other_port
+        }
+        (Addr::Unix(path), Addr::Unix(other_path)) => path.as_str() == other_path.as_str(),
+        _ => false,
+    }
+}
+
+#[tactic(auto, unfolding(crate::specs::rules::Reading::tcp_at))]
+fn tcp_of(text: &[u8]) -> Option<Addr>
+    ensures { Views address_of result (tcp_at text.now) }
+{
+    let (first, rest) = split_once(text, b'.')?;
+    let (second, rest) = split_once(rest, b'.')?;
+    let (third, rest) = split_once(rest, b'.')?;
+    let (fourth, port) = split_once(rest, b':')?;
+    let a = number_between(0, 255, first)?;
+    let b = number_between(0, 255, second)?;
+    let c = number_between(0, 255, third)?;
+    let d = number_between(0, 255, fourth)?;
+    let port = number_between(1, 65_535, port)?;
+    Some(Addr::Tcp([a as u8, b as u8, c as u8, d as u8], port as u16))
+}
+
+#[tactic(auto, unfolding(crate::specs::rules::Reading::path_at))]
+fn path_of(text: &[u8]) -> Option<Addr>
+    ensures { Views address_of result (path_at text.now) }
+{
+    if is_path_text(text) {
+        Some(Addr::Unix(held(text)))
+    } else {
+        None
+    }
+}
+
+fn is_path_text(text: &[u8]) -> bool
+    ensures { result ≡ is_path text.now }
+{
+    if text.is_empty() || text[0] != b'/' {
+        return false;
+    }
+    are_visible(text) && text.len() <= 100
+}
+
+fn are_visible(text: &[u8]) -> bool
+    ensures { result ≡ list_all is_visible text.now }
+{
+    for byte in text {
+        if *byte < 0x21 || 0x7e < *byte {
+            return false;
+        }
+    }
+    true
+}
+
+/// The text in a value of its own, in which it fits.
+pub(crate) fn held<const N: usize>(text: &[u8]) -> ArrayString<N>
+    requires visible { list_all is_visible text.now ≡ true }
+    requires short { length text.now ≤ N }
+    ensures { result.bytes ≡ text.now }
+{
+    match str::from_utf8(text) {
+        Ok(text) => match ArrayString::from(text) {
+            Ok(held) => held,
+            Err(_) => unreachable!(),
+        },
+        Err(_) => unreachable!(),
+    }
+}

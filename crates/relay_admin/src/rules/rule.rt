@@ -1,0 +1,107 @@
+//! A rule, and the line that spells it.
+
+ghost use Rattle.std.specs.Prelude.{◌≡◌, true, IfSome, IfNone};
+ghost use Rattle.std.specs.List.{list_all};
+ghost use Rattle.relay_admin.specs.rules.Grammar.{Entry, SpellsRule, entry_of, is_name, is_name_byte};
+ghost use Rattle.relay_admin.specs.rules.Reading.{idle_at, rule_at};
+ghost use Rattle.relay_admin.specs.TextReading.{Views};
+
+use crate::rules::addr::{Addr, addr_of, held};
+use crate::text::{number_between, split_once};
+use arrayvec::ArrayString;
+
+/// A rule of the relay: what it accepts on `listen` it connects to `target`. A connection that was
+/// idle for `idle` milliseconds, 1 to 86,400,000, is closed; with `None` it never is.
+#[derive(Clone, Copy, Debug, PartialEq, Eq, Drop)]
+pub struct Rule {
+    pub name: ArrayString<16>,
+    pub listen: Addr,
+    pub target: Addr,
+    pub idle: Option<u32>,
+}
+
+impl Default for Rule {
+    fn default() -> Rule {
+        Rule {
+            name: ArrayString::new(),
+            listen: Addr::Tcp([0, 0, 0, 0], 0),
+            target: Addr::Tcp([0, 0, 0, 0], 0),
+            idle: None,
+        }
+    }
+}
+
+/// The rule that a line spells, and none where it spells none.
+pub(crate) fn rule_of(line: &[u8]) -> Option<Rule>
+    ensures rule { IfSome result (λ rule. SpellsRule line.now (entry_of rule)) }
+    ensures none { IfNone result ((entry : Entry) → SpellsRule line.now entry → ⊥) }
+{
+    read_rule(line)
+}
+
+#[tactic(auto, unfolding(crate::specs::rules::Reading::rule_at))]
+fn read_rule(text: &[u8]) -> Option<Rule>
+    ensures { Views entry_of result (rule_at text.now) }
+{
+    let (word, rest) = split_once(text, b' ')?;
+    let (name, rest) = split_once(rest, b' ')?;
+    let (listen, rest) = split_once(rest, b' ')?;
+    let (target, idle) = split_once(rest, b' ')?;
+    let listen = addr_of(listen)?;
+    let target = addr_of(target)?;
+    let idle = idle_of(idle)?;
+    if word == b"relay".as_slice() && is_name_text(name) {
+        Some(Rule {
+            name: name_held(name),
+            listen,
+            target,
+            idle,
+        })
+    } else {
+        None
+    }
+}
+
+#[tactic(auto, unfolding(crate::specs::rules::Reading::idle_at))]
+fn idle_of(text: &[u8]) -> Option<Option<u32>>
+    ensures { result ≡ idle_at text.now }
+{
+    if text == b"never".as_slice() {
+        return Some(None);
+    }
+    let ms = number_between(1, 86_400_000, text)?;
+    Some(Some(ms as u32))
+}
+
+fn is_name_text(text: &[u8]) -> bool
+    ensures { result ≡ is_name text.now }
+{
+    if text.is_empty() || text[0] < b'a' || b'z' < text[0] {
+        return false;
+    }
+    are_name_bytes(text) && text.len() <= 16
+}
+
+fn are_name_bytes(text: &[u8]) -> bool
+    ensures { result ≡ list_all is_name_byte text.now }
+{
+    for byte in text {
+        if !may_stand_in_name(*byte) {
+            return false;
+        }
+    }
+    true
+}
+
+fn may_stand_in_name(byte: u8) -> bool
+    ensures { result ≡ is_name_byte byte }
+{
+    (b'a' <= byte && byte <= b'z') || (b'0' <= byte && byte <= b'9') || byte == b'-'
+}
+
+fn name_held(name: &[u8]) -> ArrayString<16>
+    requires { is_name name.now ≡ true }
+    ensures { result.bytes ≡ name.now }
+{
+    held(name)
+}

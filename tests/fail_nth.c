@@ -1,0 +1,204 @@
+// Loaded before the C library (LD_PRELOAD), it has one call of the system fail, of those that the program itself makes:
+//
+//   FAIL_CALL   the call's name
+//   FAIL_AT     the number of its first call that fails, from 1; the calls of all threads are counted together
+//   FAIL_TIMES  how many fail from there on (1 if it isn't set)
+//   FAIL_PERIOD if it isn't 0, each thread counts its own calls, and of each so many the first FAIL_TIMES fail
+//   FAIL_WITH   the error's number; 0 has a read or a write take one byte alone; -1 is a lie: nothing is done, and all of it told
+//
+// "[failed]" on standard error says that a call failed, once. A call that fails as if nothing were ready (EAGAIN, ENOTCONN) has the poller told
+// of the socket once more, as the system tells of what becomes ready later: a poller of edges would wait for ever else.
+// A failed accept takes its connection off the queue where the error says that it is gone.
+#define _GNU_SOURCE
+#include <dlfcn.h>
+#include <errno.h>
+#include <pthread.h>
+#include <stdatomic.h>
+#include <stdlib.h>
+#include <string.h>
+#include <sys/epoll.h>
+#include <sys/eventfd.h>
+#include <sys/socket.h>
+#include <sys/types.h>
+#include <time.h>
+#include <unistd.h>
+
+#define MOST_SOCKETS 4096
+// What a waker writes and reads, which the system takes whole or not at all.
+#define EVENT_BYTES 8
+
+static const char *failing;
+static long first, times, period, error;
+static atomic_long asked;
+static _Thread_local long asked_here;
+static atomic_int was_told;
+
+static struct {
+    int poller;
+    struct epoll_event event;
+} told_of[MOST_SOCKETS];
+
+static long number_of(const char *name, long otherwise) {
+    const char *text = getenv(name);
+    return text == NULL ? otherwise : atol(text);
+}
+
+__attribute__((constructor)) static void begin(void) {
+    failing = getenv("FAIL_CALL");
+    first = number_of("FAIL_AT", 1);
+    times = number_of("FAIL_TIMES", 1);
+    period = number_of("FAIL_PERIOD", 0);
+    error = number_of("FAIL_WITH", 0);
+}
+
+static void *real(const char *name) {
+    return dlsym(RTLD_NEXT, name);
+}
+
+static void tell(void) {
+    static ssize_t (*real_write)(int, const void *, size_t);
+    if (atomic_exchange(&was_told, 1) == 0) {
+        if (real_write == NULL)
+            real_write = real("write");
+        real_write(2, "[failed]\n", 9);
+    }
+}
+
+// Whether this call is to fail. Of calls that aren't the program's own none is counted.
+static int is_failed(const char *name, void *caller) {
+    Dl_info from;
+    if (failing == NULL || strcmp(failing, name) != 0)
+        return 0;
+    if (!dladdr(caller, &from) || from.dli_fname == NULL || strstr(from.dli_fname, ".so") != NULL)
+        return 0;
+    long at = period == 0 ? atomic_fetch_add(&asked, 1) + 1 - first : asked_here++ % period;
+    if (at < 0 || at >= times)
+        return 0;
+    tell();
+    return 1;
+}
+
+static void tell_again(int fd) {
+    static int (*real_ctl)(int, int, int, struct epoll_event *);
+    if (real_ctl == NULL)
+        real_ctl = real("epoll_ctl");
+    if (fd >= 0 && fd < MOST_SOCKETS && told_of[fd].poller > 0)
+        real_ctl(told_of[fd].poller, EPOLL_CTL_MOD, fd, &told_of[fd].event);
+}
+
+static int fail(int fd) {
+    if (error < 0)
+        return 0;
+    if (error == EAGAIN || error == ENOTCONN)
+        tell_again(fd);
+    errno = (int)error;
+    return -1;
+}
+
+#define CALLER __builtin_return_address(0)
+
+// A call that fails without having been made.
+#define FAILS(result, name, fd, parameters, ...)                                                                       \
+    result name parameters {                                                                                           \
+        static result(*it) parameters;                                                                                 \
+        if (it == NULL)                                                                                                \
+            it = real(#name);                                                                                          \
+        return is_failed(#name, CALLER) ? (result)fail(fd) : it(__VA_ARGS__);                                          \
+    }
+
+// A call that moves so many bytes, or one alone.
+#define MOVES(name, fd, count, parameters, ...)                                                                        \
+    ssize_t name parameters {                                                                                          \
+        static ssize_t(*it) parameters;                                                                                \
+        if (it == NULL)                                                                                                \
+            it = real(#name);                                                                                          \
+        if (is_failed(#name, CALLER)) {                                                                                \
+            if (error != 0)                                                                                            \
+                return error < 0 ? (ssize_t)count : fail(fd);                                                          \
+            count = count > 1 && count != EVENT_BYTES ? 1 : count;                                                     \
+        }                                                                                                              \
+        return it(__VA_ARGS__);                                                                                        \
+    }
+
+MOVES(recv, fd, size, (int fd, void *buf, size_t size, int flags), fd, buf, size, flags)
+MOVES(send, fd, size, (int fd, const void *buf, size_t size, int flags), fd, buf, size, flags)
+MOVES(recvfrom, fd, size, (int fd, void *buf, size_t size, int flags, struct sockaddr *from, socklen_t *length), fd, buf, size,
+      flags, from, length)
+MOVES(sendto, fd, size, (int fd, const void *buf, size_t size, int flags, const struct sockaddr *to, socklen_t length), fd, buf,
+      size, flags, to, length)
+MOVES(read, fd, size, (int fd, void *buf, size_t size), fd, buf, size)
+MOVES(write, fd, size, (int fd, const void *buf, size_t size), fd, buf, size)
+
+FAILS(int, socket, -1, (int domain, int type, int protocol), domain, type, protocol)
+FAILS(int, bind, fd, (int fd, const struct sockaddr *at, socklen_t length), fd, at, length)
+FAILS(int, shutdown, fd, (int fd, int how), fd, how)
+FAILS(int, connect, fd, (int fd, const struct sockaddr *to, socklen_t length), fd, to, length)
+FAILS(int, setsockopt, fd, (int fd, int level, int name, const void *value, socklen_t size), fd, level, name, value, size)
+FAILS(int, getsockopt, fd, (int fd, int level, int name, void *value, socklen_t *size), fd, level, name, value, size)
+FAILS(int, getpeername, fd, (int fd, struct sockaddr *to, socklen_t *size), fd, to, size)
+FAILS(int, epoll_create1, -1, (int flags), flags)
+FAILS(int, eventfd, -1, (unsigned count, int flags), count, flags)
+FAILS(int, epoll_wait, -1, (int poller, struct epoll_event *events, int most, int ms), poller, events, most, ms)
+FAILS(int, nanosleep, -1, (const struct timespec *time, struct timespec *left), time, left)
+
+// Its manual names an error of internet sockets alone.
+int listen(int fd, int most) {
+    static int (*it)(int, int);
+    if (it == NULL)
+        it = real("listen");
+    int domain = AF_UNIX;
+    socklen_t size = sizeof domain;
+    getsockopt(fd, SOL_SOCKET, SO_DOMAIN, &domain, &size);
+    return domain == AF_INET && is_failed("listen", CALLER) ? fail(fd) : it(fd, most);
+}
+
+int epoll_ctl(int poller, int what, int fd, struct epoll_event *event) {
+    static int (*it)(int, int, int, struct epoll_event *);
+    if (it == NULL)
+        it = real("epoll_ctl");
+    if (is_failed("epoll_ctl", CALLER))
+        return fail(-1);
+    if (what != EPOLL_CTL_DEL && event != NULL && fd >= 0 && fd < MOST_SOCKETS) {
+        told_of[fd].event = *event;
+        told_of[fd].poller = poller;
+    }
+    return it(poller, what, fd, event);
+}
+
+int close(int fd) {
+    static int (*it)(int);
+    if (it == NULL)
+        it = real("close");
+    if (fd >= 0 && fd < MOST_SOCKETS)
+        told_of[fd].poller = 0;
+    int is_failing = is_failed("close", CALLER);
+    if (is_failing && error < 0)
+        return 0;
+    // A descriptor is given back, whatever the answer is.
+    int done = it(fd);
+    return is_failing ? fail(-1) : done;
+}
+
+int accept4(int fd, struct sockaddr *from, socklen_t *length, int flags) {
+    static int (*it)(int, struct sockaddr *, socklen_t *, int);
+    static int (*real_close)(int);
+    if (it == NULL) {
+        it = real("accept4");
+        real_close = real("close");
+    }
+    if (!is_failed("accept4", CALLER))
+        return it(fd, from, length, flags);
+    if (error == ECONNABORTED || error == EPERM || error == EPROTO) {
+        int gone = it(fd, from, length, flags);
+        if (gone >= 0)
+            real_close(gone);
+    }
+    return fail(fd);
+}
+
+int pthread_create(pthread_t *thread, const pthread_attr_t *with, void *(*run)(void *), void *value) {
+    static int (*it)(pthread_t *, const pthread_attr_t *, void *(*)(void *), void *);
+    if (it == NULL)
+        it = real("pthread_create");
+    return is_failed("pthread_create", CALLER) ? (int)error : it(thread, with, run, value);
+}

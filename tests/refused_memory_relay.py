@@ -1,0 +1,162 @@
+#!/usr/bin/env python3
+"""Refuses each request for memory of a running relay in turn.
+
+    python3 tests/refused_memory_relay.py [--most N] [single | drought | mappings]..
+
+single    the Nth allocation is refused, for N from 1 until a run meets no refusal. Before `listening 2` the relay ends with status 3 and
+          one line; later one connection is dropped, or one session or its reply, and all others go on. After `stop` the totals are
+          exactly the bytes that arrived, and no thread, descriptor or Unix path is left.
+drought   every allocation is refused while connections stand: the bytes of one without an idle time go on, and the relay stops with totals that
+          fit. Where memory comes back, new connections are served.
+mappings  the Nth mmap, mprotect, brk or clone3 of each thread is refused by strace, also those of threads' stacks and of the C library's own.
+
+It needs a C compiler, and strace for `mappings`: apt-get install gcc strace. POLLRELAY names another program. The gate doesn't run this.
+"""
+import argparse
+import collections
+import random
+import shutil
+import signal
+import subprocess
+import sys
+import tempfile
+import time
+
+from hostile_clients import Desk, Misses, Targets, exchange
+from hostile_run import Run, kind_of, library, rest_of, said_of, single_run, summary, tell
+from relay_process import PROGRAM, Checks, Relay, allow_descriptors, free_port
+
+
+def single(checks, folder, most):
+    made, kinds = library("refuse_nth", folder), collections.Counter()
+    targets = Targets(folder)
+    rest = rest_of(targets, {"LD_PRELOAD": made, "REFUSE": "0"})
+    for number in range(1, most + 1):
+        came, was_refused, wrong = single_run(targets, {"LD_PRELOAD": made, "REFUSE": str(number)}, rest, number)
+        if not was_refused:
+            tell(checks, "single: a run that meets no refusal", came, wrong)
+            break
+        kinds[kind_of(came)] += 1
+        tell(checks, f"single: allocation {number}", came, wrong)
+    else:
+        checks.holds("single: refusals end", False, f"not after {most}")
+    checks.holds("single: allocations were refused", sum(kinds.values()) > 20, f"{sum(kinds.values())}")
+    summary("single", kinds)
+    targets.close()
+
+
+def drought_run(targets, env, comes_back, seed):
+    run = Run(targets, free_port(), random.Random(seed))
+    with Relay(targets.rules(run.port), env=env) as relay:
+        run.relay = relay
+        run.open_each()
+        if run.misses.names:
+            run.wrong.append(f"before the drought: {run.misses.names}")
+        desk = Desk(relay, Misses())
+        desk.ask("list")
+        relay.process.send_signal(signal.SIGUSR1)
+        time.sleep(0.05)
+        expect_drought(run, desk)
+        if comes_back:
+            relay.process.send_signal(signal.SIGUSR2)
+            time.sleep(0.05)
+            old, run.standing = run.standing, []
+            run.open_each()
+            run.standing += old
+        run.stop(desk)
+        for it in run.standing:
+            it.close()
+        if not said_of(relay.errors())[1]:
+            run.wrong.append("nothing was refused")
+    return run.wrong + run.misses.wrong
+
+
+def expect_drought(run, desk):
+    """Nobody new is taken and no list is given, and bytes go on."""
+    for kind, address in run.addresses():
+        if (taken := run.open(kind, address)) is not None:
+            run.wrong.append(f"a {kind} connection is taken without memory")
+            taken.close()
+    if desk.ask("list") != "":
+        run.wrong.append("a list is given without memory")
+    # A rule with an idle time sets a deadline at each read, and that takes memory.
+    never, with_idle_time = run.standing
+    exchange([with_idle_time], run.rng, 20_000, run.ledger, run.misses)
+    run.misses.names = []
+    exchange([never], run.rng, 200_000, run.ledger, run.misses)
+    if run.misses.names:
+        run.wrong.append(f"without memory {run.misses.names}")
+
+
+def drought(checks, folder, _most):
+    made, targets = library("refuse_nth", folder), Targets(folder)
+    for turn in range(10):
+        targets.drain()
+        wrong = drought_run(targets, {"LD_PRELOAD": made, "REFUSE": "0"}, turn % 2 == 1, turn)
+        tell(checks, f"drought {turn}", "", wrong)
+    targets.close()
+
+
+def injecting(call, error, at, log):
+    """The words of a tracer that refuses such a call of each thread, the one with this number."""
+    trace = f"inject={call}:error={error}:when={at}"
+    return ["strace", "-f", "-qq", "-o", log, "-e", f"trace={call}", "-e", "signal=none", "-e", trace]
+
+
+def loader_calls(folder, call):
+    """How many of these calls come before the program's own first one: those of the loader."""
+    log = f"{folder}/loader"
+    words = ["strace", "-qq", "-o", log, "-e", f"trace={call},openat", PROGRAM, "check", "--rules", f"{folder}/no rules"]
+    subprocess.run(words, stdout=subprocess.DEVNULL, stderr=subprocess.DEVNULL, check=False)
+    with open(log, encoding="utf-8", errors="replace") as file:
+        lines = file.read().split("no rules")[0].splitlines()
+    return sum(line.startswith(f"{call}(") for line in lines)
+
+
+def mappings(checks, folder, most):
+    if shutil.which("strace") is None:
+        checks.holds("mappings: strace is there", False, "apt-get install strace")
+        return
+    targets, kinds = Targets(folder), collections.Counter()
+    log = f"{folder}/injected"
+    for call, error in (("mmap", "ENOMEM"), ("mprotect", "ENOMEM"), ("brk", "ENOMEM"), ("clone3", "EAGAIN"), ("clone3", "ENOMEM")):
+        first = loader_calls(folder, call) + 1
+        for number in range(first, first + most):
+            env = {"LC_ALL": "C"}
+            came, _, wrong = single_run(targets, env, None, number, injecting(call, error, number, log))
+            with open(log, encoding="utf-8", errors="replace") as file:
+                was_refused = "(INJECTED)" in file.read()
+            if not was_refused:
+                break
+            kinds[kind_of(came)] += 1
+            tell(checks, f"mappings: {call} {number} refused by {error}", came, wrong)
+    checks.holds("mappings: calls were refused", sum(kinds.values()) > 5, f"{sum(kinds.values())}")
+    summary("mappings", kinds)
+    targets.close()
+
+
+STAGES = {"single": single, "drought": drought, "mappings": mappings}
+
+
+def main():
+    words = argparse.ArgumentParser(description=__doc__, formatter_class=argparse.RawDescriptionHelpFormatter)
+    words.add_argument("--most", type=int, default=1_000, help="the most numbers that are tried of each kind")
+    words.add_argument("stages", nargs="*")
+    chosen = words.parse_args()
+    if unknown := set(chosen.stages) - set(STAGES):
+        words.error(f"no stage {unknown}")
+    allow_descriptors()
+    checks = Checks()
+    for name in chosen.stages or STAGES:
+        began = time.monotonic()
+        with tempfile.TemporaryDirectory(prefix="refused-") as folder:
+            try:
+                STAGES[name](checks, folder, chosen.most)
+            except (OSError, EOFError, RuntimeError) as fault:
+                checks.holds(name, False, f"cut short by {fault!r}")
+        print(f"{name}: {time.monotonic() - began:.1f} s", flush=True)
+    return checks.end()
+
+
+if __name__ == "__main__":
+    sys.exit(main())
