@@ -1,6 +1,7 @@
 -- A line's parts, and that it has them in one way.
-use Rattle.lockword_script.proofs.Words.{◌≡◌, ◌∙◌, sym, ap, refl, subst, ℕ, ◌+◌, ◌^◌, ◌≤◌, ◌<◌, List, ◌∷◌, ◌++◌, length}
-use Rattle.lockword_script.proofs.Words.{arith, inl, inr, length-append, codes, if◌then◌else◌, decimal, bytes_eq}
+use Rattle.std.specs.Prelude.{◌≡◌, ◌+◌, ◌^◌, ◌≤◌, ◌<◌, ◌∷◌, ◌++◌, if◌then◌else◌}
+use Rattle.lockword_script.proofs.Words.{◌∙◌, sym, ap, refl, subst, ℕ, List, length}
+use Rattle.lockword_script.proofs.Words.{arith, inl, inr, length-append, codes, decimal, bytes_eq}
 use Rattle.lockword_script.proofs.Words.{decimal_injective, length-decimal-le, Lacks, cut_once, lacks-append, lacks_not}
 use Rattle.lockword_script.proofs.Words.{decimal-lacks, Read, Write, Op}
 use Rattle.lockword_core.specs.declared.stake.Op.TheVariants as op

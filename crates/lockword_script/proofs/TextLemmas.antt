@@ -1,7 +1,8 @@
 -- Each line says something or is bad, so each script has a text; and it has one.
-use Rattle.lockword_script.proofs.Words.{◌≡◌, ◌≢◌, ◌∙◌, sym, ap, refl, subst, ℕ, zero, suc, ◌+◌, ◌^◌, ◌≤◌, ◌<◌, List}
-use Rattle.lockword_script.proofs.Words.{[], ◌∷◌, ◌++◌, take, Option, None, Some, Bool, true, false, arith, inl, inr}
-use Rattle.lockword_script.proofs.Words.{◌⊎◌, bytes_eq, decimal, bytes_eq-Decides, cases_lt, cases_eq, Lacks, number_of}
+use Rattle.std.specs.Prelude.{◌≡◌, ◌≢◌, ◌+◌, ◌^◌, ◌≤◌, ◌<◌, ◌∷◌, ◌++◌, ◌⊎◌}
+use Rattle.lockword_script.proofs.Words.{◌∙◌, sym, ap, refl, subst, ℕ, zero, suc, List}
+use Rattle.lockword_script.proofs.Words.{[], take, Option, None, Some, Bool, true, false, arith, inl, inr}
+use Rattle.lockword_script.proofs.Words.{bytes_eq, decimal, bytes_eq-Decides, cases_lt, cases_eq, Lacks, number_of}
 use Rattle.lockword_script.proofs.Words.{number_of-decimal, number_of-spelled, Read, Write, Op, LockState, state_after}
 use Rattle.lockword_core.specs.declared.stake.Op.TheVariants as op
 use Rattle.lockword_script.specs.declared.script.TheConstants.{HOLDERS, MAX_LINES}

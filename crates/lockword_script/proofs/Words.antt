@@ -11,8 +11,8 @@ unfoldable pub use Rattle.lockword_script.specs.TraceOutput.{printed_of_events, 
 pub use Rattle.lockword_script.specs.declared.outcome.End.{End}
 pub use Rattle.lockword_script.specs.declared.outcome.End.TheVariants.{Whole, BadLine}
 pub use Rattle.lockword_script.specs.declared.script.TheConstants.{MAX_LINES, MAX_LINE_BYTES}
-pub use Rattle.std.proofs.Common.{◌≡◌, ◌≢◌, ◌∙◌, sym, ap, refl, subst, ℕ, ◌+◌, ◌*◌, ◌≤◌, ◌<◌, List, [], ◌∷◌, ◌++◌}
-pub use Rattle.std.proofs.Common.{length, arith, inl, inr, append_assoc, length-append, ◌^◌, zero, suc, take, Option}
+pub use Rattle.std.proofs.Common.{◌∙◌, sym, ap, refl, subst, ℕ, List, []}
+pub use Rattle.std.proofs.Common.{length, arith, inl, inr, append_assoc, length-append, zero, suc, take, Option}
 pub use Rattle.std.proofs.Common.{None, Some, Bool, true, false, drop, Result, Ok, Err, length-take}
 pub use Rattle.std.proofs.lemmas.Bool.{cases_lt, cases_eq}
 pub use Rattle.std.proofs.lemmas.Fmt.{decimal_injective, length-decimal-le}
@@ -20,7 +20,7 @@ pub use Rattle.std.proofs.lemmas.List.{append-nil, take-append-drop}
 pub use Rattle.std.proofs.lemmas.Slice.Eq.{bytes_eq-Decides}
 pub use Rattle.std.specs.Fmt.{decimal}
 pub use Rattle.std.specs.Io.KnownBytes.{Appends, Consumes, Keeps, IsAtEnd}
-pub use Rattle.std.specs.Prelude.{◌⊎◌, codes, if◌then◌else◌, IfSome, IfNone, IfOk, OnErr}
+pub use Rattle.std.specs.Prelude.{codes, IfSome, IfNone, IfOk, OnErr}
 pub use Rattle.std.specs.Str.{bytes_eq}
 pub use Rattle.stream_base.proofs.DecimalLemmas.{decimal-lacks, number_of-decimal, number_of-spelled}
 pub use Rattle.stream_base.proofs.KnownBytesLemmas.{appends_nothing, appends_then_appends, appends_then_keeps}

@@ -1,5 +1,6 @@
 -- The text that a script prints, as a relation on whole texts.
-use Rattle.lockword_script.specs.Words.{◌≤◌, ◌<◌, ◌+◌, ◌-◌, ℕ, List, [], ◌∷◌, ◌++◌, ◌⊎◌, Option}
+use Rattle.std.specs.Prelude.{◌≤◌, ◌<◌, ◌+◌, ◌-◌, ◌∷◌, ◌++◌, ◌⊎◌}
+use Rattle.lockword_script.specs.Words.{ℕ, List, [], Option}
 use Rattle.lockword_script.specs.Words.{Some, None, codes, decimal, w64, to_be_bytes, encode_lower}
 use Rattle.lockword_script.specs.Words.{lines_of, Read, Write, Op, Answer, signals_in, LockState}
 use Rattle.lockword_script.specs.Words.{empty, census, encoded, transition, state_after}

@@ -9,8 +9,8 @@ pub use Rattle.lockword_core.specs.declared.stake.Op.{Op}
 pub use Rattle.std.specs.Fmt.{decimal}
 pub use Rattle.std.specs.Int.{w64, to_be_bytes}
 pub use Rattle.std.specs.Io.KnownBytes.{Appends, IsAtEnd}
-pub use Rattle.std.specs.Prelude.{◌≤◌, ◌<◌, ◌+◌, ◌-◌, ℕ, List, [], ◌∷◌, ◌++◌, ◌⊎◌, Option, Some}
-pub use Rattle.std.specs.Prelude.{None, codes, ◌≡◌, ◌*◌, IfOk, OnOk, OnErr, IfSome, IfNone, length}
+pub use Rattle.std.specs.Prelude.{ℕ, List, [], Option, Some}
+pub use Rattle.std.specs.Prelude.{None, codes, IfOk, OnOk, OnErr, IfSome, IfNone, length}
 pub use Rattle.std.specs.Prelude.{true, IfErr, take}
 pub use Rattle.stream_base.specs.Attempt.{WriteStopped}
 pub use Rattle.stream_base.specs.Lines.{lines_of}

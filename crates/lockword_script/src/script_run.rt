@@ -4,7 +4,8 @@
 //! A line counts as carried out once all its events are. The room for its printed line is reserved
 //! before the first of them, so each line that is carried out is printed.
 
-ghost use Rattle.lockword_script.specs.Words.{◌≡◌, ◌≤◌, ◌<◌, ◌⊎◌, ◌+◌, ◌-◌, ◌*◌, ℕ, List, [], ◌++◌, IfOk, OnOk, OnErr, IfSome, IfNone, length, lines_of, Read, Write, Op, signals_in, LockState, census, encoded, transition, state_after};
+ghost use Rattle.std.specs.Prelude.{◌≡◌, ◌≤◌, ◌<◌, ◌⊎◌, ◌+◌, ◌-◌, ◌*◌, ◌++◌};
+ghost use Rattle.lockword_script.specs.Words.{ℕ, List, [], IfOk, OnOk, OnErr, IfSome, IfNone, length, lines_of, Read, Write, Op, signals_in, LockState, census, encoded, transition, state_after};
 ghost use Rattle.lockword_script.specs.Script.{Says, IsBadLine, events_of};
 ghost use Rattle.lockword_script.specs.TraceOutput.{printed_of_events, printed_of_bad_line, Prints};
 ghost use Rattle.lockword_script.specs.Progress.{ahead_of, progress_of, start, spent, IsReady, LeadsOn, LeadsToBadLine, LeadsPartly, LeadsToEnd};

@@ -1,7 +1,8 @@
 //! The run of a script from a source to a sink. What is ready is written and flushed before each read,
 //! so whoever types a line has its answer before the run waits for the next one.
 
-ghost use Rattle.lockword_script.specs.Words.{◌≡◌, ◌<◌, ◌≤◌, ◌++◌, ℕ, List, true, IfOk, IfErr, OnOk, OnErr, IfSome, length, take, Appends, IsAtEnd, WriteStopped};
+ghost use Rattle.std.specs.Prelude.{◌≡◌, ◌<◌, ◌≤◌, ◌++◌};
+ghost use Rattle.lockword_script.specs.Words.{ℕ, List, true, IfOk, IfErr, OnOk, OnErr, IfSome, length, take, Appends, IsAtEnd, WriteStopped};
 ghost use Rattle.lockword_script.specs.TraceOutput.{IsTextOf};
 ghost use Rattle.lockword_script.specs.TraceOutcome.{ExplainsSink, ExplainsSource, Leaves, SinkIsWell, SourceIsWell};
 

@@ -24,9 +24,9 @@ pub use Rattle.relay_admin.specs.rules.Grammar.{space, Entry, IsSkipped, SpellsR
 pub use Rattle.relay_admin.specs.rules.Grammar.{entry_of, entries_of}
 pub use Rattle.relay_admin.specs.rules.Reading.{is_skipped, same_address, finds_name, finds_listen, TakesGoodLine}
 pub use Rattle.relay_admin.specs.rules.Reading.{skips, adds}
-pub use Rattle.std.proofs.Common.{◌≡◌, ◌≢◌, ◌∙◌, sym, ap, refl, subst, ℕ, ◌≤◌, List, ◌∷◌, ◌++◌, Bool, true, false}
-pub use Rattle.std.proofs.Common.{Option, Some, None, arith, ◌+◌, ◌<◌, [], length, inl, inr, ◌*◌, get_or, take, drop}
-pub use Rattle.std.proofs.Common.{append_assoc, length-append, append-nil, ◌^◌, ◌&&◌, suc, Ok, Err}
+pub use Rattle.std.proofs.Common.{◌∙◌, sym, ap, refl, subst, ℕ, List, Bool, true, false}
+pub use Rattle.std.proofs.Common.{Option, Some, None, arith, [], length, inl, inr, get_or, take, drop}
+pub use Rattle.std.proofs.Common.{append_assoc, length-append, append-nil, suc, Ok, Err}
 pub use Rattle.std.proofs.Math.Seq.{get_or-append_seam}
 pub use Rattle.std.proofs.lemmas.Bool.Decides.{nat_tests}
 pub use Rattle.std.proofs.lemmas.List.{map-append, take_more, take-append-drop, drop_more, length-map}
@@ -36,7 +36,7 @@ pub use Rattle.std.proofs.lemmas.List.Quantifiers.{all_pairs_push}
 pub use Rattle.std.specs.Char.{is_ascii_digit}
 pub use Rattle.std.specs.Fmt.{decimal}
 pub use Rattle.std.specs.Io.KnownBytes.{Appends, Consumes, Keeps, IsAtEnd}
-pub use Rattle.std.specs.Prelude.{if◌then◌else◌, codes, IfSome, IfNone, ◌⊎◌, ◌==◌, Result}
+pub use Rattle.std.specs.Prelude.{codes, IfSome, IfNone, Result}
 pub use Rattle.std.specs.Str.{bytes_eq, all_ascii_digits}
 pub use Rattle.stream_base.proofs.KnownBytesLemmas.{appends_nothing, appends_then_appends, keeps_then_keeps}
 pub use Rattle.stream_base.proofs.KnownBytesLemmas.{consumes_then_consumes, consumes_then_keeps, of_whole_text}

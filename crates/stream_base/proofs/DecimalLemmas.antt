@@ -1,7 +1,8 @@
 -- The one spelling of a number.
-use Rattle.stream_base.proofs.Words.{[], ◌∷◌, Option, Some, None, ◌≡◌, ◌≢◌, ◌∙◌, sym, ap, subst, ℕ, zero, suc, ◌<◌, ◌≤◌}
-use Rattle.stream_base.proofs.Words.{◌^◌, List, length, get_or, Bool, true, false, refl, Result, Ok, Err, arith, rules}
-use Rattle.stream_base.proofs.Words.{◌&&◌, IfOk, OnErr, if◌then◌else◌, nat_lt, IsInRange, all_ascii_digits, bytes_eq}
+use Rattle.std.specs.Prelude.{◌∷◌, ◌≡◌, ◌≢◌, ◌<◌, ◌≤◌, ◌^◌, ◌&&◌, if◌then◌else◌}
+use Rattle.stream_base.proofs.Words.{[], Option, Some, None, ◌∙◌, sym, ap, subst, ℕ, zero, suc}
+use Rattle.stream_base.proofs.Words.{List, length, get_or, Bool, true, false, refl, Result, Ok, Err, arith, rules}
+use Rattle.stream_base.proofs.Words.{IfOk, OnErr, nat_lt, IsInRange, all_ascii_digits, bytes_eq}
 use Rattle.stream_base.proofs.Words.{ParsesUnsigned, digits_value, decimal, OkIff, IsNumeralModel, numerals_by_value}
 use Rattle.stream_base.proofs.Words.{not_in_digits, parse_plain, decimal-digits_value, decimal_digit, decimal_nonempty}
 use Rattle.stream_base.proofs.Words.{digits_decimal, digits_value-decimal, first_decimal, nat_tests, bytes_eq-Decides}

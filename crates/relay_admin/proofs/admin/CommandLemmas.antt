@@ -1,6 +1,7 @@
 -- What is read is a command of the grammar, and each command of the grammar is read from its text.
-use Rattle.relay_admin.proofs.Words.{◌≡◌, ◌≢◌, ◌∙◌, sym, ap, refl, subst, ℕ, ◌≤◌, List, ◌∷◌, ◌++◌, Bool, true, false}
-use Rattle.relay_admin.proofs.Words.{Option, Some, None, arith, if◌then◌else◌, codes, IfSome, IfNone, bytes_eq, decimal}
+use Rattle.std.specs.Prelude.{◌≡◌, ◌≢◌, ◌≤◌, ◌∷◌, ◌++◌, if◌then◌else◌}
+use Rattle.relay_admin.proofs.Words.{◌∙◌, sym, ap, refl, subst, ℕ, List, Bool, true, false}
+use Rattle.relay_admin.proofs.Words.{Option, Some, None, arith, codes, IfSome, IfNone, bytes_eq, decimal}
 use Rattle.relay_admin.proofs.Words.{Command, space, ◌>>=◌, split_at_first, number_within, IsDeadline, IsCommand}
 use Rattle.relay_admin.proofs.Words.{after_text, command_text, SpellsCommand, after_at, deadline_at, close_at}
 use Rattle.relay_admin.proofs.Words.{worded_at, command_at}

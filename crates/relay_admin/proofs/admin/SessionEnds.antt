@@ -1,5 +1,6 @@
 -- How a session ends or fails, from what was read so far and what the last bytes came to.
-use Rattle.relay_admin.proofs.Words.{◌≡◌, ◌∙◌, sym, ap, subst, ℕ, List, [], ◌++◌, Bool, Option, append-nil, inl, inr}
+use Rattle.std.specs.Prelude.{◌≡◌, ◌++◌}
+use Rattle.relay_admin.proofs.Words.{◌∙◌, sym, ap, subst, ℕ, List, [], Bool, Option, append-nil, inl, inr}
 use Rattle.relay_admin.proofs.Words.{Consumes, Keeps, IsAtEnd, lines_of, lines_so_far, keeps_then_keeps}
 use Rattle.relay_admin.proofs.Words.{consumes_then_consumes, consumes_then_keeps, of_whole_text, of_ended_text}
 use Rattle.relay_admin.proofs.Words.{Exchange, Ending, ended, Transcript, no_line, IsTranscriptOf, Serves}

@@ -1,5 +1,6 @@
 -- Bytes after bytes of a session, and what they bring.
-use Rattle.relay_admin.proofs.Words.{◌≡◌, ◌≢◌, ◌∙◌, sym, ap, refl, subst, ℕ, ◌+◌, ◌*◌, ◌≤◌, ◌<◌, List, [], ◌∷◌, ◌++◌}
+use Rattle.std.specs.Prelude.{◌≡◌, ◌≢◌, ◌+◌, ◌*◌, ◌≤◌, ◌<◌, ◌∷◌, ◌++◌}
+use Rattle.relay_admin.proofs.Words.{◌∙◌, sym, ap, refl, subst, ℕ, List, []}
 use Rattle.relay_admin.proofs.Words.{length, get_or, take, drop, Option, Some, None, arith, append_assoc, length-append}
 use Rattle.relay_admin.proofs.Words.{append-nil, Appends, take_more, take-append-drop, drop_more, AppendsFront, Reading}
 use Rattle.relay_admin.proofs.Words.{EndsLines, Lacks, line_feed, lines_of, HasLongFirstLine, ends_none, ends_then}

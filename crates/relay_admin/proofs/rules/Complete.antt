@@ -1,6 +1,7 @@
 -- Each rule of the grammar is read from its text.
-use Rattle.relay_admin.proofs.Words.{◌≡◌, ◌∙◌, refl, ℕ, ◌^◌, ◌≤◌, ◌<◌, List, [], ◌∷◌, ◌++◌, Bool, true, false, ◌&&◌}
-use Rattle.relay_admin.proofs.Words.{Option, Some, None, arith, ◌==◌, if◌then◌else◌, codes, is_ascii_digit}
+use Rattle.std.specs.Prelude.{◌≡◌, ◌^◌, ◌≤◌, ◌<◌, ◌∷◌, ◌++◌, ◌&&◌, ◌==◌, if◌then◌else◌}
+use Rattle.relay_admin.proofs.Words.{◌∙◌, refl, ℕ, List, [], Bool, true, false}
+use Rattle.relay_admin.proofs.Words.{Option, Some, None, arith, codes, is_ascii_digit}
 use Rattle.relay_admin.proofs.Words.{all_ascii_digits, bytes_eq, decimal, nat_tests, Lacks}
 use Rattle.relay_admin.specs.rules.Addr.{Address, tcp, unix, dot, colon, is_path, IsAddress, address_text}
 use Rattle.relay_admin.specs.rules.Grammar.{Entry, IsEntry, IsIdle, idle_text, is_name, space, line_text}

@@ -1,7 +1,8 @@
 -- One line of a rules file after the other.
-use Rattle.relay_admin.proofs.Words.{◌≡◌, ◌≢◌, ◌∙◌, sym, ap, refl, subst, ℕ, ◌+◌, ◌≤◌, ◌<◌, List, [], ◌∷◌, ◌++◌, length}
-use Rattle.relay_admin.proofs.Words.{get_or, Bool, true, false, ◌&&◌, Some, None, arith, length-append, append-nil}
-use Rattle.relay_admin.proofs.Words.{append_assoc, ◌==◌, bytes_eq, map-append, length-map, Any-from_list_any}
+use Rattle.std.specs.Prelude.{◌≡◌, ◌≢◌, ◌+◌, ◌≤◌, ◌<◌, ◌∷◌, ◌++◌, ◌&&◌, ◌==◌}
+use Rattle.relay_admin.proofs.Words.{◌∙◌, sym, ap, refl, subst, ℕ, List, [], length}
+use Rattle.relay_admin.proofs.Words.{get_or, Bool, true, false, Some, None, arith, length-append, append-nil}
+use Rattle.relay_admin.proofs.Words.{append_assoc, bytes_eq, map-append, length-map, Any-from_list_any}
 use Rattle.relay_admin.proofs.Words.{list_any_at, all_pairs_push, nat_tests, lines_of, lines_of-ended_line}
 use Rattle.relay_admin.proofs.Words.{lines_of-last_line, Address, tcp, unix, Entry, IsSkipped, SpellsRule, Spell}
 use Rattle.relay_admin.proofs.Words.{nothing, skipped, rule, entry_of, entries_of, CanStandTogether, HasName, LacksName}

@@ -1,6 +1,7 @@
 -- A text has one verdict.
-use Rattle.relay_admin.proofs.Words.{◌≡◌, ◌∙◌, sym, ap, refl, subst, ℕ, suc, ◌+◌, ◌≤◌, ◌<◌, List, [], ◌∷◌, ◌++◌, length}
-use Rattle.relay_admin.proofs.Words.{Some, Ok, Err, arith, length-append, append-nil, append_assoc, inl, inr, ◌⊎◌}
+use Rattle.std.specs.Prelude.{◌≡◌, ◌+◌, ◌≤◌, ◌<◌, ◌∷◌, ◌++◌, ◌⊎◌}
+use Rattle.relay_admin.proofs.Words.{◌∙◌, sym, ap, refl, subst, ℕ, suc, List, [], length}
+use Rattle.relay_admin.proofs.Words.{Some, Ok, Err, arith, length-append, append-nil, append_assoc, inl, inr}
 use Rattle.relay_admin.proofs.Words.{Result, get_or-append_seam, get_or_append_left, lines_of}
 use Rattle.relay_admin.specs.rules.Addr.{Address, IsAddress, address_text}
 use Rattle.relay_admin.specs.rules.Grammar.{Entry, IsSkipped, SpellsRule, Spell, nothing, skipped, rule}

@@ -1,5 +1,6 @@
 -- How far a session has come, and what bytes do to it. No public clause cites this module.
-use Rattle.relay_admin.specs.Words.{◌≡◌, ◌≢◌, ◌≤◌, ◌<◌, ◌+◌, ◌*◌, ℕ, Bool, List, [], ◌∷◌, ◌++◌}
+use Rattle.std.specs.Prelude.{◌≡◌, ◌≢◌, ◌≤◌, ◌<◌, ◌+◌, ◌*◌, ◌∷◌, ◌++◌}
+use Rattle.relay_admin.specs.Words.{ℕ, Bool, List, []}
 use Rattle.relay_admin.specs.Words.{length, Option, None, Result, Ok, Err, Appends, lines_of}
 use Rattle.relay_admin.specs.Words.{line_feed, Lacks, EndsLines, WriteStopped}
 use Rattle.relay_admin.specs.declared.admin.end.AdminEnd.{AdminEnd}

@@ -1,5 +1,6 @@
 -- An admin session on whole texts: which lines bring which questions, replies and end.
-use Rattle.relay_admin.specs.Words.{◌≡◌, ◌≢◌, ◌≤◌, ◌<◌, ◌+◌, ℕ, List, [], ◌∷◌, ◌++◌, length, map}
+use Rattle.std.specs.Prelude.{◌≡◌, ◌≢◌, ◌≤◌, ◌<◌, ◌+◌, ◌∷◌, ◌++◌}
+use Rattle.relay_admin.specs.Words.{ℕ, List, [], length, map}
 use Rattle.relay_admin.specs.Words.{take, Option, Some, None, IfSome, Appends, Consumes, lines_of}
 use Rattle.relay_admin.specs.Words.{ended_lines, line_feed, Lacks}
 use Rattle.relay_admin.specs.declared.admin.command.Command.{Command}

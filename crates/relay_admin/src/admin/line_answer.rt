@@ -1,6 +1,7 @@
 //! What one line of a session asks, and its reply.
 
-ghost use Rattle.relay_admin.specs.Words.{◌≤◌, length};
+ghost use Rattle.std.specs.Prelude.{◌≤◌};
+ghost use Rattle.relay_admin.specs.Words.{length};
 ghost use Rattle.relay_admin.specs.declared.admin.dialogue.TheConstants.{MAX_LINE_BYTES};
 ghost use Rattle.relay_admin.specs.admin.Reply.{Exchanges, IsQuestion, answer_of};
 ghost use Rattle.relay_admin.specs.admin.ReplyBytes.{bytes_of};

@@ -1,6 +1,7 @@
 //! A session of the admin socket, from bytes to bytes.
 
-ghost use Rattle.relay_admin.specs.Words.{◌≡◌, IfOk, IfErr, IsAtEnd};
+ghost use Rattle.std.specs.Prelude.{◌≡◌};
+ghost use Rattle.relay_admin.specs.Words.{IfOk, IfErr, IsAtEnd};
 ghost use Rattle.relay_admin.specs.admin.Transcript.{Serves, ServesBeforeFault, ended};
 ghost use Rattle.relay_admin.specs.admin.Devices.{ComesOf, IsFlushedUnlessCut};
 
