@@ -1,5 +1,5 @@
 -- What one line brings.
-use Rattle.std.proofs.Common.{◌≡◌, ◌≢◌, ◌∙◌, sym, ap, refl, subst, ℕ, ◌≤◌, List, [], ◌∷◌, ◌++◌, length, Option, Some}
+use Rattle.std.proofs.Common.{◌≡◌, ◌≢◌, ◌∙◌, sym, ap, ℕ, ◌≤◌, List, [], ◌∷◌, ◌++◌, length, Option, Some}
 use Rattle.std.proofs.Common.{None, append-nil, append_assoc, arith}
 use Rattle.relay_admin.specs.declared.admin.command.Command.{Command}
 use Rattle.relay_admin.specs.declared.admin.dialogue.TheConstants.{MAX_LINE_BYTES}

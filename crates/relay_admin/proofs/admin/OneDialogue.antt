@@ -1,7 +1,7 @@
 -- A text has one list of questions and one end.
 use Rattle.std.specs.Prelude.{◌≡◌, ◌≢◌, ◌+◌, ◌≤◌, ◌<◌, ◌∷◌, ◌++◌, ◌⊎◌}
 use Rattle.relay_admin.proofs.Words.{◌∙◌, sym, ap, refl, ℕ, List, [], length}
-use Rattle.relay_admin.proofs.Words.{Option, Some, None, arith, inl, inr, map-append, Command, MAX_LINES}
+use Rattle.relay_admin.proofs.Words.{Option, Some, None, arith, inl, inr, map-append, Command}
 use Rattle.relay_admin.proofs.Words.{MAX_LINE_BYTES, AdminEnd, IsCommand, SpellsCommand, command_text, end_of}
 use Rattle.relay_admin.proofs.Words.{Exchange, LineTranscript, too_long, no_command, finishes, asks}
 use Rattle.relay_admin.proofs.Words.{ended, Transcript, no_line, last_line, line_limit, line_then, questions_of}
