@@ -1,5 +1,6 @@
 -- What the words of the command line ask for.
-use Rattle.std.specs.Prelude.{Bool, true, List, [], ◌∷◌, Option, Some, None, codes, if◌then◌else◌, unwrap_or}
+use Rattle.std.specs.Prelude.{Bool, true, List, [], ◌∷◌, Option, Some, None, codes, if◌then◌else◌}
+use Rattle.std.specs.Prelude.{unwrap_or}
 use Rattle.std.specs.List.{list_any}
 use Rattle.std.specs.Str.{bytes_eq}
 use Rattle.std.specs.String.{string_bytes}
@@ -24,20 +25,25 @@ asked_of (job.Serve rules admin) = Serve (string_bytes rules) (string_bytes admi
 
 -- an option that has to be there, with one value
 abbrev pub required_option : Text → Rule
-required_option name = record (new_rule name) { long = Some name; action = Some Set; required = true }
+required_option name =
+    record (new_rule name) { long = Some name; action = Some Set; required = true }
 
 abbrev pub check_app : App
 check_app = with_rule (new_app (codes "check")) (required_option (codes "rules"))
 
 abbrev pub serve_app : App
-serve_app = with_rule (with_rule (new_app (codes "serve")) (required_option (codes "rules"))) (required_option (codes "admin"))
+serve_app =
+    with_rule (with_rule (new_app (codes "serve")) (required_option (codes "rules")))
+    (required_option (codes "admin"))
 
 -- the program as `clap` sees it: three commands, and no name ahead of the words
 abbrev pub program : App
 program =
     let bare = new_app (codes "pollrelay") in
     let named = record bare { top = record bare.top { no_binary_name = true } } in
-    with_subcommand (with_subcommand (with_subcommand named (new_app (codes "trace")).top) check_app.top) serve_app.top
+    with_subcommand
+    (with_subcommand (with_subcommand named (new_app (codes "trace")).top) check_app.top)
+    serve_app.top
 
 -- the value of an option
 abbrev pub value_of : Text → List Row → Text
@@ -48,7 +54,8 @@ abbrev pub named_job : Text → List Row → Option Asked
 named_job name rows =
     if bytes_eq name (codes "trace") then Some Trace
     else if bytes_eq name (codes "check") then Some (Check (value_of (codes "rules") rows))
-    else if bytes_eq name (codes "serve") then Some (Serve (value_of (codes "rules") rows) (value_of (codes "admin") rows))
+    else if bytes_eq name (codes "serve")
+    then Some (Serve (value_of (codes "rules") rows) (value_of (codes "admin") rows))
     else None
 
 -- the job of what a command line holds: no command stands for `trace`
@@ -65,7 +72,8 @@ unless_faulty (fault ∷ others) asked = None
 abbrev pub ends_options : List Text → Bool
 ends_options = list_any (λ word. bytes_eq word (codes "--"))
 
--- the job that words ask for: those of a command line without a fault, in which no word ends the options
+-- the job that words ask for: those of a command line without a fault, in which no word ends the
+-- options
 abbrev pub job_asked : List Text → Option Asked
 job_asked words =
     if ends_options words then None

@@ -1,5 +1,6 @@
 -- Look-ups that find nothing, and batches of joined events.
-use Rattle.std.proofs.Common.{◌≡◌, ◌≢◌, ◌∙◌, ap, refl, ℕ, ◌+◌, ◌^◌, ◌%◌, ◌<◌, inl, inr, List, [], ◌∷◌, ◌++◌, length, get_or, Option, None, Some, arith}
+use Rattle.std.proofs.Common.{◌≡◌, ◌≢◌, ◌∙◌, ap, refl, ℕ, ◌+◌, ◌^◌, ◌%◌, ◌<◌, inl, inr, List, [], ◌∷◌, ◌++◌, length}
+use Rattle.std.proofs.Common.{get_or, Option, None, Some, arith}
 use Rattle.std.specs.Prelude.{All, ◌==◌, find}
 use Rattle.std.specs.Option.{option_map}
 use Rattle.std.specs.List.{filter_map}
@@ -23,7 +24,8 @@ module _ {T : Type 0} where
   ]
 
   -- no entry of a consistent table has the greatest token
-  greatest_is_away : (t : Table T) → IsConsistent t → (token : ℕ) → token + 1 ≡ 2 ^ 64 → All (λ e. e.token ≢ token) t.entries
+  greatest_is_away : (t : Table T) → IsConsistent t → (token : ℕ) → token + 1 ≡ 2 ^ 64
+      → All (λ e. e.token ≢ token) t.entries
   greatest_is_away t is token greatest = λ k d within equal.
       let e = get_or t.entries k d in
       let made = is.tokens k d within in
@@ -40,4 +42,5 @@ the_waker_names_nothing {T} t is event greatest =
     ap (λ found. filter_map (λ (e : Ev). option_map (ready_of e) (option_map (λ f. f.id) found)) (event ∷ [])) none
 
 pub batches_join : {T : Type 0} → BatchesJoin T
-batches_join {T} entries first then = filter_map-append (λ event. option_map (ready_of event) (id_with_token event.token entries)) first then
+batches_join {T} entries first then =
+    filter_map-append (λ event. option_map (ready_of event) (id_with_token event.token entries)) first then

@@ -6,7 +6,8 @@ use Rattle.std.specs.declared.sync.Mutex.{Mutex}
 use Rattle.mio.specs.declared.waker.Waker.{Waker}
 use Rattle.stream_base.specs.declared.direction.Dir.TheVariants.{Read, Write}
 use Rattle.deadline_core.specs.declared.deadline.Dirs.{Dirs}
-use Rattle.deadline_core.specs.declared.deadline.Dirs.TheVariants.{Read as ReadAlone, Write as WriteAlone, Both}
+use Rattle.deadline_core.specs.declared.deadline.Dirs.TheVariants.{Read as ReadAlone}
+use Rattle.deadline_core.specs.declared.deadline.Dirs.TheVariants.{Write as WriteAlone, Both}
 use Rattle.deadline_core.specs.DueOrder.{Slot}
 use Rattle.deadline_core.specs.Timers.{Armed}
 use Rattle.deadline_core.specs.declared.timers.Timers.{Timers}

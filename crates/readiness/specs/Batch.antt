@@ -5,7 +5,8 @@ use Rattle.std.specs.List.{filter_map}
 use Rattle.conntable.specs.declared.table.Entry.{Entry}
 use Rattle.conntable.specs.ConnTable.{id_with_token}
 use Rattle.mio.specs.declared.event.event.Event.{Event}
-use Rattle.mio.specs.Event.{event_token, is_readable, is_writable, is_error, is_read_closed, is_write_closed}
+use Rattle.mio.specs.Event.{event_token, is_readable, is_writable, is_error, is_read_closed}
+use Rattle.mio.specs.Event.{is_write_closed}
 use Rattle.readiness.specs.declared.batch.Ev.{Ev}
 use Rattle.readiness.specs.declared.batch.Ready.{Ready}
 
@@ -34,4 +35,5 @@ ready_of event id = record { id = id; read = read_ready event; write = write_rea
 
 -- for each event whose token names an entry, what it makes ready of it
 abbrev pub batch : {T : Type 0} → List (Entry T) → List Ev → List Ready
-batch entries events = filter_map (λ event. option_map (ready_of event) (id_with_token event.token entries)) events
+batch entries events =
+    filter_map (λ event. option_map (ready_of event) (id_with_token event.token entries)) events

@@ -6,8 +6,10 @@ use Rattle.readiness.specs.declared.poll_timeout.TheConstants.{MAX_WAIT_MS}
 abbrev pub Comes : ℕ → ℕ → ℕ → Type 0
 Comes now at ms = at ≤ now + 1000000 * ms
 
--- the shortest wait that comes to the moment, or the longest one where none does; the longest where there is no moment
+-- the shortest wait that comes to the moment, or the longest one where none does; the longest where
+-- there is no moment
 abbrev pub IsWait : ℕ → Option ℕ → ℕ → Type 0
 IsWait now None ms = ms ≡ MAX_WAIT_MS
 IsWait now (Some at) ms =
-    (ms ≤ MAX_WAIT_MS) × (ms < MAX_WAIT_MS → Comes now at ms) × ((less : ℕ) → less < ms → now + 1000000 * less < at)
+    (ms ≤ MAX_WAIT_MS) × (ms < MAX_WAIT_MS → Comes now at ms)
+    × ((less : ℕ) → less < ms → now + 1000000 * less < at)

@@ -3,13 +3,23 @@ use Rattle.std.specs.Prelude.{◌≡◌, ◌⊎◌, ℕ, Result, Ok, Err}
 use Rattle.std.specs.IoError.{error_kind}
 use Rattle.std.specs.declared.io.Error.{Error}
 use Rattle.std.specs.declared.io.ErrorKind.{ErrorKind}
-use Rattle.std.specs.declared.io.ErrorKind.TheVariants.{ConnectionReset, ConnectionAborted, ConnectionRefused, NotConnected, BrokenPipe as PipeIsBroken, WouldBlock as WaitIsNeeded, Interrupted as SignalCame}
+use Rattle.std.specs.declared.io.ErrorKind.TheVariants.{ConnectionReset, ConnectionAborted}
+use Rattle.std.specs.declared.io.ErrorKind.TheVariants.{ConnectionRefused, NotConnected}
+use Rattle.std.specs.declared.io.ErrorKind.TheVariants.{BrokenPipe as PipeIsBroken}
+use Rattle.std.specs.declared.io.ErrorKind.TheVariants.{WouldBlock as WaitIsNeeded}
+use Rattle.std.specs.declared.io.ErrorKind.TheVariants.{Interrupted as SignalCame}
 use Rattle.rwloops.specs.declared.outcome.DevKind.{DevKind}
-use Rattle.rwloops.specs.declared.outcome.DevKind.TheVariants.{Reset, Aborted as WasAborted, BrokenPipe, Refused, Other}
+use Rattle.rwloops.specs.declared.outcome.DevKind.TheVariants.{Reset, Aborted as WasAborted}
+use Rattle.rwloops.specs.declared.outcome.DevKind.TheVariants.{BrokenPipe, Refused, Other}
 use Rattle.rwloops.specs.declared.outcome.Outcome.{Outcome}
-use Rattle.rwloops.specs.declared.outcome.Outcome.TheVariants.{Count, Interrupted, Aborted, WouldBlock, Broken}
+use Rattle.rwloops.specs.declared.outcome.Outcome.TheVariants.{Count, Interrupted, Aborted}
+use Rattle.rwloops.specs.declared.outcome.Outcome.TheVariants.{WouldBlock, Broken}
 use Rattle.rwloops.specs.declared.outcome.AcceptOutcome.{AcceptOutcome}
-use Rattle.rwloops.specs.declared.outcome.AcceptOutcome.TheVariants.{Took, Interrupted as AcceptInterrupted, Aborted as AcceptAborted, WouldBlock as AcceptWouldBlock, Broken as AcceptBroken}
+use Rattle.rwloops.specs.declared.outcome.AcceptOutcome.TheVariants.{Took}
+use Rattle.rwloops.specs.declared.outcome.AcceptOutcome.TheVariants.{Interrupted as AcceptInterrupted}
+use Rattle.rwloops.specs.declared.outcome.AcceptOutcome.TheVariants.{Aborted as AcceptAborted}
+use Rattle.rwloops.specs.declared.outcome.AcceptOutcome.TheVariants.{WouldBlock as AcceptWouldBlock}
+use Rattle.rwloops.specs.declared.outcome.AcceptOutcome.TheVariants.{Broken as AcceptBroken}
 use Rattle.readiness.specs.declared.sock.Sock.{Sock}
 
 -- the kinds that callers tell apart by name, and one for all others

@@ -5,11 +5,12 @@ ghost use Rattle.std.specs.Prelude.{◌≡◌, false, IfOk, IfErr, OnErr};
 ghost use Rattle.std.specs.Arc.{arc_value};
 ghost use Rattle.conntable.specs.Refusals.{HasRoom};
 ghost use Rattle.fd_descriptor.specs.FdHandle.{key_of, cell_of, saw_closed};
+ghost use Rattle.rwloops.specs.declared.outcome.DevKind.{DevKind};
 ghost use Rattle.readiness.specs.declared.holding.HoldFault.{HoldFault};
-ghost use Rattle.readiness.specs.Holding.{HoldsNext, IsHoldFault, entry_cell};
+ghost use Rattle.readiness.specs.Holding.{HoldsNext, IsHeld, IsHoldFault, IsNotHeld, entry_cell};
 
 use crate::poller::{HasCell, Poller};
-use crate::resources::{ListenRes, NoWrites, SockRes};
+use crate::resources::{ListenRes, NoWrites, ReadHalf, SockRes, WriteHalf};
 use crate::sock::{Listen, Sock};
 use conntable::{ConnTable, Refusal};
 use fd_descriptor::{FdHandle, PollCell, Resource};
@@ -110,7 +111,55 @@ fn enter<X: Resource, T: Holds<X>, B: Allocator + Copy>(
     }
 }
 
+// What a descriptor on such a resource is made of.
+trait Socket<X: Resource>: Drop {
+    // Has the poller's turns tell of the socket under this token.
+    fn register_at<A: Allocator>(&mut self, poller: &Poller<A>, token: u64) -> Result<(), DevKind>
+        ensures kinds { IfErr result (λ kind. kind ≡ DevKind.Other) };
+
+    // Its halves. Where memory is refused the socket is dropped, which closes it.
+    fn halves(self, alloc: Global) -> Result<(X::R, X::W), OutOfMemory>;
+}
+
+impl Socket<SockRes> for Sock {
+    fn register_at<A: Allocator>(&mut self, poller: &Poller<A>, token: u64) -> Result<(), DevKind> {
+        poller.register(self, token)
+    }
+
+    fn halves(self, alloc: Global) -> Result<(ReadHalf, WriteHalf), OutOfMemory> {
+        self.split(alloc)
+    }
+}
+
+impl Socket<ListenRes> for Listen {
+    fn register_at<A: Allocator>(&mut self, poller: &Poller<A>, token: u64) -> Result<(), DevKind> {
+        poller.register_listener(self, token)
+    }
+
+    fn halves(self, _alloc: Global) -> Result<(Listen, NoWrites), OutOfMemory> {
+        Ok((self, NoWrites))
+    }
+}
+
 impl<A: Allocator> Poller<A> {
+    // Holds a socket of either kind.
+    fn hold_socket<X: Resource, S: Socket<X>, T: Holds<X>, B: Allocator + Copy>(
+        &self,
+        alloc: Global,
+        table: &mut ConnTable<T, B>,
+        socket: S,
+    ) -> Result<(u64, FdHandle<X>), HoldFault>
+        ensures held { IfOk result (λ held.
+            IsHeld T.cell_in table.old table.new held.0 held.1) }
+        ensures refused { IfErr result (IsNotHeld table.old table.new) }
+    {
+        let mut socket = socket;
+        let (id, token) = table.vacant()?;
+        socket.register_at(self, token)?;
+        let (read, write) = socket.halves(alloc)?;
+        enter(table, FdHandle::open(alloc, read, write, id)?)
+    }
+
     /// Holds a connection: turns with this table tell its descriptor from now on, and the descriptor's
     /// key is its id, so that due timers find it. It gives the id and a handle; the entry has another.
     /// Where anything is refused the socket is dropped, which closes it.
@@ -120,19 +169,11 @@ impl<A: Allocator> Poller<A> {
         table: &mut ConnTable<T, B>,
         sock: Sock,
     ) -> Result<(u64, FdHandle<SockRes>), HoldFault>
-        ensures id { IfOk result (λ held. held.0 ≡ table.old.next_id) }
-        ensures key { IfOk result (λ held. key_of held.1 ≡ held.0) }
-        ensures open { IfOk result (λ held. saw_closed held.1 ≡ false) }
-        ensures added { IfOk result (λ held.
-            HoldsNext T.cell_in table.old table.new (cell_of held.1)) }
-        ensures kept { OnErr result (table.new ≡ table.old) }
-        ensures why { IfErr result (IsHoldFault table.old) }
+        ensures held { IfOk result (λ held.
+            IsHeld T.cell_in table.old table.new held.0 held.1) }
+        ensures refused { IfErr result (IsNotHeld table.old table.new) }
     {
-        let mut sock = sock;
-        let (id, token) = table.vacant()?;
-        self.register(&mut sock, token)?;
-        let (read, write) = sock.split(alloc)?;
-        enter(table, FdHandle::open(alloc, read, write, id)?)
+        self.hold_socket(alloc, table, sock)
     }
 
     /// Holds a listener, as `hold` does a connection.
@@ -142,17 +183,10 @@ impl<A: Allocator> Poller<A> {
         table: &mut ConnTable<T, B>,
         listen: Listen,
     ) -> Result<(u64, FdHandle<ListenRes>), HoldFault>
-        ensures id { IfOk result (λ held. held.0 ≡ table.old.next_id) }
-        ensures key { IfOk result (λ held. key_of held.1 ≡ held.0) }
-        ensures open { IfOk result (λ held. saw_closed held.1 ≡ false) }
-        ensures added { IfOk result (λ held.
-            HoldsNext T.cell_in table.old table.new (cell_of held.1)) }
-        ensures kept { OnErr result (table.new ≡ table.old) }
-        ensures why { IfErr result (IsHoldFault table.old) }
+        ensures held { IfOk result (λ held.
+            IsHeld T.cell_in table.old table.new held.0 held.1) }
+        ensures refused { IfErr result (IsNotHeld table.old table.new) }
     {
-        let mut listen = listen;
-        let (id, token) = table.vacant()?;
-        self.register_listener(&mut listen, token)?;
-        enter(table, FdHandle::open(alloc, listen, NoWrites, id)?)
+        self.hold_socket(alloc, table, listen)
     }
 }

@@ -17,4 +17,6 @@ totals_line up down = codes "up " ++ decimal up ++ codes " down " ++ decimal dow
 
 -- both lines were written, with some number of rules and some totals, and nothing else
 abbrev pub WritesBothLines : Option (List ℕ) → Option (List ℕ) → Type 0
-WritesBothLines old new = (rules : ℕ) × (up : ℕ) × (down : ℕ) × Appends old new (listening_line rules ++ totals_line up down)
+WritesBothLines old new =
+    (rules : ℕ) × (up : ℕ) × (down : ℕ)
+    × Appends old new (listening_line rules ++ totals_line up down)

@@ -4,7 +4,8 @@ use Rattle.rwloops.specs.declared.fault.Fault.{Fault}
 use Rattle.rwloops.specs.declared.fault.Fault.TheVariants as fault
 use Rattle.rwloops.specs.declared.fault.WriteFault.{WriteFault}
 
--- a fault of a write of so many bytes: one of the device is told as a whole write, any other as a fault
+-- a fault of a write of so many bytes: one of the device is told as a whole write, any other as a
+-- fault
 abbrev pub told_of_fault : ℕ → Fault → Option ℕ
 told_of_fault len (fault.Device kind) = Some len
 told_of_fault len other = None

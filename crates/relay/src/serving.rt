@@ -1,6 +1,7 @@
 //! A relay from its rules file to its end.
 
 ghost use Rattle.std.specs.Prelude.{◌≡◌, ◌⊎◌, Err, OnOk, IfErr};
+ghost use Rattle.relay_ledger.specs.declared.book.TheConstants.{PARTS};
 ghost use Rattle.relay.specs.Output.{WritesBothLines, SaysItListens};
 ghost use Rattle.relay.specs.ServeFault.{IsRunFault};
 
@@ -90,26 +91,8 @@ fn opened<'a, U: Ledger, D: Ledger, R: Net + Files + Clock>(
     Ok((relay, unstarted))
 }
 
-// Says that the relay listens, and runs it until it is stopped.
-fn run<U, D, R, W: Write>(
-    rt: R,
-    relay: &mut Relay<'_, U, D>,
-    writer: &mut W,
-) -> Result<(), ServeFault>
-where
-    U: Ledger + Send + Sync + 'static,
-    D: Ledger + Send + Sync + 'static,
-    R: Wait + Threads + Net + Clock + Copy + Send + Sync + 'static,
-    ensures said { OnOk result (SaysItListens (W.contents writer.old) (W.contents writer.new)) }
-    ensures faults { IfErr result (λ fault. IsRunFault fault) }
-{
-    let rules = relay.rules.len();
-    say_listening(writer, rules as u64)?;
-    relay.turn_until_stop(rt)
-}
-
-// Starts the relay's threads, and then runs it. They are started before it says that it listens, so
-// that nothing which is refused after that ends it.
+// Starts the relay's threads, says that it listens, and runs it until it is stopped. The threads are
+// started first, so that nothing which is refused after the line ends it.
 fn start_and_run<U, D, R, W: Write>(
     rt: R,
     relay: &mut Relay<'_, U, D>,
@@ -126,7 +109,9 @@ where
     ensures faults { IfErr result (λ fault. IsRunFault fault) }
 {
     helpers.start(rt, relay, listeners, door)?;
-    run(rt, relay, writer)
+    let rules = relay.rules.len();
+    say_listening(writer, rules as u64)?;
+    relay.turn_until_stop(rt)
 }
 
 // The totals of a relay that ran well, or else why it didn't.
@@ -169,29 +154,6 @@ where
     totals_after(ran, gathered)
 }
 
-// The relay from its opening to its end.
-fn open_and_run<U, D, R, W: Write>(
-    rt: R,
-    alloc: Global,
-    rules: &[Rule],
-    admin: &str,
-    up: Book<U>,
-    down: Book<D>,
-    bound: &mut BoundPaths<'_>,
-    writer: &mut W,
-) -> Result<(u64, u64), ServeFault>
-where
-    U: Ledger + Send + Sync + 'static,
-    D: Ledger + Send + Sync + 'static,
-    R: Wait + Threads + Net + Clock + Files + Copy + Send + Sync + 'static,
-    ensures said { OnOk result (SaysItListens (W.contents writer.old) (W.contents writer.new)) }
-    ensures unwritten { IfErr result (λ fault. IsRunFault fault
-        ⊎ (W.contents writer.new ≡ W.contents writer.old)) }
-{
-    let (relay, unstarted) = opened(&rt, alloc, rules, admin, up, down, bound)?;
-    run_to_the_end(rt, relay, unstarted, writer)
-}
-
 // A relay by these rules, of which no bound path is left.
 fn relayed<U, D, R, W: Write>(
     rt: R,
@@ -211,7 +173,10 @@ where
         ⊎ (W.contents writer.new ≡ W.contents writer.old)) }
 {
     let mut bound = BoundPaths::new(rules, admin);
-    let totals = open_and_run(rt, alloc, rules, admin, up, down, &mut bound, writer);
+    let totals = match opened(&rt, alloc, rules, admin, up, down, &mut bound) {
+        Ok((relay, unstarted)) => run_to_the_end(rt, relay, unstarted, writer),
+        Err(refused) => Err(refused),
+    };
     bound.remove_all(&rt);
     totals
 }
@@ -235,10 +200,10 @@ where
     R: Wait + Threads + Net + Clock + Files + AllocGlobal + Copy + Send + Sync + 'static,
     requires up_name { up.name ≡ U.name }
     requires up_parts { up.parts ≡ U.parts }
-    requires up_all { up.parts ≡ 4294967296 }
+    requires up_all { up.parts ≡ PARTS }
     requires down_name { down.name ≡ D.name }
     requires down_parts { down.parts ≡ D.parts }
-    requires down_all { down.parts ≡ 4294967296 }
+    requires down_all { down.parts ≡ PARTS }
     ensures written { OnOk result (WritesBothLines (W.contents writer.old) (W.contents writer.new)) }
     // Where the rules or a socket are at fault, nothing was written.
     ensures unwritten { IfErr result (λ fault. IsRunFault fault

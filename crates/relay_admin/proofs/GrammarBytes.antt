@@ -5,6 +5,8 @@ use Rattle.std.specs.Prelude.{◌==◌, slice_index, nat_le}
 use Rattle.std.specs.Char.{is_ascii_digit}
 use Rattle.std.specs.List.{list_all}
 use Rattle.std.proofs.lemmas.Bool.Decides.{nat_tests}
+use Rattle.relay_admin.specs.declared.rules.addr.TheConstants.{MAX_PATH_BYTES}
+use Rattle.relay_admin.specs.declared.rules.rule.TheConstants.{MAX_NAME_BYTES}
 use Rattle.relay_admin.specs.rules.Addr.{first_passes, is_visible, is_path}
 use Rattle.relay_admin.specs.rules.Grammar.{is_letter, is_name, is_name_byte}
 use Rattle.relay_admin.proofs.TextLemmas.{both, both_true}
@@ -43,23 +45,25 @@ at_most n high e = grind (arith, nat_tests)
 
 pub path_visible : (path : List ℕ) → is_path path ≡ true → list_all is_visible path ≡ true
 path_visible path e =
-    (three (first_passes (λ byte. byte == 47) path) (list_all is_visible path) (nat_le (length path) 100) e).1
+    (three (first_passes (λ byte. byte == 47) path) (list_all is_visible path)
+    (nat_le (length path) MAX_PATH_BYTES) e).1
 
-pub path_short : (path : List ℕ) → is_path path ≡ true → length path ≤ 100
+pub path_short : (path : List ℕ) → is_path path ≡ true → length path ≤ MAX_PATH_BYTES
 path_short path e =
-    at_most (length path) 100 (three (first_passes (λ byte. byte == 47) path) (list_all is_visible path)
-    (nat_le (length path) 100) e).2
+    at_most (length path) MAX_PATH_BYTES (three (first_passes (λ byte. byte == 47) path) (list_all is_visible path)
+    (nat_le (length path) MAX_PATH_BYTES) e).2
 
 pub name_visible : (name : List ℕ) → is_name name ≡ true → list_all is_visible name ≡ true
 name_visible name e =
-    of_bytes name (three (first_passes is_letter name) (list_all is_name_byte name) (nat_le (length name) 16) e).1
+    of_bytes name (three (first_passes is_letter name) (list_all is_name_byte name)
+    (nat_le (length name) MAX_NAME_BYTES) e).1
   where
     of_bytes : (xs : List ℕ) → list_all is_name_byte xs ≡ true → list_all is_visible xs ≡ true
     of_bytes [] e = refl
     of_bytes (x ∷ xs) e = let p = both (is_name_byte x) (list_all is_name_byte xs) e in
         both_true (is_visible x) (list_all is_visible xs) (name_byte_visible x p.0) (of_bytes xs p.1)
 
-pub name_short : (name : List ℕ) → is_name name ≡ true → length name ≤ 16
+pub name_short : (name : List ℕ) → is_name name ≡ true → length name ≤ MAX_NAME_BYTES
 name_short name e =
-    at_most (length name) 16 (three (first_passes is_letter name) (list_all is_name_byte name)
-    (nat_le (length name) 16) e).2
+    at_most (length name) MAX_NAME_BYTES (three (first_passes is_letter name) (list_all is_name_byte name)
+    (nat_le (length name) MAX_NAME_BYTES) e).2

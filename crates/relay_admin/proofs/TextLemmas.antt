@@ -121,6 +121,11 @@ split_complete byte [] rest lacks = split-here byte byte rest refl
 split_complete byte (x ∷ front) rest lacks = split-later byte x (front ++ byte ∷ rest) lacks.0
     ∙ ap (onto_first x) (split_complete byte front rest lacks.1)
 
+pub split_lacks : (byte : ℕ) (text : List ℕ) → Lacks byte text → split_at_first byte text ≡ None
+split_lacks byte [] lacks = split-empty byte
+split_lacks byte (x ∷ text) lacks =
+    split-later byte x text lacks.0 ∙ ap (onto_first x) (split_lacks byte text lacks.1)
+
 -- the parts are these, and the first lacks the byte
 abbrev pub Splits : ℕ → List ℕ → List ℕ × List ℕ → Type 0
 Splits byte text parts = (text ≡ parts.0 ++ byte ∷ parts.1) × Lacks byte parts.0

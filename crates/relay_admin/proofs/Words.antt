@@ -2,13 +2,14 @@
 pub use Rattle.relay_admin.specs.TextReading.{◌>>=◌}
 unfoldable pub use Rattle.relay_admin.specs.TextReading.{split_at_first, number_within}
 pub use Rattle.relay_admin.specs.admin.Command.{IsDeadline, IsCommand, after_text, command_text, SpellsCommand}
-unfoldable pub use Rattle.relay_admin.specs.admin.CommandReading.{after_at, deadline_at, close_at, worded_at}
-unfoldable pub use Rattle.relay_admin.specs.admin.CommandReading.{command_at}
+pub use Rattle.relay_admin.specs.admin.Command.{words_of, end_of, AreArguments, arguments_text}
+unfoldable pub use Rattle.relay_admin.specs.admin.CommandReading.{after_at, arguments_at, words_at}
+pub use Rattle.relay_admin.specs.admin.CommandReading.{arguments_of_parts, words_of_parts}
 pub use Rattle.relay_admin.specs.admin.Devices.{IsFlushedOrUntouched}
 pub use Rattle.relay_admin.specs.admin.Progress.{Position, start, IsReady, Meanwhile, Advances, progress_of}
 pub use Rattle.relay_admin.specs.admin.Progress.{AnswersLine, Closes}
-pub use Rattle.relay_admin.specs.admin.Reply.{Exchange, IsQuestion, bad_command}
-pub use Rattle.relay_admin.specs.admin.Transcript.{LineTranscript, too_long, no_command, quits, stops, asks, ended}
+pub use Rattle.relay_admin.specs.admin.Reply.{Exchange, bad_command}
+pub use Rattle.relay_admin.specs.admin.Transcript.{LineTranscript, too_long, no_command, finishes, asks, ended}
 pub use Rattle.relay_admin.specs.admin.Transcript.{Transcript, no_line, last_line, line_limit, line_then, questions_of}
 pub use Rattle.relay_admin.specs.admin.Transcript.{Ending, IsTranscriptOf, Serves, ServesWholeLines, cut_off, cut_line}
 pub use Rattle.relay_admin.specs.declared.admin.command.Command.{Command}

@@ -5,6 +5,9 @@ ghost use Rattle.relay_admin.specs.TextReading.{Views, number_within, split_at_f
 
 use stream_base::decimal::parse_decimal;
 
+/// A day, in milliseconds: the longest time that an operator may name.
+pub const DAY_MS: u64 = 86_400_000;
+
 /// The number from `low` to `high` that the text spells, and none where it spells none.
 pub(crate) fn number_between(low: u64, high: u64, text: &[u8]) -> Option<u64>
     ensures value { result ≡ number_within low high text.now }

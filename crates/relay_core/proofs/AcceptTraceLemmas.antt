@@ -1,11 +1,13 @@
 -- The answers of an accept worker so far, and what one more makes of them.
-use Rattle.std.proofs.Common.{◌≡◌, ◌≢◌, ◌<◌, ◌≤◌, ◌+◌, ◌*◌, min, ℕ, zero, suc, List, [], ◌∷◌, Result, Ok, Err, refl, ap, sym, ◌∙◌, arith}
+use Rattle.std.proofs.Common.{◌≡◌, ◌≢◌, ◌<◌, ◌≤◌, ◌+◌, ◌*◌, min, ℕ, zero, suc, List, [], ◌∷◌, Result, Ok, Err, refl, ap}
+use Rattle.std.proofs.Common.{sym, ◌∙◌, arith}
 use Rattle.rwloops.specs.Waits.{Tells}
 use Rattle.rwloops.specs.declared.fault.Fault.{Fault}
 use Rattle.rwloops.specs.declared.fault.Fault.TheVariants.{Closed as ListenerClosed}
 use Rattle.relay_core.specs.declared.accepting.AcceptEnded.{AcceptEnded}
 use Rattle.relay_core.specs.declared.accepting.AcceptEnded.TheVariants.{Closed}
-use Rattle.relay_core.specs.AcceptTrace.{AcceptCall, Accepted, Delivered, Paused, faults_in_a_row, pause_after, GoOn, turn_calls, LastAnswer, AtClosed, IsAccepting}
+use Rattle.relay_core.specs.AcceptTrace.{AcceptCall, Accepted, Delivered, Paused, faults_in_a_row, pause_after, GoOn}
+use Rattle.relay_core.specs.AcceptTrace.{turn_calls, LastAnswer, AtClosed, IsAccepting}
 
 -- answers after each of which it went on, the faults in a row now, and the pause after them
 pub record IsSoFar {T : Type 0} (before now : List (AcceptCall T) → Type 0) (faults pause : ℕ) : Type 0 where
@@ -17,7 +19,8 @@ pub record IsSoFar {T : Type 0} (before now : List (AcceptCall T) → Type 0) (f
   pub paused : pause ≡ pause_after faults
 
 -- one more was accepted and delivered
-pub after_taken : {T : Type 0} {before now after : List (AcceptCall T) → Type 0} {faults pause : ℕ} → IsSoFar before now faults pause
+pub after_taken : {T : Type 0} {before now after : List (AcceptCall T) → Type 0} {faults pause : ℕ}
+    → IsSoFar before now faults pause
     → (taken : T) → Tells now after (Delivered taken ∷ Accepted (Ok taken) ∷ []) → IsSoFar before after 0 0
 after_taken so taken told = record {
   answers = Ok taken ∷ so.answers;
@@ -34,20 +37,23 @@ some_pause zero = omega arith
 some_pause (suc faults) = let before = some_pause faults in omega (arith, before)
 
 -- the next pause is the pause after one fault more
-pause_of_next : (faults pause next : ℕ) → pause ≡ pause_after faults → (pause ≡ 0 → next ≡ 5) → (0 < pause → next ≡ min (2 * pause) 1000)
+pause_of_next : (faults pause next : ℕ) → pause ≡ pause_after faults → (pause ≡ 0 → next ≡ 5)
+    → (0 < pause → next ≡ min (2 * pause) 1000)
     → next ≡ pause_after (suc faults)
 pause_of_next zero pause next is first doubled = first is
 pause_of_next (suc faults) pause next is first doubled = let some = some_pause faults in
     doubled (omega (arith, is, some)) ∙ ap (λ n. min (2 * n) 1000) is
 
-pub next_pause : (faults pause next : ℕ) → pause ≡ pause_after faults → (pause ≡ 0 → next ≡ 5) → (0 < pause → next ≡ min (2 * pause) 1000)
+pub next_pause : (faults pause next : ℕ) → pause ≡ pause_after faults → (pause ≡ 0 → next ≡ 5)
+    → (0 < pause → next ≡ min (2 * pause) 1000)
     → next ≡ pause_after (faults + 1)
 next_pause faults pause next is first doubled =
     let one_more : faults + 1 ≡ suc faults = omega arith in
     rw one_more (pause_of_next faults pause next is first doubled)
 
 -- a fault was borne, and there was a pause
-pub after_fault : {T : Type 0} {before now after : List (AcceptCall T) → Type 0} {faults pause : ℕ} → (so : IsSoFar before now faults pause)
+pub after_fault : {T : Type 0} {before now after : List (AcceptCall T) → Type 0} {faults pause : ℕ}
+    → (so : IsSoFar before now faults pause)
     → (fault : Fault) → fault ≢ ListenerClosed → faults ≢ 1024 → (ms : ℕ) → ms ≡ pause_after (faults + 1)
     → Tells now after (Paused ms ∷ Accepted (Err fault) ∷ []) → IsSoFar before after (faults + 1) ms
 after_fault {faults = faults} so fault not_closed room ms is told = record {
@@ -60,8 +66,10 @@ after_fault {faults = faults} so fault not_closed room ms is told = record {
 }
 
 -- the last answer ends the run
-pub ends_with : {T : Type 0} {before now after : List (AcceptCall T) → Type 0} {faults pause : ℕ} {ended : AcceptEnded} → (so : IsSoFar before now faults pause)
-    → (last : Fault) → LastAnswer so.answers last ended → Tells now after (Accepted (Err last) ∷ []) → IsAccepting before after ended
+pub ends_with : {T : Type 0} {before now after : List (AcceptCall T) → Type 0} {faults pause : ℕ} {ended : AcceptEnded}
+    → (so : IsSoFar before now faults pause)
+    → (last : Fault) → LastAnswer so.answers last ended → Tells now after (Accepted (Err last) ∷ [])
+    → IsAccepting before after ended
 ends_with so last ends told = record {
   calls = Accepted (Err last) ∷ turn_calls so.answers;
   trace = record { answers = so.answers; last = last; go_on = so.go_on; ends = ends; in_order = refl };
@@ -69,5 +77,6 @@ ends_with so last ends told = record {
 }
 
 -- the listener was closed
-pub at_closed : {T : Type 0} (answers : List (Result T Fault)) (fault : Fault) → fault ≡ ListenerClosed → LastAnswer answers fault Closed
+pub at_closed : {T : Type 0} (answers : List (Result T Fault)) (fault : Fault) → fault ≡ ListenerClosed
+    → LastAnswer answers fault Closed
 at_closed answers fault is = rw is AtClosed

@@ -1,11 +1,13 @@
 -- What the calls of a worker carried, by its rounds and its last calls.
-use Rattle.std.proofs.Common.{◌≡◌, ◌∙◌, sym, ap, refl, ℕ, zero, suc, List, [], ◌∷◌, ◌++◌, take, drop, take-append-drop, append_assoc, append-nil, Result, Ok, Err, arith, pow-suc}
+use Rattle.std.proofs.Common.{◌≡◌, ◌∙◌, sym, ap, refl, ℕ, zero, suc, List, [], ◌∷◌, ◌++◌, take, drop, take-append-drop}
+use Rattle.std.proofs.Common.{append_assoc, append-nil, Result, Ok, Err, arith, pow-suc}
 use Rattle.rwloops.specs.declared.fault.Fault.{Fault}
 use Rattle.relay_core.specs.declared.copying.Ended.{Ended}
 use Rattle.relay_core.specs.declared.copying.Ended.TheVariants.{Eof}
 use Rattle.relay_core.specs.CopyTrace.{GateCall, round_calls, EndsBy, AtEnd, AtClose, AtRead, AtWrite, AtCredit}
 use Rattle.relay_core.specs.AcceptTrace.{turn_calls}
-use Rattle.relay_core.specs.Laws.{read_bytes, offered_bytes, taken_bytes, accepted, delivered, BytesPassInOrder, EachIsDeliveredInOrder, PausesAreCapped}
+use Rattle.relay_core.specs.Laws.{read_bytes, offered_bytes, taken_bytes, accepted, delivered, BytesPassInOrder}
+use Rattle.relay_core.specs.Laws.{EachIsDeliveredInOrder, PausesAreCapped}
 
 rounds_offer : (rounds : List (List ℕ)) → offered_bytes (round_calls rounds) ≡ read_bytes (round_calls rounds)
 rounds_offer [] = refl
@@ -20,7 +22,8 @@ nothing_left : (front bytes : List ℕ) → bytes ≡ front → bytes ≡ front 
 nothing_left front bytes same = same ∙ sym (append-nil front)
 
 -- what is left of a write that took some bytes
-some_left : (taken read bytes : List ℕ) (count : ℕ) → taken ≡ read → read ++ bytes ≡ taken ++ take count bytes ++ drop count bytes
+some_left : (taken read bytes : List ℕ) (count : ℕ) → taken ≡ read
+    → read ++ bytes ≡ taken ++ take count bytes ++ drop count bytes
 some_left taken read bytes count same =
     ap (λ front. front ++ bytes) (sym same)
     ∙ ap (λ whole. taken ++ whole) (sym (take-append-drop count bytes))
@@ -38,9 +41,11 @@ nothing_more : (rounds : List (List ℕ)) →
     (offered_bytes (round_calls rounds) ≡ read_bytes (round_calls rounds))
     × ((rest : List ℕ) × (read_bytes (round_calls rounds) ≡ taken_bytes (round_calls rounds) ++ rest))
     × (taken_bytes (round_calls rounds) ≡ read_bytes (round_calls rounds))
-nothing_more rounds = (rounds_offer rounds, ([], nothing_left _ _ (sym (rounds_are_taken rounds))), rounds_are_taken rounds)
+nothing_more rounds =
+    (rounds_offer rounds, ([], nothing_left _ _ (sym (rounds_are_taken rounds))), rounds_are_taken rounds)
 
-passes_at : (rounds : List (List ℕ)) (last : List GateCall) (ended : Ended) → EndsBy last ended → Passes (last ++ round_calls rounds) ended
+passes_at : (rounds : List (List ℕ)) (last : List GateCall) (ended : Ended) → EndsBy last ended
+    → Passes (last ++ round_calls rounds) ended
 passes_at rounds _ _ AtEnd = let all = nothing_more rounds in (all.0, all.1, λ _. all.2)
 passes_at rounds _ _ (AtClose fault) = let all = nothing_more rounds in (all.0, all.1, λ _. all.2)
 passes_at rounds _ _ (AtRead fault other) = let all = nothing_more rounds in (all.0, all.1, λ _. all.2)
@@ -63,7 +68,8 @@ passes_at rounds _ _ (AtCredit bytes (Err failed)) = (
 pub bytes_pass_in_order : BytesPassInOrder
 bytes_pass_in_order calls ended trace = rw trace.in_order (passes_at trace.rounds trace.last ended trace.ends)
 
-turns_deliver : {T : Type 0} (answers : List (Result T Fault)) → delivered (turn_calls answers) ≡ accepted (turn_calls answers)
+turns_deliver : {T : Type 0} (answers : List (Result T Fault))
+    → delivered (turn_calls answers) ≡ accepted (turn_calls answers)
 turns_deliver [] = refl
 turns_deliver (Ok taken ∷ earlier) = ap (λ rest. taken ∷ rest) (turns_deliver earlier)
 turns_deliver (Err fault ∷ earlier) = turns_deliver earlier

@@ -1,5 +1,6 @@
 -- What an accept worker does through its gate. Lists are newest first.
-use Rattle.std.specs.Prelude.{◌≡◌, ◌≢◌, ◌≤◌, ◌+◌, ◌*◌, min, ℕ, zero, suc, List, [], ◌∷◌, Result, Ok, Err}
+use Rattle.std.specs.Prelude.{◌≡◌, ◌≢◌, ◌≤◌, ◌+◌, ◌*◌, min, ℕ, zero, suc, List, [], ◌∷◌, Result, Ok}
+use Rattle.std.specs.Prelude.{Err}
 use Rattle.rwloops.specs.Waits.{Tells}
 use Rattle.rwloops.specs.declared.fault.Fault.{Fault}
 use Rattle.rwloops.specs.declared.fault.Fault.TheVariants.{Closed as ListenerClosed}
@@ -18,16 +19,19 @@ faults_in_a_row [] = 0
 faults_in_a_row (Ok taken ∷ earlier) = 0
 faults_in_a_row (Err fault ∷ earlier) = faults_in_a_row earlier + 1
 
--- the pause after so many faults in a row: 5 ms after the first, then twice the one before, at most 1 s
+-- the pause after so many faults in a row: 5 ms after the first, then twice the one before, at most
+-- 1 s
 abbrev pub pause_after : ℕ → ℕ
 pause_after zero = 0
 pause_after (suc zero) = 5
 pause_after (suc (suc faults)) = min (2 * pause_after (suc faults)) 1000
 
--- an answer after which an accept worker goes on: no closed listener, and no more than 1,024 faults in a row
+-- an answer after which an accept worker goes on: no closed listener, and no more than 1,024 faults
+-- in a row
 abbrev pub GoesOn : {T : Type 0} → Result T Fault → List (Result T Fault) → Type 0
 GoesOn (Ok taken) earlier = Unit {0}
-GoesOn (Err fault) earlier = (fault ≢ ListenerClosed) × (faults_in_a_row (Err fault ∷ earlier) ≤ 1024)
+GoesOn (Err fault) earlier =
+    (fault ≢ ListenerClosed) × (faults_in_a_row (Err fault ∷ earlier) ≤ 1024)
 
 -- answers after each of which it goes on
 abbrev pub GoOn : {T : Type 0} → List (Result T Fault) → Type 0
@@ -45,14 +49,17 @@ turn_calls [] = []
 turn_calls (answer ∷ earlier) = follow_up answer earlier ∷ Accepted answer ∷ turn_calls earlier
 
 -- the last answer of an accept worker that ended so, after those before
-pub data LastAnswer {T : Type 0} (earlier : List (Result T Fault)) : Fault → AcceptEnded → Type 0 where
+pub data LastAnswer {T : Type 0} (earlier : List (Result T Fault)) : Fault → AcceptEnded
+    → Type 0 where
   -- the listener was closed
   AtClosed : LastAnswer earlier ListenerClosed Closed
   -- another fault, after 1,024 in a row
-  AtFault : (fault : Fault) → fault ≢ ListenerClosed → faults_in_a_row earlier ≡ 1024 → LastAnswer earlier fault (TooManyFaults fault)
+  AtFault : (fault : Fault) → fault ≢ ListenerClosed → faults_in_a_row earlier ≡ 1024
+      → LastAnswer earlier fault (TooManyFaults fault)
 
 -- the calls of an accept worker from its beginning to its end
-pub record AcceptTrace {T : Type 0} (calls : List (AcceptCall T)) (ended : AcceptEnded) : Type 0 where
+pub record AcceptTrace {T : Type 0} (calls : List (AcceptCall T))
+    (ended : AcceptEnded) : Type 0 where
   pub answers : List (Result T Fault)
   pub last : Fault
   pub go_on : GoOn answers
@@ -60,7 +67,8 @@ pub record AcceptTrace {T : Type 0} (calls : List (AcceptCall T)) (ended : Accep
   pub in_order : calls ≡ Accepted (Err last) ∷ turn_calls answers
 
 -- an accept worker's run, as its gate tells it
-pub record IsAccepting {T : Type 0} (before after : List (AcceptCall T) → Type 0) (ended : AcceptEnded) : Type 0 where
+pub record IsAccepting {T : Type 0} (before after : List (AcceptCall T) → Type 0)
+    (ended : AcceptEnded) : Type 0 where
   pub calls : List (AcceptCall T)
   pub trace : AcceptTrace calls ended
   pub told : Tells before after calls

@@ -5,7 +5,9 @@ use Rattle.rwloops.specs.declared.fault.Fault.{Fault}
 use Rattle.rwloops.specs.declared.fault.Fault.TheVariants.{EndOfFile}
 use Rattle.rwloops.specs.declared.fault.WriteFault.{WriteFault}
 use Rattle.relay_core.specs.declared.copying.Ended.{Ended}
-use Rattle.relay_core.specs.declared.copying.Ended.TheVariants.{Eof, ReadFault, WriteFault as Unwritten, CloseFault, BookFull}
+use Rattle.relay_core.specs.declared.copying.Ended.TheVariants.{Eof, ReadFault}
+use Rattle.relay_core.specs.declared.copying.Ended.TheVariants.{WriteFault as Unwritten, CloseFault}
+use Rattle.relay_core.specs.declared.copying.Ended.TheVariants.{BookFull}
 
 -- a call of a gate, with its bytes and its answer
 pub data GateCall : Type 0 where
@@ -33,23 +35,28 @@ abbrev pub written : List GateCall → ℕ
 written [] = 0
 written (call ∷ earlier) = written earlier + written_by call
 
--- rounds that went well: each read is directly followed by one write of exactly its bytes, which takes them all
+-- rounds that went well: each read is directly followed by one write of exactly its bytes, which
+-- takes them all
 abbrev pub round_calls : List (List ℕ) → List GateCall
 round_calls [] = []
-round_calls (bytes ∷ earlier) = Wrote bytes (Ok (length bytes)) ∷ Read (Ok bytes) ∷ round_calls earlier
+round_calls (bytes ∷ earlier) =
+    Wrote bytes (Ok (length bytes)) ∷ Read (Ok bytes) ∷ round_calls earlier
 
 -- the last calls of a worker that ended so
 pub data EndsBy : List GateCall → Ended → Type 0 where
   -- the reader's end, which the writer was told
   AtEnd : EndsBy (ClosedWrite (Ok tt) ∷ Read (Err EndOfFile) ∷ []) Eof
   -- the reader's end, which the writer couldn't be told
-  AtClose : (fault : Fault) → EndsBy (ClosedWrite (Err fault) ∷ Read (Err EndOfFile) ∷ []) (CloseFault fault)
+  AtClose : (fault : Fault)
+      → EndsBy (ClosedWrite (Err fault) ∷ Read (Err EndOfFile) ∷ []) (CloseFault fault)
   -- a read that failed
   AtRead : (fault : Fault) → fault ≢ EndOfFile → EndsBy (Read (Err fault) ∷ []) (ReadFault fault)
   -- a write of exactly the bytes that were read, which failed
-  AtWrite : (bytes : List ℕ) (failed : WriteFault) → EndsBy (Wrote bytes (Err failed) ∷ Read (Ok bytes) ∷ []) (Unwritten failed)
+  AtWrite : (bytes : List ℕ) (failed : WriteFault)
+      → EndsBy (Wrote bytes (Err failed) ∷ Read (Ok bytes) ∷ []) (Unwritten failed)
   -- such a write, whose count found no room in the book
-  AtCredit : (bytes : List ℕ) (answer : Result ℕ WriteFault) → EndsBy (Wrote bytes answer ∷ Read (Ok bytes) ∷ []) (BookFull (reported answer))
+  AtCredit : (bytes : List ℕ) (answer : Result ℕ WriteFault)
+      → EndsBy (Wrote bytes answer ∷ Read (Ok bytes) ∷ []) (BookFull (reported answer))
 
 -- the calls of a worker from its beginning to its end: rounds, and the last calls
 pub record CopyTrace (calls : List GateCall) (ended : Ended) : Type 0 where
@@ -64,7 +71,8 @@ uncredited (BookFull n) = n
 uncredited _ = 0
 
 -- a worker's run: what its gate tells of it, and by how much the share grew
-pub record IsCopied (before after : List GateCall → Type 0) (old new : ℕ) (ended : Ended) : Type 0 where
+pub record IsCopied (before after : List GateCall → Type 0) (old new : ℕ)
+    (ended : Ended) : Type 0 where
   pub calls : List GateCall
   pub trace : CopyTrace calls ended
   pub told : Tells before after calls

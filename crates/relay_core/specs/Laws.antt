@@ -25,7 +25,8 @@ taken_bytes (Wrote bytes (Ok count) ∷ earlier) = taken_bytes earlier ++ bytes
 taken_bytes (Wrote bytes (Err failed) ∷ earlier) = taken_bytes earlier ++ take failed.count bytes
 taken_bytes (_ ∷ earlier) = taken_bytes earlier
 
--- what a worker offers is what it read; what was taken is a front of it, and all of it at the reader's end
+-- what a worker offers is what it read; what was taken is a front of it, and all of it at the
+-- reader's end
 abbrev pub BytesPassInOrder : Type 0
 BytesPassInOrder = (calls : List GateCall) (ended : Ended) → CopyTrace calls ended →
     (offered_bytes calls ≡ read_bytes calls)
@@ -46,7 +47,8 @@ delivered (_ ∷ earlier) = delivered earlier
 
 -- each that was accepted is delivered, once and in order, and nothing else is
 abbrev pub EachIsDeliveredInOrder : Type 0 → Type 0
-EachIsDeliveredInOrder T = (calls : List (AcceptCall T)) (ended : AcceptEnded) → AcceptTrace calls ended → delivered calls ≡ accepted calls
+EachIsDeliveredInOrder T = (calls : List (AcceptCall T)) (ended : AcceptEnded)
+    → AcceptTrace calls ended → delivered calls ≡ accepted calls
 
 -- 5 ms after the first fault in a row, and twice as long after each further one, up to 1 s
 abbrev pub PausesAreCapped : Type 0

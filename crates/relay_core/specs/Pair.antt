@@ -3,7 +3,8 @@ use Rattle.std.specs.Prelude.{◌≢◌, ◌≤◌, ◌⊎◌, ℕ, List, [], �
 use Rattle.relay_core.specs.declared.copying.Ended.{Ended}
 use Rattle.relay_core.specs.declared.copying.Ended.TheVariants.{Eof}
 
--- a pair of whose workers these ended so is to be closed: one ended other than by `Eof`, or both ended
+-- a pair of whose workers these ended so is to be closed: one ended other than by `Eof`, or both
+-- ended
 abbrev pub IsToBeClosed : List Ended → Type 0
 IsToBeClosed ends = Any (λ ended. ended ≢ Eof) ends ⊎ (2 ≤ length ends)
 

@@ -1,9 +1,9 @@
 -- What a caller sees of a book, and how the calls change it.
 use Rattle.std.specs.Prelude.{◌≡◌, ◌<◌, ◌+◌, ◌-◌, ◌⊎◌, ℕ, Bool, true, false, List, length}
+use Rattle.relay_ledger.specs.declared.book.TheConstants.{MAX_SHARES}
 
 -- the sum of all credits, how many shares are open, the sum of the amounts of the shares that were
--- settled, and whether
--- all that were open were gathered
+-- settled, and whether all that were open were gathered
 pub record Account : Type 0 where
   pub total : ℕ
   pub opened : ℕ
@@ -29,11 +29,11 @@ Gathers old new = new ≡ record old { settled = old.total; gathered = true }
 
 -- a book that opens one share more
 abbrev pub MayOpen : Account → Type 0
-MayOpen book = (book.opened < 4294967295) × (book.gathered ≡ false)
+MayOpen book = (book.opened < MAX_SHARES) × (book.gathered ≡ false)
 
 -- a book that opens none
 abbrev pub CannotOpen : Account → Type 0
-CannotOpen book = (book.opened ≡ 4294967295) ⊎ (book.gathered ≡ true)
+CannotOpen book = (book.opened ≡ MAX_SHARES) ⊎ (book.gathered ≡ true)
 
 -- as many shares as are open, of a book that wasn't gathered before
 abbrev pub AreAllShares : Account → List ℕ → Type 0

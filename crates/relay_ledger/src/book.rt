@@ -8,6 +8,7 @@
 
 ghost use Rattle.std.specs.Prelude.{◌≡◌, ◌+◌, ◌^◌, ◌<◌, ◌↔◌, false, true, sum};
 ghost use Rattle.std.specs.Prelude.{IsOk, IfOk, OnOk, IfErr, OnErr};
+ghost use Rattle.relay_ledger.specs.declared.book.TheConstants.{PARTS};
 ghost use Rattle.relay_ledger.specs.Book.{OpensOne, Adds, Settles, Gathers, MayOpen, CannotOpen, AreAllShares};
 
 use crate::gathering;
@@ -21,7 +22,7 @@ use std::sync::ledger::{Blank, Ledger};
 pub const PARTS: u64 = 4_294_967_296;
 
 /// The most shares of a book that are open at once.
-pub const MAX_SHARES: u32 = 4_294_967_295;
+pub const MAX_SHARES: u32 = (PARTS - 1) as u32;
 
 /// The total would pass the greatest `u64`, or no more shares may be open.
 #[derive(Clone, Copy, Debug, PartialEq, Eq, Drop)]
@@ -31,7 +32,7 @@ pub struct Full;
 #[derive(Drop)]
 struct WholeLedger<L: Ledger> {
     of: PhantomData<L>,
-    ghost all: { L.parts ≡ 4294967296 },
+    ghost all: { L.parts ≡ PARTS },
 }
 
 /// The total of all credits. `L` names the book, so a share fits its own book alone.
@@ -50,6 +51,7 @@ pub struct Book<L: Ledger> {
 
 impl<L: Ledger> Model for Book<L> {
     ghost use Rattle.std.specs.Prelude.{◌≡◌, ◌+◌, ◌^◌, ◌<◌, false, true};
+    ghost use Rattle.relay_ledger.specs.declared.book.TheConstants.{PARTS};
     ghost use Rattle.relay_ledger.specs.Book.{Account};
 
     ghost Value = { Account };
@@ -62,8 +64,8 @@ impl<L: Ledger> Model for Book<L> {
     } };
 
     ghost invariant = { λ b. (b.total ≡ b.book.total) × (b.total < 2 ^ 64) × (b.opened < 2 ^ 32)
-        × (b.gathered ≡ false → b.rest.parts + b.opened ≡ 4294967296)
-        × (b.gathered ≡ true → b.rest.parts ≡ 4294967296) };
+        × (b.gathered ≡ false → b.rest.parts + b.opened ≡ PARTS)
+        × (b.gathered ≡ true → b.rest.parts ≡ PARTS) };
 }
 
 impl<L: Ledger> Book<L> {
@@ -71,7 +73,7 @@ impl<L: Ledger> Book<L> {
     pub fn new(blank: Blank) -> Book<L>
         requires name { blank.name ≡ L.name }
         requires parts { blank.parts ≡ L.parts }
-        requires all { blank.parts ≡ 4294967296 }
+        requires all { blank.parts ≡ PARTS }
         ensures total { result.total ≡ 0 }
         ensures opened { result.opened ≡ 0 }
         ensures settled { result.settled ≡ 0 }

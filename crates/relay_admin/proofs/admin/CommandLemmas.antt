@@ -1,15 +1,18 @@
 -- What is read is a command of the grammar, and each command of the grammar is read from its text.
-use Rattle.std.specs.Prelude.{◌≡◌, ◌≢◌, ◌≤◌, ◌∷◌, ◌++◌, if◌then◌else◌}
-use Rattle.relay_admin.proofs.Words.{◌∙◌, sym, ap, refl, subst, ℕ, List, Bool, true, false}
-use Rattle.relay_admin.proofs.Words.{Option, Some, None, arith, codes, IfSome, IfNone, bytes_eq, decimal}
+use Rattle.std.specs.Prelude.{◌≡◌, ◌≢◌, ◌≤◌, ◌<◌, ◌^◌, ◌∷◌, ◌++◌, ◌⊎◌, if◌then◌else◌}
+use Rattle.relay_admin.proofs.Words.{◌∙◌, sym, ap, refl, subst, ℕ, List, Bool, true, false, append-nil}
+use Rattle.relay_admin.proofs.Words.{Option, Some, None, IfSome, IfNone, arith, codes, bytes_eq, decimal, nat_tests}
+use Rattle.relay_admin.proofs.Words.{inl, inr}
 use Rattle.relay_admin.proofs.Words.{Command, space, ◌>>=◌, split_at_first, number_within, IsDeadline, IsCommand}
-use Rattle.relay_admin.proofs.Words.{after_text, command_text, SpellsCommand, after_at, deadline_at, close_at}
-use Rattle.relay_admin.proofs.Words.{worded_at, command_at}
-use Rattle.relay_admin.specs.declared.admin.command.Command.TheVariants as command
-use Rattle.relay_admin.proofs.TextLemmas.{bind_some, bind_is, same_bytes, split_sound, split_complete, Lacks-word}
+use Rattle.relay_admin.proofs.Words.{AreArguments, arguments_text, words_of, after_text, command_text, SpellsCommand}
+use Rattle.relay_admin.proofs.Words.{after_at, arguments_at, arguments_of_parts, words_at, words_of_parts, Lacks}
+use Rattle.relay_admin.specs.declared.admin.command.Arguments.{Arguments}
+use Rattle.relay_admin.specs.declared.admin.command.Arguments.TheVariants as behind
+use Rattle.relay_admin.specs.declared.admin.command.TheConstants.{MAX_ID, MAX_DEADLINE_MS}
+use Rattle.relay_admin.proofs.TextLemmas.{bind_some, bind_is, same_bytes, split_sound, split_complete, split_lacks}
+use Rattle.relay_admin.proofs.TextLemmas.{word_lacks, Lacks-word}
 use Rattle.relay_admin.proofs.NumberLemmas.{within_sound, within_complete, Lacks-decimal}
 use Rattle.relay_admin.proofs.GrammarBytes.{digit_no_space}
-use Rattle.relay_admin.proofs.rules.Sound.{one_of_two}
 use Rattle.relay_admin.proofs.rules.Complete.{decimal_not_never, else_is}
 
 -- ---- What is read
@@ -20,7 +23,7 @@ unfolding after_at
 after_sound text after e = by_word (bytes_eq text (codes "never")) (λ t. same_bytes text (codes "never") t) e
   where
     by_word : (b : Bool) → (b ≡ true → text ≡ codes "never")
-        → (if b then Some None else (number_within 0 86400000 text >>= λ ms. Some (Some ms))) ≡ Some after
+        → (if b then Some None else (number_within 0 MAX_DEADLINE_MS text >>= λ ms. Some (Some ms))) ≡ Some after
         → (text ≡ after_text after) × IsDeadline after
     by_word true word h =
         let P : Option ℕ → Type 0 = λ o. (text ≡ after_text o) × IsDeadline o in
@@ -28,75 +31,71 @@ after_sound text after e = by_word (bytes_eq text (codes "never")) (λ t. same_b
         subst P same (word refl, tt)
     by_word false word h =
         let P : Option ℕ → Type 0 = λ o. (text ≡ after_text o) × IsDeadline o in
-        let ms = bind_some (number_within 0 86400000 text) _ after h in
+        let ms = bind_some (number_within 0 MAX_DEADLINE_MS text) _ after h in
         let is : Some (Some ms.0) ≡ Some after = ms.2 in
         let same : Some ms.0 ≡ after = cc in
-        let spelled = within_sound 0 86400000 text ms.0 ms.1 in
+        let spelled = within_sound 0 MAX_DEADLINE_MS text ms.0 ms.1 in
         subst P same (spelled.0, spelled.2)
 
-deadline_sound : (text : List ℕ) (c : Command) → deadline_at text ≡ Some c
-    → SpellsCommand (codes "deadline" ++ space ∷ text) c
-unfolding deadline_at
-deadline_sound text c e =
-    let id = bind_some (split_at_first space text) _ c e in
-    let n = bind_some (number_within 1 4503599627370494 id.0.0) _ c id.2 in
-    let after = bind_some (after_at id.0.1) _ c n.2 in
-    let is_id = within_sound 1 4503599627370494 id.0.0 n.0 n.1 in
-    let is_after = after_sound id.0.1 after.0 after.1 in
-    joined text id.0.0 id.0.1 n.0 after.0 c after.2 (split_sound space text id.0 id.1).0 is_id.0 is_after.0 is_id.1
-    is_id.2 is_after.1
+-- the text is that of these arguments of the grammar
+abbrev SpellsArguments : List ℕ → Arguments → Type 0
+SpellsArguments text arguments = (text ≡ arguments_text arguments) × AreArguments arguments
+
+id_sound : (text : List ℕ) (a : Arguments) → arguments_of_parts text None ≡ Some a → SpellsArguments (space ∷ text) a
+id_sound text a e =
+    let id = bind_some (number_within 1 MAX_ID text) _ a e in
+    let is : Some (behind.Id id.0) ≡ Some a = id.2 in
+    let same : behind.Id id.0 ≡ a = cc in
+    let spelled = within_sound 1 MAX_ID text id.0 id.1 in
+    subst (SpellsArguments (space ∷ text)) same (ap (λ t. space ∷ t) spelled.0, (spelled.1, spelled.2))
+
+id_and_deadline_sound : (text : List ℕ) (parts : List ℕ × List ℕ) (a : Arguments)
+    → text ≡ parts.0 ++ space ∷ parts.1 → arguments_of_parts text (Some parts) ≡ Some a
+    → SpellsArguments (space ∷ text) a
+id_and_deadline_sound text parts a cut e =
+    let id = bind_some (number_within 1 MAX_ID parts.0) _ a e in
+    let after = bind_some (after_at parts.1) _ a id.2 in
+    let is_id = within_sound 1 MAX_ID parts.0 id.0 id.1 in
+    let is_after = after_sound parts.1 after.0 after.1 in
+    joined parts.0 parts.1 id.0 after.0 after.2 cut is_id.0 is_after.0 is_id.1 is_id.2 is_after.1
   where
-    joined : (text id rest : List ℕ) (n : ℕ) (after : Option ℕ) (c : Command)
-        → Some (command.DeadlineOf n after) ≡ Some c → text ≡ id ++ space ∷ rest → id ≡ decimal n
-        → rest ≡ after_text after → 1 ≤ n → n ≤ 4503599627370494 → IsDeadline after
-        → SpellsCommand (codes "deadline" ++ space ∷ text) c
-    joined text id rest n after c is e1 e2 e3 low high fits =
-        let same : command.DeadlineOf n after ≡ c = cc in
+    joined : (id rest : List ℕ) (n : ℕ) (after : Option ℕ) → Some (behind.IdAndDeadline n after) ≡ Some a
+        → text ≡ id ++ space ∷ rest → id ≡ decimal n → rest ≡ after_text after → 1 ≤ n → n ≤ MAX_ID → IsDeadline after
+        → SpellsArguments (space ∷ text) a
+    joined id rest n after is e1 e2 e3 low high fits =
+        let same : behind.IdAndDeadline n after ≡ a = cc in
         let spelled : text ≡ decimal n ++ space ∷ after_text after = cc in
-        subst (SpellsCommand (codes "deadline" ++ space ∷ text)) same
-        (((low, high), fits), ap (λ t. codes "deadline" ++ space ∷ t) spelled)
+        subst (SpellsArguments (space ∷ text)) same (ap (λ t. space ∷ t) spelled, ((low, high), fits))
 
-close_sound : (text : List ℕ) (c : Command) → close_at text ≡ Some c → SpellsCommand (codes "close" ++ space ∷ text) c
-unfolding close_at
-close_sound text c e =
-    let n = bind_some (number_within 1 4503599627370494 text) _ c e in
-    let is_id = within_sound 1 4503599627370494 text n.0 n.1 in
-    let is : Some (command.CloseConn n.0) ≡ Some c = n.2 in
-    let same : command.CloseConn n.0 ≡ c = cc in
-    subst (SpellsCommand (codes "close" ++ space ∷ text)) same
-    ((is_id.1, is_id.2), ap (λ t. codes "close" ++ space ∷ t) is_id.0)
+arguments_sound : (text : List ℕ) (a : Arguments) → arguments_at text ≡ Some a → SpellsArguments (space ∷ text) a
+unfolding arguments_at
+arguments_sound text a e = by_parts (split_at_first space text) refl e
+  where
+    by_parts : (o : Option (List ℕ × List ℕ)) → split_at_first space text ≡ o → arguments_of_parts text o ≡ Some a
+        → SpellsArguments (space ∷ text) a
+    by_parts None is h = id_sound text a h
+    by_parts (Some parts) is h = id_and_deadline_sound text parts a (split_sound space text parts is).0 h
 
-worded_sound : (text : List ℕ) (c : Command) → worded_at text ≡ Some c → SpellsCommand text c
-unfolding worded_at
-worded_sound text c e =
-    let word = bind_some (split_at_first space text) _ c e in
-    let spelled : text ≡ word.0.0 ++ space ∷ word.0.1 = (split_sound space text word.0 word.1).0 in
-    one_of_two (bytes_eq word.0.0 (codes "close")) (bytes_eq word.0.0 (codes "deadline")) (close_at word.0.1)
-    (deadline_at word.0.1) c (SpellsCommand text c)
-    (λ is h. let rest = close_sound word.0.1 c h in
-    (rest.0, spelled ∙ ap (λ t. t ++ space ∷ word.0.1) (same_bytes word.0.0 (codes "close") is) ∙ rest.1))
-    (λ is h. let rest = deadline_sound word.0.1 c h in
-    (rest.0, spelled ∙ ap (λ t. t ++ space ∷ word.0.1) (same_bytes word.0.0 (codes "deadline") is) ∙ rest.1))
-    word.2
+-- the line is that of this word with these arguments of the grammar
+abbrev SpellsWords : List ℕ → List ℕ × Arguments → Type 0
+SpellsWords line words = (line ≡ words.0 ++ arguments_text words.1) × AreArguments words.1
 
--- a word that is a whole command, or something else
-word_or : {A : Type 0} (b : Bool) (x : A) (rest : Option A) (z : A) (P : A → Type 0) → (b ≡ true → P x)
-    → (rest ≡ Some z → P z) → (if b then Some x else rest) ≡ Some z → P z
-word_or true x rest z P f g e = let same : x ≡ z = cc in subst P same (f refl)
-word_or false x rest z P f g e = g e
-
-pub command_sound : (text : List ℕ) (c : Command) → command_at text ≡ Some c → SpellsCommand text c
-unfolding command_at
-command_sound text c e =
-    word_or (bytes_eq text (codes "list")) command.List _ c (SpellsCommand text)
-    (λ t. (tt, same_bytes text (codes "list") t))
-    (word_or (bytes_eq text (codes "totals")) command.Totals _ c (SpellsCommand text)
-    (λ t. (tt, same_bytes text (codes "totals") t))
-    (word_or (bytes_eq text (codes "quit")) command.Quit _ c (SpellsCommand text)
-    (λ t. (tt, same_bytes text (codes "quit") t))
-    (word_or (bytes_eq text (codes "stop")) command.Stop _ c (SpellsCommand text)
-    (λ t. (tt, same_bytes text (codes "stop") t))
-    (worded_sound text c)))) e
+pub words_sound : (line : List ℕ) (words : List ℕ × Arguments) → words_at line ≡ Some words → SpellsWords line words
+unfolding words_at
+words_sound line words e = by_parts (split_at_first space line) refl e
+  where
+    by_parts : (o : Option (List ℕ × List ℕ)) → split_at_first space line ≡ o → words_of_parts line o ≡ Some words
+        → SpellsWords line words
+    by_parts None is h =
+        let same : (line, behind.Nothing) ≡ words = cc in
+        subst (SpellsWords line) same (sym (append-nil line), tt)
+    by_parts (Some parts) is h =
+        let cut : line ≡ parts.0 ++ space ∷ parts.1 = (split_sound space line parts is).0 in
+        let a = bind_some (arguments_at parts.1) _ words h in
+        let of_pair : Some (parts.0, a.0) ≡ Some words = a.2 in
+        let same : (parts.0, a.0) ≡ words = cc in
+        let rest = arguments_sound parts.1 a.0 a.1 in
+        subst (SpellsWords line) same (cut ∙ ap (λ t. parts.0 ++ t) rest.0, rest.1)
 
 -- ---- What is in the grammar
 
@@ -105,39 +104,100 @@ unfolding after_at
 after_complete None is = refl
 after_complete (Some ms) is =
     else_is (bytes_eq (decimal ms) (codes "never")) (Some None)
-    (number_within 0 86400000 (decimal ms) >>= λ n. Some (Some n)) (decimal_not_never ms (omega arith))
-    ∙ bind_is (number_within 0 86400000 (decimal ms)) _ ms
-    (within_complete 0 86400000 ms (omega arith) (omega arith) is)
+    (number_within 0 MAX_DEADLINE_MS (decimal ms) >>= λ n. Some (Some n)) (decimal_not_never ms (omega arith))
+    ∙ bind_is (number_within 0 MAX_DEADLINE_MS (decimal ms)) _ ms
+    (within_complete 0 MAX_DEADLINE_MS ms (omega arith) (omega arith) is)
 
-pub command_complete : (c : Command) → IsCommand c → command_at (command_text c) ≡ Some c
-unfolding command_at worded_at close_at deadline_at
-command_complete command.List is = refl
-command_complete command.Totals is = refl
-command_complete command.Quit is = refl
-command_complete command.Stop is = refl
-command_complete (command.CloseConn id) is =
-    bind_is (split_at_first space (command_text (command.CloseConn id))) _ (codes "close", decimal id)
-    (split_complete space (codes "close") (decimal id) (Lacks-word space (codes "close") refl))
-    ∙ bind_is _ _ _ (within_complete 1 4503599627370494 id (let high = is.1 in omega arith) is.0 is.1)
-command_complete (command.DeadlineOf id after) is =
-    bind_is (split_at_first space (command_text (command.DeadlineOf id after))) _
-    (codes "deadline", decimal id ++ space ∷ after_text after)
-    (split_complete space (codes "deadline") (decimal id ++ space ∷ after_text after)
-    (Lacks-word space (codes "deadline") refl))
-    ∙ bind_is _ _ _ (split_complete space (decimal id) (after_text after)
-    (Lacks-decimal space id digit_no_space (let high = is.0.1 in omega arith)))
-    ∙ bind_is _ _ _ (within_complete 1 4503599627370494 id (let high = is.0.1 in omega arith) is.0.0 is.0.1)
+arguments_complete : (text : List ℕ) (a : Arguments) → AreArguments a → space ∷ text ≡ arguments_text a
+    → arguments_at text ≡ Some a
+unfolding arguments_at
+arguments_complete text behind.Nothing is e = absurd (cc)
+arguments_complete text (behind.Id id) is e =
+    let spelled : text ≡ decimal id = cc in
+    let short : id < 2 ^ 64 = let high = is.1 in omega arith in
+    ap arguments_at spelled
+    ∙ ap (arguments_of_parts (decimal id))
+    (split_lacks space (decimal id) (Lacks-decimal space id digit_no_space short))
+    ∙ bind_is _ _ _ (within_complete 1 MAX_ID id short is.0 is.1)
+arguments_complete text (behind.IdAndDeadline id after) is e =
+    let spelled : text ≡ decimal id ++ space ∷ after_text after = cc in
+    let short : id < 2 ^ 64 = let high = is.0.1 in omega arith in
+    ap arguments_at spelled
+    ∙ ap (arguments_of_parts (decimal id ++ space ∷ after_text after))
+    (split_complete space (decimal id) (after_text after) (Lacks-decimal space id digit_no_space short))
+    ∙ bind_is _ _ _ (within_complete 1 MAX_ID id short is.0.0 is.0.1)
     ∙ bind_is _ _ _ (after_complete after is.1)
+
+-- arguments are none, or their text begins with a space
+arguments_begin : (a : Arguments) → (a ≡ behind.Nothing) ⊎ ((text : List ℕ) × (arguments_text a ≡ space ∷ text))
+arguments_begin behind.Nothing = inl refl
+arguments_begin (behind.Id id) = inr (decimal id, refl)
+arguments_begin (behind.IdAndDeadline id after) = inr (decimal id ++ space ∷ after_text after, refl)
+
+words_complete : (word : List ℕ) (a : Arguments) → Lacks space word → AreArguments a
+    → words_at (word ++ arguments_text a) ≡ Some (word, a)
+unfolding words_at
+words_complete word a lacks is = by_text (arguments_begin a)
+  where
+    by_text : (a ≡ behind.Nothing) ⊎ ((text : List ℕ) × (arguments_text a ≡ space ∷ text))
+        → words_at (word ++ arguments_text a) ≡ Some (word, a)
+    by_text (inl nothing) =
+        let alone : word ++ arguments_text a ≡ word = ap (λ b. word ++ arguments_text b) nothing ∙ append-nil word in
+        ap words_at alone ∙ ap (words_of_parts word) (split_lacks space word lacks)
+        ∙ ap (λ b. Some (word, b)) (sym nothing)
+    by_text (inr some) =
+        let line : word ++ arguments_text a ≡ word ++ space ∷ some.0 = ap (λ t. word ++ t) some.1 in
+        ap words_at line ∙ ap (words_of_parts (word ++ space ∷ some.0)) (split_complete space word some.0 lacks)
+        ∙ bind_is _ _ _ (arguments_complete some.0 a is (sym some.1))
+
+-- ---- The words of commands
+
+-- no word of a command has a space
+words_lack_space : (c : Command) → word_lacks space (words_of c).0 ≡ true
+words_lack_space c = grind (arith, nat_tests)
+
+-- no two commands have the same words
+words_differ : (one other : Command) → words_of one ≡ words_of other → one ≡ other
+words_differ one other e = grind (arith, nat_tests)
+
+command_words : (c : Command) → IsCommand c → words_at (command_text c) ≡ Some (words_of c)
+command_words c is =
+    words_complete (words_of c).0 (words_of c).1 (Lacks-word space (words_of c).0 (words_lack_space c)) is
+
+pub one_command : (line : List ℕ) (one other : Command) → SpellsCommand line one → SpellsCommand line other
+    → one ≡ other
+one_command line one other h k =
+    let read : Some (words_of one) ≡ Some (words_of other) = sym (command_words one h.0) ∙ sym (ap words_at h.1)
+    ∙ ap words_at k.1 ∙ command_words other k.0 in
+    let same : words_of one ≡ words_of other = cc in
+    words_differ one other same
 
 -- ---- What the reader of commands answers
 
-pub command_is : (read : Option Command) (text : List ℕ) → read ≡ command_at text
-    → IfSome read (λ c. SpellsCommand text c)
-command_is (Some c) text e = command_sound text c (sym e)
-command_is None text e = tt
+pub command_is : (line word : List ℕ) (a : Arguments) (read : Option Command) → words_at line ≡ Some (word, a)
+    → IfSome read (λ c. word ≡ (words_of c).0) → IfSome read (λ c. a ≡ (words_of c).1)
+    → IfSome read (λ c. SpellsCommand line c)
+command_is line word a (Some c) are same_word same_arguments =
+    let spelled = words_sound line (word, a) are in (
+      subst AreArguments same_arguments spelled.1,
+      spelled.0 ∙ ap (λ w. w ++ arguments_text a) same_word
+          ∙ ap (λ b. (words_of c).0 ++ arguments_text b) same_arguments,
+    )
+command_is line word a None are same_word same_arguments = tt
 
-pub no_command_is : (read : Option Command) (text : List ℕ) → read ≡ command_at text
-    → IfNone read ((c : Command) → IsCommand c → text ≢ command_text c)
-no_command_is (Some c) text e = tt
-no_command_is None text e = λ c fits same. let found : Some c ≡ None = sym (command_complete c fits)
-    ∙ sym (ap command_at same) ∙ sym e in absurd (cc)
+-- the text of a command has its words
+words_of_text : (line : List ℕ) (o : Option (List ℕ × Arguments)) → words_at line ≡ o → (c : Command) → IsCommand c
+    → line ≡ command_text c → o ≡ Some (words_of c)
+words_of_text line o are c is same = sym are ∙ ap words_at same ∙ command_words c is
+
+pub no_words_no_command : (line : List ℕ) → words_at line ≡ None → (c : Command) → IsCommand c → line ≢ command_text c
+no_words_no_command line are c is same =
+    let found : None ≡ Some (words_of c) = words_of_text line None are c is same in absurd (cc)
+
+pub no_command_is : (line word : List ℕ) (a : Arguments) (read : Option Command) → words_at line ≡ Some (word, a)
+    → IfNone read ((c : Command) → words_of c ≢ (word, a))
+    → IfNone read ((c : Command) → IsCommand c → line ≢ command_text c)
+no_command_is line word a (Some c) are other = tt
+no_command_is line word a None are other = λ c is same.
+    let found : Some (word, a) ≡ Some (words_of c) = words_of_text line (Some (word, a)) are c is same in
+    other c (cc)

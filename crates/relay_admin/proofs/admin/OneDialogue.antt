@@ -1,37 +1,20 @@
 -- A text has one list of questions and one end.
 use Rattle.std.specs.Prelude.{◌≡◌, ◌≢◌, ◌+◌, ◌≤◌, ◌<◌, ◌∷◌, ◌++◌, ◌⊎◌}
 use Rattle.relay_admin.proofs.Words.{◌∙◌, sym, ap, refl, ℕ, List, [], length}
-use Rattle.relay_admin.proofs.Words.{Option, Some, None, arith, inl, inr, map-append, Command, MAX_LINES}
-use Rattle.relay_admin.proofs.Words.{MAX_LINE_BYTES, AdminEnd, IsCommand, SpellsCommand, command_text, command_at}
-use Rattle.relay_admin.proofs.Words.{Exchange, IsQuestion, LineTranscript, too_long, no_command, quits, stops, asks}
+use Rattle.relay_admin.proofs.Words.{Option, Some, None, arith, inl, inr, map-append, Command}
+use Rattle.relay_admin.proofs.Words.{MAX_LINE_BYTES, AdminEnd, IsCommand, SpellsCommand, command_text, end_of}
+use Rattle.relay_admin.proofs.Words.{Exchange, LineTranscript, too_long, no_command, finishes, asks}
 use Rattle.relay_admin.proofs.Words.{ended, Transcript, no_line, last_line, line_limit, line_then, questions_of}
-use Rattle.relay_admin.specs.declared.admin.command.Command.TheVariants as command
 use Rattle.relay_admin.specs.declared.admin.end.AdminEnd.TheVariants as ends
-use Rattle.relay_admin.proofs.admin.CommandLemmas.{command_complete}
+use Rattle.relay_admin.proofs.admin.CommandLemmas.{one_command}
 
-pub one_command : (line : List ℕ) (one other : Command) → SpellsCommand line one → SpellsCommand line other
-    → one ≡ other
-one_command line one other h k =
-    let read : Some one ≡ Some other = sym (command_complete one h.0) ∙ sym (ap command_at h.1) ∙ ap command_at k.1
-    ∙ command_complete other k.0 in cc
+-- what a command asks of the desk: itself, but where it ends the session
+abbrev asks_where : Command → Option AdminEnd → List Command
+asks_where c (Some end) = []
+asks_where c None = c ∷ []
 
--- the end that a command brings, if it brings one
-abbrev end_of : Command → Option AdminEnd
-end_of command.Quit = Some ends.Quit
-end_of command.Stop = Some ends.Stop
-end_of command.List = None
-end_of command.Totals = None
-end_of (command.CloseConn id) = None
-end_of (command.DeadlineOf id after) = None
-
--- what a command asks of the desk
 abbrev asks_of : Command → List Command
-asks_of command.Quit = []
-asks_of command.Stop = []
-asks_of command.List = command.List ∷ []
-asks_of command.Totals = command.Totals ∷ []
-asks_of (command.CloseConn id) = command.CloseConn id ∷ []
-asks_of (command.DeadlineOf id after) = command.DeadlineOf id after ∷ []
+asks_of c = asks_where c (end_of c)
 
 record IsTooLong (line : List ℕ) (exchanges : List Exchange) (end : Option AdminEnd) : Type 0 where
   pub long : MAX_LINE_BYTES < length line
@@ -55,25 +38,27 @@ abbrev LineKind : List ℕ → List Exchange → Option AdminEnd → Type 0
 LineKind line exchanges end =
     IsTooLong line exchanges end ⊎ (IsNoCommand line exchanges end ⊎ IsOneCommand line exchanges end)
 
-asks_question : (c : Command) → IsQuestion c → (c ∷ [] ≡ asks_of c) × (None ≡ end_of c)
-asks_question command.Quit q = absurd q
-asks_question command.Stop q = absurd q
-asks_question command.List q = (refl, refl)
-asks_question command.Totals q = (refl, refl)
-asks_question (command.CloseConn id) q = (refl, refl)
-asks_question (command.DeadlineOf id after) q = (refl, refl)
-
 kind_of : (line : List ℕ) (exchanges : List Exchange) (reply : List ℕ) (end : Option AdminEnd)
     → LineTranscript line exchanges reply end → LineKind line exchanges end
 kind_of _ _ _ _ (too_long line long) = inl (record { long = long; questions = refl; ends = refl })
 kind_of _ _ _ _ (no_command line short other) =
     inr (inl (record { short = short; none = other; questions = refl; ends = refl }))
-kind_of _ _ _ _ quits =
-    inr (inr (record { one = command.Quit; short = omega arith; spells = (tt, refl); questions = refl; ends = refl }))
-kind_of _ _ _ _ stops =
-    inr (inr (record { one = command.Stop; short = omega arith; spells = (tt, refl); questions = refl; ends = refl }))
-kind_of _ _ _ _ (asks line c answer reply short spells question is) = let q = asks_question c question in
-    inr (inr (record { one = c; short = short; spells = spells; questions = q.0; ends = q.1 }))
+kind_of _ _ _ _ (finishes line c end short spells is) =
+    inr (inr (record {
+      one = c;
+      short = short;
+      spells = spells;
+      questions = ap (asks_where c) (sym is);
+      ends = sym is;
+    }))
+kind_of _ _ _ _ (asks line c answer reply short spells unended is) =
+    inr (inr (record {
+      one = c;
+      short = short;
+      spells = spells;
+      questions = ap (asks_where c) (sym unended);
+      ends = sym unended;
+    }))
 
 -- both ask the same and end in the same way
 abbrev SameQuestionsAndEnd : List Exchange → List Exchange → Option AdminEnd → Option AdminEnd → Type 0

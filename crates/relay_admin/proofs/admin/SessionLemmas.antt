@@ -1,8 +1,8 @@
 -- Bytes after bytes of a session, and what they bring.
 use Rattle.std.specs.Prelude.{◌≡◌, ◌≢◌, ◌+◌, ◌*◌, ◌≤◌, ◌<◌, ◌∷◌, ◌++◌}
 use Rattle.relay_admin.proofs.Words.{◌∙◌, sym, ap, refl, subst, ℕ, List, []}
-use Rattle.relay_admin.proofs.Words.{length, get_or, take, drop, Option, Some, None, arith, append_assoc, length-append}
-use Rattle.relay_admin.proofs.Words.{append-nil, Appends, take_more, take-append-drop, drop_more, AppendsFront, Reading}
+use Rattle.relay_admin.proofs.Words.{length, take, Option, Some, None, arith, append_assoc, length-append}
+use Rattle.relay_admin.proofs.Words.{append-nil, Appends, AppendsFront, Reading}
 use Rattle.relay_admin.proofs.Words.{EndsLines, Lacks, line_feed, lines_of, HasLongFirstLine, ends_none, ends_then}
 use Rattle.relay_admin.proofs.Words.{lines_of-empty, lines_of-last_line, LineEnds, LineGrows, appends_nothing}
 use Rattle.relay_admin.proofs.Words.{appends_then_appends, MAX_LINES, MAX_LINE_BYTES, AdminEnd, Exchange, bad_command}

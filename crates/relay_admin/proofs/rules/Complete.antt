@@ -5,6 +5,7 @@ use Rattle.relay_admin.proofs.Words.{Option, Some, None, arith, codes, is_ascii_
 use Rattle.relay_admin.proofs.Words.{all_ascii_digits, bytes_eq, decimal, nat_tests, Lacks}
 use Rattle.relay_admin.specs.rules.Addr.{Address, tcp, unix, dot, colon, is_path, IsAddress, address_text}
 use Rattle.relay_admin.specs.rules.Grammar.{Entry, IsEntry, IsIdle, idle_text, is_name, space, line_text}
+use Rattle.relay_admin.specs.declared.rules.rule.TheConstants.{MAX_IDLE_MS}
 use Rattle.relay_admin.specs.TextReading.{◌>>=◌, split_at_first, number_within}
 use Rattle.relay_admin.specs.rules.Reading.{tcp_at, path_at, address_at, idle_at, rule_at}
 use Rattle.relay_admin.proofs.TextLemmas.{bind_is, guard_true, split_complete, Lacks-append, Lacks-from_list_all}
@@ -67,8 +68,8 @@ idle_complete (Some ms) is =
     let low : 1 ≤ ms = let some = is.0 in omega arith in
     let high = is.1 in
     else_is (bytes_eq (decimal ms) (codes "never")) (Some None)
-    (number_within 1 86400000 (decimal ms) >>= λ n. Some (Some n)) (decimal_not_never ms (omega arith))
-    ∙ bind_is (number_within 1 86400000 (decimal ms)) _ ms (within_complete 1 86400000 ms (omega arith) low high)
+    (number_within 1 MAX_IDLE_MS (decimal ms) >>= λ n. Some (Some n)) (decimal_not_never ms (omega arith))
+    ∙ bind_is (number_within 1 MAX_IDLE_MS (decimal ms)) _ ms (within_complete 1 MAX_IDLE_MS ms (omega arith) low high)
 
 -- ---- Lines
 

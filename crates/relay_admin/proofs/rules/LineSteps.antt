@@ -1,5 +1,6 @@
 -- One line of a rules file after the other.
 use Rattle.std.specs.Prelude.{◌≡◌, ◌≢◌, ◌+◌, ◌≤◌, ◌<◌, ◌∷◌, ◌++◌, ◌&&◌, ◌==◌}
+use Rattle.relay_admin.specs.declared.rules.file.TheConstants.{MAX_BYTES, MAX_RULES}
 use Rattle.relay_admin.proofs.Words.{◌∙◌, sym, ap, refl, subst, ℕ, List, [], length}
 use Rattle.relay_admin.proofs.Words.{get_or, Bool, true, false, Some, None, arith, length-append, append-nil}
 use Rattle.relay_admin.proofs.Words.{append_assoc, bytes_eq, map-append, length-map, Any-from_list_any}
@@ -99,15 +100,16 @@ pub entries-push : (rules : List Rule) (one : Rule) → entries_of (rules ++ one
     ++ entry_of one ∷ []
 entries-push rules one = map-append entry_of rules (one ∷ [])
 
-pub is_full : (rules : List Rule) (full : Bool) → full ≡ (length rules == 64) → full ≡ true
-    → 64 ≤ length (entries_of rules)
-is_full rules full is e = let count = length-map rules entry_of in let n : length rules ≡ 64 =
-    number_same (length rules) 64 (sym is ∙ e) in omega arith
+pub is_full : (rules : List Rule) (full : Bool) → full ≡ (length rules == MAX_RULES) → full ≡ true
+    → MAX_RULES ≤ length (entries_of rules)
+is_full rules full is e = let count = length-map rules entry_of in let n : length rules ≡ MAX_RULES =
+    number_same (length rules) MAX_RULES (sym is ∙ e) in omega arith
 
-pub has_room : (rules : List Rule) (full : Bool) → full ≡ (length rules == 64) → full ≡ false → length rules ≤ 64
-    → length (entries_of rules) < 64
-has_room rules full is e few = let count = length-map rules entry_of in let n : length rules < 64 =
-    number_below (length rules) 64 (sym is ∙ e) few in omega arith
+pub has_room : (rules : List Rule) (full : Bool) → full ≡ (length rules == MAX_RULES) → full ≡ false
+    → length rules ≤ MAX_RULES
+    → length (entries_of rules) < MAX_RULES
+has_room rules full is e few = let count = length-map rules entry_of in let n : length rules < MAX_RULES =
+    number_below (length rules) MAX_RULES (sym is ∙ e) few in omega arith
 
 -- a test on a borrowed slice is one on the rules themselves
 pub on_slice : (test : List Entry → Bool) (rules slice : List Rule) (b c : Bool) → slice ≡ rules
@@ -115,7 +117,8 @@ pub on_slice : (test : List Entry → Bool) (rules slice : List Rule) (b c : Boo
 on_slice test rules slice b c same is e = ap (λ (r : List Rule). test (entries_of r)) (sym same) ∙ sym is ∙ e
 
 pub added : (rules after : List Rule) (line : List ℕ) (one : Rule) → after ≡ rules ++ one ∷ []
-    → SpellsRule line (entry_of one) → length (entries_of rules) < 64 → LacksName (entries_of rules) (entry_of one).name
+    → SpellsRule line (entry_of one) → length (entries_of rules) < MAX_RULES
+    → LacksName (entries_of rules) (entry_of one).name
     → LacksListen (entries_of rules) (entry_of one) → TakesGoodLine (entries_of rules) (entries_of after) line
 added rules after line one is spells few name listen =
     subst (λ (entries : List Entry). TakesGoodLine (entries_of rules) entries line)
@@ -190,7 +193,7 @@ one_line_more text rest line after number number' before entries h first takes n
   together = together_more before entries line takes h.together;
 }
 
-pub all_lines : (text rest : List ℕ) (number : ℕ) (entries : List Entry) → length text ≤ 65536
+pub all_lines : (text rest : List ℕ) (number : ℕ) (entries : List Entry) → length text ≤ MAX_BYTES
     → SoFar text rest number entries → length rest ≡ 0 → SaysRules text entries
 all_lines text [] number entries short h none = record {
   short = short;
@@ -206,7 +209,7 @@ is_line_fault _ _ _ _ (too_many one a b) e = absurd (cc)
 is_line_fault _ _ _ _ (same_name one a b d) e = absurd (cc)
 is_line_fault _ _ _ _ (same_listen one a b d f) e = absurd (cc)
 
-says_first : (text : List ℕ) (fault : RulesFault) → length text ≤ 65536 → FirstFault (lines_of text) fault
+says_first : (text : List ℕ) (fault : RulesFault) → length text ≤ MAX_BYTES → FirstFault (lines_of text) fault
     → SaysFault text fault
 says_first text faults.TooLong short h = absurd (is_line_fault _ _ _ faults.TooLong h.faulty refl)
 says_first text (faults.BadLine n) short h = (short, h)
@@ -215,7 +218,7 @@ says_first text (faults.SameName n) short h = (short, h)
 says_first text (faults.SameListen n) short h = (short, h)
 
 pub faulty_line : (text rest line after : List ℕ) (number : ℕ) (before : List Entry) (fault : RulesFault)
-    → length text ≤ 65536 → SoFar text rest number before → lines_of rest ≡ line ∷ lines_of after
+    → length text ≤ MAX_BYTES → SoFar text rest number before → lines_of rest ≡ line ∷ lines_of after
     → LineFault before line number fault → SaysFault text fault
 faulty_line text rest line after number before fault short h first faulty = says_first text fault short (record {
   front = h.front;

@@ -1,5 +1,6 @@
 -- A text has one verdict.
 use Rattle.std.specs.Prelude.{◌≡◌, ◌+◌, ◌≤◌, ◌<◌, ◌∷◌, ◌++◌, ◌⊎◌}
+use Rattle.relay_admin.specs.declared.rules.file.TheConstants.{MAX_BYTES, MAX_RULES}
 use Rattle.relay_admin.proofs.Words.{◌∙◌, sym, ap, refl, subst, ℕ, suc, List, [], length}
 use Rattle.relay_admin.proofs.Words.{Some, Ok, Err, arith, length-append, append-nil, append_assoc, inl, inr}
 use Rattle.relay_admin.proofs.Words.{Result, get_or-append_seam, get_or_append_left, lines_of}
@@ -70,14 +71,14 @@ fault_not_skipped before line n _ (same_listen r s c d e) is = skipped_no_rule l
 
 -- the rule can stand after these
 record CanFollow (before : List Entry) (one : Entry) : Type 0 where
-  pub few : length before < 64
+  pub few : length before < MAX_RULES
   pub name : LacksName before one.name
   pub listen : LacksListen before one
 
 fault_cannot_follow : (before : List Entry) (line : List ℕ) (n : ℕ) (f : RulesFault) (one : Entry)
     → LineFault before line n f → SpellsRule line one → CanFollow before one → ⊥
 fault_cannot_follow before line n _ one (bad_line a b) spells can = b one spells
-fault_cannot_follow before line n _ one (too_many r s c) spells can = let few : length before < 64 = can.few in
+fault_cannot_follow before line n _ one (too_many r s c) spells can = let few : length before < MAX_RULES = can.few in
     omega arith
 fault_cannot_follow before line n _ one (same_name r s c d) spells can =
     has_and_lacks_name before r one (one_rule line r one s spells) d can.name
@@ -299,8 +300,8 @@ of_first_fault lines fault h = record {
 
 -- the text is too long, or its first faulty line has the fault
 of_fault : (text : List ℕ) (fault : RulesFault) → SaysFault text fault
-    → ((65536 < length text) × (fault ≡ faults.TooLong))
-    ⊎ ((length text ≤ 65536) × OutcomeFrom 1 [] (lines_of text) (Err fault))
+    → ((MAX_BYTES < length text) × (fault ≡ faults.TooLong))
+    ⊎ ((length text ≤ MAX_BYTES) × OutcomeFrom 1 [] (lines_of text) (Err fault))
 of_fault text faults.TooLong h = inl (h, refl)
 of_fault text (faults.BadLine n) h = inr (h.0, of_first_fault (lines_of text) (faults.BadLine n) h.1)
 of_fault text (faults.TooMany n) h = inr (h.0, of_first_fault (lines_of text) (faults.TooMany n) h.1)
@@ -318,14 +319,14 @@ one_list_of_rules text one other h k =
 pub one_fault : (text : List ℕ) (one other : RulesFault) → SaysFault text one → SaysFault text other → one ≡ other
 one_fault text one other h k = compared (of_fault text one h) (of_fault text other k)
   where
-    compared : ((65536 < length text) × (one ≡ faults.TooLong))
-        ⊎ ((length text ≤ 65536) × OutcomeFrom 1 [] (lines_of text) (Err one))
-        → ((65536 < length text) × (other ≡ faults.TooLong))
-        ⊎ ((length text ≤ 65536) × OutcomeFrom 1 [] (lines_of text) (Err other)) → one ≡ other
+    compared : ((MAX_BYTES < length text) × (one ≡ faults.TooLong))
+        ⊎ ((length text ≤ MAX_BYTES) × OutcomeFrom 1 [] (lines_of text) (Err one))
+        → ((MAX_BYTES < length text) × (other ≡ faults.TooLong))
+        ⊎ ((length text ≤ MAX_BYTES) × OutcomeFrom 1 [] (lines_of text) (Err other)) → one ≡ other
     compared (inl x) (inl y) = x.1 ∙ sym y.1
-    compared (inl x) (inr y) = let long : 65536 < length text = x.0 in let short : length text ≤ 65536 = y.0 in
+    compared (inl x) (inr y) = let long : MAX_BYTES < length text = x.0 in let short : length text ≤ MAX_BYTES = y.0 in
         absurd (omega arith)
-    compared (inr x) (inl y) = let long : 65536 < length text = y.0 in let short : length text ≤ 65536 = x.0 in
+    compared (inr x) (inl y) = let long : MAX_BYTES < length text = y.0 in let short : length text ≤ MAX_BYTES = x.0 in
         absurd (omega arith)
     compared (inr x) (inr y) =
         let outcome : Result (List Entry) RulesFault = Err one in
@@ -336,9 +337,10 @@ pub no_rules_with_fault : (text : List ℕ) (entries : List Entry) (fault : Rule
     → SaysFault text fault → ⊥
 no_rules_with_fault text entries fault h k = compared (of_fault text fault k)
   where
-    compared : ((65536 < length text) × (fault ≡ faults.TooLong))
-        ⊎ ((length text ≤ 65536) × OutcomeFrom 1 [] (lines_of text) (Err fault)) → ⊥
-    compared (inl x) = let long : 65536 < length text = x.0 in let short : length text ≤ 65536 = h.short in omega arith
+    compared : ((MAX_BYTES < length text) × (fault ≡ faults.TooLong))
+        ⊎ ((length text ≤ MAX_BYTES) × OutcomeFrom 1 [] (lines_of text) (Err fault)) → ⊥
+    compared (inl x) = let long : MAX_BYTES < length text = x.0 in
+        let short : length text ≤ MAX_BYTES = h.short in omega arith
     compared (inr x) =
         let outcome : Result (List Entry) RulesFault = Ok entries in
         let same : outcome ≡ Err fault =

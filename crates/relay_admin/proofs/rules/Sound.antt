@@ -6,6 +6,7 @@ use Rattle.std.specs.Str.{bytes_eq}
 use Rattle.std.specs.Fmt.{decimal}
 use Rattle.relay_admin.specs.rules.Addr.{Address, tcp, unix, dot, colon, is_path, IsAddress, address_text}
 use Rattle.relay_admin.specs.rules.Grammar.{Entry, IsIdle, idle_text, is_name, space, SpellsRule}
+use Rattle.relay_admin.specs.declared.rules.rule.TheConstants.{MAX_IDLE_MS}
 use Rattle.relay_admin.specs.TextReading.{◌>>=◌, split_at_first, number_within}
 use Rattle.relay_admin.specs.rules.Reading.{tcp_at, path_at, address_at, idle_at, rule_at}
 use Rattle.relay_admin.proofs.TextLemmas.{both, bind_some, guard_some, same_bytes, split_sound}
@@ -89,7 +90,7 @@ unfolding idle_at
 idle_sound text idle e = by_word (bytes_eq text (codes "never")) (λ t. same_bytes text (codes "never") t) e
   where
     by_word : (b : Bool) → (b ≡ true → text ≡ codes "never")
-        → (if b then Some None else (number_within 1 86400000 text >>= λ n. Some (Some n))) ≡ Some idle
+        → (if b then Some None else (number_within 1 MAX_IDLE_MS text >>= λ n. Some (Some n))) ≡ Some idle
         → (text ≡ idle_text idle) × IsIdle idle
     by_word true word h =
         let P : Option ℕ → Type 0 = λ o. (text ≡ idle_text o) × IsIdle o in
@@ -97,10 +98,10 @@ idle_sound text idle e = by_word (bytes_eq text (codes "never")) (λ t. same_byt
         subst P same (word refl, tt)
     by_word false word h =
         let P : Option ℕ → Type 0 = λ o. (text ≡ idle_text o) × IsIdle o in
-        let ms = bind_some (number_within 1 86400000 text) _ idle h in
+        let ms = bind_some (number_within 1 MAX_IDLE_MS text) _ idle h in
         let is : Some (Some ms.0) ≡ Some idle = ms.2 in
         let same : Some ms.0 ≡ idle = cc in
-        let spelled = within_sound 1 86400000 text ms.0 ms.1 in
+        let spelled = within_sound 1 MAX_IDLE_MS text ms.0 ms.1 in
         let low = spelled.1 in
         subst P same (spelled.0, (omega arith, spelled.2))
 

@@ -4,7 +4,6 @@ use Rattle.std.specs.List.{flat_map}
 use Rattle.std.specs.Fmt.{decimal}
 use Rattle.relay_admin.specs.rules.Grammar.{space}
 use Rattle.relay_admin.specs.declared.admin.command.Command.{Command}
-use Rattle.relay_admin.specs.declared.admin.command.Command.TheVariants as command
 use Rattle.relay_admin.specs.declared.admin.reply_text.TheConstants.{DONE, BAD_COMMAND}
 use Rattle.relay_admin.specs.declared.admin.reply_text.TheConstants.{NO_SUCH_CONNECTION, CLOSED}
 use Rattle.relay_admin.specs.declared.admin.reply_text.TheConstants.{BUSY, OUT_OF_MEMORY}
@@ -68,9 +67,3 @@ AddsExchanges (Some before) (Some after) added = after ≡ before ++ added
 abbrev pub Exchanges : Option (List Exchange) → Option (List Exchange) → Command → Answer → Type 0
 Exchanges before after question answer =
     AddsExchanges before after (record { question = question; answer = answer } ∷ [])
-
--- a command that the desk is asked
-abbrev pub IsQuestion : Command → Type 0
-IsQuestion command.Quit = ⊥
-IsQuestion command.Stop = ⊥
-IsQuestion _ = Unit {0}

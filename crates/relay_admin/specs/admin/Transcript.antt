@@ -4,15 +4,14 @@ use Rattle.relay_admin.specs.Words.{ℕ, List, [], length, map}
 use Rattle.relay_admin.specs.Words.{take, Option, Some, None, IfSome, Appends, Consumes, lines_of}
 use Rattle.relay_admin.specs.Words.{ended_lines, line_feed, Lacks}
 use Rattle.relay_admin.specs.declared.admin.command.Command.{Command}
-use Rattle.relay_admin.specs.declared.admin.command.Command.TheVariants as command
 use Rattle.relay_admin.specs.declared.admin.dialogue.TheConstants.{MAX_LINES, MAX_LINE_BYTES}
 use Rattle.relay_admin.specs.declared.admin.end.AdminEnd.{AdminEnd}
 use Rattle.relay_admin.specs.declared.admin.end.AdminEnd.TheVariants as ends
 use Rattle.relay_admin.specs.declared.admin.end.AdminFault.{AdminFault}
 use Rattle.relay_admin.specs.declared.admin.end.AdminFault.TheVariants as faults
-use Rattle.relay_admin.specs.admin.Command.{IsCommand, SpellsCommand, command_text}
+use Rattle.relay_admin.specs.admin.Command.{IsCommand, SpellsCommand, command_text, end_of}
 use Rattle.relay_admin.specs.admin.Reply.{Answer, fine, reply_text, bad_command, IsReplyTo}
-use Rattle.relay_admin.specs.admin.Reply.{Exchange, AddsExchanges, IsQuestion}
+use Rattle.relay_admin.specs.admin.Reply.{Exchange, AddsExchanges}
 
 -- a line, what is asked for it, the reply, and how the session ends by it, if it does
 pub data LineTranscript : List ℕ → List Exchange → List ℕ → Option AdminEnd → Type 0 where
@@ -21,10 +20,12 @@ pub data LineTranscript : List ℕ → List Exchange → List ℕ → Option Adm
   no_command : (line : List ℕ) → length line ≤ MAX_LINE_BYTES
       → ((c : Command) → IsCommand c → line ≢ command_text c)
       → LineTranscript line [] bad_command None
-  quits : LineTranscript (command_text command.Quit) [] (reply_text fine) (Some ends.Quit)
-  stops : LineTranscript (command_text command.Stop) [] (reply_text fine) (Some ends.Stop)
+  finishes : (line : List ℕ) (c : Command) (end : AdminEnd)
+      → length line ≤ MAX_LINE_BYTES → SpellsCommand line c → end_of c ≡ Some end
+      → LineTranscript line [] (reply_text fine) (Some end)
   asks : (line : List ℕ) (c : Command) (answer : Answer) (reply : List ℕ)
-      → length line ≤ MAX_LINE_BYTES → SpellsCommand line c → IsQuestion c → IsReplyTo answer reply
+      → length line ≤ MAX_LINE_BYTES → SpellsCommand line c → end_of c ≡ None
+      → IsReplyTo answer reply
       → LineTranscript line (record { question = c; answer = answer } ∷ []) reply None
 
 -- how a transcript stops: as the session ended, or because a reply couldn't be written or flushed

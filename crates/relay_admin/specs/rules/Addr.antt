@@ -4,6 +4,7 @@ use Rattle.std.specs.Prelude.{length, nat_le, slice_index, codes}
 use Rattle.std.specs.Fmt.{decimal}
 use Rattle.std.specs.List.{list_all}
 use Rattle.relay_admin.specs.declared.rules.addr.Addr.{Addr}
+use Rattle.relay_admin.specs.declared.rules.addr.TheConstants.{MAX_PATH_BYTES}
 use Rattle.relay_admin.specs.declared.rules.addr.Addr.TheVariants as variant
 
 -- the four numbers of an IPv4 address and a port, or a path
@@ -28,11 +29,11 @@ first_passes test (byte ∷ bytes) = test byte
 abbrev pub is_visible : ℕ → Bool
 is_visible byte = nat_le 33 byte && nat_le byte 126
 
--- 1 to 100 visible bytes, the first "/"
+-- visible bytes, as many as a path may have, the first "/"
 abbrev pub is_path : List ℕ → Bool
 is_path bytes =
     first_passes (λ byte. byte == 47) bytes && list_all is_visible bytes && nat_le
-    (length bytes) 100
+    (length bytes) MAX_PATH_BYTES
 
 -- four bytes and a port from 1, or a path
 abbrev pub IsAddress : Address → Type 0

@@ -4,11 +4,12 @@ use Rattle.std.specs.List.{AllPairs}
 use Rattle.stream_base.specs.Lines.{lines_of}
 use Rattle.relay_admin.specs.rules.Grammar.{Entry, IsSkipped, SpellsRule, Spell}
 use Rattle.relay_admin.specs.declared.rules.file.RulesFault.{RulesFault}
+use Rattle.relay_admin.specs.declared.rules.file.TheConstants.{MAX_BYTES, MAX_RULES}
 use Rattle.relay_admin.specs.declared.rules.file.RulesFault.TheVariants as faults
 
--- at most 64 rules, of which no two have one name or listen on one address
+-- as many rules as a file may have, of which no two have one name or listen on one address
 pub record CanStandTogether (entries : List Entry) : Type 0 where
-  pub few : length entries ≤ 64
+  pub few : length entries ≤ MAX_RULES
   pub names : AllPairs (λ (one : Entry) (other : Entry). one.name ≢ other.name) entries
   pub listens : AllPairs (λ (one : Entry) (other : Entry). one.listen ≢ other.listen) entries
 
@@ -35,11 +36,12 @@ pub data LineFault : List Entry → List ℕ → ℕ → RulesFault → Type 0 w
       → (IsSkipped line → ⊥) → ((entry : Entry) → SpellsRule line entry → ⊥)
       → LineFault before line n (faults.BadLine n)
   too_many : {before : List Entry} {line : List ℕ} {n : ℕ} (rule : Entry) → SpellsRule line rule
-      → 64 ≤ length before → LineFault before line n (faults.TooMany n)
+      → MAX_RULES ≤ length before → LineFault before line n (faults.TooMany n)
   same_name : {before : List Entry} {line : List ℕ} {n : ℕ} (rule : Entry) → SpellsRule line rule
-      → length before < 64 → HasName before rule.name → LineFault before line n (faults.SameName n)
+      → length before < MAX_RULES → HasName before rule.name
+      → LineFault before line n (faults.SameName n)
   same_listen : {before : List Entry} {line : List ℕ} {n : ℕ} (rule : Entry) → SpellsRule line rule
-      → length before < 64 → LacksName before rule.name → HasListen before rule
+      → length before < MAX_RULES → LacksName before rule.name → HasListen before rule
       → LineFault before line n (faults.SameListen n)
 
 -- the first line with a fault, after lines that spell rules which can stand together
@@ -55,11 +57,11 @@ pub record FirstFault (lines : List (List ℕ)) (fault : RulesFault) : Type 0 wh
 
 -- the text is a rules file with these rules
 pub record SaysRules (text : List ℕ) (entries : List Entry) : Type 0 where
-  pub short : length text ≤ 65536
+  pub short : length text ≤ MAX_BYTES
   pub spelled : Spell (lines_of text) entries
   pub together : CanStandTogether entries
 
 -- the text is no rules file, for this reason first
 abbrev pub SaysFault : List ℕ → RulesFault → Type 0
-SaysFault text faults.TooLong = 65536 < length text
-SaysFault text fault = (length text ≤ 65536) × FirstFault (lines_of text) fault
+SaysFault text faults.TooLong = MAX_BYTES < length text
+SaysFault text fault = (length text ≤ MAX_BYTES) × FirstFault (lines_of text) fault

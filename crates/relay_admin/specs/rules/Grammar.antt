@@ -5,6 +5,7 @@ use Rattle.std.specs.Fmt.{decimal}
 use Rattle.std.specs.List.{list_all}
 use Rattle.relay_admin.specs.rules.Addr.{Address, IsAddress, address_text, address_of, first_passes}
 use Rattle.relay_admin.specs.declared.rules.rule.Rule.{Rule}
+use Rattle.relay_admin.specs.declared.rules.rule.TheConstants.{MAX_NAME_BYTES, MAX_IDLE_MS}
 
 -- a rule, by what it says
 pub record Entry : Type 0 where
@@ -40,14 +41,15 @@ is_digit byte = nat_le 48 byte && nat_le byte 57
 abbrev pub is_name_byte : ℕ → Bool
 is_name_byte byte = is_letter byte || is_digit byte || (byte == 45)
 
--- 1 to 16 such bytes, the first a letter
+-- such bytes, as many as a name may have, the first a letter
 abbrev pub is_name : List ℕ → Bool
 is_name bytes =
-    first_passes is_letter bytes && list_all is_name_byte bytes && nat_le (length bytes) 16
+    first_passes is_letter bytes && list_all is_name_byte bytes && nat_le
+    (length bytes) MAX_NAME_BYTES
 
--- 1 to 86,400,000 milliseconds, or never
+-- milliseconds from 1 on, or never
 abbrev pub IsIdle : Option ℕ → Type 0
-IsIdle idle = IfSome idle (λ ms. (0 < ms) × (ms ≤ 86400000))
+IsIdle idle = IfSome idle (λ ms. (0 < ms) × (ms ≤ MAX_IDLE_MS))
 
 -- the text of an idle time
 abbrev pub idle_text : Option ℕ → List ℕ

@@ -9,6 +9,8 @@ use Rattle.relay_admin.specs.rules.Addr.{Address, tcp, unix, dot, colon, is_path
 use Rattle.relay_admin.specs.rules.Grammar.{Entry, IsSkipped, SpellsRule, space, is_name}
 use Rattle.relay_admin.specs.rules.Fault.{LacksListen, LacksName, LineFault}
 use Rattle.relay_admin.specs.declared.rules.file.RulesFault.{RulesFault}
+use Rattle.relay_admin.specs.declared.rules.file.TheConstants.{MAX_RULES}
+use Rattle.relay_admin.specs.declared.rules.rule.TheConstants.{MAX_IDLE_MS}
 use Rattle.relay_admin.specs.TextReading.{◌>>=◌, split_at_first, number_within}
 
 -- the address behind "tcp:"
@@ -41,7 +43,7 @@ address_at text = do
 unfoldable pub idle_at : List ℕ → Option (Option ℕ)
 idle_at text =
     if bytes_eq text (codes "never") then Some None
-    else (number_within 1 86400000 text >>= λ ms. Some (Some ms))
+    else (number_within 1 MAX_IDLE_MS text >>= λ ms. Some (Some ms))
 
 -- a rule
 unfoldable pub rule_at : List ℕ → Option Entry
@@ -83,7 +85,7 @@ finds_listen address entries =
 pub data TakesGoodLine : List Entry → List Entry → List ℕ → Type 0 where
   skips : {before : List Entry} {line : List ℕ} → IsSkipped line → TakesGoodLine before before line
   adds : {before : List Entry} {line : List ℕ} (rule : Entry) → SpellsRule line rule
-      → length before < 64 → LacksName before rule.name → LacksListen before rule
+      → length before < MAX_RULES → LacksName before rule.name → LacksListen before rule
       → TakesGoodLine before (before ++ rule ∷ []) line
 
 -- what came of a line with this number

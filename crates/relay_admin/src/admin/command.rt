@@ -1,10 +1,14 @@
-//! A command of the admin socket, and the line that spells it.
+//! A command of the admin socket, the line that spells it, and what it brings.
+//!
+//! A line is read as a word and its arguments; a row of `command_named` makes a command of them.
 
 ghost use Rattle.std.specs.Prelude.{◌≡◌, ◌≢◌, IfSome, IfNone};
-ghost use Rattle.relay_admin.specs.admin.Command.{IsCommand, SpellsCommand, command_text};
-ghost use Rattle.relay_admin.specs.admin.CommandReading.{after_at, close_at, command_at, deadline_at, worded_at};
+ghost use Rattle.relay_admin.specs.TextReading.{Views};
+ghost use Rattle.relay_admin.specs.admin.Command.{IsCommand, SpellsCommand, command_text, end_of, words_of};
+ghost use Rattle.relay_admin.specs.admin.CommandReading.{after_at, arguments_at, words_at};
 
-use crate::text::{number_between, split_once};
+use crate::admin::end::AdminEnd;
+use crate::text::{DAY_MS, number_between, split_once};
 
 /// A command. Ids are 1 to 4,503,599,627,370,494.
 #[derive(Clone, Copy, Debug, PartialEq, Eq, Drop)]
@@ -24,11 +28,19 @@ pub enum Command {
     DeadlineOf(u64, Option<u32>),
 }
 
+/// What stands behind the word of a command.
+#[derive(Clone, Copy, Drop)]
+pub(crate) enum Arguments {
+    Nothing,
+    Id(u64),
+    IdAndDeadline(u64, Option<u32>),
+}
+
 /// The greatest id of a connection.
-const MAX_ID: u64 = 4_503_599_627_370_494;
+pub const MAX_ID: u64 = 4_503_599_627_370_494;
 
 /// The greatest deadline: a day, in milliseconds.
-const MAX_DEADLINE_MS: u64 = 86_400_000;
+pub const MAX_DEADLINE_MS: u64 = DAY_MS;
 
 impl Command {
     /// The command that a line without its line feed spells, and none where it spells none. Each
@@ -38,57 +50,77 @@ impl Command {
         ensures none { IfNone result ((command : Command) → IsCommand command
             → text.now ≢ command_text command) }
     {
-        read_command(text)
+        let Some((word, arguments)) = words_in(text) else {
+            return None;
+        };
+        command_named(word, arguments)
+    }
+
+    /// How the session ends by the command. Where it doesn't, the desk is asked.
+    pub(crate) fn end(&self) -> Option<AdminEnd>
+        ensures { result ≡ end_of self.now }
+    {
+        match self {
+            Command::Quit => Some(AdminEnd::Quit),
+            Command::Stop => Some(AdminEnd::Stop),
+            _ => None,
+        }
     }
 }
 
-#[tactic(auto, unfolding(crate::specs::admin::CommandReading::command_at))]
-fn read_command(text: &[u8]) -> Option<Command>
-    ensures { result ≡ command_at text.now }
+/// The command of this word with these arguments.
+fn command_named(word: &[u8], arguments: Arguments) -> Option<Command>
+    ensures word { IfSome result (λ command. word.now ≡ (words_of command).0) }
+    ensures arguments { IfSome result (λ command. arguments ≡ (words_of command).1) }
+    ensures none { IfNone result ((command : Command) → words_of command ≢ (word.now, arguments)) }
 {
-    if text == b"list".as_slice() {
-        Some(Command::List)
-    } else if text == b"totals".as_slice() {
-        Some(Command::Totals)
-    } else if text == b"quit".as_slice() {
-        Some(Command::Quit)
-    } else if text == b"stop".as_slice() {
-        Some(Command::Stop)
-    } else {
-        worded(text)
+    match arguments {
+        Arguments::Nothing => match word {
+            b"list" => Some(Command::List),
+            b"totals" => Some(Command::Totals),
+            b"quit" => Some(Command::Quit),
+            b"stop" => Some(Command::Stop),
+            _ => None,
+        },
+        Arguments::Id(id) => match word {
+            b"close" => Some(Command::CloseConn(id)),
+            _ => None,
+        },
+        Arguments::IdAndDeadline(id, after_ms) => match word {
+            b"deadline" => Some(Command::DeadlineOf(id, after_ms)),
+            _ => None,
+        },
     }
 }
 
-#[tactic(auto, unfolding(crate::specs::admin::CommandReading::worded_at))]
-fn worded(text: &[u8]) -> Option<Command>
-    ensures { result ≡ worded_at text.now }
+#[tactic(auto, unfolding(crate::specs::admin::CommandReading::words_at))]
+fn words_in(text: &[u8]) -> Option<(&[u8], Arguments)>
+    ensures { Views (λ words. (words.0.now, words.1)) result (words_at text.now) }
 {
-    let (word, rest) = split_once(text, b' ')?;
-    if word == b"close".as_slice() {
-        close_of(rest)
-    } else if word == b"deadline".as_slice() {
-        deadline_of(rest)
-    } else {
-        None
+    match split_once(text, b' ') {
+        None => Some((text, Arguments::Nothing)),
+        Some((word, rest)) => {
+            let arguments = arguments_of(rest)?;
+            Some((word, arguments))
+        }
     }
 }
 
-#[tactic(auto, unfolding(crate::specs::admin::CommandReading::close_at))]
-fn close_of(text: &[u8]) -> Option<Command>
-    ensures { result ≡ close_at text.now }
+#[tactic(auto, unfolding(crate::specs::admin::CommandReading::arguments_at))]
+fn arguments_of(text: &[u8]) -> Option<Arguments>
+    ensures { result ≡ arguments_at text.now }
 {
-    let id = number_between(1, MAX_ID, text)?;
-    Some(Command::CloseConn(id))
-}
-
-#[tactic(auto, unfolding(crate::specs::admin::CommandReading::deadline_at))]
-fn deadline_of(text: &[u8]) -> Option<Command>
-    ensures { result ≡ deadline_at text.now }
-{
-    let (id, after) = split_once(text, b' ')?;
-    let id = number_between(1, MAX_ID, id)?;
-    let after = after_of(after)?;
-    Some(Command::DeadlineOf(id, after))
+    match split_once(text, b' ') {
+        None => {
+            let id = number_between(1, MAX_ID, text)?;
+            Some(Arguments::Id(id))
+        }
+        Some((id, after)) => {
+            let id = number_between(1, MAX_ID, id)?;
+            let after = after_of(after)?;
+            Some(Arguments::IdAndDeadline(id, after))
+        }
+    }
 }
 
 #[tactic(auto, unfolding(crate::specs::admin::CommandReading::after_at))]

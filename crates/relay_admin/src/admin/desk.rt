@@ -1,9 +1,11 @@
 //! The desk that a session asks, and what it answers.
 
-ghost use Rattle.std.specs.Prelude.{List, Option};
+ghost use Rattle.std.specs.Prelude.{◌≡◌, List, Option, None};
 ghost use Rattle.relay_admin.specs.declared.admin.command.Command.TheVariants as commands;
+ghost use Rattle.relay_admin.specs.admin.Command.{end_of};
 ghost use Rattle.relay_admin.specs.admin.Reply.{Exchange, Exchanges, answer_of};
 
+use crate::admin::command::Command;
 use std::alloc::Global;
 
 /// What a desk answers to a question.
@@ -51,4 +53,19 @@ pub trait Desk {
     fn deadline(&mut self, alloc: Global, id: u64, after_ms: Option<u32>) -> DeskAnswer
         ensures { Exchanges (exchanges self.old) (exchanges self.new)
             (commands.DeadlineOf id after_ms) (answer_of result) };
+}
+
+/// Asks the desk what a command asks.
+pub(crate) fn ask<D: Desk>(alloc: Global, desk: &mut D, command: &Command) -> DeskAnswer
+    requires { end_of command.now ≡ None }
+    ensures { Exchanges (D.exchanges desk.old) (D.exchanges desk.new)
+        command.now (answer_of result) }
+{
+    match *command {
+        Command::List => desk.ids(alloc),
+        Command::Totals => desk.totals(),
+        Command::CloseConn(id) => desk.close(id),
+        Command::DeadlineOf(id, after_ms) => desk.deadline(alloc, id, after_ms),
+        Command::Quit | Command::Stop => unreachable!(),
+    }
 }

@@ -10,11 +10,14 @@ use crate::text::{number_between, split_once};
 use arrayvec::ArrayString;
 use std::str;
 
+/// The most bytes of a path.
+pub const MAX_PATH_BYTES: usize = 100;
+
 /// An address: `Tcp` has the four bytes of an IPv4 address and a port, `Unix` the path of a socket.
 #[derive(Clone, Copy, Debug, PartialEq, Eq, Drop)]
 pub enum Addr {
     Tcp([u8; 4], u16),
-    Unix(ArrayString<100>),
+    Unix(ArrayString<MAX_PATH_BYTES>),
 }
 
 /// The address that a text spells, and none where it spells none.
@@ -78,7 +81,7 @@ fn is_path_text(text: &[u8]) -> bool
     if text.is_empty() || text[0] != b'/' {
         return false;
     }
-    are_visible(text) && text.len() <= 100
+    are_visible(text) && text.len() <= MAX_PATH_BYTES
 }
 
 fn are_visible(text: &[u8]) -> bool

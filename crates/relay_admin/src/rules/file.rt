@@ -14,7 +14,10 @@ use arrayvec::ArrayVec;
 use std::marker::Model;
 
 /// The most bytes of a rules file.
-const MAX_BYTES: usize = 65_536;
+pub const MAX_BYTES: usize = 65_536;
+
+/// The most rules of a file.
+pub const MAX_RULES: usize = 64;
 
 /// The first fault of a rules file. A number is that of the line, from 1.
 #[derive(Clone, Copy, Debug, PartialEq, Eq, Drop)]
@@ -34,7 +37,7 @@ pub enum RulesFault {
 /// The rules of a file, in its order. They lie in the value itself: no memory is taken.
 #[derive(Drop)]
 pub struct Rules {
-    rules: ArrayVec<Rule, 64>,
+    rules: ArrayVec<Rule, MAX_RULES>,
 }
 
 impl Model for Rules {
@@ -88,7 +91,11 @@ fn first_line(text: &[u8]) -> (&[u8], &[u8])
 }
 
 /// Takes a line with its number: its rule comes last, and a faulty line changes nothing.
-fn take_line(rules: &mut ArrayVec<Rule, 64>, line: &[u8], number: u32) -> Result<(), RulesFault>
+fn take_line(
+    rules: &mut ArrayVec<Rule, MAX_RULES>,
+    line: &[u8],
+    number: u32,
+) -> Result<(), RulesFault>
     ensures { TakesLine result (entries_of rules.old.items) (entries_of rules.new.items)
         line.now number }
 {

@@ -7,14 +7,20 @@ ghost use Rattle.relay_admin.specs.rules.Reading.{idle_at, rule_at};
 ghost use Rattle.relay_admin.specs.TextReading.{Views};
 
 use crate::rules::addr::{Addr, addr_of, held};
-use crate::text::{number_between, split_once};
+use crate::text::{DAY_MS, number_between, split_once};
 use arrayvec::ArrayString;
+
+/// The most bytes of a rule's name.
+pub const MAX_NAME_BYTES: usize = 16;
+
+/// The greatest idle time: a day, in milliseconds.
+pub const MAX_IDLE_MS: u64 = DAY_MS;
 
 /// A rule of the relay: what it accepts on `listen` it connects to `target`. A connection that was
 /// idle for `idle` milliseconds, 1 to 86,400,000, is closed; with `None` it never is.
 #[derive(Clone, Copy, Debug, PartialEq, Eq, Drop)]
 pub struct Rule {
-    pub name: ArrayString<16>,
+    pub name: ArrayString<MAX_NAME_BYTES>,
     pub listen: Addr,
     pub target: Addr,
     pub idle: Option<u32>,
@@ -69,7 +75,7 @@ fn idle_of(text: &[u8]) -> Option<Option<u32>>
     if text == b"never".as_slice() {
         return Some(None);
     }
-    let ms = number_between(1, 86_400_000, text)?;
+    let ms = number_between(1, MAX_IDLE_MS, text)?;
     Some(Some(ms as u32))
 }
 
@@ -79,7 +85,7 @@ fn is_name_text(text: &[u8]) -> bool
     if text.is_empty() || text[0] < b'a' || b'z' < text[0] {
         return false;
     }
-    are_name_bytes(text) && text.len() <= 16
+    are_name_bytes(text) && text.len() <= MAX_NAME_BYTES
 }
 
 fn are_name_bytes(text: &[u8]) -> bool
@@ -99,7 +105,7 @@ fn may_stand_in_name(byte: u8) -> bool
     (b'a' <= byte && byte <= b'z') || (b'0' <= byte && byte <= b'9') || byte == b'-'
 }
 
-fn name_held(name: &[u8]) -> ArrayString<16>
+fn name_held(name: &[u8]) -> ArrayString<MAX_NAME_BYTES>
     requires { is_name name.now ≡ true }
     ensures { result.bytes ≡ name.now }
 {

@@ -1,4 +1,5 @@
-use Rattle.std.proofs.Common.{rules, ◌≡◌, ◌∙◌, refl, ap, sym, ℕ, Bool, true, false, List, [], ◌∷◌, map, Option, Some, None, codes, Bor, inl, inr, if◌then◌else◌}
+use Rattle.std.proofs.Common.{rules, ◌≡◌, ◌∙◌, refl, ap, sym, ℕ, Bool, true, false, List, [], ◌∷◌, map, Option, Some}
+use Rattle.std.proofs.Common.{None, codes, Bor, inl, inr, if◌then◌else◌}
 use Rattle.std.specs.List.{list_any}
 use Rattle.std.specs.Str.{bytes_eq}
 use Rattle.std.proofs.lemmas.Result.{IfOk-weaker}
@@ -23,7 +24,9 @@ unfolding clap_on_literals
 is_simple_program = refl
 
 -- the words behind references end the options where the references do
-ends_behind : (words : List (Bor Text)) → ends_options (map (λ (word : Bor Text). word.now) words) ≡ list_any (λ (word : Bor Text). bytes_eq word.now (codes "--")) words
+ends_behind : (words : List (Bor Text))
+    → ends_options (map (λ (word : Bor Text). word.now) words)
+    ≡ list_any (λ (word : Bor Text). bytes_eq word.now (codes "--")) words
 ends_behind [] = refl
 ends_behind (w ∷ ws) = rw (ends_behind ws) refl
 
@@ -56,17 +59,25 @@ has_fault kinds e (inr among) other none = among_none (kind_of e) kinds among no
 pub returns-then-contains : goal.returns-then-contains
 returns-then-contains c =
     let words : List Text = map (λ (word : Bor Text). word.now) c.args.words.now in
-    let ended : list_any (λ (word : Bor Text). bytes_eq word.now (codes "--")) c.args.words.now ≡ true = sym c.contains.ensures.value ∙ c.if-contains.true in
-    sym (left_out_ended (ends_options words) (fault_of program words) (found_job (subcommand_of program words)) (ends_behind c.args.words.now ∙ ended))
+    let ended : list_any (λ (word : Bor Text). bytes_eq word.now (codes "--")) c.args.words.now ≡ true =
+    sym c.contains.ensures.value ∙ c.if-contains.true in
+    sym (left_out_ended (ends_options words) (fault_of program words) (found_job (subcommand_of program words))
+    (ends_behind c.args.words.now ∙ ended))
 
 pub returns-in-Ok : goal.returns-in-Ok
 returns-in-Ok c =
     let words : List Text = map (λ (word : Bor Text). word.now) c.args.words.now in
-    let ended : list_any (λ (word : Bor Text). bytes_eq word.now (codes "--")) c.args.words.now ≡ false = sym c.contains.ensures.value ∙ c.if-contains.false in
+    let ended : list_any (λ (word : Bor Text). bytes_eq word.now (codes "--")) c.args.words.now ≡ false =
+    sym c.contains.ensures.value ∙ c.if-contains.false in
     let is : app_of c.in_ok-command.field-0 ≡ program = c.in_ok-command.ensures in
-    let found : subcommand_rows_of c.in-Ok.matches ≡ subcommand_of program words = (c.in-Ok.ensures.matches (ap is_simple is ∙ is_simple_program)).1 ∙ ap (λ a. subcommand_of a words) is in
-    let faultless : fault_of program words ≡ [] = sym (ap (λ a. fault_of a words) is) ∙ c.in-Ok.ensures.kinds (ap is_simple_and_free is ∙ is_free_program) in
-    let asked : job_asked words ≡ found_job (subcommand_of program words) = chosen (ends_options words) (fault_of program words) (found_job (subcommand_of program words)) (ends_behind c.args.words.now ∙ ended) faultless in
+    let found : subcommand_rows_of c.in-Ok.matches ≡ subcommand_of program words =
+    (c.in-Ok.ensures.matches (ap is_simple is ∙ is_simple_program)).1
+    ∙ ap (λ a. subcommand_of a words) is in
+    let faultless : fault_of program words ≡ [] =
+    sym (ap (λ a. fault_of a words) is) ∙ c.in-Ok.ensures.kinds (ap is_simple_and_free is ∙ is_free_program) in
+    let asked : job_asked words ≡ found_job (subcommand_of program words) =
+    chosen (ends_options words) (fault_of program words) (found_job (subcommand_of program words))
+    (ends_behind c.args.words.now ∙ ended) faultless in
     IfOk-weaker c.job_in.result _ _ (λ job h. h ∙ ap found_job found ∙ sym asked) c.job_in.ensures
 
 pub returns-in-Err-2 : goal.returns-in-Err-2
@@ -78,5 +89,7 @@ returns-in-Err-2 c =
     let no_memory : c.kind.result ≡ kind.OutOfMemory = c.kind.ensures ∙ memory in
     let same : c.eq.result ≡ true = rw no_memory at c.eq.ensures in
     absurd (cc) in
-    let faulty : fault_of program words ≡ [] → ⊥ = λ none. has_fault (fault_of (app_of c.in_ok-command.field-0) words) c.in-Err.error kinds other (ap (λ a. fault_of a words) is ∙ none) in
+    let faulty : fault_of program words ≡ [] → ⊥ = λ none.
+    has_fault (fault_of (app_of c.in_ok-command.field-0) words) c.in-Err.error kinds other
+    (ap (λ a. fault_of a words) is ∙ none) in
     sym (left_out (ends_options words) (fault_of program words) (found_job (subcommand_of program words)) faulty)

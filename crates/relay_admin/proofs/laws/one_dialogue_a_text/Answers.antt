@@ -1,5 +1,6 @@
 use Rattle.stream_base.specs.Lines.{lines_of}
-use Rattle.relay_admin.proofs.admin.OneDialogue.{one_command, one_transcript}
+use Rattle.relay_admin.proofs.admin.CommandLemmas.{one_command}
+use Rattle.relay_admin.proofs.admin.OneDialogue.{one_transcript}
 use Rattle.relay_admin.proofs.laws.one_dialogue_a_text.Goals as goal
 
 pub returns : goal.returns

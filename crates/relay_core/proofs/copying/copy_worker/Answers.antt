@@ -8,7 +8,8 @@ pub returns-in-Ok-close_write : goal.returns-in-Ok-close_write
 returns-in-Ok-close_write g c = record {
   copied = ends_with c.loop.invariant.so_far _
       (λ calls h. c.in-Ok-close_write.ensures.told _ (c.in-Err-EndOfFile.ensures.told _ h))
-      (at_end c.in-Ok-close_write.field-0 _ c.in-Err-EndOfFile.field-0-is) (omega (arith, c.loop.invariant.so_far.grew));
+      (at_end c.in-Ok-close_write.field-0 _ c.in-Err-EndOfFile.field-0-is)
+      (omega (arith, c.loop.invariant.so_far.grew));
 }
 
 -- the reader's end came, and the writer couldn't be told
@@ -16,7 +17,8 @@ pub returns-in-Err-close_write : goal.returns-in-Err-close_write
 returns-in-Err-close_write g c = record {
   copied = ends_with c.loop.invariant.so_far _
       (λ calls h. c.in-Err-close_write.ensures.told _ (c.in-Err-EndOfFile.ensures.told _ h))
-      (at_close c.in-Err-close_write.fault _ c.in-Err-EndOfFile.field-0-is) (omega (arith, c.loop.invariant.so_far.grew));
+      (at_close c.in-Err-close_write.fault _ c.in-Err-EndOfFile.field-0-is)
+      (omega (arith, c.loop.invariant.so_far.grew));
 }
 
 -- a read failed
@@ -32,13 +34,15 @@ loop-preserved g c = record {
   room = search rules;
   so_far = record {
     rounds = take c.in-Ok.count c.read.new.buf ∷ c.loop.invariant.so_far.rounds;
-    told = λ calls h. rw (← c.in-Ok-write.ensures.whole) (c.in-Ok-write.ensures.told _ (c.in-Ok.ensures.told _ (c.loop.invariant.so_far.told _ h)));
+    told = λ calls h. rw (← c.in-Ok-write.ensures.whole)
+        (c.in-Ok-write.ensures.told _ (c.in-Ok.ensures.told _ (c.loop.invariant.so_far.told _ h)));
     grew = omega (
       arith,
       c.in-Ok-credited.ensures.amount,
       c.in-Ok-write.ensures.whole,
       c.loop.invariant.so_far.grew,
-      round_writes (take c.in-Ok.count c.read.new.buf) (Ok (length (take c.in-Ok.count c.read.new.buf))) (round_calls c.loop.invariant.so_far.rounds),
+      round_writes (take c.in-Ok.count c.read.new.buf) (Ok (length (take c.in-Ok.count c.read.new.buf)))
+          (round_calls c.loop.invariant.so_far.rounds),
     );
   };
 }
@@ -53,7 +57,8 @@ returns-in-Err-credited g c = record {
         arith,
         c.in-Err-credited.ensures.kept,
         c.loop.invariant.so_far.grew,
-        round_writes (take c.in-Ok.count c.read.new.buf) (Ok c.in-Ok-write.written) (round_calls c.loop.invariant.so_far.rounds),
+        round_writes (take c.in-Ok.count c.read.new.buf) (Ok c.in-Ok-write.written)
+            (round_calls c.loop.invariant.so_far.rounds),
       ));
 }
 
@@ -67,7 +72,8 @@ returns-in-Ok-credited-2 g c = record {
         arith,
         c.in-Ok-credited-2.ensures.amount,
         c.loop.invariant.so_far.grew,
-        round_writes (take c.in-Ok.count c.read.new.buf) (Err c.in-Err-write.failed) (round_calls c.loop.invariant.so_far.rounds),
+        round_writes (take c.in-Ok.count c.read.new.buf) (Err c.in-Err-write.failed)
+            (round_calls c.loop.invariant.so_far.rounds),
       ));
 }
 
@@ -81,6 +87,7 @@ returns-in-Err-credited-2 g c = record {
         arith,
         c.in-Err-credited-2.ensures.kept,
         c.loop.invariant.so_far.grew,
-        round_writes (take c.in-Ok.count c.read.new.buf) (Err c.in-Err-write.failed) (round_calls c.loop.invariant.so_far.rounds),
+        round_writes (take c.in-Ok.count c.read.new.buf) (Err c.in-Err-write.failed)
+            (round_calls c.loop.invariant.so_far.rounds),
       ));
 }

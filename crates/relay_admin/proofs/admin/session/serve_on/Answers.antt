@@ -1,4 +1,4 @@
-use Rattle.std.proofs.Common.{◌≡◌, ◌≢◌, ◌<◌, ◌≤◌, ◌+◌, sym, subst, refl, ap, ℕ, List, [], ◌∷◌, length, ◌++◌, arith}
+use Rattle.std.proofs.Common.{◌≡◌, ◌<◌, ◌≤◌, ◌+◌, sym, subst, refl, ap, ℕ, List, [], ◌∷◌, length, ◌++◌, arith}
 use Rattle.std.proofs.Common.{Option, inr}
 use Rattle.std.specs.Io.KnownBytes.{Consumes}
 use Rattle.stream_base.proofs.KnownBytesLemmas.{keeps_itself, consumes_nothing, consumes_then_consumes}

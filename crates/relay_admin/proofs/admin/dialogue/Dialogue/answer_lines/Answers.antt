@@ -1,4 +1,4 @@
-use Rattle.std.proofs.Common.{◌≡◌, ◌<◌, ◌≤◌, refl, ap, arith, inr, length, length-append}
+use Rattle.std.proofs.Common.{refl, ap, arith, inr, length, length-append}
 use Rattle.stream_base.proofs.KnownBytesLemmas.{keeps_itself}
 use Rattle.stream_base.proofs.LineReaderLemmas.{line_found, line_grown, line_is_long}
 use Rattle.relay_admin.specs.declared.admin.dialogue.TheConstants.{MAX_LINE_BYTES}
