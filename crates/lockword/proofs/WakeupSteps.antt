@@ -28,7 +28,9 @@ use Rattle.lockword.specs.LocalView.{stakes_of, taken_by, takers}
 use Rattle.lockword.specs.Directions.{semaphore}
 use Rattle.lockword.specs.SharedInvariant.{IsReached}
 use Rattle.lockword.specs.History.{IsMade}
-use Rattle.lockword.specs.Steps.{way_of, signalled_view, counted, signalled}
+use Rattle.lockword.specs.declared.transitions.SignalMove.{SignalMove}
+use Rattle.lockword.specs.declared.transitions.SignalMove.TheVariants as move
+use Rattle.lockword.specs.Steps.{way_of, op_at, answer_at, Changes, signalled_view, counted, signalled}
 use Rattle.lockword.proofs.ViewLemmas.{one_changes, takers-set, taken-le}
 use Rattle.lockword.proofs.Representation.{present, fits, recounted, represents, on_signals}
 use Rattle.lockword.proofs.StateSteps.{same_count}
@@ -126,7 +128,7 @@ pub record IsSignalStep (d : Dir) (n m : ℕ) (own : Stake) (o : Op) (a : Answer
   deed : IsDeed d n m own (stake_after_signal d own) o a
 
 -- a semaphore with room
-pub gives_one : (d : Dir) (n m : ℕ) (own : Stake) → allows own (op.Signal d) ≡ true → n < MAX_SIGNALS → m ≡ n + 1
+gives_one : (d : Dir) (n m : ℕ) (own : Stake) → allows own (op.Signal d) ≡ true → n < MAX_SIGNALS → m ≡ n + 1
     → IsSignalStep d n m own (op.Signal d) answer.Signalled
 gives_one d n m own may room more =
     record {
@@ -135,13 +137,18 @@ gives_one d n m own may room more =
     }
 
 -- a semaphore with a signal
-pub takes_one : (d : Dir) (n m : ℕ) (own : Stake) → allows own (op.Wake d) ≡ true → 0 < n → m ≡ n - 1
+takes_one : (d : Dir) (n m : ℕ) (own : Stake) → allows own (op.Wake d) ≡ true → 0 < n → m ≡ n - 1
     → IsSignalStep d n m own (op.Wake d) answer.Woken
 takes_one d n m own may any less =
     record {
       counts = subst (λ (x : ℕ). KeepsCounts d n x own (stake_after_signal d own)) (sym less) (takes_signal d n own may (λ none. absurd (omega arith)));
       deed = takes_deed d n m own may any less;
     }
+
+pub changes_one : (k : SignalMove) (d : Dir) (n m : ℕ) (own : Stake) → allows own (op_at k d) ≡ true → Changes k n m
+    → IsSignalStep d n m own (op_at k d) (answer_at k)
+changes_one move.Gives d n m own may (room, more) = gives_one d n m own may room more
+changes_one move.Takes d n m own may (any, less) = takes_one d n m own may any less
 
 way_back : (d : Dir) → way_of (semaphore d) ≡ d
 way_back Read = refl

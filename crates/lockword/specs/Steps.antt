@@ -1,5 +1,6 @@
 -- What the atomic steps tell the seat that makes them. No public clause cites this module.
-use Rattle.std.specs.Prelude.{◌≡◌, ◌≢◌, ◌==◌, ◌<◌, ◌≤◌, ◌-◌, ℕ, List, [], ◌∷◌, ◌++◌, Bool, true, false, Ok, if◌then◌else◌}
+use Rattle.std.specs.Prelude.{◌≡◌, ◌≢◌, ◌==◌, ◌<◌, ◌≤◌, ◌+◌, ◌-◌, ℕ, List, [], ◌∷◌, ◌++◌}
+use Rattle.std.specs.Prelude.{Bool, true, false, Ok, if◌then◌else◌}
 use Rattle.atomic_table.specs.Table.{Me, Step, rest}
 use Rattle.stream_base.specs.declared.direction.Dir.{Dir}
 use Rattle.stream_base.specs.declared.direction.Dir.TheVariants.{Read, Write}
@@ -22,6 +23,8 @@ use Rattle.lockword.specs.declared.local_view.LocalView.{LocalView}
 use Rattle.lockword_core.specs.Transition.{stake_after_signal}
 use Rattle.lockword.specs.declared.transitions.Advance.{Advance}
 use Rattle.lockword.specs.declared.transitions.Advance.TheVariants as advance
+use Rattle.lockword.specs.declared.transitions.SignalMove.{SignalMove}
+use Rattle.lockword.specs.declared.transitions.SignalMove.TheVariants as move
 use Rattle.lockword.specs.declared.signals.SignalTry.{SignalTry}
 use Rattle.lockword.specs.declared.signals.SignalTry.TheVariants as tried
 use Rattle.lockword.specs.Directions.{slot_of, Guarded, half_of}
@@ -170,6 +173,21 @@ HasSlots _ slots = Unit {0}
 -- the direction of a semaphore's word
 abbrev pub way_of : ℕ → Dir
 way_of i = if i == READ_SIGNALS then Read else Write
+
+-- the operation that changes a semaphore by one signal
+abbrev pub op_at : SignalMove → Dir → Op
+op_at move.Gives d = op.Signal d
+op_at move.Takes d = op.Wake d
+
+-- the answer to it, once it is made
+abbrev pub answer_at : SignalMove → Answer
+answer_at move.Gives = answer.Signalled
+answer_at move.Takes = answer.Woken
+
+-- the signals before it and after: there was room for one more, or one to take
+abbrev pub Changes : SignalMove → ℕ → ℕ → Type 0
+Changes move.Gives n m = (n < MAX_SIGNALS) × (m ≡ n + 1)
+Changes move.Takes n m = (0 < n) × (m ≡ n - 1)
 
 -- the view once the seat gave or took a signal, by this operation
 abbrev pub signalled_view : (Dir → Op) → Dir → LocalView → LocalView
