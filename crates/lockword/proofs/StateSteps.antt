@@ -80,47 +80,47 @@ not_last _ k may = refl
 -- ---- Steps that move no half
 
 -- a step that moves no half
-abbrev pub IsQuiet : Kind → After → Type 0
-IsQuiet kind.Incref a = Unit {0}
-IsQuiet kind.Decref a = Unit {0}
-IsQuiet kind.Close a = Unit {0}
-IsQuiet (kind.Lock d) after.Queued = Unit {0}
-IsQuiet _ _ = ⊥
+abbrev pub MovesNoHalf : Kind → After → Type 0
+MovesNoHalf kind.Incref a = Unit {0}
+MovesNoHalf kind.Decref a = Unit {0}
+MovesNoHalf kind.Close a = Unit {0}
+MovesNoHalf (kind.Lock d) after.Queued = Unit {0}
+MovesNoHalf _ _ = ⊥
 
-own_lockless : (own : Stake) (k : Kind) (a : After) (d : Dir) → IsQuiet k a → allows own (op_of k) ≡ true
+own_lockless : (own : Stake) (k : Kind) (a : After) (d : Dir) → MovesNoHalf k a → allows own (op_of k) ≡ true
     → part (locks d) own ≡ 0
-own_lockless stake.Read kind.Incref a d quiet may = absurd (cc)
-own_lockless stake.Read kind.Decref a d quiet may = absurd (cc)
-own_lockless stake.Read kind.Close a d quiet may = absurd (cc)
-own_lockless stake.Read (kind.Lock e) a d quiet may = absurd (cc)
-own_lockless stake.Read (kind.Unlock e) a d quiet may = absurd quiet
-own_lockless stake.Write kind.Incref a d quiet may = absurd (cc)
-own_lockless stake.Write kind.Decref a d quiet may = absurd (cc)
-own_lockless stake.Write kind.Close a d quiet may = absurd (cc)
-own_lockless stake.Write (kind.Lock e) a d quiet may = absurd (cc)
-own_lockless stake.Write (kind.Unlock e) a d quiet may = absurd quiet
-own_lockless _ k a d quiet may = refl
+own_lockless stake.Read kind.Incref a d still may = absurd (cc)
+own_lockless stake.Read kind.Decref a d still may = absurd (cc)
+own_lockless stake.Read kind.Close a d still may = absurd (cc)
+own_lockless stake.Read (kind.Lock e) a d still may = absurd (cc)
+own_lockless stake.Read (kind.Unlock e) a d still may = absurd still
+own_lockless stake.Write kind.Incref a d still may = absurd (cc)
+own_lockless stake.Write kind.Decref a d still may = absurd (cc)
+own_lockless stake.Write kind.Close a d still may = absurd (cc)
+own_lockless stake.Write (kind.Lock e) a d still may = absurd (cc)
+own_lockless stake.Write (kind.Unlock e) a d still may = absurd still
+own_lockless _ k a d still may = refl
 
-new_lockless : (k : Kind) (a : After) (d : Dir) → IsQuiet k a → part (locks d) (gained k a).1 ≡ 0
-new_lockless kind.Incref after.Held d quiet = refl
-new_lockless kind.Incref _ d quiet = refl
-new_lockless kind.Decref after.Kept d quiet = refl
-new_lockless kind.Decref after.Last d quiet = refl
-new_lockless kind.Decref _ d quiet = refl
-new_lockless kind.Close (after.Closing r w) d quiet = refl
-new_lockless kind.Close _ d quiet = refl
-new_lockless (kind.Lock e) after.Queued d quiet = refl
-new_lockless (kind.Lock e) _ d quiet = absurd quiet
-new_lockless (kind.Unlock e) _ d quiet = absurd quiet
+new_lockless : (k : Kind) (a : After) (d : Dir) → MovesNoHalf k a → part (locks d) (gained k a).1 ≡ 0
+new_lockless kind.Incref after.Held d still = refl
+new_lockless kind.Incref _ d still = refl
+new_lockless kind.Decref after.Kept d still = refl
+new_lockless kind.Decref after.Last d still = refl
+new_lockless kind.Decref _ d still = refl
+new_lockless kind.Close (after.Closing r w) d still = refl
+new_lockless kind.Close _ d still = refl
+new_lockless (kind.Lock e) after.Queued d still = refl
+new_lockless (kind.Lock e) _ d still = absurd still
+new_lockless (kind.Unlock e) _ d still = absurd still
 
-carries_same : {R W : Type 0} (k : Kind) (a : After) (slots : List (ℕ × Half R W)) → IsQuiet k a
+carries_same : {R W : Type 0} (k : Kind) (a : After) (slots : List (ℕ × Half R W)) → MovesNoHalf k a
     → Carries k a slots slots
-carries_same kind.Incref a slots quiet = refl
-carries_same kind.Decref a slots quiet = refl
-carries_same kind.Close a slots quiet = refl
-carries_same (kind.Lock d) after.Queued slots quiet = refl
-carries_same (kind.Lock d) _ slots quiet = absurd quiet
-carries_same (kind.Unlock d) _ slots quiet = absurd quiet
+carries_same kind.Incref a slots still = refl
+carries_same kind.Decref a slots still = refl
+carries_same kind.Close a slots still = refl
+carries_same (kind.Lock d) after.Queued slots still = refl
+carries_same (kind.Lock d) _ slots still = absurd still
+carries_same (kind.Unlock d) _ slots still = absurd still
 
 is_free : (own : Stake) (d : Dir) → allows own (op_of (kind.Lock d)) ≡ true → own ≡ stake.Free
 is_free stake.Free d may = refl
@@ -207,11 +207,11 @@ same_count before now others p q e f g h = omega arith
 
 module _ (R W : Type 0) where
   -- a step that moves no half keeps the rule
-  pub quiet_fits : (k : Kind) (a : After) (n m id : ℕ) (me : M R W) (s : St R W) → stepped_word n k ≡ Ok (m, a)
-      → allows me.0.stake (op_of k) ≡ true → IsQuiet k a
+  pub no_half_fits : (k : Kind) (a : After) (n m id : ℕ) (me : M R W) (s : St R W) → stepped_word n k ≡ Ok (m, a)
+      → allows me.0.stake (op_of k) ≡ true → MovesNoHalf k a
       → Represents s → get_elem? s.views id ≡ some me.0 → get_or s.words 0 0 ≡ n
       → Represents (stepped s 0 m id me.1 (moved_view k a me.0) keeps)
-  quiet_fits k a n m id me s is may quiet r at found =
+  no_half_fits k a n m id me s is may still r at found =
       let f = fits s r in
       let c : Census = present s r in
       let w : LocalView = moved_view k a me.0 in
@@ -220,7 +220,7 @@ module _ (R W : Type 0) where
       let balance : IsBalanced c n = subst (λ (x : ℕ). IsBalanced c x) found f.balance in
       let next : IsBalanced (changed c (stakes_of views) (change_of k)) m = stepped_keeps c me.0.stake k a n m (stakes_of views) balance may is one in
       let locked : (d : Dir) → count (locks d) (stakes_of views) ≡ count (locks d) (stakes_of s.views) =
-      λ d. same_count _ _ _ _ _ (one.counted_before (locks d)) (one.counted_after (locks d)) (own_lockless me.0.stake k a d quiet may) (new_lockless k a d quiet) in
+      λ d. same_count _ _ _ _ _ (one.counted_before (locks d)) (one.counted_after (locks d)) (own_lockless me.0.stake k a d still may) (new_lockless k a d still) in
       let took : takers views + taken_by me.0 ≡ takers s.views + 0 = takers-set s.views id me.0 w at in
       let mine : taken_by me.0 ≤ part lasts me.0.stake = taken-le me.0 in
       let last : part lasts me.0.stake ≡ 0 = not_last me.0.stake k may in
@@ -302,13 +302,13 @@ module _ (R W : Type 0) where
       → allows me.0.stake (op_of k) ≡ true → HasSlots k me.1
       → Represents s → get_elem? s.views id ≡ some me.0 → get_or s.words 0 0 ≡ n → Kept k a m id me s
   kept kind.Incref a n m id me s is may slots r at found =
-      (keeps, tt, quiet_fits kind.Incref a n m id me s is may tt r at found, refl)
+      (keeps, tt, no_half_fits kind.Incref a n m id me s is may tt r at found, refl)
   kept kind.Decref a n m id me s is may slots r at found =
-      (keeps, tt, quiet_fits kind.Decref a n m id me s is may tt r at found, refl)
+      (keeps, tt, no_half_fits kind.Decref a n m id me s is may tt r at found, refl)
   kept kind.Close a n m id me s is may slots r at found =
-      (keeps, tt, quiet_fits kind.Close a n m id me s is may tt r at found, refl)
+      (keeps, tt, no_half_fits kind.Close a n m id me s is may tt r at found, refl)
   kept (kind.Lock d) after.Queued n m id me s is may slots r at found =
-      (keeps, tt, quiet_fits (kind.Lock d) after.Queued n m id me s is may tt r at found, refl)
+      (keeps, tt, no_half_fits (kind.Lock d) after.Queued n m id me s is may tt r at found, refl)
   kept (kind.Lock d) after.Held n m id me s is may slots r at found =
       takes_half d n m id me s is (is_free me.0.stake d may) r at found
   kept (kind.Lock d) a n m id me s is may slots r at found = absurd (possible n m (kind.Lock d) a is).1.shows

@@ -38,7 +38,7 @@ use Rattle.lockword.proofs.Exchanges.{St, M}
 use Rattle.lockword.proofs.LookSteps.{seen_fits, told_of, view_of}
 use Rattle.lockword.proofs.HistorySteps.{event, IsMove, own_stake, step_moves, stepped_history, more_deeds, none_refused_more, is_made}
 use Rattle.lockword.proofs.WordTests.{Shown, possible}
-use Rattle.lockword.proofs.StateSteps.{quiet_fits}
+use Rattle.lockword.proofs.StateSteps.{no_half_fits}
 
 -- whoever gives a reference back is among those that the word counts
 counted : (own : Stake) (n : ℕ) → Shows own n → allows own op.Decref ≡ true → 0 < references_in n
@@ -79,7 +79,7 @@ module _ (R W : Type 0) where
       let wide : length s.words ≡ 4 = (fits s r).wide in
       let saw : Represents (stepped s STATE n id me.1 v keeps) =
       subst (λ (k : ℕ). Represents (stepped s STATE k id me.1 (seen_in k me.0) keeps)) found (seen_fits R W id me s r at) in
-      let next = quiet_fits R W kind.Decref a n m id (v, me.1) (stepped s STATE n id me.1 v keeps) is may tt saw
+      let next = no_half_fits R W kind.Decref a n m id (v, me.1) (stepped s STATE n id me.1 v keeps) is may tt saw
       (set_here s.views id v there.0) (get_or-set_same s.words 0 n 0 (omega arith)) in
       subst (λ (z : List ℕ × List LocalView). Represents record { words = z.0; homes = s.homes; views = z.1 })
       (λ i. (set-set s.words 0 n m i, set-set s.views id v w i)) next
