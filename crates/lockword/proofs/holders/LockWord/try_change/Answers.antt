@@ -1,5 +1,5 @@
-use Rattle.std.proofs.Common.{rules, arith, ◌≡◌, ap, ◌∙◌, true}
-use Rattle.lockword_core.specs.Transition.{allows}
+use Rattle.std.proofs.Common.{◌≡◌, ◌∙◌}
+use Rattle.lockword.proofs.Words.{rules, arith, ap, true, allows}
 use Rattle.lockword.specs.Steps.{op_at}
 use Rattle.lockword.proofs.WakeupSteps.{counts, signals, changes_one}
 use Rattle.lockword.proofs.holders.LockWord.try_change.Goals as goal
