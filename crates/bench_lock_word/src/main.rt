@@ -2,12 +2,12 @@
 //! this program from outside, beside plain Rust.
 #![tactic(auto)]
 
-mod crew;
 mod job;
 mod rounds;
+mod workers;
 
-use crate::crew::run;
 use crate::job::job_of;
+use crate::workers::run;
 use std::process::ExitCode;
 use std::{env, io};
 

@@ -1,31 +1,30 @@
 //! The close. Who closes takes over the signals of all waiters, and gives them before it returns. The
 //! woken contend again, and find the word closed.
 
-ghost use Rattle.std.specs.Prelude.{◌≡◌, false, IfOk, IfErr};
+ghost use Rattle.std.specs.Prelude.{◌≡◌, false, IfOk};
 ghost use Rattle.stream_base.specs.declared.direction.Dir.{Dir};
 ghost use Rattle.stream_base.specs.declared.direction.Dir.TheVariants.{Read, Write};
 ghost use Rattle.lockword_core.specs.LockState.{is_same};
-ghost use Rattle.lockword.specs.Marks.{NowClosed, IsOpen};
+ghost use Rattle.lockword.specs.Marks.{NowClosed};
 ghost use Rattle.lockword.specs.Places.{seat_place, closing_place, owed_by};
 ghost use Rattle.lockword.specs.TransitionOutcomes.{IsSeatOf, IsAtLimit};
 ghost use Rattle.lockword.specs.Dropping.{IsDecided, LeavesClosed};
-ghost use Rattle.fdmutex.specs.Refusal.{IsRefused};
+ghost use Rattle.fdmutex.specs.Refusal.{IsTakenOrRefused};
 
 use crate::Refusal;
 use lockword::{Close, Closing, Freed, LockWord, Seat, SignalClosing};
 use std::sync::Wait;
 use stream_base::Dir;
 
-/// Sets the flag, and takes over the signals of all waiters.
+/// Sets the flag, and takes over the signals of all waiters. The loop is that of `incref`, over a try
+/// with answers of its own, which say what the caller now holds.
 fn take_over<R: Drop, W: Drop, T: Wait>(
     rt: &T,
     word: &LockWord<R, W>,
     seat: Seat<R, W>,
 ) -> Result<Closing<R, W>, (Seat<R, W>, Refusal)>
     requires seat { IsSeatOf word.now (seat_place seat) }
-    ensures closed { IfOk result (λ closing. NowClosed (seat_place seat) (closing_place closing)) }
-    ensures was_open { IfOk result (λ closing. IsOpen (seat_place seat)) }
-    ensures refusal { IfErr result (λ e. IsRefused IsAtLimit seat e.0 e.1) }
+    ensures answer { IsTakenOrRefused NowClosed closing_place IsAtLimit seat result }
 {
     let mut seat = seat;
     for _ in rt.forever() {
@@ -73,11 +72,9 @@ pub fn close_mark<R: Drop, W: Drop, T: Wait>(
     seat: Seat<R, W>,
 ) -> Result<Closing<R, W>, (Seat<R, W>, Refusal)>
     requires seat { IsSeatOf word.now (seat_place seat) }
-    ensures closed { IfOk result (λ closing. NowClosed (seat_place seat) (closing_place closing)) }
-    ensures was_open { IfOk result (λ closing. IsOpen (seat_place seat)) }
+    ensures answer { IsTakenOrRefused NowClosed closing_place IsAtLimit seat result }
     ensures no_reader_owed { IfOk result (λ closing. owed_by closing Read ≡ 0) }
     ensures no_writer_owed { IfOk result (λ closing. owed_by closing Write ≡ 0) }
-    ensures refusal { IfErr result (λ e. IsRefused IsAtLimit seat e.0 e.1) }
 {
     let closing = take_over(rt, word, seat)?;
     let closing = signal_all(rt, word, closing, Dir::Read);

@@ -1,13 +1,12 @@
 //! The locks. Who finds a lock taken queues, parks until there is a signal to take, and then has nothing
 //! and contends from the start. Who gives a lock back gives the signal that it owes before it returns.
 
-ghost use Rattle.std.specs.Prelude.{IfOk, IfErr};
 ghost use Rattle.stream_base.specs.declared.direction.Dir.TheVariants.{Read, Write};
-ghost use Rattle.lockword.specs.Marks.{SameMarks, IsOpen};
+ghost use Rattle.lockword.specs.Marks.{SameMarks};
 ghost use Rattle.lockword.specs.Places.{seat_place, lock_place, wait_place, owing_place};
 ghost use Rattle.lockword.specs.TransitionOutcomes.{IsSeatOf};
 ghost use Rattle.lockword.specs.Dropping.{Leaves};
-ghost use Rattle.fdmutex.specs.Refusal.{IsRefused, IsLockFull};
+ghost use Rattle.fdmutex.specs.Refusal.{IsLockFull, IsTakenOrRefused};
 
 use crate::Refusal;
 use lockword::{
@@ -66,9 +65,7 @@ pub fn lock<D: Guards<R, W>, R: Drop, W: Drop, T: Wait>(
     seat: Seat<R, W>,
 ) -> Result<Held<D, R, W>, (Seat<R, W>, Refusal)>
     requires seat { IsSeatOf word.now (seat_place seat) }
-    ensures marks { IfOk result (λ held. SameMarks (seat_place seat) (lock_place held)) }
-    ensures was_open { IfOk result (λ held. IsOpen (seat_place seat)) }
-    ensures refusal { IfErr result (λ e. IsRefused (IsLockFull D.dir) seat e.0 e.1) }
+    ensures answer { IsTakenOrRefused SameMarks lock_place (IsLockFull D.dir) seat result }
 {
     let mut seat = seat;
     for _ in rt.forever() {
@@ -111,9 +108,19 @@ pub fn read_lock<R: Drop, W: Drop, T: Wait>(
     seat: Seat<R, W>,
 ) -> Result<ReadLock<R, W>, (Seat<R, W>, Refusal)>
     requires seat { IsSeatOf word.now (seat_place seat) }
-    ensures marks { IfOk result (λ held. SameMarks (seat_place seat) (lock_place held)) }
-    ensures was_open { IfOk result (λ held. IsOpen (seat_place seat)) }
-    ensures refusal { IfErr result (λ e. IsRefused (IsLockFull Read) seat e.0 e.1) }
+    ensures answer { IsTakenOrRefused SameMarks lock_place (IsLockFull Read) seat result }
+{
+    lock(rt, word, seat)
+}
+
+/// Takes the write lock, and with it a reference and the write half.
+pub fn write_lock<R: Drop, W: Drop, T: Wait>(
+    rt: &T,
+    word: &LockWord<R, W>,
+    seat: Seat<R, W>,
+) -> Result<WriteLock<R, W>, (Seat<R, W>, Refusal)>
+    requires seat { IsSeatOf word.now (seat_place seat) }
+    ensures answer { IsTakenOrRefused SameMarks lock_place (IsLockFull Write) seat result }
 {
     lock(rt, word, seat)
 }
@@ -128,20 +135,6 @@ pub fn read_unlock<R: Drop, W: Drop, T: Wait>(
     ensures left { Leaves (lock_place held) result }
 {
     unlock(rt, word, held)
-}
-
-/// Takes the write lock, and with it a reference and the write half.
-pub fn write_lock<R: Drop, W: Drop, T: Wait>(
-    rt: &T,
-    word: &LockWord<R, W>,
-    seat: Seat<R, W>,
-) -> Result<WriteLock<R, W>, (Seat<R, W>, Refusal)>
-    requires seat { IsSeatOf word.now (seat_place seat) }
-    ensures marks { IfOk result (λ held. SameMarks (seat_place seat) (lock_place held)) }
-    ensures was_open { IfOk result (λ held. IsOpen (seat_place seat)) }
-    ensures refusal { IfErr result (λ e. IsRefused (IsLockFull Write) seat e.0 e.1) }
-{
-    lock(rt, word, seat)
 }
 
 /// Gives the write lock back.

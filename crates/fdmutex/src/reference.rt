@@ -1,26 +1,23 @@
 //! References: a try to take one that was lost is made again.
 
-ghost use Rattle.std.specs.Prelude.{IfOk, IfErr};
-ghost use Rattle.lockword.specs.Marks.{SameMarks, IsOpen};
+ghost use Rattle.lockword.specs.Marks.{SameMarks};
 ghost use Rattle.lockword.specs.Places.{seat_place, ref_place};
 ghost use Rattle.lockword.specs.TransitionOutcomes.{IsSeatOf, IsAtLimit};
 ghost use Rattle.lockword.specs.Dropping.{IsDecided, Leaves};
-ghost use Rattle.fdmutex.specs.Refusal.{IsRefused};
+ghost use Rattle.fdmutex.specs.Refusal.{IsTakenOrRefused};
 
 use crate::Refusal;
 use lockword::{Freed, Incref, LockWord, Ref, Seat};
 use std::sync::Wait;
 
-/// Takes a reference.
+/// Takes a reference. The loop is that of `close::take_over`, which says why both stand.
 pub fn incref<R: Drop, W: Drop, T: Wait>(
     rt: &T,
     word: &LockWord<R, W>,
     seat: Seat<R, W>,
 ) -> Result<Ref<R, W>, (Seat<R, W>, Refusal)>
     requires seat { IsSeatOf word.now (seat_place seat) }
-    ensures marks { IfOk result (λ held. SameMarks (seat_place seat) (ref_place held)) }
-    ensures was_open { IfOk result (λ held. IsOpen (seat_place seat)) }
-    ensures refusal { IfErr result (λ e. IsRefused IsAtLimit seat e.0 e.1) }
+    ensures answer { IsTakenOrRefused SameMarks ref_place IsAtLimit seat result }
 {
     let mut seat = seat;
     for _ in rt.forever() {

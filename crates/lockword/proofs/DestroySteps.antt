@@ -1,33 +1,27 @@
 -- The end of a word: the last holder takes the halves and marks that it destroyed.
-use Rattle.std.proofs.Common.{◌≡◌, ℕ, ◌+◌, ◌≤◌, ◌∙◌, Bool, true, false, List, [], ◌∷◌, ◌++◌, length, get_or, set, refl, sym, ap, subst, arith, length-set}
-use mathlib.Core.Option.{Option, none, some}
-use lib.ListN.{get_elem?}
-use Rattle.atomic_table.specs.Table.{step, takes, gives, chain, Allows}
-use Rattle.atomic_table.proofs.Lists.{set_here, set_else}
-use Rattle.stream_base.specs.declared.direction.Dir.{Dir}
-use Rattle.stream_base.specs.declared.direction.Dir.TheVariants.{Read, Write}
-use Rattle.lockword_core.specs.declared.stake.Stake.{Stake}
+use Rattle.std.proofs.Common.{◌≡◌, ◌+◌, ◌≤◌, ◌∙◌, [], ◌∷◌, ◌++◌}
+use Rattle.lockword.proofs.Words.{ℕ, Bool, true, false, List, length, get_or, set, refl, sym, ap, subst, arith}
+use Rattle.lockword.proofs.Words.{length-set, Option, none, some, get_elem?, step, Allows, set_here, Dir, Read, Write}
+use Rattle.lockword.proofs.Words.{Stake, bit, Census, empty, locks, lasts, part, number, state_after, ChangesOneStake}
+use Rattle.lockword.proofs.Words.{count-within, IsBalanced, LocalView, STATE, DONE, newcomer, stakes_of, taken_by}
+use Rattle.lockword.proofs.Words.{Guarded, half_of, half_home, Represents, IsReached}
+use Rattle.atomic_table.specs.Table.{takes, gives, chain}
+use Rattle.atomic_table.proofs.Lists.{set_else}
 use Rattle.lockword_core.specs.declared.stake.Stake.TheVariants as stake
 use Rattle.lockword_core.specs.declared.stake.Op.TheVariants as op
 use Rattle.lockword_core.specs.declared.stake.Answer.TheVariants as answer
 use Rattle.lockword_core.specs.Transition.{destroys}
-use Rattle.lockword_core.specs.Word.{bit}
-use Rattle.lockword_core.specs.LockState.{Census, empty, locks, lasts, part, count, number}
-use Rattle.lockword_core.specs.Replay.{state_after}
-use Rattle.lockword_core.specs.LockInvariant.{ChangesOneStake}
-use Rattle.lockword_core.proofs.CountLemmas.{count-within}
-use Rattle.lockword_core.proofs.BalanceLemmas.{IsBalanced, destroy_keeps}
-use Rattle.lockword.specs.declared.local_view.LocalView.{LocalView}
+use Rattle.lockword_core.specs.LockState.{count}
+use Rattle.lockword_core.proofs.BalanceLemmas.{destroy_keeps}
 use Rattle.lockword.specs.declared.shared_rule.Half.TheVariants as half
-use Rattle.lockword.specs.declared.shared_rule.TheConstants.{STATE, DONE}
-use Rattle.lockword.specs.LocalView.{newcomer, stakes_of, taken_by, takers}
-use Rattle.lockword.specs.Directions.{Guarded, half_of, half_home}
-use Rattle.lockword.specs.SharedInvariant.{Represents, IsReached}
+use Rattle.lockword.specs.LocalView.{takers}
 use Rattle.lockword.specs.Steps.{destroyed_view, emptied, marked}
 use Rattle.lockword.proofs.ViewLemmas.{one_changes, same_stakes, counted_at, takers-set, takers-le}
 use Rattle.lockword.proofs.Representation.{both, seated, present, fits, represents, on_done}
 use Rattle.lockword.proofs.LookSteps.{is_over, view_of}
-use Rattle.lockword.proofs.HistorySteps.{event, same_history, same_deeds, more_deeds, none_refused_more, destroy_moves, own_stake, destroyed_history, is_made}
+use Rattle.lockword.proofs.HistorySteps.{event, same_history, same_deeds, more_deeds, none_refused_more, own_stake}
+use Rattle.lockword.proofs.HistorySteps.{is_made}
+use Rattle.lockword.proofs.HistoryEnds.{destroy_moves, destroyed_history}
 use Rattle.lockword.proofs.Exchanges.{H, M}
 
 module _ (R W : Type 0) where
@@ -82,21 +76,28 @@ module _ (R W : Type 0) where
       let mine : taken_by me.0 ≡ 0 = taken_last me.0 false last untaken in
       let then : taken_by w ≡ 1 = taken_last w true last refl in
       let so = alone s.views c state id me.0 f.stakes f.balance at (last_part me.0.stake last) (omega arith) in
-      let no_reader = so.no_reader in let no_writer = so.no_writer in let not_destroyed = so.not_destroyed in let none_took = so.takers_are in
+      let no_reader = so.no_reader in let no_writer = so.no_writer in let not_destroyed = so.not_destroyed in
+      let none_took = so.takers_are in
       let same : stakes_of views ≡ stakes_of s.views = same_stakes s.views id me.0 w at refl in
       let took : takers views + taken_by me.0 ≡ takers s.views + taken_by w = takers-set s.views id me.0 w at in
-      let readers : count (locks Read) (stakes_of views) ≡ count (locks Read) (stakes_of s.views) = ap (count (locks Read)) same in
-      let writers : count (locks Write) (stakes_of views) ≡ count (locks Write) (stakes_of s.views) = ap (count (locks Write)) same in
+      let readers : count (locks Read) (stakes_of views) ≡ count (locks Read) (stakes_of s.views) =
+      ap (count (locks Read)) same in
+      let writers : count (locks Write) (stakes_of views) ≡ count (locks Write) (stakes_of s.views) =
+      ap (count (locks Write)) same in
       let read_was = f.halves Read in let write_was = f.halves Write in let deep = f.deep in
       let a = has_half Read (get_elem? s.homes 0) (omega arith) in
       let b = has_half Write (get_elem? s.homes 1) (omega arith) in
       let homes : List (Option (H R W)) = set (set s.homes 0 none) 1 none in
       let long : length (set s.homes 0 none) ≡ 2 = length-set s.homes 0 none ∙ f.deep in
-      let read_now : half_home Read (get_elem? homes 0) ≡ 0 = ap (half_home Read) (set_else (set s.homes 0 none) 1 0 none (omega arith) ∙ set_here s.homes 0 none (omega arith)) in
-      let write_now : half_home Write (get_elem? homes 1) ≡ 0 = ap (half_home Write) (set_here (set s.homes 0 none) 1 none (omega arith)) in
+      let read_now : half_home Read (get_elem? homes 0) ≡ 0 =
+      ap (half_home Read)
+      (set_else (set s.homes 0 none) 1 0 none (omega arith) ∙ set_here s.homes 0 none (omega arith)) in
+      let write_now : half_home Write (get_elem? homes 1) ≡ 0 =
+      ap (half_home Write) (set_here (set s.homes 0 none) 1 none (omega arith)) in
       let done_is : n ≡ bit c.destroyed = f.done in
       let saw = f.seen id me.0 at in
-      let next = on_done s.words s.homes homes s.views c c.destroyed state id w f (length-set (set s.homes 0 none) 1 none ∙ long)
+      let next = on_done s.words s.homes homes s.views c c.destroyed state id w f
+      (length-set (set s.homes 0 none) 1 none ∙ long)
       (subst (λ (ys : List Stake). IsBalanced (record c { stakes = ys }) state) (sym same) f.balance)
       (both _ (omega arith) (omega arith))
       (λ e. e) record { closed = saw.closed; done = saw.done } in (
@@ -104,7 +105,8 @@ module _ (R W : Type 0) where
         chain (takes 0 (half.Read a.0)) (takes 1 (half.Write b.0)),
         (a.1, set_else s.homes 0 1 none (omega arith) ∙ b.1),
         record {
-          represents = subst (λ (x : ℕ). Represents record { words = set s.words DONE x; homes = homes; views = views }) (sym done_is) (represents (set s.words DONE (bit c.destroyed)) homes views (seated views c) state next);
+          represents = subst (λ (x : ℕ). Represents record { words = set s.words DONE x; homes = homes; views = views })
+              (sym done_is) (represents (set s.words DONE (bit c.destroyed)) homes views (seated views c) state next);
           history = reached.history;
           interleaves = same_deeds reached.history s.views id me.0 w reached.interleaves at refl;
           none_refused = reached.none_refused;
@@ -118,7 +120,8 @@ module _ (R W : Type 0) where
       → me.1 ≡ (1, half.Away) ∷ (0, half.Away) ∷ []
       → Allows IsReached slots id me DONE (λ _. 1) (λ _. marked (step slots DONE 1 0 none) me 1)
   marks slots id me last taken saw holds =
-      subst (λ (slots' : List (ℕ × H R W)). Allows IsReached slots id (me.0, slots') DONE (λ _. 1) (λ _. marked (step slots DONE 1 0 none) (me.0, slots') 1)) (sym holds)
+      subst (λ (slots' : List (ℕ × H R W)). Allows IsReached slots id (me.0, slots') DONE (λ _. 1)
+      (λ _. marked (step slots DONE 1 0 none) (me.0, slots') 1)) (sym holds)
       (λ s reached _ at small.
       let r = reached.represents in
       let f = fits s r in
@@ -131,18 +134,24 @@ module _ (R W : Type 0) where
       let views : List LocalView = set s.views id w in
       let mine : taken_by me.0 ≡ 1 = taken_last me.0 true last taken in
       let so = alone s.views c state id me.0 f.stakes f.balance at (last_part me.0.stake last) (omega arith) in
-      let no_reader = so.no_reader in let no_writer = so.no_writer in let not_destroyed = so.not_destroyed in let i_took = so.takers_are in
+      let no_reader = so.no_reader in let no_writer = so.no_writer in let not_destroyed = so.not_destroyed in
+      let i_took = so.takers_are in
       let one = one_changes s.views id me.0 w at in
-      let from_last = subst (λ (x : Stake). ChangesOneStake (stakes_of s.views) x (stakes_of views) stake.Free) last one in
-      let readers_before = from_last.counted_before (locks Read) in let readers_after = from_last.counted_after (locks Read) in
-      let writers_before = from_last.counted_before (locks Write) in let writers_after = from_last.counted_after (locks Write) in
+      let from_last =
+      subst (λ (x : Stake). ChangesOneStake (stakes_of s.views) x (stakes_of views) stake.Free) last one in
+      let readers_before = from_last.counted_before (locks Read) in let readers_after =
+      from_last.counted_after (locks Read) in
+      let writers_before = from_last.counted_before (locks Write) in let writers_after =
+      from_last.counted_after (locks Write) in
       let took : takers views + taken_by me.0 ≡ takers s.views + 0 = takers-set s.views id me.0 w at in
       let x : Option (H R W) = some half.Away in
       let homes : List (Option (H R W)) = set (set s.homes 1 x) 0 x in
       let deep = f.deep in
       let long : length (set s.homes 1 x) ≡ 2 = length-set s.homes 1 x ∙ f.deep in
-      let read_now : half_home Read (get_elem? homes 0) ≡ 0 = ap (half_home Read) (set_here (set s.homes 1 x) 0 x (omega arith)) in
-      let write_now : half_home Write (get_elem? homes 1) ≡ 0 = ap (half_home Write) (set_else (set s.homes 1 x) 0 1 x (omega arith) ∙ set_here s.homes 1 x (omega arith)) in
+      let read_now : half_home Read (get_elem? homes 0) ≡ 0 =
+      ap (half_home Read) (set_here (set s.homes 1 x) 0 x (omega arith)) in
+      let write_now : half_home Write (get_elem? homes 1) ≡ 0 =
+      ap (half_home Write) (set_else (set s.homes 1 x) 0 1 x (omega arith) ∙ set_here s.homes 1 x (omega arith)) in
       let next = on_done s.words s.homes homes s.views c true state id w f (length-set (set s.homes 1 x) 0 x ∙ long)
       (destroy_keeps c (stakes_of views) state f.balance from_last)
       (both _ (omega arith) (omega arith))
@@ -151,11 +160,17 @@ module _ (R W : Type 0) where
         chain gives gives,
         (tt, tt),
         record {
-          represents = represents (set s.words DONE 1) homes views (record c { stakes = stakes_of views; destroyed = true }) state next;
+          represents = represents (set s.words DONE 1) homes views
+              (record c { stakes = stakes_of views; destroyed = true }) state next;
           history = h ++ event id op.Destroy ∷ [];
           interleaves = more_deeds h s.views id me.0 w op.Destroy reached.interleaves at refl;
           none_refused = none_refused_more h id op.Destroy answer.Done stake.Free destroys made reached.none_refused;
           leads = destroyed_history h s.words s.views id me.0 w reached.leads r.four_words at last refl;
         },
-        (refl, refl, is_made h id me.0 w op.Destroy answer.Done stake.Free destroys (view_of s reached id me.0 at) made refl refl),
+        (
+          refl,
+          refl,
+          is_made h id me.0 w op.Destroy answer.Done stake.Free destroys
+              (view_of s reached id me.0 at) made refl refl,
+        ),
       ))

@@ -1,18 +1,10 @@
 -- Compare-exchanges of any word.
-use Rattle.std.proofs.Common.{◌≡◌, ◌≢◌, ℕ, ◌∙◌, eqb, List, ◌∷◌, ap, get_or, set, refl, sym, subst, eq-eqb, ne_eqb}
-use mathlib.Core.Logic.{dite}
-use mathlib.Core.Option.{some}
-use native.Mathlib.Decide.{ℕ_discrete}
-use lib.ListN.{get_elem?}
+use Rattle.std.proofs.Common.{◌≡◌, ◌≢◌, ◌∙◌, ◌∷◌, eq-eqb, ne_eqb}
+use Rattle.lockword.proofs.Words.{ℕ, eqb, List, ap, get_or, set, refl, sym, subst, dite, some, ℕ_discrete, get_elem?}
+use Rattle.lockword.proofs.Words.{either, State, keeps, stepped, Allows, rest, set_again, LocalView, Half, Dir, slot_of}
+use Rattle.lockword.proofs.Words.{Guarded, half_of, IsHalf, IsReached}
 use lib.Seq.{set-get_or}
-use prog.Atomic.{either}
-use Rattle.atomic_table.specs.Table.{State, Me, Act, keeps, stepped, carried_after, Valid, Allows, rest}
-use Rattle.atomic_table.proofs.Lists.{set_again}
-use Rattle.lockword.specs.declared.local_view.LocalView.{LocalView}
-use Rattle.lockword.specs.declared.shared_rule.Half.{Half}
-use Rattle.stream_base.specs.declared.direction.Dir.{Dir}
-use Rattle.lockword.specs.Directions.{slot_of, Guarded, half_of, IsHalf}
-use Rattle.lockword.specs.SharedInvariant.{IsReached}
+use Rattle.atomic_table.specs.Table.{Me, Act, carried_after, Valid}
 
 module _ (R W : Type 0) where
   abbrev pub H : Type 0
@@ -28,18 +20,33 @@ module _ (R W : Type 0) where
   pub unmoved : (s : St) (i id : ℕ) (v : LocalView) → IsReached s → get_elem? s.views id ≡ some v
       → IsReached record { words = set s.words i (get_or s.words i 0); homes = s.homes; views = set s.views id v }
   unmoved s i id v r at =
-      subst (λ (z : List ℕ × List LocalView). IsReached record { words = z.0; homes = s.homes; views = z.1 }) (λ c. (sym (set-get_or s.words i 0) c, sym (set_again s.views id v at) c)) r
+      subst (λ (z : List ℕ × List LocalView). IsReached record { words = z.0; homes = s.homes; views = z.1 })
+      (λ c. (sym (set-get_or s.words i 0) c, sym (set_again s.views id v at) c)) r
 
   -- where it finds what it looks for, the seat has a view and an act that keep the rule; else nothing changes
   pub swaps : (slots id i old new : ℕ) (me : M) (T : M → Type 0)
-      → ((s : St) → IsReached s → get_elem? s.views id ≡ some me.0 → get_or s.words i 0 ≡ old → (w : LocalView) × (a : Act H) × Valid s.homes me.1 a × IsReached (stepped s i new id me.1 w a) × T (w, carried_after me.1 a))
-      → Allows IsReached slots id me i (λ n. either (eqb n old) new n) (λ n me'. (n ≡ old → T me') × (n ≢ old → me' ≡ me))
+      → ((s : St) → IsReached s → get_elem? s.views id ≡ some me.0 → get_or s.words i 0 ≡ old → (w : LocalView)
+      × (a : Act H) × Valid s.homes me.1 a × IsReached (stepped s i new id me.1 w a) × T (w, carried_after me.1 a))
+      → Allows IsReached slots id me i (λ n. either (eqb n old) new n)
+      (λ n me'. (n ≡ old → T me') × (n ≢ old → me' ≡ me))
   swaps slots id i old new me T hit s r deep at small =
       let x : ℕ = get_or s.words i 0 in
       dite (ℕ_discrete x old)
-      (λ e. let t = hit s r at e in
-      (t.0, t.1, t.2, subst (λ b. IsReached (stepped s i (either b new x) id me.1 t.0 t.1)) (sym (eq-eqb x old e)) t.3, ((λ _. t.4), λ not. absurd (not e))))
-      (λ ne. (me.0, keeps, tt, subst (λ b. IsReached (stepped s i (either b new x) id me.1 me.0 keeps)) (sym (ne_eqb x old ne)) (unmoved s i id me.0 r at), ((λ e. absurd (ne e)), λ _. refl)))
+      (λ e. let t = hit s r at e in (
+        t.0,
+        t.1,
+        t.2,
+        subst (λ b. IsReached (stepped s i (either b new x) id me.1 t.0 t.1)) (sym (eq-eqb x old e)) t.3,
+        ((λ _. t.4), λ not. absurd (not e)),
+      ))
+      (λ ne. (
+        me.0,
+        keeps,
+        tt,
+        subst (λ b. IsReached (stepped s i (either b new x) id me.1 me.0 keeps))
+            (sym (ne_eqb x old ne)) (unmoved s i id me.0 r at),
+        ((λ e. absurd (ne e)), λ _. refl),
+      ))
 
   -- what an exchange of a slot asks
   pub has_old : (cs : List (ℕ × H)) (k : ℕ) (y : H) (more : List (ℕ × H)) → cs ≡ (k, y) ∷ more

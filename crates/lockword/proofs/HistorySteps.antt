@@ -1,49 +1,30 @@
--- The operations that stand behind a running word: each step is one more, or none.
-use Rattle.std.proofs.Common.{◌≡◌, ℕ, zero, suc, ◌+◌, ◌-◌, ◌<◌, ◌∙◌, Bool, true, false, List, [], ◌∷◌, ◌++◌, length, get_or, set, refl, sym, ap, subst, arith, Result, Ok, Option, append-nil, get_or-set_same, get_or-set_other}
-use Rattle.std.specs.Prelude.{◌==◌, if◌then◌else◌, is_some}
-use mathlib.Core.Logic.{dite}
-use mathlib.Core.Option.{some}
-use native.Mathlib.Decide.{ℕ_discrete}
-use lib.ListN.{get_elem?}
+-- The operations that stand behind a running word: each step on the state word is one more, or none.
+use Rattle.std.proofs.Common.{◌≡◌, ◌<◌, ◌∙◌, [], ◌∷◌, ◌++◌, Result, Option, append-nil}
+use Rattle.std.specs.Prelude.{◌==◌, if◌then◌else◌}
 use lib.Seq.{set-get_or}
-use Rattle.std.proofs.lemmas.Bool.Decides.{nat_tests}
 use Rattle.std.proofs.lemmas.List.{map-set}
-use Rattle.atomic_table.proofs.Lists.{at_map, set_again}
-use Rattle.stream_base.specs.declared.direction.Dir.{Dir}
-use Rattle.stream_base.specs.declared.direction.Dir.TheVariants.{Read, Write}
-use Rattle.lockword_core.specs.declared.stake.Stake.{Stake}
+use Rattle.lockword.proofs.Words.{ℕ, Bool, true, false, List, length, get_or, set, refl, sym, ap, subst, arith, Ok}
+use Rattle.lockword.proofs.Words.{get_or-set_same, get_or-set_other, is_some, dite, some, ℕ_discrete, get_elem?}
+use Rattle.lockword.proofs.Words.{nat_tests, set_again, Dir, Stake, Op, Answer, Event, Kind, After, bit, signals_in}
+use Rattle.lockword.proofs.Words.{LockState, empty, census, stake_of, encoded, allows, outcome, state_after, op_of}
+use Rattle.lockword.proofs.Words.{gained, stepped_word, balance_of, change_of, always_consistent, LocalView, STATE}
+use Rattle.lockword.proofs.Words.{DONE, stakes_of, deeds_of, semaphore, Matches, IsMade}
+use Rattle.atomic_table.proofs.Lists.{at_map}
 use Rattle.lockword_core.specs.declared.stake.Stake.TheVariants as stake
-use Rattle.lockword_core.specs.declared.stake.Op.{Op}
-use Rattle.lockword_core.specs.declared.stake.Op.TheVariants as op
-use Rattle.lockword_core.specs.declared.stake.Answer.{Answer}
-use Rattle.lockword_core.specs.declared.stake.Answer.TheVariants as answer
-use Rattle.lockword_core.specs.declared.stake.Event.{Event}
-use Rattle.lockword_core.specs.declared.signals.TheConstants.{MAX_SIGNALS}
-use Rattle.lockword_core.specs.declared.transition.Kind.{Kind}
 use Rattle.lockword_core.specs.declared.transition.Kind.TheVariants as kind
-use Rattle.lockword_core.specs.declared.transition.After.{After}
 use Rattle.lockword_core.specs.declared.transition.Refused.{Refused}
-use Rattle.lockword_core.specs.Word.{bit}
-use Rattle.lockword_core.specs.Signals.{signals_in, with_signals}
-use Rattle.lockword_core.specs.LockState.{LockState, empty, Census, census, stake_of, encoded}
-use Rattle.lockword_core.specs.Transition.{Change, adds_signal, takes_signal, destroys, moved, allows, outcome, stake_after_signal, with_stake, with_change, carried_out, transition}
-use Rattle.lockword_core.specs.Replay.{state_after}
+use Rattle.lockword_core.specs.Transition.{Change, moved, with_stake, with_change, carried_out, transition}
 use Rattle.lockword_core.specs.OperationCounts.{is_refusal, NoneRefused, operations_of}
-use Rattle.lockword_core.specs.WordStep.{op_of, gained, TellsTransition}
-use Rattle.lockword_core.specs.FieldStep.{stepped_word}
-use Rattle.lockword_core.proofs.InvariantPreserved.{balance_of}
-use Rattle.lockword_core.proofs.StateLemmas.{IsBeside, counted_in, tells_transition, empty-word}
-use Rattle.lockword_core.proofs.WordRefines.{change_of, steps_as, pick_then, pick_else}
-use Rattle.lockword_core.proofs.ReplayLemmas.{state_after-append, always_consistent}
-use Rattle.lockword_core.proofs.HolderLemmas.{stake-own, stake-other, beside_word}
-use Rattle.lockword_core.proofs.OperationLemmas.{move_is_no_refusal, none_refused-push}
-use Rattle.lockword.specs.declared.local_view.LocalView.{LocalView}
-use Rattle.lockword.specs.declared.shared_rule.TheConstants.{STATE, DONE}
-use Rattle.lockword.specs.LocalView.{stakes_of, deeds_of, newcomer}
-use Rattle.lockword.specs.Directions.{semaphore}
-use Rattle.lockword.specs.History.{Matches, Interleaves, IsView, IsMade}
-use Rattle.lockword.proofs.Representation.{both, not_state, not_done, semaphore_after}
-use Rattle.lockword.proofs.ViewLemmas.{at_there, stake_at, stakes-set, same_stakes, stakes_push}
+use Rattle.lockword_core.specs.WordStep.{TellsTransition}
+use Rattle.lockword_core.proofs.StateLemmas.{counted_in, tells_transition}
+use Rattle.lockword_core.proofs.WordRefines.{steps_as}
+use Rattle.lockword_core.proofs.ReplayLemmas.{state_after-append}
+use Rattle.lockword_core.proofs.HolderLemmas.{stake-own, stake-other}
+use Rattle.lockword_core.proofs.OperationAdds.{move_is_no_refusal}
+use Rattle.lockword_core.proofs.OperationLemmas.{none_refused-push}
+use Rattle.lockword.specs.History.{Interleaves, IsView}
+use Rattle.lockword.proofs.Representation.{not_state}
+use Rattle.lockword.proofs.ViewLemmas.{at_there, stake_at, stakes-set, same_stakes}
 
 -- ---- Steps that are no operation
 
@@ -54,7 +35,8 @@ pub same_history : (st : LockState) (words : List ℕ) (views : List LocalView) 
 same_history st words views i id v w l at e =
     subst (λ (ws : List ℕ). Matches st ws (set views id w)) (sym (set-get_or words i 0))
     record {
-      stakes = λ seat. ap (λ (ys : List Stake). get_or ys seat stake.Free) (same_stakes views id v w at e) ∙ l.stakes seat;
+      stakes = λ seat. ap (λ (ys : List Stake). get_or ys seat stake.Free) (same_stakes views id v w at e)
+          ∙ l.stakes seat;
       state_word = l.state_word;
       semaphores = l.semaphores;
       done_word = l.done_word;
@@ -66,7 +48,8 @@ pub same_deeds : (h : List Event) (views : List LocalView) (id : ℕ) (v w : Loc
 same_deeds h views id v w l at e =
     record {
       deeds = λ seat. ap (λ (ds : List (List Op)). get_or ds seat [])
-          (map-set (λ (x : LocalView). x.did) views id w ∙ ap (set (deeds_of views) id) e ∙ set_again (deeds_of views) id v.did (at_map (λ (x : LocalView). x.did) views id v at)) ∙ l.deeds seat;
+          (map-set (λ (x : LocalView). x.did) views id w ∙ ap (set (deeds_of views) id) e
+          ∙ set_again (deeds_of views) id v.did (at_map (λ (x : LocalView). x.did) views id v at)) ∙ l.deeds seat;
     }
 
 -- ---- Steps that are operations
@@ -81,16 +64,19 @@ own_stake st words views id v l at =
     sym (l.stakes id) ∙ (at_there (stakes_of views) id v.stake (stake_at views id v at)).1 stake.Free
 
 -- the stakes once one seat has another
-stakes_after : (st : LockState) (words : List ℕ) (views : List LocalView) (id : ℕ) (v w : LocalView) (new : Stake) (change : Change)
+stakes_after : (st : LockState) (words : List ℕ) (views : List LocalView) (id : ℕ) (v w : LocalView) (new : Stake)
+    (change : Change)
     → Matches st words views → get_elem? views id ≡ some v → w.stake ≡ new → (seat : ℕ)
     → get_or (stakes_of (set views id w)) seat stake.Free ≡ stake_of (with_change (with_stake st id new) id change) seat
 stakes_after st words views id v w new change l at is seat =
     let there : id < length (stakes_of views) = (at_there (stakes_of views) id v.stake (stake_at views id v at)).0 in
     ap (λ (ys : List Stake). get_or ys seat stake.Free) (stakes-set views id w)
     ∙ dite (ℕ_discrete seat id)
-    (λ e. subst (λ (q : ℕ). get_or (set (stakes_of views) id w.stake) q stake.Free ≡ stake_of (with_change (with_stake st id new) id change) q) (sym e)
+    (λ e. subst (λ (q : ℕ). get_or (set (stakes_of views) id w.stake) q stake.Free
+    ≡ stake_of (with_change (with_stake st id new) id change) q) (sym e)
     (get_or-set_same (stakes_of views) id w.stake stake.Free there ∙ is ∙ sym (stake-own st id new change)))
-    (λ ne. get_or-set_other (stakes_of views) id seat w.stake stake.Free ne ∙ l.stakes seat ∙ sym (stake-other st id seat new change ne))
+    (λ ne. get_or-set_other (stakes_of views) id seat w.stake stake.Free ne ∙ l.stakes seat
+    ∙ sym (stake-other st id seat new change ne))
 
 -- an operation of a seat is a move of the core, after the list of operations so far
 pub record IsMove (h : List Event) (id : ℕ) (o : Op) (a : Answer) (new : Stake) (change : Change) : Type 0 where
@@ -99,7 +85,8 @@ pub record IsMove (h : List Event) (id : ℕ) (o : Op) (a : Answer) (new : Stake
 abbrev pub next_state : List Event → ℕ → Stake → Change → LockState
 next_state h id new change = with_change (with_stake (state_after empty h) id new) id change
 
-pub leads_to : (h : List Event) (id : ℕ) (o : Op) (a : Answer) (new : Stake) (change : Change) → IsMove h id o a new change
+pub leads_to : (h : List Event) (id : ℕ) (o : Op) (a : Answer) (new : Stake) (change : Change)
+    → IsMove h id o a new change
     → transition (state_after empty h) id o ≡ (next_state h id new change, a)
 leads_to h id o a new change is = ap (carried_out (state_after empty h) id) is.out
 
@@ -108,10 +95,12 @@ pub none_refused_more : (h : List Event) (id : ℕ) (o : Op) (a : Answer) (new :
     → IsMove h id o a new change → NoneRefused h → NoneRefused (h ++ event id o ∷ [])
 none_refused_more h id o a new change is none =
     none_refused-push h (event id o) none
-    (ap (λ (p : LockState × Answer). is_refusal p.1) (leads_to h id o a new change is) ∙ move_is_no_refusal (census (state_after empty h)) (stake_of (state_after empty h) id) o a new change is.out)
+    (ap (λ (p : LockState × Answer). is_refusal p.1) (leads_to h id o a new change is)
+    ∙ move_is_no_refusal (census (state_after empty h)) (stake_of (state_after empty h) id) o a new change is.out)
 
 -- one operation more, by the seat whose view changes
-pub one_more : (h : List Event) (words words' : List ℕ) (views : List LocalView) (id : ℕ) (v w : LocalView) (o : Op) (a : Answer) (new : Stake) (change : Change)
+pub one_more : (h : List Event) (words words' : List ℕ) (views : List LocalView) (id : ℕ) (v w : LocalView) (o : Op)
+    (a : Answer) (new : Stake) (change : Change)
     → Matches (state_after empty h) words views → get_elem? views id ≡ some v → IsMove h id o a new change
     → w.stake ≡ new
     → get_or words' STATE 0 ≡ encoded (census (next_state h id new change))
@@ -120,9 +109,15 @@ pub one_more : (h : List Event) (words words' : List ℕ) (views : List LocalVie
     → Matches (state_after empty (h ++ event id o ∷ [])) words' (set views id w)
 one_more h words words' views id v w o a new change l at made is state signals mark =
     let leads : state_after empty (h ++ event id o ∷ []) ≡ next_state h id new change =
-    state_after-append empty h (event id o ∷ []) ∙ ap (λ (p : LockState × Answer). p.0) (leads_to h id o a new change made) in
+    state_after-append empty h (event id o ∷ [])
+    ∙ ap (λ (p : LockState × Answer). p.0) (leads_to h id o a new change made) in
     subst (λ (s : LockState). Matches s words' (set views id w)) (sym leads)
-    record { stakes = stakes_after (state_after empty h) words views id v w new change l at is; state_word = state; semaphores = signals; done_word = mark }
+    record {
+      stakes = stakes_after (state_after empty h) words views id v w new change l at is;
+      state_word = state;
+      semaphores = signals;
+      done_word = mark;
+    }
 
 both_lists : (t : Bool) (o : Op) (xs ys more : List Op) → xs ≡ ys ++ more
     → (if t then o ∷ xs else xs) ≡ (if t then o ∷ ys else ys) ++ more
@@ -149,16 +144,20 @@ own_deeds h views id v l at =
 pub more_deeds : (h : List Event) (views : List LocalView) (id : ℕ) (v w : LocalView) (o : Op) → Interleaves h views
     → get_elem? views id ≡ some v → w.did ≡ v.did ++ o ∷ [] → Interleaves (h ++ event id o ∷ []) (set views id w)
 more_deeds h views id v w o l at e =
-    let there : id < length (deeds_of views) = (at_there (deeds_of views) id v.did (at_map (λ (x : LocalView). x.did) views id v at)).0 in
+    let there : id < length (deeds_of views) =
+    (at_there (deeds_of views) id v.did (at_map (λ (x : LocalView). x.did) views id v at)).0 in
     let own : v.did ≡ operations_of id h = own_deeds h views id v l at in
     record {
       deeds = λ seat. ap (λ (ds : List (List Op)). get_or ds seat []) (map-set (λ (x : LocalView). x.did) views id w)
           ∙ dite (ℕ_discrete seat id)
-          (λ here. subst (λ (q : ℕ). get_or (set (deeds_of views) id w.did) q [] ≡ operations_of q (h ++ event id o ∷ [])) (sym here)
+          (λ here. subst (λ (q : ℕ). get_or (set (deeds_of views) id w.did) q []
+          ≡ operations_of q (h ++ event id o ∷ [])) (sym here)
           (get_or-set_same (deeds_of views) id w.did [] there ∙ e ∙ ap (λ (ds : List Op). ds ++ o ∷ []) own
-          ∙ sym (operations_of-push id id o h ∙ ap (λ (t : Bool). operations_of id h ++ (if t then o ∷ [] else [])) (same_number id))))
+          ∙ sym (operations_of-push id id o h
+          ∙ ap (λ (t : Bool). operations_of id h ++ (if t then o ∷ [] else [])) (same_number id))))
           (λ ne. get_or-set_other (deeds_of views) id seat w.did [] ne ∙ l.deeds seat
-          ∙ sym (operations_of-push seat id o h ∙ ap (λ (t : Bool). operations_of seat h ++ (if t then o ∷ [] else [])) (other_number id seat ne) ∙ append-nil (operations_of seat h)));
+          ∙ sym (operations_of-push seat id o h ∙ ap (λ (t : Bool). operations_of seat h ++ (if t then o ∷ [] else []))
+          (other_number id seat ne) ∙ append-nil (operations_of seat h)));
     }
 
 -- the view that a seat has, at the history that leads here
@@ -167,7 +166,12 @@ pub own_view : (h : List Event) (words : List ℕ) (views : List LocalView) (id 
     → (v.saw.closed ≡ true → (state_after empty h).closed ≡ true)
     → (v.saw.done ≡ true → is_some (state_after empty h).destroyed_by ≡ true) → IsView h id v
 own_view h words views id v l i at closed done =
-    record { did = own_deeds h views id v i at; stake = own_stake (state_after empty h) words views id v l at; saw_closed = closed; saw_done = done }
+    record {
+      did = own_deeds h views id v i at;
+      stake = own_stake (state_after empty h) words views id v l at;
+      saw_closed = closed;
+      saw_done = done;
+    }
 
 -- a move of the core is made by this seat
 pub is_made : (h : List Event) (id : ℕ) (v w : LocalView) (o : Op) (a : Answer) (new : Stake) (change : Change)
@@ -179,7 +183,8 @@ is_made h id v w o a new change own made is did =
       seat = id;
       own = own;
       answered = ap (λ (p : LockState × Answer). p.1) leads;
-      stake = ap (λ (p : LockState × Answer). stake_of p.0 id) leads ∙ stake-own (state_after empty h) id new change ∙ sym is;
+      stake = ap (λ (p : LockState × Answer). stake_of p.0 id) leads ∙ stake-own (state_after empty h) id new change
+          ∙ sym is;
       did = did;
     }
 
@@ -208,7 +213,11 @@ pub step_moves : (h : List Event) (id : ℕ) (k : Kind) (a : After) (n m : ℕ) 
 step_moves h id k a n m is may step =
     let st : LockState = state_after empty h in
     let good = always_consistent h in
-    record { out = steps_as (census st) (stake_of st id) k a (encoded (census st)) m (balance_of (census st) good.counts) (counted_in st id good) may (ap (λ (x : ℕ). stepped_word x k) (sym is) ∙ step) }
+    record {
+      out = steps_as (census st) (stake_of st id) k a (encoded (census st)) m
+          (balance_of (census st) good.counts) (counted_in st id good) may
+          (ap (λ (x : ℕ). stepped_word x k) (sym is) ∙ step);
+    }
 
 -- the word after it
 step_word : (h : List Event) (id : ℕ) (k : Kind) (a : After) (n m : ℕ) → n ≡ encoded (census (state_after empty h))
@@ -217,10 +226,13 @@ step_word : (h : List Event) (id : ℕ) (k : Kind) (a : After) (n m : ℕ) → n
 step_word h id k a n m is may step =
     let st : LockState = state_after empty h in
     let next : TellsTransition st k (transition st id (op_of k)) (Ok (m, a)) =
-    subst (λ (r : Result (ℕ × After) Refused). TellsTransition st k (transition st id (op_of k)) r) step (tells_transition st id k n (always_consistent h) is may) in
-    next.1 ∙ ap (λ (p : LockState × Answer). encoded (census p.0)) (leads_to h id (op_of k) _ _ _ (step_moves h id k a n m is may step))
+    subst (λ (r : Result (ℕ × After) Refused). TellsTransition st k (transition st id (op_of k)) r) step
+    (tells_transition st id k n (always_consistent h) is may) in
+    next.1 ∙ ap (λ (p : LockState × Answer). encoded (census p.0))
+    (leads_to h id (op_of k) _ _ _ (step_moves h id k a n m is may step))
 
-pub stepped_history : (h : List Event) (words : List ℕ) (views : List LocalView) (id : ℕ) (v w : LocalView) (k : Kind) (a : After) (n m : ℕ)
+pub stepped_history : (h : List Event) (words : List ℕ) (views : List LocalView) (id : ℕ) (v w : LocalView) (k : Kind)
+    (a : After) (n m : ℕ)
     → Matches (state_after empty h) words views → length words ≡ 4 → get_elem? views id ≡ some v
     → allows v.stake (op_of k) ≡ true → stepped_word n k ≡ Ok (m, a) → get_or words STATE 0 ≡ n
     → w.stake ≡ (gained k a).1
@@ -229,137 +241,10 @@ stepped_history h words views id v w k a n m l wide at may step found is =
     let st : LockState = state_after empty h in
     let own_may = ap (λ (x : Stake). allows x (op_of k)) (own_stake st words views id v l at) ∙ may in
     let here : n ≡ encoded (census st) = sym found ∙ l.state_word in
-    one_more h words (set words STATE m) views id v w (op_of k) (gained k a).0 (gained k a).1 (change_of k) l at (step_moves h id k a n m here own_may step) is
+    one_more h words (set words STATE m) views id v w (op_of k) (gained k a).0 (gained k a).1 (change_of k) l at
+    (step_moves h id k a n m here own_may step) is
     (get_or-set_same words 0 m 0 (omega arith) ∙ step_word h id k a n m here own_may step)
-    (λ d. get_or-set_other words 0 (semaphore d) m 0 (not_state d) ∙ l.semaphores d ∙ ap (signals_in d) (sym (keeps_signals st id (gained k a).1 k)))
-    (get_or-set_other words 0 3 m 0 (omega arith) ∙ l.done_word ∙ ap (λ (o : Option ℕ). bit (is_some o)) (sym (keeps_mark st id (gained k a).1 k)))
-
--- ---- Exchanges of a semaphore
-
--- an exchange of n for m at the semaphore of a direction is an operation of the holder of a stake, which then has another
-pub record IsDeed (d : Dir) (n m : ℕ) (own new : Stake) (op : Op) (answer : Answer) : Type 0 where
-  pub change : Change
-  pub beside : IsBeside op
-  pub may : allows own op ≡ true
-  pub made : (c : Census) → signals_in d c.signals ≡ n → outcome c own op ≡ moved answer new change
-  pub signals : (st : LockState) (id : ℕ) (x : Stake) → signals_in d st.signals ≡ n
-      → (with_change (with_stake st id x) id change).signals ≡ with_signals d m st.signals
-  pub mark : (st : LockState) (id : ℕ) (x : Stake) → (with_change (with_stake st id x) id change).destroyed_by ≡ st.destroyed_by
-
-not_full : (a b n : ℕ) → a ≡ n → n < b → (a == b) ≡ false
-not_full a b n e small = grind (arith, nat_tests)
-
-not_none : (a n : ℕ) → a ≡ n → 0 < n → (a == 0) ≡ false
-not_none a n e any = grind (arith, nat_tests)
-
-pub gives_deed : (d : Dir) (n m : ℕ) (own : Stake) → allows own (op.Signal d) ≡ true → n < MAX_SIGNALS → m ≡ n + 1
-    → IsDeed d n m own (stake_after_signal d own) (op.Signal d) answer.Signalled
-gives_deed d n m own may room more =
-    record {
-      change = adds_signal d;
-      beside = tt;
-      may = may;
-      made = λ c e. pick_then (allows own (op.Signal d)) _ _ may ∙ pick_else (signals_in d c.signals == MAX_SIGNALS) _ _ (not_full _ _ n e room);
-      signals = λ st id x e. ap (λ (k : ℕ). with_signals d k st.signals) (ap (λ (k : ℕ). k + 1) e ∙ sym more);
-      mark = λ st id x. refl;
-    }
-
-woken : (d : Dir) (own : Stake) → allows own (op.Wake d) ≡ true → stake_after_signal d own ≡ stake.Free
-woken Read (stake.Waits e) may = refl
-woken Write (stake.Waits e) may = refl
-woken d _ may = absurd (cc)
-
-pub takes_deed : (d : Dir) (n m : ℕ) (own : Stake) → allows own (op.Wake d) ≡ true → 0 < n → m ≡ n - 1
-    → IsDeed d n m own (stake_after_signal d own) (op.Wake d) answer.Woken
-takes_deed d n m own may any less =
-    record {
-      change = takes_signal d;
-      beside = tt;
-      may = may;
-      made = λ c e. pick_then (allows own (op.Wake d)) _ _ may ∙ pick_else (signals_in d c.signals == 0) _ _ (not_none _ n e any)
-          ∙ ap (λ (x : Stake). moved answer.Woken x (takes_signal d)) (sym (woken d own may));
-      signals = λ st id x e. ap (λ (k : ℕ). with_signals d k st.signals) (ap (λ (k : ℕ). k - 1) e ∙ sym less);
-      mark = λ st id x. refl;
-    }
-
--- the deed is a move of the core
-pub deed_moves : (h : List Event) (id : ℕ) (d : Dir) (n m : ℕ) (own new : Stake) (o : Op) (a : Answer) (deed : IsDeed d n m own new o a)
-    → stake_of (state_after empty h) id ≡ own → signals_in d (state_after empty h).signals ≡ n
-    → IsMove h id o a new deed.change
-deed_moves h id d n m own new o a deed is here =
-    let st : LockState = state_after empty h in
-    record { out = ap (λ (x : Stake). outcome (census st) x o) is ∙ deed.made (census st) here }
-
-pub signalled_history : (h : List Event) (words : List ℕ) (views : List LocalView) (id : ℕ) (v w : LocalView) (d : Dir) (n m : ℕ) (new : Stake) (o : Op) (a : Answer)
-    → IsDeed d n m v.stake new o a → Matches (state_after empty h) words views → length words ≡ 4
-    → get_elem? views id ≡ some v → get_or words (semaphore d) 0 ≡ n → w.stake ≡ new
-    → Matches (state_after empty (h ++ event id o ∷ [])) (set words (semaphore d) m) (set views id w)
-signalled_history h words views id v w d n m new o a deed l wide at found is =
-    let st : LockState = state_after empty h in
-    let own : stake_of st id ≡ v.stake = own_stake st words views id v l at in
-    let here : signals_in d st.signals ≡ n = sym (l.semaphores d) ∙ found in
-    let made : IsMove h id o a new deed.change = deed_moves h id d n m v.stake new o a deed own here in
-    let may : allows (stake_of st id) o ≡ true = ap (λ (x : Stake). allows x o) own ∙ deed.may in
-    one_more h words (set words (semaphore d) m) views id v w o a new deed.change l at made is
-    (get_or-set_other words (semaphore d) 0 m 0 (λ e. not_state d (sym e)) ∙ l.state_word ∙ sym (beside_word st id o a new deed.change (always_consistent h) deed.beside may made.out))
-    (λ e. semaphore_after d e words m st.signals wide (l.semaphores e) ∙ ap (signals_in e) (sym (deed.signals st id new here)))
-    (get_or-set_other words (semaphore d) 3 m 0 (λ e. not_done d (sym e)) ∙ l.done_word ∙ ap (λ (mark : Option ℕ). bit (is_some mark)) (sym (deed.mark st id new)))
-
--- ---- The end, the beginning, and new seats
-
-pub destroy_moves : (h : List Event) (id : ℕ) → stake_of (state_after empty h) id ≡ stake.Last
-    → IsMove h id op.Destroy answer.Done stake.Free destroys
-destroy_moves h id last =
-    record { out = ap (λ (x : Stake). outcome (census (state_after empty h)) x op.Destroy) last }
-
-pub destroyed_history : (h : List Event) (words : List ℕ) (views : List LocalView) (id : ℕ) (v w : LocalView)
-    → Matches (state_after empty h) words views → length words ≡ 4 → get_elem? views id ≡ some v
-    → v.stake ≡ stake.Last → w.stake ≡ stake.Free
-    → Matches (state_after empty (h ++ event id op.Destroy ∷ [])) (set words DONE 1) (set views id w)
-destroyed_history h words views id v w l wide at last is =
-    let st : LockState = state_after empty h in
-    let own : stake_of st id ≡ stake.Last = own_stake st words views id v l at ∙ last in
-    let made = destroy_moves h id own in
-    one_more h words (set words DONE 1) views id v w op.Destroy answer.Done stake.Free destroys l at made is
-    (get_or-set_other words 3 0 1 0 (omega arith) ∙ l.state_word
-    ∙ sym (beside_word st id op.Destroy answer.Done stake.Free destroys (always_consistent h) tt (ap (λ (x : Stake). allows x op.Destroy) own) made.out))
-    (λ d. get_or-set_other words 3 (semaphore d) 1 0 (not_done d) ∙ l.semaphores d)
-    (get_or-set_same words 3 1 0 (omega arith))
-
-padded_deeds : (xs : List (List Op)) (i : ℕ) → get_or (xs ++ [] ∷ []) i [] ≡ get_or xs i []
-padded_deeds [] zero = refl
-padded_deeds [] (suc i) = refl
-padded_deeds (x ∷ xs) zero = refl
-padded_deeds (x ∷ xs) (suc i) = padded_deeds xs i
-
-deeds_push : (views : List LocalView) (w : LocalView) → deeds_of (views ++ w ∷ []) ≡ deeds_of views ++ w.did ∷ []
-deeds_push [] w = refl
-deeds_push (v ∷ vs) w = ap (λ (ds : List (List Op)). v.did ∷ ds) (deeds_push vs w)
-
-pub split_deeds : (h : List Event) (views : List LocalView) (w : LocalView) → Interleaves h views → w.did ≡ []
-    → Interleaves h (views ++ w ∷ [])
-split_deeds h views w l none =
-    record { deeds = λ seat. ap (λ (ds : List (List Op)). get_or ds seat []) (deeds_push views w ∙ ap (λ (x : List Op). deeds_of views ++ x ∷ []) none) ∙ padded_deeds (deeds_of views) seat ∙ l.deeds seat }
-
-pub first_deeds : Interleaves [] (newcomer ∷ [])
-first_deeds = record { deeds = λ seat. padded_deeds [] seat }
-
-padded : (xs : List Stake) (i : ℕ) → get_or (xs ++ stake.Free ∷ []) i stake.Free ≡ get_or xs i stake.Free
-padded [] zero = refl
-padded [] (suc i) = refl
-padded (x ∷ xs) zero = refl
-padded (x ∷ xs) (suc i) = padded xs i
-
-pub split_history : (st : LockState) (words : List ℕ) (views : List LocalView) (w : LocalView) → Matches st words views
-    → w.stake ≡ stake.Free → Matches st words (views ++ w ∷ [])
-split_history st words views w l free =
-    record {
-      stakes = λ seat. ap (λ (ys : List Stake). get_or ys seat stake.Free) (stakes_push views w ∙ ap (λ (x : Stake). stakes_of views ++ x ∷ []) free) ∙ padded (stakes_of views) seat ∙ l.stakes seat;
-      state_word = l.state_word;
-      semaphores = l.semaphores;
-      done_word = l.done_word;
-    }
-
-pub first_history : Matches (state_after empty []) (0 ∷ 0 ∷ 0 ∷ 0 ∷ []) (newcomer ∷ [])
-first_history =
-    record { stakes = λ seat. padded [] seat; state_word = empty-word; semaphores = both _ refl refl; done_word = refl }
+    (λ d. get_or-set_other words 0 (semaphore d) m 0 (not_state d) ∙ l.semaphores d
+    ∙ ap (signals_in d) (sym (keeps_signals st id (gained k a).1 k)))
+    (get_or-set_other words 0 3 m 0 (omega arith) ∙ l.done_word
+    ∙ ap (λ (o : Option ℕ). bit (is_some o)) (sym (keeps_mark st id (gained k a).1 k)))

@@ -1,9 +1,13 @@
+pub mod Words
 pub mod ViewLemmas
 pub mod Representation
 pub mod HistorySteps
+pub mod SignalHistory
+pub mod HistoryEnds
 pub mod Exchanges
 pub mod LookSteps
 pub mod WordTests
+pub mod StepParts
 pub mod StateSteps
 pub mod SubtractionSteps
 pub mod DestroySteps

@@ -1,34 +1,22 @@
 -- Loads: what they tell a seat, and that they keep the rule.
-use Rattle.std.proofs.Common.{◌≡◌, ℕ, ◌+◌, ◌<◌, ◌≤◌, ◌∙◌, Bool, true, List, length, get_or, get_or-set_same, set, refl, sym, ap, subst, arith}
-use Rattle.std.specs.Prelude.{◌==◌, is_some}
-use mathlib.Core.Logic.{dite}
-use mathlib.Core.Option.{Option, none, some}
-use native.Mathlib.Decide.{ℕ_discrete}
-use lib.ListN.{get_elem?}
-use Rattle.atomic_table.specs.Table.{State, step, keeps, stepped, Allows}
-use Rattle.atomic_table.proofs.Lists.{set_here}
-use Rattle.stream_base.specs.declared.direction.Dir.{Dir}
-use Rattle.stream_base.specs.declared.direction.Dir.TheVariants.{Read, Write}
-use Rattle.lockword_core.specs.declared.stake.Stake.{Stake}
+use Rattle.std.proofs.Common.{◌≡◌, ◌+◌, ◌<◌, ◌≤◌, ◌∙◌}
+use Rattle.std.specs.Prelude.{◌==◌}
+use Rattle.lockword.proofs.Words.{ℕ, Bool, true, List, get_or, get_or-set_same, set, refl, sym, ap, subst}
+use Rattle.lockword.proofs.Words.{arith, is_some, dite, Option, none, some, ℕ_discrete, get_elem?, State, step, keeps}
+use Rattle.lockword.proofs.Words.{stepped, Allows, set_here, Dir, Read, Write, Stake, CLOSED, bit, LockState, empty}
+use Rattle.lockword.proofs.Words.{Census, census, encoded, Counted, references, locks, lasts, part, number, state_after}
+use Rattle.lockword.proofs.Words.{count-within, IsBalanced, balance_of, always_consistent, LocalView, Half, STATE, DONE}
+use Rattle.lockword.proofs.Words.{stakes_of, taken_by, Represents, IsReached, IsFound, Shows, Told, seen_in}
 use Rattle.lockword_core.specs.declared.stake.Stake.TheVariants as stake
-use Rattle.lockword_core.specs.declared.word.TheConstants.{CLOSED}
-use Rattle.lockword_core.specs.Word.{bit, closed_in, waiters_in}
-use Rattle.lockword_core.specs.LockState.{LockState, empty, Census, census, encoded, Counted, references, locks, lasts, part, count, number}
-use Rattle.lockword_core.specs.Replay.{state_after}
-use Rattle.lockword_core.proofs.CountLemmas.{count-within}
-use Rattle.lockword_core.proofs.BalanceLemmas.{IsBalanced, reads_as}
-use Rattle.lockword_core.proofs.InvariantPreserved.{balance_of, bit-le, bit-true}
-use Rattle.lockword_core.proofs.ReplayLemmas.{always_consistent}
+use Rattle.lockword_core.specs.Word.{closed_in, waiters_in}
+use Rattle.lockword_core.specs.LockState.{count}
+use Rattle.lockword_core.proofs.BalanceLemmas.{reads_as}
+use Rattle.lockword_core.proofs.InvariantPreserved.{bit-le, bit-true}
 use Rattle.lockword_core.proofs.FieldSteps.{same_numbers}
-use Rattle.lockword_core.proofs.WordRefines.{flag_is}
-use Rattle.lockword.specs.declared.local_view.LocalView.{LocalView}
-use Rattle.lockword.specs.declared.shared_rule.Half.{Half}
-use Rattle.lockword.specs.declared.shared_rule.TheConstants.{STATE, DONE}
-use Rattle.lockword.specs.LocalView.{stakes_of, taken_by, takers}
-use Rattle.lockword.specs.SharedInvariant.{Represents, IsReached}
+use Rattle.lockword_core.proofs.WordTable.{flag_is}
+use Rattle.lockword.specs.LocalView.{takers}
 use Rattle.lockword.specs.History.{IsView}
-use Rattle.lockword.specs.Moment.{IsFound}
-use Rattle.lockword.specs.Steps.{Shows, Told, seen_in, looked, asked}
+use Rattle.lockword.specs.Steps.{looked, asked}
 use Rattle.lockword.proofs.ViewLemmas.{at_there, same_stakes, counted_at, takers-set}
 use Rattle.lockword.proofs.Representation.{seated, present, Fits, fits, recounted, represents, on_state, on_done}
 use Rattle.lockword.proofs.Exchanges.{M}
@@ -45,9 +33,13 @@ pub record IsOver (c : Census) (n : ℕ) : Type 0 where
 
 pub is_over : (c : Census) (n : ℕ) → IsBalanced c n → 0 < number lasts c + bit c.destroyed → IsOver c n
 is_over c n b over =
-    let unused : number references c ≡ 0 = dite (ℕ_discrete (number references c) 0) (λ e. e) (λ ne. let none = b.in_use (omega arith) in absurd (omega arith)) in
+    let unused : number references c ≡ 0 =
+    dite (ℕ_discrete (number references c) 0) (λ e. e) (λ ne. let none = b.in_use (omega arith) in
+    absurd (omega arith)) in
     let fits = b.closed_bit in
-    let shut : bit c.closed ≡ 1 = dite (ℕ_discrete (bit c.closed) 1) (λ e. e) (λ ne. let none = b.unclosed (omega arith) in absurd (omega arith)) in
+    let shut : bit c.closed ≡ 1 =
+    dite (ℕ_discrete (bit c.closed) 1) (λ e. e) (λ ne. let none = b.unclosed (omega arith) in
+    absurd (omega arith)) in
     let one = b.ended shut unused in
     let no_reader = b.reading.none_pending shut in
     let no_writer = b.writing.none_pending shut in
@@ -59,10 +51,12 @@ shows : (own : Stake) (c : Census) (n : ℕ) → IsBalanced c n → ((what : Cou
     → Shows own n
 shows stake.Ref c n b counted = let r = (reads_as c n b).refs in let some = counted references in omega arith
 shows stake.Read c n b counted =
-    let r = reads_as c n b in let refs = r.refs in let lock = r.lock Read in let one = b.reading.one_holder in let some = counted references in let mine = counted (locks Read) in
+    let r = reads_as c n b in let refs = r.refs in let lock = r.lock Read in let one = b.reading.one_holder in
+    let some = counted references in let mine = counted (locks Read) in
     (omega arith, omega arith)
 shows stake.Write c n b counted =
-    let r = reads_as c n b in let refs = r.refs in let lock = r.lock Write in let one = b.writing.one_holder in let some = counted references in let mine = counted (locks Write) in
+    let r = reads_as c n b in let refs = r.refs in let lock = r.lock Write in let one = b.writing.one_holder in
+    let some = counted references in let mine = counted (locks Write) in
     (omega arith, omega arith)
 shows (stake.Closing x y) c n b counted = let r = (reads_as c n b).refs in let some = counted references in omega arith
 shows stake.Last c n b counted = let mine = counted lasts in (is_over c n b (omega arith)).word
@@ -80,7 +74,9 @@ some_destroyed : (b : Bool) (k : ℕ) → b ≡ true → 0 < k + bit b
 some_destroyed b k e = let one : bit b ≡ 1 = ap bit e in omega arith
 
 module _ {R W : Type 0} where
-  pub told : (words : List ℕ) (homes : List (Option (Half R W))) (views : List LocalView) (c : Census) (n id : ℕ) (v : LocalView) → Fits words homes views c n → get_elem? views id ≡ some v → IsFound R W n (seen_in n v) → Told R W n v
+  pub told : (words : List ℕ) (homes : List (Option (Half R W))) (views : List LocalView) (c : Census) (n id : ℕ)
+      (v : LocalView) → Fits words homes views c n → get_elem? views id ≡ some v → IsFound R W n (seen_in n v)
+      → Told R W n v
   told words homes views c n id v f at found =
       let r = reads_as c n f.balance in
       let flag : c.closed ≡ closed_in n = flag_is c.closed _ r.flag in
@@ -90,12 +86,15 @@ module _ {R W : Type 0} where
         is_word = r.is_word;
         saw_closed = λ e. sym flag ∙ saw.closed e;
         saw_done = λ e. (is_over c n f.balance (some_destroyed c.destroyed (number lasts c) (saw.done e))).word;
-        shows = shows v.stake c n f.balance (λ what. subst (λ (xs : List Stake). part what v.stake ≤ count what xs) (sym f.stakes) (counted_at views id v at what));
+        shows = shows v.stake c n f.balance
+            (λ what. subst (λ (xs : List Stake). part what v.stake ≤ count what xs) (sym f.stakes)
+            (counted_at views id v at what));
         none_waits = λ d e. none_waits d c n f.balance (ap bit (flag ∙ e));
       }
 
 -- the view of a seat at the history that leads to a state
-pub view_of : {R W : Type 0} (s : State (Half R W) LocalView) (reached : IsReached s) (id : ℕ) (v : LocalView) → get_elem? s.views id ≡ some v
+pub view_of : {R W : Type 0} (s : State (Half R W) LocalView) (reached : IsReached s) (id : ℕ) (v : LocalView)
+    → get_elem? s.views id ≡ some v
     → IsView reached.history id v
 view_of s reached id v at =
     let st : LockState = state_after empty reached.history in
@@ -103,7 +102,8 @@ view_of s reached id v at =
     let c : Census = present s reached.represents in
     let good = always_consistent reached.history in
     let here = flag_is c.closed _ (reads_as c (get_or s.words STATE 0) f.balance).flag in
-    let there = flag_is st.closed _ (reads_as (census st) (encoded (census st)) (balance_of (census st) good.counts)).flag in
+    let there = flag_is st.closed _
+    (reads_as (census st) (encoded (census st)) (balance_of (census st) good.counts)).flag in
     let saw = f.seen id v at in
     own_view reached.history s.words s.views id v reached.leads reached.interleaves at
     (λ e. there ∙ ap closed_in (sym reached.leads.state_word) ∙ sym here ∙ saw.closed e)
@@ -111,7 +111,8 @@ view_of s reached id v at =
 
 module _ (R W : Type 0) where
   -- a seat that has seen the state word, which is as it was
-  pub seen_fits : (id : ℕ) (me : M R W) (s : State (Half R W) LocalView) → Represents s → get_elem? s.views id ≡ some me.0
+  pub seen_fits : (id : ℕ) (me : M R W) (s : State (Half R W) LocalView) → Represents s
+      → get_elem? s.views id ≡ some me.0
       → Represents (stepped s STATE (get_or s.words STATE 0) id me.1 (seen_in (get_or s.words STATE 0) me.0) keeps)
   seen_fits id me s r at =
       let n : ℕ = get_or s.words STATE 0 in
@@ -130,7 +131,8 @@ module _ (R W : Type 0) where
       (λ e. e) record { closed = λ e. flag ∙ e; done = (f.seen id me.0 at).done })
 
   -- a seat that has seen the state word did nothing
-  pub seen_reached : (id : ℕ) (me : M R W) (s : State (Half R W) LocalView) → IsReached s → get_elem? s.views id ≡ some me.0
+  pub seen_reached : (id : ℕ) (me : M R W) (s : State (Half R W) LocalView) → IsReached s
+      → get_elem? s.views id ≡ some me.0
       → IsReached (stepped s STATE (get_or s.words STATE 0) id me.1 (seen_in (get_or s.words STATE 0) me.0) keeps)
   seen_reached id me s reached at =
       let w : LocalView = seen_in (get_or s.words STATE 0) me.0 in
@@ -152,14 +154,26 @@ module _ (R W : Type 0) where
       let wide = f.wide in
       let w : LocalView = seen_in n me.0 in
       let found : IsFound R W n w =
-      record { moment = record { words = set s.words STATE n; homes = s.homes; views = set s.views id w }; rule = seen_reached id me s reached at; seat = id; own = set_here s.views id w (at_there s.views id me.0 at).0; word = get_or-set_same s.words 0 n 0 (omega arith) } in
+      record {
+        moment = record { words = set s.words STATE n; homes = s.homes; views = set s.views id w };
+        rule = seen_reached id me s reached at;
+        seat = id;
+        own =
+            set_here s.views id w (at_there s.views id me.0 at).0;
+        word = get_or-set_same s.words 0 n 0 (omega arith);
+      } in
       told s.words s.homes s.views (present s r) n id me.0 f at found
 
   -- a load of the state
   pub looks : (slots id : ℕ) (me : M R W)
       → Allows IsReached slots id me STATE (λ n. n) (looked (step slots STATE 0 0 none) me)
-  looks slots id me s reached deep at small =
-      (seen_in (get_or s.words STATE 0) me.0, keeps, tt, seen_reached id me s reached at, (told_of id me s reached at, refl))
+  looks slots id me s reached deep at small = (
+    seen_in (get_or s.words STATE 0) me.0,
+    keeps,
+    tt,
+    seen_reached id me s reached at,
+    (told_of id me s reached at, refl),
+  )
 
   -- a load of the done word
   pub asks : (slots id : ℕ) (me : M R W)
@@ -186,7 +200,8 @@ module _ (R W : Type 0) where
         keeps,
         tt,
         record {
-          represents = subst (λ (x : ℕ). Represents (stepped s DONE x id me.1 w keeps)) (sym done_is) (represents (set s.words DONE (bit c.destroyed)) s.homes views (seated views c) state next);
+          represents = subst (λ (x : ℕ). Represents (stepped s DONE x id me.1 w keeps)) (sym done_is)
+              (represents (set s.words DONE (bit c.destroyed)) s.homes views (seated views c) state next);
           history = reached.history;
           interleaves = same_deeds reached.history s.views id me.0 w reached.interleaves at refl;
           none_refused = reached.none_refused;

@@ -1,24 +1,22 @@
 -- A new word meets the rule.
-use Rattle.std.proofs.Common.{◌≡◌, ℕ, ◌+◌, ◌∙◌, false, [], ◌∷◌, ◌++◌, zero, suc, refl, sym, subst, arith}
-use mathlib.Core.Option.{some, some-injective, some-ne-none}
-use lib.ListN.{get_elem?}
+use Rattle.std.proofs.Common.{◌≡◌, ◌+◌, [], ◌∷◌, ◌++◌}
+use Rattle.lockword.proofs.Words.{ℕ, false, zero, suc, refl, sym, subst, arith, some, get_elem?, Read, Write, Census}
+use Rattle.lockword.proofs.Words.{references, locks, lasts, IsBalanced, LocalView, newcomer, SawRightly, IsReached}
+use mathlib.Core.Option.{some-injective, some-ne-none}
 use Rattle.atomic_table.specs.Table.{opening}
-use Rattle.stream_base.specs.declared.direction.Dir.TheVariants.{Read, Write}
 use Rattle.lockword_core.specs.declared.stake.Stake.TheVariants as stake
-use Rattle.lockword_core.specs.LockState.{Census, references, locks, queued, owed, closers, lasts, count}
+use Rattle.lockword_core.specs.LockState.{queued, owed, closers, count}
 use Rattle.lockword_core.proofs.CountLemmas.{count-nil, count-push}
-use Rattle.lockword_core.proofs.BalanceLemmas.{IsBalanced}
-use Rattle.lockword.specs.declared.local_view.LocalView.{LocalView}
 use Rattle.lockword.specs.declared.shared_rule.Half.TheVariants as half
-use Rattle.lockword.specs.LocalView.{takers, newcomer}
-use Rattle.lockword.specs.SharedInvariant.{SawRightly, IsReached}
+use Rattle.lockword.specs.LocalView.{takers}
 use Rattle.lockword.proofs.ViewLemmas.{takers-nil, takers-push}
 use Rattle.lockword.proofs.Representation.{both, represents}
-use Rattle.lockword.proofs.HistorySteps.{first_history, first_deeds}
+use Rattle.lockword.proofs.HistoryEnds.{first_history, first_deeds}
 
 none_counted : (what : Rattle.lockword_core.specs.LockState.Counted) → count what (stake.Free ∷ []) ≡ 0
 none_counted what =
-    let pushed : count what ([] ++ stake.Free ∷ []) ≡ count what [] = count-push what [] in omega (arith, count-nil what)
+    let pushed : count what ([] ++ stake.Free ∷ []) ≡ count what [] = count-push what [] in
+    omega (arith, count-nil what)
 
 none_took : takers (newcomer ∷ []) ≡ 0
 none_took =
@@ -52,7 +50,8 @@ module _ (R W : Type 0) where
   pub begins : (r : R) (w : W) → IsReached (opening (0 ∷ 0 ∷ 0 ∷ 0 ∷ []) (half.Read r ∷ half.Write w ∷ []) newcomer)
   begins r w =
       record {
-        represents = represents (0 ∷ 0 ∷ 0 ∷ 0 ∷ []) (some (half.Read r) ∷ some (half.Write w) ∷ []) (newcomer ∷ []) first_census 0
+        represents = represents (0 ∷ 0 ∷ 0 ∷ 0 ∷ []) (some (half.Read r) ∷ some (half.Write w) ∷ [])
+            (newcomer ∷ []) first_census 0
             record {
               wide = refl;
               deep = refl;
@@ -61,8 +60,10 @@ module _ (R W : Type 0) where
               done = refl;
               stakes = refl;
               balance = starts;
-              halves = both _ (omega (arith, none_counted (locks Read), none_took)) (omega (arith, none_counted (locks Write), none_took));
-              seen = λ i v at. subst (λ (y : LocalView). SawRightly first_census y) (saw_nothing i v at) record { closed = λ e. e; done = λ e. e };
+              halves = both _ (omega (arith, none_counted (locks Read), none_took))
+                  (omega (arith, none_counted (locks Write), none_took));
+              seen = λ i v at. subst (λ (y : LocalView). SawRightly first_census y)
+                  (saw_nothing i v at) record { closed = λ e. e; done = λ e. e };
             };
         history = [];
         interleaves = first_deeds;

@@ -1,23 +1,15 @@
 -- The rule of the table as arithmetic, and back.
-use Rattle.std.proofs.Common.{◌≡◌, ◌≢◌, ℕ, ◌+◌, ◌∙◌, ⊎_elim, Bool, true, List, length, get_or, set, refl, sym, ap, subst, arith, length-set, get_or-set_other, get_or-set_same}
-use mathlib.Core.Option.{Option, some}
-use lib.ListN.{get_elem?}
-use Rattle.atomic_table.specs.Table.{State}
+use Rattle.std.proofs.Common.{◌≡◌, ◌≢◌, ◌+◌, ◌∙◌, ⊎_elim}
+use Rattle.lockword.proofs.Words.{ℕ, Bool, true, List, length, get_or, set, refl, sym, subst, arith, length-set}
+use Rattle.lockword.proofs.Words.{get_or-set_other, get_or-set_same, Option, some, get_elem?, State, Dir, Read, Write}
+use Rattle.lockword.proofs.Words.{Stake, signals_in, with_signals, bit, Census, locks, number, encoded, IsBalanced}
+use Rattle.lockword.proofs.Words.{balance_of, LocalView, Half, stakes_of, semaphore, slot_of, half_home, SawRightly}
+use Rattle.lockword.proofs.Words.{Represents}
 use Rattle.atomic_table.proofs.Lists.{at_set}
-use Rattle.stream_base.specs.declared.direction.Dir.{Dir}
-use Rattle.stream_base.specs.declared.direction.Dir.TheVariants.{Read, Write}
 use Rattle.lockword_core.specs.declared.signals.Signals.{Signals}
-use Rattle.lockword_core.specs.declared.stake.Stake.{Stake}
-use Rattle.lockword_core.specs.Signals.{signals_in, with_signals}
-use Rattle.lockword_core.specs.Word.{bit}
-use Rattle.lockword_core.specs.LockState.{Census, locks, count, number, encoded}
-use Rattle.lockword_core.proofs.BalanceLemmas.{IsBalanced}
-use Rattle.lockword_core.proofs.InvariantPreserved.{balance_of, consistent_of, encoded_of}
-use Rattle.lockword.specs.declared.local_view.LocalView.{LocalView}
-use Rattle.lockword.specs.declared.shared_rule.Half.{Half}
-use Rattle.lockword.specs.LocalView.{stakes_of, takers}
-use Rattle.lockword.specs.Directions.{semaphore, slot_of, half_home}
-use Rattle.lockword.specs.SharedInvariant.{SawRightly, Represents}
+use Rattle.lockword_core.specs.LockState.{count}
+use Rattle.lockword_core.proofs.InvariantPreserved.{consistent_of, encoded_of}
+use Rattle.lockword.specs.LocalView.{takers}
 
 -- the abstract state behind these views, with the flag, the mark and the signals of another
 abbrev pub seated : List LocalView → Census → Census
@@ -66,12 +58,14 @@ pub saw_rightly : (views : List LocalView) (id : ℕ) (w : LocalView) (b c : Cen
     → (i : ℕ) (v : LocalView) → get_elem? (set views id w) i ≡ some v → SawRightly c v
 saw_rightly views id w b c saw closes ends so i v at =
     ⊎_elim (λ here. subst (λ (x : LocalView). SawRightly c x) here.1 so)
-    (λ there. let was = saw i v there.1 in record { closed = λ e. closes (was.closed e); done = λ e. ends (was.done e) })
+    (λ there. let was = saw i v there.1 in
+    record { closed = λ e. closes (was.closed e); done = λ e. ends (was.done e) })
     (at_set views id i w v at)
 
 module _ {R W : Type 0} where
   -- words, homes and views meet the rule, with this abstract state and this state word
-  pub record Fits (words : List ℕ) (homes : List (Option (Half R W))) (views : List LocalView) (c : Census) (n : ℕ) : Type 0 where
+  pub record Fits (words : List ℕ) (homes : List (Option (Half R W))) (views : List LocalView) (c : Census)
+      (n : ℕ) : Type 0 where
     pub wide : length words ≡ 4
     pub deep : length homes ≡ 2
     pub state : get_or words 0 0 ≡ n
@@ -113,13 +107,18 @@ module _ {R W : Type 0} where
         semaphores = r.semaphores;
         done = r.done_word;
         stakes = refl;
-        balance = subst (λ (n : ℕ). IsBalanced (present s r) n) (sym r.state_word) (subst (λ (ys : List Stake). IsBalanced (record c { stakes = ys }) (encoded c)) r.stakes (balance_of c r.consistent));
-        halves = λ d. subst (λ (ys : List Stake). IsInOnePlace d s.homes (record c { stakes = ys }) (takers s.views)) r.stakes (r.halves d);
+        balance = subst (λ (n : ℕ). IsBalanced (present s r) n) (sym r.state_word)
+            (subst (λ (ys : List Stake). IsBalanced (record c { stakes = ys }) (encoded c)) r.stakes
+            (balance_of c r.consistent));
+        halves = λ d. subst
+            (λ (ys : List Stake). IsInOnePlace d s.homes (record c { stakes = ys }) (takers s.views)) r.stakes
+            (r.halves d);
         seen = λ i v at. let saw = r.seen i v at in record { closed = saw.closed; done = saw.done };
       }
 
   -- a new state word, and a new view of one seat
-  pub on_state : (words : List ℕ) (homes homes' : List (Option (Half R W))) (views : List LocalView) (c : Census) (closed : Bool) (n m id : ℕ) (w : LocalView)
+  pub on_state : (words : List ℕ) (homes homes' : List (Option (Half R W))) (views : List LocalView) (c : Census)
+      (closed : Bool) (n m id : ℕ) (w : LocalView)
       → Fits words homes views c n → length homes' ≡ 2
       → let next = record (seated (set views id w) c) { closed = closed } in
       IsBalanced next m
@@ -137,11 +136,13 @@ module _ {R W : Type 0} where
         stakes = refl;
         balance = balance;
         halves = halves;
-        seen = saw_rightly views id w c (record (seated (set views id w) c) { closed = closed }) f.seen grows (λ e. e) saw;
+        seen = saw_rightly views id w c (record (seated (set views id w) c) { closed = closed }) f.seen grows
+            (λ e. e) saw;
       }
 
   -- a new done word, and a new view of one seat
-  pub on_done : (words : List ℕ) (homes homes' : List (Option (Half R W))) (views : List LocalView) (c : Census) (destroyed : Bool) (n id : ℕ) (w : LocalView)
+  pub on_done : (words : List ℕ) (homes homes' : List (Option (Half R W))) (views : List LocalView) (c : Census)
+      (destroyed : Bool) (n id : ℕ) (w : LocalView)
       → Fits words homes views c n → length homes' ≡ 2
       → let next = record (seated (set views id w) c) { destroyed = destroyed } in
       IsBalanced next n
@@ -159,11 +160,13 @@ module _ {R W : Type 0} where
         stakes = refl;
         balance = balance;
         halves = halves;
-        seen = saw_rightly views id w c (record (seated (set views id w) c) { destroyed = destroyed }) f.seen (λ e. e) grows saw;
+        seen = saw_rightly views id w c (record (seated (set views id w) c) { destroyed = destroyed }) f.seen
+            (λ e. e) grows saw;
       }
 
   -- a new semaphore word, and a new view of one seat
-  pub on_signals : (d : Dir) (words : List ℕ) (homes : List (Option (Half R W))) (views : List LocalView) (c : Census) (n m id : ℕ) (w : LocalView)
+  pub on_signals : (d : Dir) (words : List ℕ) (homes : List (Option (Half R W))) (views : List LocalView) (c : Census)
+      (n m id : ℕ) (w : LocalView)
       → Fits words homes views c n
       → let next = record (seated (set views id w) c) { signals = with_signals d m c.signals } in
       IsBalanced next n
@@ -180,5 +183,6 @@ module _ {R W : Type 0} where
         stakes = refl;
         balance = balance;
         halves = halves;
-        seen = saw_rightly views id w c (record (seated (set views id w) c) { signals = with_signals d m c.signals }) f.seen (λ e. e) (λ e. e) saw;
+        seen = saw_rightly views id w c
+            (record (seated (set views id w) c) { signals = with_signals d m c.signals }) f.seen (λ e. e) (λ e. e) saw;
       }

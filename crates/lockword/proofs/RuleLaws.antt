@@ -1,35 +1,24 @@
 -- What the rule says of all seats.
-use Rattle.std.proofs.Common.{◌≡◌, ℕ, zero, suc, ◌+◌, ◌≤◌, ◌<◌, ◌∙◌, Bool, true, false, List, [], ◌∷◌, length, set, refl, sym, ap, subst, arith, get_or, get_or-set_same, get_or-set_other}
+use Rattle.std.proofs.Common.{◌≡◌, ◌+◌, ◌≤◌, ◌<◌, ◌∙◌, [], ◌∷◌}
 use Rattle.std.specs.Prelude.{◌==◌, ◌&&◌, sum_by, count_by}
-use mathlib.Core.Logic.{dite}
-use native.Mathlib.Decide.{ℕ_discrete}
 use Rattle.std.proofs.lemmas.List.Sums.{sum_by-cons, sum_by-set}
-use mathlib.Core.Option.{some}
-use lib.ListN.{get_elem?}
-use Rattle.stream_base.specs.declared.direction.Dir.{Dir}
-use Rattle.stream_base.specs.declared.direction.Dir.TheVariants.{Read, Write}
-use Rattle.lockword_core.specs.declared.stake.Op.{Op}
-use Rattle.lockword_core.specs.declared.stake.Event.{Event}
-use Rattle.lockword_core.specs.declared.word.Word.{Word}
-use Rattle.lockword_core.specs.declared.word.TheConstants.{CLOSED}
-use Rattle.lockword_core.specs.Word.{bit}
-use Rattle.lockword_core.specs.Signals.{signals_in}
-use Rattle.lockword_core.specs.LockState.{empty, census, queued, references, locks, lasts, count, number}
-use Rattle.lockword_core.specs.Replay.{state_after}
+use Rattle.lockword.proofs.Words.{ℕ, zero, suc, Bool, true, false, List, length, set, refl, sym, ap, subst, arith}
+use Rattle.lockword.proofs.Words.{get_or, get_or-set_same, get_or-set_other, dite, ℕ_discrete, some, get_elem?, Dir}
+use Rattle.lockword.proofs.Words.{Read, Write, Op, Event, Word, CLOSED, bit, signals_in, empty, census, references}
+use Rattle.lockword.proofs.Words.{locks, lasts, number, state_after, count-within, always_consistent, LocalView}
+use Rattle.lockword.proofs.Words.{stakes_of, deeds_of, IsReached}
+use Rattle.lockword_core.specs.LockState.{queued, count}
 use Rattle.lockword_core.specs.Laws.{ReturnedTheLast}
-use Rattle.lockword_core.specs.OperationCounts.{is_taking, is_returning, is_signal, is_wake, is_close, is_destroy, made_in, operations_of, AddsUp}
-use Rattle.lockword_core.proofs.CountLemmas.{count-within}
+use Rattle.lockword_core.specs.OperationCounts.{is_taking, is_returning, is_signal, is_wake, is_close, is_destroy}
+use Rattle.lockword_core.specs.OperationCounts.{made_in, operations_of, AddsUp}
 use Rattle.lockword_core.proofs.BalanceLemmas.{reads_as}
 use Rattle.lockword_core.proofs.InvariantPreserved.{bit-le, bit-true}
-use Rattle.lockword_core.proofs.WordFields.{ReadsFields, reads_fields, bit-same}
-use Rattle.lockword_core.proofs.LawLemmas.{counts_stakes}
-use Rattle.lockword_core.proofs.ReplayLemmas.{always_consistent}
+use Rattle.lockword_core.proofs.WordFields.{reads_fields, bit-same}
+use Rattle.lockword_core.proofs.WordLaws.{counts_stakes}
 use Rattle.lockword_core.proofs.NameLemmas.{counts_by_seats}
 use Rattle.lockword_core.proofs.WordRefines.{pick_then, pick_else}
 use Rattle.lockword_core.proofs.OperationLemmas.{count_by-cons, adds_up, destroyer}
-use Rattle.lockword.specs.declared.local_view.LocalView.{LocalView}
-use Rattle.lockword.specs.LocalView.{stakes_of, deeds_of, made_by_seats}
-use Rattle.lockword.specs.SharedInvariant.{IsReached}
+use Rattle.lockword.specs.LocalView.{made_by_seats}
 use Rattle.lockword.specs.TransitionOutcomes.{IsOnlyClosed}
 use Rattle.lockword.specs.Moment.{Moment, IsRead}
 use Rattle.lockword.specs.Laws.{seats_census, over_seats, IsInOnePlace, CountsSeats, ComesOfDeeds}
@@ -67,10 +56,14 @@ seats_made (e ∷ h) ds what same =
     let inside : k < length ds = is_inside ds k e.op rest here in
     let others = seats_made h (set ds k rest) what
     (λ i. dite (ℕ_discrete i k)
-    (λ is. subst (λ (q : ℕ). get_or (set ds k rest) q [] ≡ operations_of q h) (sym is) (get_or-set_same ds k rest [] inside))
-    (λ ne. get_or-set_other ds k i rest [] ne ∙ same i ∙ pick_else (k == i) (e.op ∷ operations_of i h) (operations_of i h) (other_number k i ne))) in
-    let sum : sum_by (count_by what) (set ds k rest) + count_by what (get_or ds k []) ≡ sum_by (count_by what) ds + count_by what rest = sum_by-set (count_by what) ds k rest [] inside in
-    let first : count_by what (get_or ds k []) ≡ bit (what e.op) + count_by what rest = ap (count_by what) here ∙ count_by-cons what e.op rest in
+    (λ is. subst (λ (q : ℕ). get_or (set ds k rest) q [] ≡ operations_of q h) (sym is)
+    (get_or-set_same ds k rest [] inside))
+    (λ ne. get_or-set_other ds k i rest [] ne ∙ same i
+    ∙ pick_else (k == i) (e.op ∷ operations_of i h) (operations_of i h) (other_number k i ne))) in
+    let sum : sum_by (count_by what) (set ds k rest) + count_by what (get_or ds k []) ≡ sum_by (count_by what) ds
+    + count_by what rest = sum_by-set (count_by what) ds k rest [] inside in
+    let first : count_by what (get_or ds k []) ≡ bit (what e.op) + count_by what rest =
+    ap (count_by what) here ∙ count_by-cons what e.op rest in
     let more : made_in (e ∷ h) what ≡ bit (what e.op) + made_in h what = count_by-cons (λ (x : Event). what x.op) e h in
     omega arith
 
@@ -106,7 +99,8 @@ module _ {R W : Type 0} where
         interleaves = reached.interleaves;
         none_refused = reached.none_refused;
         matches = reached.leads;
-        counts = counts_stakes fields (state_after empty reached.history) (always_consistent reached.history) read.is_word (read.same ∙ reached.leads.state_word);
+        counts = counts_stakes fields (state_after empty reached.history)
+            (always_consistent reached.history) read.is_word (read.same ∙ reached.leads.state_word);
       }
 
   pub one_lock : (s : Moment R W) (d : Dir) → IsReached s → over_seats (locks d) s ≤ 1
@@ -128,7 +122,8 @@ module _ {R W : Type 0} where
       let flag : c.closed ≡ fields.closed = bit-same _ _ (sym have.flag ∙ told.flag) in
       let used : number references c ≡ fields.refs = ap (count references) r.stakes ∙ sym have.refs ∙ told.refs in
       let last : number lasts c ≡ over_seats lasts s = ap (count lasts) r.stakes in
-      let same : bit (c.closed && (number references c == 0)) ≡ bit (fields.closed && (fields.refs == 0)) = λ i. bit (flag i && (used i == 0)) in
+      let same : bit (c.closed && (number references c == 0)) ≡ bit (fields.closed && (fields.refs == 0)) =
+      λ i. bit (flag i && (used i == 0)) in
       let one = r.consistent.one_last in
       let done = r.done_word in
       omega arith
@@ -159,8 +154,14 @@ module _ {R W : Type 0} where
       let same = read.same in
       let a = bit-le fields.closed in
       let b = bit-le fields.rlock in
-      let c = bit-le fields.wlock in
-      (bit-true fields.closed (omega arith), no_bit fields.rlock (omega arith), no_bit fields.wlock (omega arith), omega arith, omega arith, omega arith)
+      let c = bit-le fields.wlock in (
+        bit-true fields.closed (omega arith),
+        no_bit fields.rlock (omega arith),
+        no_bit fields.wlock (omega arith),
+        omega arith,
+        omega arith,
+        omega arith,
+      )
 
   pub saw_closed : (s : Moment R W) (fields : Word) (seat : ℕ) (v : LocalView) → IsRead s fields
       → get_elem? s.views seat ≡ some v → v.saw.closed ≡ true → fields.closed ≡ true
@@ -181,7 +182,8 @@ module _ {R W : Type 0} where
       → get_elem? s.views seat ≡ some v → 0 < count_by is_destroy v.did → ReturnedTheLast reached.history seat
   destroyer_returned s seat v reached at some_made =
       destroyer reached.history seat reached.none_refused
-      (subst (λ ops. 0 < count_by is_destroy ops) (own_deeds reached.history s.views seat v reached.interleaves at) some_made)
+      (subst (λ ops. 0 < count_by is_destroy ops)
+      (own_deeds reached.history s.views seat v reached.interleaves at) some_made)
 
   -- how many operations of a sort all seats have made is how many there are in the history
   pub made_is : (s : Moment R W) (reached : IsReached s) (what : Op → Bool)
@@ -200,10 +202,12 @@ module _ {R W : Type 0} where
         destroyed = is is_destroy ∙ all.destroyed;
       }
 
-  pub closes_are : (s : Moment R W) (fields : Word) → IsRead s fields → made_by_seats s.views is_close ≡ bit fields.closed
+  pub closes_are : (s : Moment R W) (fields : Word) → IsRead s fields → made_by_seats s.views is_close
+      ≡ bit fields.closed
   closes_are s fields read =
       let reached = read.rule in
-      let counts = counts_stakes fields (state_after empty reached.history) (always_consistent reached.history) read.is_word (read.same ∙ reached.leads.state_word) in
+      let counts = counts_stakes fields (state_after empty reached.history)
+      (always_consistent reached.history) read.is_word (read.same ∙ reached.leads.state_word) in
       (history_adds_up s reached).closed ∙ sym (ap bit counts.flag)
 
   pub destroys_are : (s : Moment R W) → IsReached s → made_by_seats s.views is_destroy ≡ get_or s.words 3 0
@@ -222,10 +226,15 @@ module _ {R W : Type 0} where
       let reached = read.rule in
       let all = history_adds_up s reached in
       let leads = reached.leads in
-      let counted = counts_by_seats (state_after empty reached.history) (stakes_of s.views) (always_consistent reached.history) leads.stakes in
+      let counted = counts_by_seats (state_after empty reached.history) (stakes_of s.views)
+      (always_consistent reached.history) leads.stakes in
       record {
-        taken = let a = all.taken in let refs = counted references in let readers = counted (queued Read) in let writers = counted (queued Write) in omega arith;
-        signalled = both (λ d. made_by_seats s.views (is_signal d) ≡ signals_in d (seats_census s fields).signals + made_by_seats s.views (is_wake d)) (let a = all.signalled Read in let b = leads.semaphores Read in omega arith) (let a = all.signalled Write in let b = leads.semaphores Write in omega arith);
+        taken = let a = all.taken in let refs = counted references in let readers = counted (queued Read) in
+            let writers = counted (queued Write) in omega arith;
+        signalled = both
+            (λ d. made_by_seats s.views (is_signal d) ≡ signals_in d (seats_census s fields).signals
+            + made_by_seats s.views (is_wake d)) (let a = all.signalled Read in let b = leads.semaphores Read in
+            omega arith) (let a = all.signalled Write in let b = leads.semaphores Write in omega arith);
         closed = closes_are s fields read;
         destroyed = destroys_are s reached ∙ done_bit (get_or s.words 3 0) _ leads.done_word;
       }

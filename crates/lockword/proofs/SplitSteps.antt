@@ -1,21 +1,17 @@
 -- A split keeps the rule: the new seat has no stake, and counts nothing.
-use Rattle.std.proofs.Common.{◌≡◌, ℕ, ◌+◌, ◌∙◌, ⊎_elim, List, [], ◌∷◌, ◌++◌, get_or, refl, sym, ap, subst, arith}
+use Rattle.std.proofs.Common.{◌≡◌, ◌+◌, ◌∙◌, ⊎_elim, [], ◌∷◌, ◌++◌}
+use Rattle.lockword.proofs.Words.{ℕ, List, get_or, refl, sym, ap, subst, arith, set_again, Census, empty}
+use Rattle.lockword.proofs.Words.{Counted, locks, state_after, LocalView, Half, stakes_of, SawRightly}
+use Rattle.lockword.proofs.Words.{IsReached}
 use Rattle.atomic_table.specs.Table.{Splits}
-use Rattle.atomic_table.proofs.Lists.{set_again, at_snoc}
-use Rattle.stream_base.specs.declared.direction.Dir.{Dir}
+use Rattle.atomic_table.proofs.Lists.{at_snoc}
 use Rattle.lockword_core.specs.declared.stake.Stake.TheVariants as stake
-use Rattle.lockword_core.specs.Word.{bit}
-use Rattle.lockword_core.specs.LockState.{Census, empty, Counted, locks, count}
-use Rattle.lockword_core.specs.Replay.{state_after}
+use Rattle.lockword_core.specs.LockState.{count}
 use Rattle.lockword_core.proofs.CountLemmas.{count-push}
-use Rattle.lockword_core.proofs.BalanceLemmas.{IsBalanced}
-use Rattle.lockword.specs.declared.local_view.LocalView.{LocalView}
-use Rattle.lockword.specs.declared.shared_rule.Half.{Half}
-use Rattle.lockword.specs.LocalView.{stakes_of, takers, without_stake}
-use Rattle.lockword.specs.SharedInvariant.{SawRightly, IsReached}
+use Rattle.lockword.specs.LocalView.{takers, without_stake}
 use Rattle.lockword.proofs.ViewLemmas.{stakes_push, takers-push}
 use Rattle.lockword.proofs.Representation.{seated, present, Fits, fits, recounted, represents}
-use Rattle.lockword.proofs.HistorySteps.{split_history, split_deeds}
+use Rattle.lockword.proofs.HistoryEnds.{split_history, split_deeds}
 
 module _ (R W : Type 0) where
   pub splits : (id : ℕ) (v : LocalView) → Splits {S = Half R W} IsReached id v v (without_stake v)
@@ -27,7 +23,8 @@ module _ (R W : Type 0) where
       let views : List LocalView = s.views ++ w ∷ [] in
       let n : ℕ = get_or s.words 0 0 in
       let pushed : stakes_of views ≡ stakes_of s.views ++ stake.Free ∷ [] = stakes_push s.views w in
-      let same : (what : Counted) → count what (stakes_of views) ≡ count what (stakes_of s.views) = λ what. ap (count what) pushed ∙ count-push what (stakes_of s.views) in
+      let same : (what : Counted) → count what (stakes_of views) ≡ count what (stakes_of s.views) =
+      λ what. ap (count what) pushed ∙ count-push what (stakes_of s.views) in
       let took : takers views ≡ takers s.views + 0 = takers-push s.views w in
       let took_none : takers views ≡ takers s.views = omega arith in
       let next : Fits s.words s.homes views (seated views c) n = record {
@@ -40,9 +37,14 @@ module _ (R W : Type 0) where
         balance = let b = f.balance in omega (arith, same);
         halves = λ d. recounted d s.homes c (stakes_of views) _ _ (same (locks d)) took_none (f.halves d);
         seen = λ i x at'. ⊎_elim (λ here. let saw = f.seen i x here in record { closed = saw.closed; done = saw.done })
-            (λ new. let saw = f.seen id v at in subst (λ (y : LocalView). SawRightly (seated views c) y) new record { closed = saw.closed; done = saw.done }) (at_snoc s.views w x i at');
+            (λ new. let saw = f.seen id v at in
+            subst (λ (y : LocalView). SawRightly (seated views c) y) new record {
+              closed = saw.closed;
+              done = saw.done;
+            }) (at_snoc s.views w x i at');
       } in
-      subst (λ (vs : List LocalView). IsReached record { words = s.words; homes = s.homes; views = vs ++ w ∷ [] }) (sym (set_again s.views id v at))
+      subst (λ (vs : List LocalView). IsReached record { words = s.words; homes = s.homes; views = vs ++ w ∷ [] })
+      (sym (set_again s.views id v at))
       record {
         represents = represents s.words s.homes views (seated views c) n next;
         history = reached.history;

@@ -1,18 +1,16 @@
 -- Counts over the views of all seats: what one seat's change does to them.
-use Rattle.std.proofs.Common.{◌≡◌, ℕ, zero, suc, ◌+◌, ◌≤◌, ◌<◌, ◌∙◌, Bool, true, false, List, [], ◌∷◌, ◌++◌, length, get_or, set, refl, sym, ap, subst, arith}
+use Rattle.std.proofs.Common.{◌≡◌, ◌+◌, ◌≤◌, ◌<◌, ◌∙◌, [], ◌∷◌, ◌++◌}
 use Rattle.std.specs.Prelude.{if◌then◌else◌}
 use Rattle.std.proofs.lemmas.List.{map-set}
 use Rattle.std.proofs.lemmas.List.Sums.{sum_by-set, sum_by-cons, sum_by_push}
-use mathlib.Core.Option.{some, some-ne-none, some-injective}
-use lib.ListN.{get_elem?}
-use Rattle.atomic_table.proofs.Lists.{at_map, set_again}
-use Rattle.lockword_core.specs.declared.stake.Stake.{Stake}
-use Rattle.lockword_core.specs.declared.stake.Stake.TheVariants as stake
-use Rattle.lockword_core.specs.LockState.{Counted, lasts, part, count}
-use Rattle.lockword_core.specs.LockInvariant.{ChangesOneStake}
+use Rattle.lockword.proofs.Words.{ℕ, zero, suc, Bool, true, false, List, length, get_or, set, refl, sym, ap, subst}
+use Rattle.lockword.proofs.Words.{arith, some, get_elem?, set_again, Stake, Counted, lasts, part, ChangesOneStake}
+use Rattle.lockword.proofs.Words.{LocalView, stakes_of, taken_by}
+use mathlib.Core.Option.{some-ne-none, some-injective}
+use Rattle.atomic_table.proofs.Lists.{at_map}
+use Rattle.lockword_core.specs.LockState.{count}
 use Rattle.lockword_core.proofs.CountLemmas.{count-nil, changes-set}
-use Rattle.lockword.specs.declared.local_view.LocalView.{LocalView}
-use Rattle.lockword.specs.LocalView.{stakes_of, taken_by, takers}
+use Rattle.lockword.specs.LocalView.{takers}
 
 pub at_there : {A : Type 0} (xs : List A) (i : ℕ) (x : A) → get_elem? xs i ≡ some x
     → (i < length xs) × ((d : A) → get_or xs i d ≡ x)
@@ -36,7 +34,8 @@ pub one_changes : (views : List LocalView) (i : ℕ) (v w : LocalView) → get_e
 one_changes views i v w at =
     let there = at_there (stakes_of views) i v.stake (stake_at views i v at) in
     subst (λ (ys : List Stake). ChangesOneStake (stakes_of views) v.stake ys w.stake) (sym (stakes-set views i w))
-    (subst (λ (x : Stake). ChangesOneStake (stakes_of views) x (set (stakes_of views) i w.stake) w.stake) (there.1 w.stake) (changes-set (stakes_of views) i w.stake there.0))
+    (subst (λ (x : Stake). ChangesOneStake (stakes_of views) x (set (stakes_of views) i w.stake) w.stake)
+    (there.1 w.stake) (changes-set (stakes_of views) i w.stake there.0))
 
 -- each count has at least the part of each seat
 pub counted_at : (views : List LocalView) (i : ℕ) (v : LocalView) → get_elem? views i ≡ some v → (what : Counted)
@@ -47,7 +46,8 @@ counted_at views i v at what = let before = (one_changes views i v v at).counted
 pub same_stakes : (views : List LocalView) (i : ℕ) (v w : LocalView) → get_elem? views i ≡ some v → w.stake ≡ v.stake
     → stakes_of (set views i w) ≡ stakes_of views
 same_stakes views i v w at e =
-    stakes-set views i w ∙ ap (set (stakes_of views) i) e ∙ set_again (stakes_of views) i v.stake (stake_at views i v at)
+    stakes-set views i w ∙ ap (set (stakes_of views) i) e
+    ∙ set_again (stakes_of views) i v.stake (stake_at views i v at)
 
 pub stakes_push : (views : List LocalView) (w : LocalView)
     → stakes_of (views ++ w ∷ []) ≡ stakes_of views ++ w.stake ∷ []
@@ -61,7 +61,8 @@ pub takers-set : (views : List LocalView) (i : ℕ) (v w : LocalView) → get_el
 unfolding takers
 takers-set views i v w at =
     let there = at_there views i v at in
-    subst (λ (x : LocalView). takers (set views i w) + taken_by x ≡ takers views + taken_by w) (there.1 w) (sum_by-set taken_by views i w w there.0)
+    subst (λ (x : LocalView). takers (set views i w) + taken_by x ≡ takers views + taken_by w) (there.1 w)
+    (sum_by-set taken_by views i w w there.0)
 
 pub takers-push : (views : List LocalView) (w : LocalView) → takers (views ++ w ∷ []) ≡ takers views + taken_by w
 unfolding takers

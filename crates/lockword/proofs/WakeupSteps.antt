@@ -1,39 +1,27 @@
 -- Semaphores: a signal that is given or taken keeps the rule.
-use Rattle.std.proofs.Common.{◌≡◌, ◌≢◌, ℕ, ◌+◌, ◌-◌, ◌<◌, ◌≤◌, ◌∙◌, eqb, true, List, [], ◌∷◌, ◌++◌, get_or, set, refl, sym, ap, subst, arith}
+use Rattle.std.proofs.Common.{◌≡◌, ◌≢◌, ◌+◌, ◌-◌, ◌<◌, ◌≤◌, ◌∙◌, [], ◌∷◌, ◌++◌}
 use Rattle.std.specs.Prelude.{nat_lt}
-use Rattle.std.proofs.lemmas.Bool.Decides.{nat_tests}
-use mathlib.Core.Option.{none}
-use prog.Atomic.{either}
-use Rattle.atomic_table.specs.Table.{step, keeps, Allows}
-use Rattle.stream_base.specs.declared.direction.Dir.{Dir}
-use Rattle.stream_base.specs.declared.direction.Dir.TheVariants.{Read, Write}
-use Rattle.lockword_core.specs.declared.stake.Stake.{Stake}
+use Rattle.lockword.proofs.Words.{ℕ, eqb, true, List, get_or, set, refl, sym, subst, arith, nat_tests, none, either}
+use Rattle.lockword.proofs.Words.{step, keeps, Allows, Dir, Read, Write, Stake, Event, Op, Answer, signals_in}
+use Rattle.lockword.proofs.Words.{with_signals, Census, empty, locks, lasts, part, state_after, ChangesOneStake, allows}
+use Rattle.lockword.proofs.Words.{IsBalanced, LocalView, STATE, stakes_of, taken_by, semaphore, IsReached, IsMade}
 use Rattle.lockword_core.specs.declared.stake.Stake.TheVariants as stake
-use Rattle.lockword_core.specs.declared.stake.Event.{Event}
-use Rattle.lockword_core.specs.declared.stake.Op.{Op}
 use Rattle.lockword_core.specs.declared.stake.Op.TheVariants as op
-use Rattle.lockword_core.specs.declared.stake.Answer.{Answer}
 use Rattle.lockword_core.specs.declared.stake.Answer.TheVariants as answer
 use Rattle.lockword_core.specs.declared.signals.TheConstants.{MAX_SIGNALS}
-use Rattle.lockword_core.specs.Signals.{signals_in, with_signals}
-use Rattle.lockword_core.specs.LockState.{Census, empty, locks, lasts, part, count, owed_part}
-use Rattle.lockword_core.specs.Replay.{state_after}
-use Rattle.lockword_core.specs.LockInvariant.{ChangesOneStake}
-use Rattle.lockword_core.specs.Transition.{allows, stake_after_signal}
+use Rattle.lockword_core.specs.LockState.{count, owed_part}
+use Rattle.lockword_core.specs.Transition.{stake_after_signal}
 use Rattle.lockword_core.proofs.BalanceLemmas as laws
-use Rattle.lockword_core.proofs.BalanceLemmas.{IsBalanced}
-use Rattle.lockword.specs.declared.local_view.LocalView.{LocalView}
-use Rattle.lockword.specs.declared.shared_rule.TheConstants.{STATE}
-use Rattle.lockword.specs.LocalView.{stakes_of, taken_by, takers}
-use Rattle.lockword.specs.Directions.{semaphore}
-use Rattle.lockword.specs.SharedInvariant.{IsReached}
-use Rattle.lockword.specs.History.{IsMade}
-use Rattle.lockword.specs.Steps.{way_of, signalled_view, counted, signalled}
+use Rattle.lockword.specs.LocalView.{takers}
+use Rattle.lockword.specs.declared.transitions.SignalMove.{SignalMove}
+use Rattle.lockword.specs.declared.transitions.SignalMove.TheVariants as move
+use Rattle.lockword.specs.Steps.{way_of, op_at, answer_at, Changes, signalled_view, counted, signalled}
 use Rattle.lockword.proofs.ViewLemmas.{one_changes, takers-set, taken-le}
 use Rattle.lockword.proofs.Representation.{present, fits, recounted, represents, on_signals}
 use Rattle.lockword.proofs.StateSteps.{same_count}
 use Rattle.lockword.proofs.LookSteps.{view_of}
-use Rattle.lockword.proofs.HistorySteps.{event, IsMove, IsDeed, gives_deed, takes_deed, deed_moves, own_stake, signalled_history, more_deeds, none_refused_more, is_made}
+use Rattle.lockword.proofs.HistorySteps.{event, IsMove, own_stake, more_deeds, none_refused_more, is_made}
+use Rattle.lockword.proofs.SignalHistory.{IsDeed, gives_deed, takes_deed, deed_moves, signalled_history}
 use Rattle.lockword.proofs.Exchanges.{M, swaps, unmoved}
 
 -- what an exchange of n for m at the semaphore of a direction does for the holder of a stake, which then has another
@@ -89,19 +77,22 @@ gives_owed d n room =
       own_lockless = λ e. refl;
       new_lockless = λ e. refl;
       not_last = refl;
-      balances = λ c ys word b one e. with_count d c ys word n (λ x. x + 1) e (laws.signal_keeps c ys word b d one (λ full. room (sym e ∙ full)));
+      balances = λ c ys word b one e. with_count d c ys word n (λ x. x + 1) e
+          (laws.signal_keeps c ys word b d one (λ full. room (sym e ∙ full)));
     }
 
 pub gives_signal : (d : Dir) (n : ℕ) (own : Stake) → allows own (op.Signal d) ≡ true → n ≢ MAX_SIGNALS
     → KeepsCounts d n (n + 1) own (stake_after_signal d own)
 gives_signal d n (stake.Owes e) may room =
-    subst (λ (z : Stake × Stake). KeepsCounts d n (n + 1) z.0 z.1) (λ i. (stake.Owes (sym (owes_that_way d e may) i), sym (owed_is_given d e) i)) (gives_owed d n room)
+    subst (λ (z : Stake × Stake). KeepsCounts d n (n + 1) z.0 z.1)
+    (λ i. (stake.Owes (sym (owes_that_way d e may) i), sym (owed_is_given d e) i)) (gives_owed d n room)
 gives_signal d n (stake.Closing r w) may room =
     record {
       own_lockless = λ e. refl;
       new_lockless = λ e. closer_lockless d e r w;
       not_last = refl;
-      balances = λ c ys word b one e. with_count d c ys word n (λ x. x + 1) e (laws.pay_keeps c ys word b d r w one (closer_owes d r w may) (λ full. room (sym e ∙ full)));
+      balances = λ c ys word b one e. with_count d c ys word n (λ x. x + 1) e
+          (laws.pay_keeps c ys word b d r w one (closer_owes d r w may) (λ full. room (sym e ∙ full)));
     }
 gives_signal d n _ may room = absurd (cc)
 
@@ -111,13 +102,15 @@ takes_waited d n more =
       own_lockless = λ e. refl;
       new_lockless = λ e. refl;
       not_last = refl;
-      balances = λ c ys word b one e. with_count d c ys word n (λ x. x - 1) e (laws.wake_keeps c ys word b d one (λ none. more (sym e ∙ none)));
+      balances = λ c ys word b one e. with_count d c ys word n (λ x. x - 1) e
+          (laws.wake_keeps c ys word b d one (λ none. more (sym e ∙ none)));
     }
 
 pub takes_signal : (d : Dir) (n : ℕ) (own : Stake) → allows own (op.Wake d) ≡ true → n ≢ 0
     → KeepsCounts d n (n - 1) own (stake_after_signal d own)
 takes_signal d n (stake.Waits e) may more =
-    subst (λ (z : Stake × Stake). KeepsCounts d n (n - 1) z.0 z.1) (λ i. (stake.Waits (sym (waits_that_way d e may) i), sym (wait_is_over d e) i)) (takes_waited d n more)
+    subst (λ (z : Stake × Stake). KeepsCounts d n (n - 1) z.0 z.1)
+    (λ i. (stake.Waits (sym (waits_that_way d e may) i), sym (wait_is_over d e) i)) (takes_waited d n more)
 takes_signal d n _ may more = absurd (cc)
 
 -- the exchange keeps the counts, and is this operation with this answer
@@ -126,22 +119,29 @@ pub record IsSignalStep (d : Dir) (n m : ℕ) (own : Stake) (o : Op) (a : Answer
   deed : IsDeed d n m own (stake_after_signal d own) o a
 
 -- a semaphore with room
-pub gives_one : (d : Dir) (n m : ℕ) (own : Stake) → allows own (op.Signal d) ≡ true → n < MAX_SIGNALS → m ≡ n + 1
+gives_one : (d : Dir) (n m : ℕ) (own : Stake) → allows own (op.Signal d) ≡ true → n < MAX_SIGNALS → m ≡ n + 1
     → IsSignalStep d n m own (op.Signal d) answer.Signalled
 gives_one d n m own may room more =
     record {
-      counts = subst (λ (x : ℕ). KeepsCounts d n x own (stake_after_signal d own)) (sym more) (gives_signal d n own may (λ full. absurd (omega arith)));
+      counts = subst (λ (x : ℕ). KeepsCounts d n x own (stake_after_signal d own)) (sym more)
+          (gives_signal d n own may (λ full. absurd (omega arith)));
       deed = gives_deed d n m own may room more;
     }
 
 -- a semaphore with a signal
-pub takes_one : (d : Dir) (n m : ℕ) (own : Stake) → allows own (op.Wake d) ≡ true → 0 < n → m ≡ n - 1
+takes_one : (d : Dir) (n m : ℕ) (own : Stake) → allows own (op.Wake d) ≡ true → 0 < n → m ≡ n - 1
     → IsSignalStep d n m own (op.Wake d) answer.Woken
 takes_one d n m own may any less =
     record {
-      counts = subst (λ (x : ℕ). KeepsCounts d n x own (stake_after_signal d own)) (sym less) (takes_signal d n own may (λ none. absurd (omega arith)));
+      counts = subst (λ (x : ℕ). KeepsCounts d n x own (stake_after_signal d own)) (sym less)
+          (takes_signal d n own may (λ none. absurd (omega arith)));
       deed = takes_deed d n m own may any less;
     }
+
+pub changes_one : (k : SignalMove) (d : Dir) (n m : ℕ) (own : Stake) → allows own (op_at k d) ≡ true → Changes k n m
+    → IsSignalStep d n m own (op_at k d) (answer_at k)
+changes_one move.Gives d n m own may (room, more) = gives_one d n m own may room more
+changes_one move.Takes d n m own may (any, less) = takes_one d n m own may any less
 
 way_back : (d : Dir) → way_of (semaphore d) ≡ d
 way_back Read = refl
@@ -157,8 +157,10 @@ module _ (R W : Type 0) where
   IsSignalled o a d me me' = (me' ≡ (signalled_view o d me.0, me.1)) × IsMade (o d) a me.0 me'.0
 
   -- an exchange of a semaphore, by which a seat's stake changes, keeps the rule
-  signals_there : (d : Dir) (slots id n m : ℕ) (me : M R W) (o : Dir → Op) (a : Answer) → IsSignalStep d n m me.0.stake (o d) a
-      → Allows IsReached slots id me (semaphore d) (λ x. either (eqb x n) m x) (signalled o a (step slots (semaphore d) n m none) me)
+  signals_there : (d : Dir) (slots id n m : ℕ) (me : M R W) (o : Dir → Op) (a : Answer)
+      → IsSignalStep d n m me.0.stake (o d) a
+      → Allows IsReached slots id me (semaphore d) (λ x. either (eqb x n) m x)
+      (signalled o a (step slots (semaphore d) n m none) me)
   signals_there d slots id n m me o a signal =
       let keeps_counts = signal.counts in
       swaps R W slots id (semaphore d) n m me (IsSignalled o a (way_of (semaphore d)) me)
@@ -170,19 +172,23 @@ module _ (R W : Type 0) where
       let views : List LocalView = set s.views id w in
       let one = one_changes s.views id me.0 w at in
       let here : signals_in d c.signals ≡ n = sym (f.semaphores d) ∙ found in
-      let locked : (e : Dir) → count (locks e) (stakes_of views) ≡ count (locks e) (stakes_of s.views) = λ e. same_count _ _ _ _ _ (one.counted_before (locks e)) (one.counted_after (locks e)) (keeps_counts.own_lockless e) (keeps_counts.new_lockless e) in
+      let locked : (e : Dir) → count (locks e) (stakes_of views) ≡ count (locks e) (stakes_of s.views) =
+      λ e. same_count _ _ _ _ _ (one.counted_before (locks e)) (one.counted_after (locks e))
+      (keeps_counts.own_lockless e) (keeps_counts.new_lockless e) in
       let took : takers views + taken_by me.0 ≡ takers s.views + 0 = takers-set s.views id me.0 w at in
       let mine : taken_by me.0 ≤ part lasts me.0.stake = taken-le me.0 in
       let no_last = keeps_counts.not_last in
       let takers_same : takers views ≡ takers s.views = omega arith in
       let h : List Event = reached.history in
       let own = own_stake (state_after empty h) s.words s.views id me.0 reached.leads at in
-      let made : IsMove h id (o d) a (stake_after_signal d me.0.stake) signal.deed.change = deed_moves h id d n m me.0.stake _ (o d) a signal.deed own (sym (reached.leads.semaphores d) ∙ found) in (
+      let made : IsMove h id (o d) a (stake_after_signal d me.0.stake) signal.deed.change =
+      deed_moves h id d n m me.0.stake _ (o d) a signal.deed own (sym (reached.leads.semaphores d) ∙ found) in (
         w,
         keeps,
         tt,
         record {
-          represents = represents (set s.words (semaphore d) m) s.homes views (record c { stakes = stakes_of views; signals = with_signals d m c.signals }) (get_or s.words STATE 0)
+          represents = represents (set s.words (semaphore d) m) s.homes views
+              (record c { stakes = stakes_of views; signals = with_signals d m c.signals }) (get_or s.words STATE 0)
               (on_signals d s.words s.homes s.views c (get_or s.words STATE 0) m id w f
               (keeps_counts.balances c (stakes_of views) _ f.balance one here)
               (λ e. recounted e s.homes c (stakes_of views) _ _ (locked e) takers_same (f.halves e))
@@ -190,7 +196,8 @@ module _ (R W : Type 0) where
           history = h ++ event id (o d) ∷ [];
           interleaves = more_deeds h s.views id me.0 w (o d) reached.interleaves at refl;
           none_refused = none_refused_more h id (o d) a _ _ made reached.none_refused;
-          leads = signalled_history h s.words s.views id me.0 w d n m (stake_after_signal d me.0.stake) (o d) a signal.deed reached.leads r.four_words at found refl;
+          leads = signalled_history h s.words s.views id me.0 w d n m (stake_after_signal d me.0.stake)
+              (o d) a signal.deed reached.leads r.four_words at found refl;
         },
         subst (λ (x : Dir). IsSignalled o a x me (w, me.1)) (sym (way_back d))
             (refl, is_made h id me.0 w (o d) a _ _ (view_of s reached id me.0 at) made refl refl),
@@ -208,9 +215,11 @@ module _ (R W : Type 0) where
       → IsSignalStep d n m me.0.stake (o d) a
       → Allows IsReached slots id me i (λ x. either (eqb x n) m x) (signalled o a (step slots i n m none) me)
   signals d slots id i n m me o a e signal =
-      subst (λ (j : ℕ). Allows IsReached slots id me j (λ x. either (eqb x n) m x) (signalled o a (step slots j n m none) me)) (sym e) (signals_there d slots id n m me o a signal)
+      subst (λ (j : ℕ). Allows IsReached slots id me j (λ x. either (eqb x n) m x)
+      (signalled o a (step slots j n m none) me)) (sym e) (signals_there d slots id n m me o a signal)
 
   pub counts : (d : Dir) (slots id i : ℕ) (me : M R W) → i ≡ semaphore d
       → Allows IsReached slots id me i (λ n. n) (counted (step slots i 0 0 none) me)
   counts d slots id i me e =
-      subst (λ (j : ℕ). Allows IsReached slots id me j (λ n. n) (counted (step slots j 0 0 none) me)) (sym e) (counts_there d slots id me)
+      subst (λ (j : ℕ). Allows IsReached slots id me j (λ n. n) (counted (step slots j 0 0 none) me)) (sym e)
+      (counts_there d slots id me)

@@ -1,36 +1,28 @@
 -- What a step on the state word may come to, from the tests that it makes, and what a seat then knows.
-use Rattle.std.proofs.Common.{◌≡◌, ◌≢◌, ℕ, ◌<◌, ◌≤◌, ◌%◌, ◌∙◌, ◌⊎◌, inl, inr, Bool, true, false, List, refl, sym, ap, subst, arith, Result, Ok, Err, Some}
-use Rattle.std.specs.Prelude.{◌==◌, ◌&&◌, ◌||◌, not, if◌then◌else◌}
-use Rattle.atomic_table.specs.Table.{rest}
-use Rattle.stream_base.specs.declared.direction.Dir.{Dir}
-use Rattle.stream_base.specs.declared.direction.Dir.TheVariants.{Read, Write}
-use Rattle.lockword_core.specs.declared.stake.Stake.{Stake}
+use Rattle.std.proofs.Common.{◌≡◌, ◌≢◌, ◌<◌, ◌∙◌, inl, inr, Result, Err, Some}
+use Rattle.std.specs.Prelude.{◌==◌, ◌||◌, not, if◌then◌else◌}
+use Rattle.lockword.proofs.Words.{ℕ, Bool, true, false, List, refl, sym, ap, subst, arith, Ok, Dir, Read, Write}
+use Rattle.lockword.proofs.Words.{Stake, Op, Answer, Word, Kind, After, allows, stepped_word, op_of}
+use Rattle.lockword.proofs.Words.{gained, same_pair, LocalView, Half, IsMade, IsFound, Shows, Told, seen_in, saw_after}
+use Rattle.lockword.proofs.Words.{moved_view, Carries}
 use Rattle.lockword_core.specs.declared.stake.Stake.TheVariants as stake
-use Rattle.lockword_core.specs.declared.stake.Op.{Op}
-use Rattle.lockword_core.specs.declared.stake.Answer.{Answer}
-use Rattle.lockword_core.specs.declared.word.Word.{Word}
-use Rattle.lockword_core.specs.declared.word.TheConstants.{READ_LOCK, CLOSED, MAX_REFERENCES, MAX_WAITERS, NO_WORD}
-use Rattle.lockword_core.specs.declared.transition.Kind.{Kind}
+use Rattle.lockword_core.specs.declared.word.TheConstants.{MAX_REFERENCES, MAX_WAITERS, NO_WORD}
 use Rattle.lockword_core.specs.declared.transition.Kind.TheVariants as kind
-use Rattle.lockword_core.specs.declared.transition.After.{After}
 use Rattle.lockword_core.specs.declared.transition.After.TheVariants as after
 use Rattle.lockword_core.specs.declared.transition.Refused.{Refused}
 use Rattle.lockword_core.specs.declared.transition.Refused.TheVariants as why
-use Rattle.lockword_core.specs.Word.{bit, IsWord, packed, closed_in, lock_in, references_in, waiters_in}
-use Rattle.lockword_core.specs.Transition.{allows}
-use Rattle.lockword_core.specs.FieldStep.{lock_of, waiters_of, guards, first_refusal, field_step, packed_result, fields_in, stepped_word}
-use Rattle.lockword_core.specs.WordStep.{op_of, gained}
-use Rattle.lockword_core.proofs.FieldSteps.{same_numbers, not_false, holds, IsMade as IsTableMade, Stepped, stepped, refused_holds, full_is_open}
-use Rattle.lockword_core.proofs.WordRefines.{same_pair}
+use Rattle.lockword_core.specs.Word.{IsWord, packed, closed_in, lock_in, references_in, waiters_in}
+use Rattle.lockword_core.specs.FieldStep.{lock_of, waiters_of, guards, first_refusal, field_step, packed_result}
+use Rattle.lockword_core.specs.FieldStep.{fields_in}
+use Rattle.lockword_core.proofs.FieldSteps.{same_numbers, not_false, holds, IsMade as IsTableMade, Stepped, stepped}
+use Rattle.lockword_core.proofs.FieldSteps.{refused_holds, full_is_open}
 use Rattle.lockword_core.proofs.WordFields.{fields_fit, packs_back, unpacks}
 use Rattle.lockword.specs.declared.local_view.Marks.{Marks}
-use Rattle.lockword.specs.declared.local_view.LocalView.{LocalView}
-use Rattle.lockword.specs.declared.shared_rule.Half.{Half}
-use Rattle.lockword.specs.History.{IsMade}
-use Rattle.lockword.specs.Moment.{IsFound, IsShown}
+use Rattle.lockword.specs.Moment.{IsShown}
 use Rattle.lockword.specs.declared.transitions.Advance.TheVariants as advance
-use Rattle.lockword.specs.Marks.{Place, SameMarks, Later, NowClosed, IsOpen, HasNotTaken, IsFullWay, IsFull, Marked, LostMarks, SameDeeds}
-use Rattle.lockword.specs.Steps.{Shows, Told, seen_in, saw_after, moved_view, Carries, Keeps, Came, Advanced}
+use Rattle.lockword.specs.Marks.{Place, SameMarks, Later, NowClosed, IsOpen, HasNotTaken, IsFullWay, IsFull, Marked}
+use Rattle.lockword.specs.Marks.{LostMarks, SameDeeds}
+use Rattle.lockword.specs.Steps.{Keeps, Came, Advanced}
 
 -- ---- The tests
 
@@ -96,18 +88,30 @@ both_marks : (m n : Marks) → m.closed ≡ n.closed → m.done ≡ n.done → m
 both_marks m n closed done i = record { closed = closed i; done = done i }
 
 -- the fields of the word that was found
-pub shown : (R W : Type 0) (n : ℕ) (w : Word) (v : LocalView) → IsFound R W n v → IsWord w → packed w ≡ n → IsShown R W w v
+pub shown : (R W : Type 0) (n : ℕ) (w : Word) (v : LocalView) → IsFound R W n v → IsWord w → packed w ≡ n
+    → IsShown R W w v
 shown R W n w v found fits same =
-    record { moment = found.moment; read = record { rule = found.rule; is_word = fits; same = same ∙ sym found.word }; seat = found.seat; own = found.own }
+    record {
+      moment = found.moment;
+      read = record { rule = found.rule; is_word = fits; same = same ∙ sym found.word };
+      seat = found.seat;
+      own = found.own;
+    }
 
 -- what a seat made after a load, it made with the view that it had before
-pub made_before : {R W : Type 0} (n : ℕ) (v w : LocalView) (o : Op) (a : Answer) → Told R W n v → IsMade o a (seen_in n v) w
+pub made_before : {R W : Type 0} (n : ℕ) (v w : LocalView) (o : Op) (a : Answer) → Told R W n v
+    → IsMade o a (seen_in n v) w
     → IsMade o a v w
 made_before n v w o a told made =
     record {
       history = made.history;
       seat = made.seat;
-      own = record { did = made.own.did; stake = made.own.stake; saw_closed = λ e. made.own.saw_closed (told.saw_closed e); saw_done = made.own.saw_done };
+      own = record {
+        did = made.own.did;
+        stake = made.own.stake;
+        saw_closed = λ e. made.own.saw_closed (told.saw_closed e);
+        saw_done = made.own.saw_done;
+      };
       answered = made.answered;
       stake = made.stake;
       did = made.did;
@@ -128,8 +132,11 @@ module _ {R W : Type 0} where
   pub came : (k : Kind) (a : After) (n m : ℕ) (p q : Place R W) → Told R W n p.me.0 → stepped_word n k ≡ Ok (m, a)
       → q.me.0 ≡ moved_view k a (seen_in n p.me.0) → Carries k a p.me.1 q.me.1 → q.table_id ≡ p.table_id
       → IsMade (op_of k) (gained k a).0 p.me.0 q.me.0 → Came k a p q
-  came k a n m p q told is view slots same made =
-      (ap (λ (v : LocalView). v.stake) view, slots, (by k a (possible n m k a is) (ap (λ (v : LocalView). v.saw.closed) view), made))
+  came k a n m p q told is view slots same made = (
+    ap (λ (v : LocalView). v.stake) view,
+    slots,
+    (by k a (possible n m k a is) (ap (λ (v : LocalView). v.saw.closed) view), made),
+  )
     where
       done : q.me.0.saw.done ≡ p.me.0.saw.done
       done = ap (λ (v : LocalView). v.saw.done) view
@@ -149,7 +156,8 @@ module _ {R W : Type 0} where
       by (kind.Lock d) after.Held (g, made) flag = opens (made.passes why.Closed) flag
       by (kind.Lock d) after.Queued (g, made) flag = opens (made.passes why.Closed) flag
       by (kind.Unlock d) after.Owes (g, made) flag =
-          opens (open_by (closed_in n) (waiters_in d n) (told.none_waits d) (λ e. made.shows.1 (waiters_show d n ∙ e))) flag
+          opens (open_by (closed_in n) (waiters_in d n) (told.none_waits d)
+          (λ e. made.shows.1 (waiters_show d n ∙ e))) flag
       by (kind.Unlock d) after.Kept (g, made) flag = marks_later n p q told flag done same
       by (kind.Unlock d) after.Last (g, made) flag = ((same, flag ∙ made.shows.1.0, done), not_taken)
       by kind.Decref _ (g, made) flag = absurd made.shows.1
@@ -197,31 +205,44 @@ module _ {R W : Type 0} where
   pub refused_full : (k : Kind) (n : ℕ) (w : Word) (p q : Place R W) → Told R W n p.me.0
       → stepped_word n k ≡ Err why.TooMany → IsWord w → packed w ≡ n → q.me ≡ (seen_in n p.me.0, p.me.1)
       → q.table_id ≡ p.table_id → Advanced k p q (advance.TooMany w)
-  refused_full k n w p q told is fits same_word me same =
-      (kept n p q me, ((marks.0, marks.1, full_is_open w k first, is_full w k (refused_holds w k why.TooMany first)), shown R W n w q.me.0 found fits same_word, deeds_kept n p q me))
+  refused_full k n w p q told is fits same_word me same = (
+    kept n p q me,
+    (
+      (marks.0, marks.1, full_is_open w k first, is_full w k (refused_holds w k why.TooMany first)),
+      shown R W n w q.me.0 found fits same_word,
+      deeds_kept n p q me,
+    ),
+  )
     where
       first : first_refusal (guards w k) ≡ Some why.TooMany
       first =
-          subst (λ (f : Word). first_refusal (guards f k) ≡ Some why.TooMany) (unpacks w n fits same_word) (refusing n k why.TooMany is)
+          subst (λ (f : Word). first_refusal (guards f k) ≡ Some why.TooMany) (unpacks w n fits same_word)
+          (refusing n k why.TooMany is)
 
       found : IsFound R W n q.me.0
       found = subst (λ (v : LocalView). IsFound R W n v) (sym (ap (λ m. m.0) me)) told.found
 
       marks : SameMarks p q × IsOpen p
       marks =
-          marks_open n p q told (full_is_open (fields_in n) k (refusing n k why.TooMany is)) (ap (λ m. m.0.saw.closed) me) (ap (λ m. m.0.saw.done) me) same
+          marks_open n p q told (full_is_open (fields_in n) k (refusing n k why.TooMany is))
+          (ap (λ m. m.0.saw.closed) me) (ap (λ m. m.0.saw.done) me) same
 
   -- the same, where the step was told of an equal kind, and was made after a load
   pub came_after : (k j : Kind) (a : After) (n m : ℕ) (p x q : Place R W) → k ≡ j → Told R W n p.me.0
       → stepped_word n k ≡ Ok (m, a) → x.me ≡ (seen_in n p.me.0, p.me.1)
-      → ((b : After) → stepped_word n j ≡ Ok (m, b) → (q.me.0 ≡ moved_view j b x.me.0) × Carries j b x.me.1 q.me.1 × IsMade (op_of j) (gained j b).0 x.me.0 q.me.0)
+      → ((b : After) → stepped_word n j ≡ Ok (m, b) → (q.me.0 ≡ moved_view j b x.me.0) × Carries j b x.me.1 q.me.1
+      × IsMade (op_of j) (gained j b).0 x.me.0 q.me.0)
       → q.table_id ≡ p.table_id → Came k a p q
   came_after k j a n m p x q same_kind told is looked did same =
-      let did_k : ((b : After) → stepped_word n k ≡ Ok (m, b) → (q.me.0 ≡ moved_view k b x.me.0) × Carries k b x.me.1 q.me.1 × IsMade (op_of k) (gained k b).0 x.me.0 q.me.0) =
-      subst (λ (z : Kind). (b : After) → stepped_word n z ≡ Ok (m, b) → (q.me.0 ≡ moved_view z b x.me.0) × Carries z b x.me.1 q.me.1 × IsMade (op_of z) (gained z b).0 x.me.0 q.me.0) (sym same_kind) did in
+      let did_k : ((b : After) → stepped_word n k ≡ Ok (m, b) → (q.me.0 ≡ moved_view k b x.me.0)
+      × Carries k b x.me.1 q.me.1 × IsMade (op_of k) (gained k b).0 x.me.0 q.me.0) =
+      subst (λ (z : Kind). (b : After) → stepped_word n z ≡ Ok (m, b) → (q.me.0 ≡ moved_view z b x.me.0)
+      × Carries z b x.me.1 q.me.1 × IsMade (op_of z) (gained z b).0 x.me.0 q.me.0) (sym same_kind) did in
       let one = did_k a is in
-      came k a n m p q told is (one.0 ∙ ap (λ y. moved_view k a y.0) looked) (subst (λ (l : List (ℕ × Half R W)). Carries k a l q.me.1) (ap (λ y. y.1) looked) one.1) same
-      (made_before n p.me.0 q.me.0 (op_of k) (gained k a).0 told (subst (λ (y : LocalView). IsMade (op_of k) (gained k a).0 y q.me.0) (ap (λ y. y.0) looked) one.2))
+      came k a n m p q told is (one.0 ∙ ap (λ y. moved_view k a y.0) looked)
+      (subst (λ (l : List (ℕ × Half R W)). Carries k a l q.me.1) (ap (λ y. y.1) looked) one.1) same
+      (made_before n p.me.0 q.me.0 (op_of k) (gained k a).0 told
+      (subst (λ (y : LocalView). IsMade (op_of k) (gained k a).0 y q.me.0) (ap (λ y. y.0) looked) one.2))
 
 -- no step that a stake allows is a misuse
 pub no_misuse : (k : Kind) (own : Stake) (n : ℕ) → Shows own n → allows own (op_of k) ≡ true

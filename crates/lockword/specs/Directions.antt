@@ -1,11 +1,11 @@
 -- The semaphore, the slot and the half of a direction.
-use Rattle.std.specs.Prelude.{◌≡◌, ℕ}
-use mathlib.Core.Option.{Option, some}
-use Rattle.stream_base.specs.declared.direction.Dir.{Dir}
-use Rattle.stream_base.specs.declared.direction.Dir.TheVariants.{Read, Write}
+use Rattle.std.specs.Prelude.{◌≡◌}
+use Rattle.lockword.specs.Words.{ℕ, some, Dir, Read, Write}
+use mathlib.Core.Option.{Option}
 use Rattle.lockword.specs.declared.shared_rule.Half.{Half}
 use Rattle.lockword.specs.declared.shared_rule.Half.TheVariants as half
-use Rattle.lockword.specs.declared.shared_rule.TheConstants.{READ_HALF, WRITE_HALF, READ_SIGNALS, WRITE_SIGNALS}
+use Rattle.lockword.specs.declared.shared_rule.TheConstants.{READ_HALF, WRITE_HALF, READ_SIGNALS}
+use Rattle.lockword.specs.declared.shared_rule.TheConstants.{WRITE_SIGNALS}
 
 -- the word of a direction's semaphore
 abbrev pub semaphore : Dir → ℕ

@@ -1,20 +1,20 @@
 -- What is left of a reference that is given back by one subtraction, and the word that decides it.
-use Rattle.std.specs.Prelude.{◌≡◌, ◌<◌, true, false}
+use Rattle.std.specs.Prelude.{◌≡◌, ◌<◌}
+use Rattle.lockword.specs.Words.{true, false, After, Word, IsWord}
 use Rattle.lockword_core.specs.declared.stake.Op.TheVariants as op
 use Rattle.lockword_core.specs.declared.stake.Answer.TheVariants as answer
-use Rattle.lockword_core.specs.declared.transition.After.{After}
 use Rattle.lockword_core.specs.declared.transition.After.TheVariants as after
-use Rattle.lockword_core.specs.declared.word.Word.{Word}
-use Rattle.lockword_core.specs.Word.{IsWord}
 use Rattle.lockword.specs.declared.holders.Freed.{Freed}
 use Rattle.lockword.specs.declared.holders.Freed.TheVariants as freed
-use Rattle.lockword.specs.Marks.{Place, HasNotTaken, Later, NowClosed, Did, saw_closed, saw_done, word_of}
+use Rattle.lockword.specs.Marks.{Place, HasNotTaken, Later, NowClosed, Did, saw_closed, saw_done}
+use Rattle.lockword.specs.Marks.{word_of}
 use Rattle.lockword.specs.Places.{seat_place, last_place}
 
 -- the flag and one reference, and nothing else
 abbrev pub IsLastReference : Word → Type 0
 IsLastReference w =
-    (w.closed ≡ true) × (w.rlock ≡ false) × (w.wlock ≡ false) × (w.refs ≡ 1) × (w.rwait ≡ 0) × (w.wwait ≡ 0)
+    (w.closed ≡ true) × (w.rlock ≡ false) × (w.wlock ≡ false) × (w.refs ≡ 1) × (w.rwait ≡ 0)
+    × (w.wwait ≡ 0)
 
 -- what a subtraction found, and what the seat has seen with it
 pub record Finds {R W : Type 0} (p q : Place R W) (w : Word) : Type 0 where

@@ -1,15 +1,11 @@
 -- The operations that stand behind a running word: what all seats did so far, in one order.
-use Rattle.std.specs.Prelude.{◌≡◌, ℕ, true, List, [], ◌∷◌, ◌++◌, is_some, slice_index, slice_index_or}
-use Rattle.stream_base.specs.declared.direction.Dir.{Dir}
-use Rattle.lockword_core.specs.declared.stake.Event.{Event}
-use Rattle.lockword_core.specs.declared.stake.Op.{Op}
-use Rattle.lockword_core.specs.declared.stake.Answer.{Answer}
+use Rattle.std.specs.Prelude.{◌≡◌, [], ◌∷◌, ◌++◌, is_some, slice_index_or}
+use Rattle.lockword.specs.Words.{ℕ, true, List, slice_index, Dir, Event, Op, Answer, bit, empty}
+use Rattle.lockword.specs.Words.{state_after}
 use Rattle.lockword_core.specs.declared.stake.Stake.TheVariants as stake
-use Rattle.lockword_core.specs.Word.{bit}
 use Rattle.lockword_core.specs.Signals.{signals_in}
-use Rattle.lockword_core.specs.LockState.{LockState, empty, census, stake_of, encoded}
+use Rattle.lockword_core.specs.LockState.{LockState, census, stake_of, encoded}
 use Rattle.lockword_core.specs.Transition.{transition}
-use Rattle.lockword_core.specs.Replay.{state_after}
 use Rattle.lockword_core.specs.OperationCounts.{operations_of}
 use Rattle.lockword.specs.declared.local_view.LocalView.{LocalView}
 use Rattle.lockword.specs.declared.shared_rule.TheConstants.{STATE, DONE}

@@ -1,15 +1,10 @@
 -- What the rule of a running word comes to, in the words of the subject.
-use Rattle.std.specs.Prelude.{◌≡◌, ◌==◌, ◌+◌, ◌-◌, ℕ, List, slice_index}
-use lib.ListN.{get_elem?}
-use Rattle.stream_base.specs.declared.direction.Dir.{Dir}
-use Rattle.stream_base.specs.declared.direction.Dir.TheVariants.{Read, Write}
-use Rattle.lockword_core.specs.declared.word.Word.{Word}
-use Rattle.lockword_core.specs.declared.stake.Event.{Event}
-use Rattle.lockword_core.specs.Word.{bit}
-use Rattle.lockword_core.specs.Replay.{state_after}
+use Rattle.std.specs.Prelude.{◌≡◌, ◌==◌, ◌+◌, ◌-◌}
+use Rattle.lockword.specs.Words.{ℕ, List, slice_index, get_elem?, Dir, Read, Write, Word, Event}
+use Rattle.lockword.specs.Words.{bit, state_after, empty}
 use Rattle.lockword_core.specs.OperationCounts.{NoneRefused}
 use Rattle.lockword_core.specs.Laws.{CountsStakes}
-use Rattle.lockword_core.specs.LockState.{Census, empty, Counted, references, locks, queued, owed, count}
+use Rattle.lockword_core.specs.LockState.{Census, Counted, references, locks, queued, owed, count}
 use Rattle.lockword.specs.declared.shared_rule.TheConstants.{READ_SIGNALS, WRITE_SIGNALS, DONE}
 use Rattle.lockword.specs.LocalView.{stakes_of, takers}
 use Rattle.lockword.specs.Directions.{slot_of, half_home}
@@ -33,7 +28,10 @@ module _ {R W : Type 0} where
       record {
         stakes = stakes_of s.views;
         closed = fields.closed;
-        signals = record { read = slice_index s.words READ_SIGNALS; write = slice_index s.words WRITE_SIGNALS };
+        signals = record {
+          read = slice_index s.words READ_SIGNALS;
+          write = slice_index s.words WRITE_SIGNALS;
+        };
         destroyed = slice_index s.words DONE == 1;
       }
 

@@ -1,3 +1,4 @@
+pub mod Words
 pub mod Directions
 pub mod Dropping
 pub mod LocalView

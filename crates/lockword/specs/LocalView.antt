@@ -1,15 +1,19 @@
 -- What a seat knows, and what is counted over all seats.
-use Rattle.std.specs.Prelude.{ℕ, Bool, false, List, [], map, sum_by, count_by, if◌then◌else◌}
-use Rattle.lockword_core.specs.declared.stake.Stake.{Stake}
+use Rattle.std.specs.Prelude.{[], map, sum_by, count_by, if◌then◌else◌}
+use Rattle.lockword.specs.Words.{ℕ, Bool, false, List, Stake, Op}
 use Rattle.lockword_core.specs.declared.stake.Stake.TheVariants as stake
-use Rattle.lockword_core.specs.declared.stake.Op.{Op}
 use Rattle.lockword_core.specs.LockState.{lasts, part}
 use Rattle.lockword.specs.declared.local_view.LocalView.{LocalView}
 
 -- the first seat has nothing, and has seen nothing
 abbrev pub newcomer : LocalView
 newcomer =
-    record { stake = stake.Free; took = false; saw = record { closed = false; done = false }; did = [] }
+    record {
+      stake = stake.Free;
+      took = false;
+      saw = record { closed = false; done = false };
+      did = [];
+    }
 
 -- a seat that has nothing, and has seen what another has
 abbrev pub without_stake : LocalView → LocalView

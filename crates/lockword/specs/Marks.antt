@@ -1,15 +1,11 @@
 -- A seat's word and its marks, before and after a call.
-use Rattle.std.specs.Prelude.{◌≡◌, ◌⊎◌, List, Bool, true, false}
+use Rattle.std.specs.Prelude.{◌≡◌, ◌⊎◌}
+use Rattle.lockword.specs.Words.{List, Bool, true, false, Dir, Op, Answer, After, Word}
 use Rattle.atomic_table.specs.declared.shared.Seat as table
 use Rattle.atomic_table.specs.Seated.{TableId}
-use Rattle.stream_base.specs.declared.direction.Dir.{Dir}
-use Rattle.lockword_core.specs.declared.stake.Op.{Op}
-use Rattle.lockword_core.specs.declared.stake.Answer.{Answer}
 use Rattle.lockword_core.specs.declared.transition.Kind.{Kind}
 use Rattle.lockword_core.specs.declared.transition.Kind.TheVariants as kind
-use Rattle.lockword_core.specs.declared.transition.After.{After}
 use Rattle.lockword_core.specs.declared.transition.After.TheVariants as after
-use Rattle.lockword_core.specs.declared.word.Word.{Word}
 use Rattle.lockword_core.specs.declared.word.TheConstants.{MAX_REFERENCES, MAX_WAITERS}
 use Rattle.lockword_core.specs.FieldStep.{lock_of, waiters_of}
 use Rattle.lockword_core.specs.WordStep.{op_of, gained}
@@ -55,7 +51,8 @@ module _ {R W : Type 0} where
   -- the same word, and saw closed is not taken back
   abbrev pub Later : Place R W → Place R W → Type 0
   Later p q =
-      (word_of q ≡ word_of p) × (saw_closed p ≡ true → saw_closed q ≡ true) × (saw_done q ≡ saw_done p)
+      (word_of q ≡ word_of p) × (saw_closed p ≡ true → saw_closed q ≡ true)
+      × (saw_done q ≡ saw_done p)
 
   -- the same word, and now the seat has seen it closed
   abbrev pub NowClosed : Place R W → Place R W → Type 0
@@ -89,7 +86,8 @@ module _ {R W : Type 0} where
 -- nobody has the lock and the references are at their limit, or somebody has it and its waiters are
 abbrev pub IsFullWay : Dir → Word → Type 0
 IsFullWay d w =
-    ((lock_of d w ≡ false) × (w.refs ≡ MAX_REFERENCES)) ⊎ ((lock_of d w ≡ true) × (waiters_of d w ≡ MAX_WAITERS))
+    ((lock_of d w ≡ false) × (w.refs ≡ MAX_REFERENCES))
+    ⊎ ((lock_of d w ≡ true) × (waiters_of d w ≡ MAX_WAITERS))
 
 -- a reference, or the lock of the direction, is at its limit
 abbrev pub IsFull : Kind → Word → Type 0

@@ -1,10 +1,8 @@
 -- A moment between two atomic steps of any number of threads, and what a load shows of it.
-use Rattle.std.specs.Prelude.{◌≡◌, ℕ, slice_index}
-use mathlib.Core.Option.{some}
-use lib.ListN.{get_elem?}
+use Rattle.std.specs.Prelude.{◌≡◌}
+use Rattle.lockword.specs.Words.{ℕ, slice_index, some, get_elem?, Word, IsWord}
 use Rattle.atomic_table.specs.Table.{State}
-use Rattle.lockword_core.specs.declared.word.Word.{Word}
-use Rattle.lockword_core.specs.Word.{IsWord, packed}
+use Rattle.lockword_core.specs.Word.{packed}
 use Rattle.lockword.specs.declared.local_view.LocalView.{LocalView}
 use Rattle.lockword.specs.declared.shared_rule.Half.{Half}
 use Rattle.lockword.specs.declared.shared_rule.TheConstants.{STATE}

@@ -1,15 +1,11 @@
 -- What holds of the words, the slots and all seats between any two atomic steps.
-use Rattle.std.specs.Prelude.{◌≡◌, ◌+◌, ℕ, true, List, length, slice_index}
-use mathlib.Core.Option.{some}
-use lib.ListN.{get_elem?}
+use Rattle.std.specs.Prelude.{◌≡◌, ◌+◌, length}
+use Rattle.lockword.specs.Words.{ℕ, true, List, slice_index, some, get_elem?, Dir, Event, bit}
+use Rattle.lockword.specs.Words.{empty, state_after}
 use Rattle.atomic_table.specs.Table.{State}
-use Rattle.stream_base.specs.declared.direction.Dir.{Dir}
-use Rattle.lockword_core.specs.declared.stake.Event.{Event}
-use Rattle.lockword_core.specs.Word.{bit}
 use Rattle.lockword_core.specs.Signals.{signals_in}
-use Rattle.lockword_core.specs.LockState.{Census, empty, locks, number, encoded}
+use Rattle.lockword_core.specs.LockState.{Census, locks, number, encoded}
 use Rattle.lockword_core.specs.LockInvariant.{IsConsistentCensus}
-use Rattle.lockword_core.specs.Replay.{state_after}
 use Rattle.lockword_core.specs.OperationCounts.{NoneRefused}
 use Rattle.lockword.specs.declared.local_view.LocalView.{LocalView}
 use Rattle.lockword.specs.declared.shared_rule.Half.{Half}
@@ -38,7 +34,8 @@ module _ {R W : Type 0} where
     -- each half is in one place: at home, with the holder of its lock, with the `Last` that took
     -- it, or given away for good
     pub halves : (d : Dir)
-        → half_home d (get_elem? s.homes (slot_of d)) + number (locks d) census + takers s.views + bit census.destroyed ≡ 1
+        → half_home d (get_elem? s.homes (slot_of d)) + number (locks d) census + takers s.views
+        + bit census.destroyed ≡ 1
     -- whoever saw the closed flag or the done word set, saw what is so
     pub seen : (i : ℕ) (v : LocalView) → get_elem? s.views i ≡ some v → SawRightly census v
 

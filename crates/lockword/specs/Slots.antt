@@ -1,5 +1,6 @@
 -- The slots that a `Last` holds. No public clause cites this module.
-use Rattle.std.specs.Prelude.{ℕ, List, [], ◌∷◌, Bool, true, false}
+use Rattle.std.specs.Prelude.{[], ◌∷◌}
+use Rattle.lockword.specs.Words.{ℕ, List, Bool, true, false}
 use Rattle.lockword.specs.declared.shared_rule.Half.{Half}
 use Rattle.lockword.specs.declared.shared_rule.Half.TheVariants as half
 use Rattle.lockword.specs.declared.shared_rule.TheConstants.{READ_HALF, WRITE_HALF}

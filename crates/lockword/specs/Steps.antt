@@ -1,19 +1,15 @@
 -- What the atomic steps tell the seat that makes them. No public clause cites this module.
-use Rattle.std.specs.Prelude.{◌≡◌, ◌≢◌, ◌==◌, ◌<◌, ◌≤◌, ◌-◌, ℕ, List, [], ◌∷◌, ◌++◌, Bool, true, false, Ok, if◌then◌else◌}
+use Rattle.std.specs.Prelude.{◌≡◌, ◌≢◌, ◌==◌, ◌<◌, ◌≤◌, ◌+◌, ◌-◌, [], ◌∷◌, ◌++◌, Ok, if◌then◌else◌}
+use Rattle.lockword.specs.Words.{ℕ, List, Bool, true, false, Dir, Read, Write, Stake, Op, Answer}
+use Rattle.lockword.specs.Words.{After}
 use Rattle.atomic_table.specs.Table.{Me, Step, rest}
-use Rattle.stream_base.specs.declared.direction.Dir.{Dir}
-use Rattle.stream_base.specs.declared.direction.Dir.TheVariants.{Read, Write}
-use Rattle.lockword_core.specs.declared.stake.Stake.{Stake}
 use Rattle.lockword_core.specs.declared.stake.Stake.TheVariants as stake
-use Rattle.lockword_core.specs.declared.stake.Op.{Op}
 use Rattle.lockword_core.specs.declared.stake.Op.TheVariants as op
-use Rattle.lockword_core.specs.declared.stake.Answer.{Answer}
 use Rattle.lockword_core.specs.declared.stake.Answer.TheVariants as answer
 use Rattle.lockword_core.specs.declared.word.TheConstants.{CLOSED, NO_WORD, REFERENCE}
 use Rattle.lockword_core.specs.declared.signals.TheConstants.{MAX_SIGNALS}
 use Rattle.lockword_core.specs.declared.transition.Kind.{Kind}
 use Rattle.lockword_core.specs.declared.transition.Kind.TheVariants as kind
-use Rattle.lockword_core.specs.declared.transition.After.{After}
 use Rattle.lockword_core.specs.declared.transition.After.TheVariants as after
 use Rattle.lockword_core.specs.Word.{closed_in, lock_in, references_in, waiters_in}
 use Rattle.lockword_core.specs.WordStep.{op_of, gained}
@@ -22,12 +18,15 @@ use Rattle.lockword.specs.declared.local_view.LocalView.{LocalView}
 use Rattle.lockword_core.specs.Transition.{stake_after_signal}
 use Rattle.lockword.specs.declared.transitions.Advance.{Advance}
 use Rattle.lockword.specs.declared.transitions.Advance.TheVariants as advance
+use Rattle.lockword.specs.declared.transitions.SignalMove.{SignalMove}
+use Rattle.lockword.specs.declared.transitions.SignalMove.TheVariants as move
 use Rattle.lockword.specs.declared.signals.SignalTry.{SignalTry}
 use Rattle.lockword.specs.declared.signals.SignalTry.TheVariants as tried
 use Rattle.lockword.specs.Directions.{slot_of, Guarded, half_of}
 use Rattle.lockword.specs.History.{IsMade}
 use Rattle.lockword.specs.Moment.{IsFound}
-use Rattle.lockword.specs.Marks.{Place, SameMarks, Did, SameDeeds, Made, LostStep, FoundClosed, FoundFull}
+use Rattle.lockword.specs.Marks.{Place, SameMarks, Did, SameDeeds, Made, LostStep, FoundClosed}
+use Rattle.lockword.specs.Marks.{FoundFull}
 use Rattle.lockword.specs.declared.shared_rule.Half.{Half}
 use Rattle.lockword.specs.declared.shared_rule.Half.TheVariants as half
 use Rattle.lockword.specs.declared.shared_rule.TheConstants.{READ_HALF, WRITE_HALF, READ_SIGNALS}
@@ -84,7 +83,8 @@ module _ {S : Type 0} where
   -- a load of the done word
   abbrev pub asked : Step S → Me S LocalView → ℕ → Me S LocalView → Type 0
   asked st me n me' =
-      (n ≤ 1) × (me.0.saw.done ≡ true → n ≡ 1) × (me' ≡ (record me.0 { saw = record { closed = me.0.saw.closed; done = n == 1 } }, me.1))
+      (n ≤ 1) × (me.0.saw.done ≡ true → n ≡ 1)
+      × (me' ≡ (record me.0 { saw = record { closed = me.0.saw.closed; done = n == 1 } }, me.1))
 
 module _ {R W : Type 0} where
   -- a load of the state
@@ -124,7 +124,9 @@ module _ {R W : Type 0} where
   abbrev pub emptied : Step (Half R W) → Me (Half R W) LocalView → ℕ → Me (Half R W) LocalView
       → Type 0
   emptied st me n me' =
-      (me'.0 ≡ record me.0 { took = true }) × ((r : R) × (w : W) × (me'.1 ≡ (WRITE_HALF, half.Write w) ∷ (READ_HALF, half.Read r) ∷ me.1))
+      (me'.0 ≡ record me.0 { took = true })
+      × ((r : R) × (w : W)
+      × (me'.1 ≡ (WRITE_HALF, half.Write w) ∷ (READ_HALF, half.Read r) ∷ me.1))
 
   -- the last holder marks that it destroyed, and the slots go home
   abbrev pub marked : Step (Half R W) → Me (Half R W) LocalView → ℕ → Me (Half R W) LocalView
@@ -171,6 +173,21 @@ HasSlots _ slots = Unit {0}
 abbrev pub way_of : ℕ → Dir
 way_of i = if i == READ_SIGNALS then Read else Write
 
+-- the operation that changes a semaphore by one signal
+abbrev pub op_at : SignalMove → Dir → Op
+op_at move.Gives d = op.Signal d
+op_at move.Takes d = op.Wake d
+
+-- the answer to it, once it is made
+abbrev pub answer_at : SignalMove → Answer
+answer_at move.Gives = answer.Signalled
+answer_at move.Takes = answer.Woken
+
+-- the signals before it and after: there was room for one more, or one to take
+abbrev pub Changes : SignalMove → ℕ → ℕ → Type 0
+Changes move.Gives n m = (n < MAX_SIGNALS) × (m ≡ n + 1)
+Changes move.Takes n m = (0 < n) × (m ≡ n - 1)
+
 -- the view once the seat gave or took a signal, by this operation
 abbrev pub signalled_view : (Dir → Op) → Dir → LocalView → LocalView
 signalled_view o d v =
@@ -195,7 +212,8 @@ module _ {S : Type 0} where
       × (n ≢ st.first → me' ≡ me)
 
 -- what a try at a semaphore did to its seat
-abbrev pub Signalled : {R W : Type 0} → (Dir → Op) → Answer → Dir → Place R W → Place R W → SignalTry
+abbrev pub Signalled : {R W : Type 0} → (Dir → Op) → Answer → Dir → Place R W → Place R W
+    → SignalTry
     → Type 0
 Signalled o a d p q tried.Done =
     (q.me.0.stake ≡ stake_after_signal d p.me.0.stake) × (q.me.1 ≡ p.me.1) × SameMarks p q

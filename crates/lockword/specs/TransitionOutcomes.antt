@@ -1,13 +1,11 @@
 -- What each call answers: the marks of the seat that comes back, and what a load told.
-use Rattle.std.specs.Prelude.{◌≡◌, ◌<◌, ◌-◌, true, false}
-use Rattle.stream_base.specs.declared.direction.Dir.{Dir}
-use Rattle.lockword_core.specs.declared.stake.Stake.{Stake}
+use Rattle.std.specs.Prelude.{◌≡◌, ◌<◌, ◌-◌}
+use Rattle.lockword.specs.Words.{true, false, Dir, Stake, Word, IsWord, bit}
 use Rattle.lockword_core.specs.declared.stake.Stake.TheVariants as stake
 use Rattle.lockword_core.specs.declared.stake.Op.TheVariants as op
 use Rattle.lockword_core.specs.declared.stake.Answer.TheVariants as answer
 use Rattle.lockword_core.specs.declared.transition.Kind.TheVariants as kind
 use Rattle.lockword_core.specs.declared.transition.After.TheVariants as after
-use Rattle.lockword_core.specs.declared.word.Word.{Word}
 use Rattle.lockword_core.specs.declared.word.TheConstants.{MAX_REFERENCES}
 use Rattle.lockword.specs.declared.holders.LockWord.{LockWord}
 use Rattle.lockword.specs.declared.holders.Incref.{Incref}
@@ -28,10 +26,11 @@ use Rattle.lockword.specs.declared.holders.Wake.TheVariants as wake
 use Rattle.lockword.specs.declared.holders.Owing.{Owing}
 use Rattle.lockword.specs.declared.holders.Closing.{Closing}
 use Rattle.lockword.specs.declared.holders.Waiting.{Waiting}
-use Rattle.lockword_core.specs.Word.{IsWord, bit}
 use Rattle.lockword_core.specs.LockState.{is_same}
-use Rattle.lockword.specs.Marks.{WordId, Place, word_of, saw_closed, saw_done, SameMarks, NowClosed, Did, SameDeeds, Showed, Made, LostStep, FoundClosed, FoundFull}
-use Rattle.lockword.specs.Places.{seat_place, ref_place, closing_place, owed_by, last_place, lock_place, wait_place, owing_place, owing_way}
+use Rattle.lockword.specs.Marks.{WordId, Place, word_of, saw_closed, saw_done, SameMarks, NowClosed}
+use Rattle.lockword.specs.Marks.{Did, SameDeeds, Showed, Made, LostStep, FoundClosed, FoundFull}
+use Rattle.lockword.specs.Places.{seat_place, ref_place, closing_place, owed_by, last_place}
+use Rattle.lockword.specs.Places.{lock_place, wait_place, owing_place, owing_way}
 pub use Rattle.lockword.specs.Marks.{HasTaken, HasNotTaken}
 
 -- a word at the limit of references, without the flag
@@ -128,7 +127,8 @@ module _ {R W : Type 0} where
 -- the flag, and nothing else
 abbrev pub IsOnlyClosed : Word → Type 0
 IsOnlyClosed w =
-    (w.closed ≡ true) × (w.rlock ≡ false) × (w.wlock ≡ false) × (w.refs ≡ 0) × (w.rwait ≡ 0) × (w.wwait ≡ 0)
+    (w.closed ≡ true) × (w.rlock ≡ false) × (w.wlock ≡ false) × (w.refs ≡ 0) × (w.rwait ≡ 0)
+    × (w.wwait ≡ 0)
 
 -- what the word shows to the holder of a stake
 abbrev pub ShowsStake : Stake → Word → Type 0

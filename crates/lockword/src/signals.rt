@@ -1,10 +1,8 @@
 //! Signals and wakes: one load and at most one exchange of a semaphore a call.
 
 ghost use Rattle.std.specs.Prelude.{◌≡◌, ◌<◌, true};
-ghost use Rattle.lockword_core.specs.declared.stake.Op.TheVariants as op;
-ghost use Rattle.lockword_core.specs.declared.stake.Answer.TheVariants as answer;
 ghost use Rattle.lockword_core.specs.Transition.{allows};
-ghost use Rattle.lockword.specs.Steps.{Signalled};
+ghost use Rattle.lockword.specs.Steps.{op_at, answer_at, Signalled};
 ghost use Rattle.lockword.specs.TransitionOutcomes.{IsSeatOf, AnswersSignal, AnswersSignalClosing, AnswersWake};
 ghost use Rattle.lockword.specs.Places.{owing_place, closing_place, owed_by, wait_place};
 
@@ -14,8 +12,7 @@ use crate::holders::{
     WakeRead, WakeWrite, WriteWait,
 };
 use crate::shared_rule::semaphore;
-use crate::transitions::{Count, GiveSignal, TakeSignal};
-use lockword_core::{signal_add, signal_take};
+use crate::transitions::{Count, GiveSignal, SignalMove, SignalStep, Signalling, TakeSignal};
 use std::sync::Wait;
 use stream_base::Dir;
 
@@ -27,42 +24,24 @@ pub(crate) enum SignalTry {
 }
 
 impl<R: Drop, W: Drop> LockWord<R, W> {
-    /// One load of a semaphore, and at most one exchange, by which a signal is given; a signal that
-    /// is given wakes one thread that is parked on the semaphore.
-    fn try_give(&self, place: &mut Place<R, W>, dir: Dir) -> SignalTry
+    /// One load of a semaphore, and at most one exchange, by which a signal is given or taken; one
+    /// that is given wakes one thread that is parked on the semaphore.
+    fn try_change<M: SignalStep>(&self, place: &mut Place<R, W>, dir: Dir) -> SignalTry
         requires word { place.old.table_id ≡ self.now.table.shared.table_id }
-        requires allowed { allows place.old.me.0.stake (op.Signal dir) ≡ true }
+        requires allowed { allows place.old.me.0.stake (op_at M.way dir) ≡ true }
         ensures word { place.new.table_id ≡ place.old.table_id }
-        ensures step { Signalled (λ d. op.Signal d) answer.Signalled dir place.old place.new result }
+        ensures step { Signalled (op_at M.way) (answer_at M.way) dir place.old place.new result }
     {
         let shared = &self.table.shared;
         let word = semaphore(dir);
         let found = shared.load::<Count>(place, word);
-        let Some(more) = signal_add(found) else {
+        let Some(next) = M::next(found) else {
             return SignalTry::Refused;
         };
-        if shared.compare_exchange::<GiveSignal>(place, word, found, more) == found {
-            shared.wake_one(word);
-            SignalTry::Done
-        } else {
-            SignalTry::Lost
-        }
-    }
-
-    /// One load of a semaphore, and at most one exchange, by which a signal is taken.
-    fn try_take(&self, place: &mut Place<R, W>, dir: Dir) -> SignalTry
-        requires word { place.old.table_id ≡ self.now.table.shared.table_id }
-        requires allowed { allows place.old.me.0.stake (op.Wake dir) ≡ true }
-        ensures word { place.new.table_id ≡ place.old.table_id }
-        ensures step { Signalled (λ d. op.Wake d) answer.Woken dir place.old place.new result }
-    {
-        let shared = &self.table.shared;
-        let word = semaphore(dir);
-        let found = shared.load::<Count>(place, word);
-        let Some(less) = signal_take(found) else {
-            return SignalTry::Refused;
-        };
-        if shared.compare_exchange::<TakeSignal>(place, word, found, less) == found {
+        if shared.compare_exchange::<Signalling<M>>(place, word, found, next) == found {
+            if let SignalMove::Gives = M::way() {
+                shared.wake_one(word);
+            }
             SignalTry::Done
         } else {
             SignalTry::Lost
@@ -75,7 +54,7 @@ impl<R: Drop, W: Drop> LockWord<R, W> {
         ensures { AnswersSignal owing result }
     {
         let Owing { mut place, dir } = owing;
-        match self.try_give(&mut place, dir) {
+        match self.try_change::<GiveSignal>(&mut place, dir) {
             SignalTry::Done => Signal::Signalled(Seat { place }),
             SignalTry::Refused => Signal::Full(Owing { place, dir }),
             SignalTry::Lost => Signal::Lost(Owing { place, dir }),
@@ -94,7 +73,7 @@ impl<R: Drop, W: Drop> LockWord<R, W> {
             owed_read,
             owed_write,
         } = closing;
-        match self.try_give(&mut place, dir) {
+        match self.try_change::<GiveSignal>(&mut place, dir) {
             SignalTry::Done => {
                 let (owed_read, owed_write) = match dir {
                     Dir::Read => (owed_read - 1, owed_write),
@@ -125,7 +104,7 @@ impl<R: Drop, W: Drop> LockWord<R, W> {
         ensures { AnswersWake wait result }
     {
         let Waiting { mut place, marker } = wait;
-        match self.try_take(&mut place, D::dir()) {
+        match self.try_change::<TakeSignal>(&mut place, D::dir()) {
             SignalTry::Done => Wake::Woken(Seat { place }),
             SignalTry::Refused => Wake::NotYet(Waiting { place, marker }),
             SignalTry::Lost => Wake::Lost(Waiting { place, marker }),

@@ -1,14 +1,16 @@
 //! The atomic steps: what each tells the seat that makes it.
 
-ghost use Rattle.std.specs.Prelude.{◌≡◌, ◌<◌, true};
+ghost use Rattle.std.specs.Prelude.{◌≡◌, ◌<◌, true, IfSome};
 ghost use Rattle.lockword_core.specs.declared.word.TheConstants.{NO_WORD};
 ghost use Rattle.lockword_core.specs.Word.{IsWord, packed};
 ghost use Rattle.lockword_core.specs.Transition.{allows};
 ghost use Rattle.lockword_core.specs.WordStep.{op_of};
-ghost use Rattle.lockword.specs.Steps.{looked, moved, subtracted, asked, emptied, marked, counted, signalled, HasSlots, Keeps, Advanced};
+ghost use Rattle.lockword.specs.Steps.{looked, moved, subtracted, asked, emptied, marked};
+ghost use Rattle.lockword.specs.Steps.{counted, op_at, answer_at, Changes, signalled};
+ghost use Rattle.lockword.specs.Steps.{HasSlots, Keeps, Advanced};
 ghost use Rattle.lockword.specs.TransitionOutcomes.{Looks};
-ghost use Rattle.lockword_core.specs.declared.stake.Op.TheVariants as op;
-ghost use Rattle.lockword_core.specs.declared.stake.Answer.TheVariants as answer;
+ghost use Rattle.lockword.specs.declared.transitions.SignalMove.{SignalMove};
+ghost use Rattle.lockword.specs.declared.transitions.SignalMove.TheVariants as signal_move;
 ghost use Rattle.lockword_core.specs.declared.transition.Kind.{Kind};
 ghost use Rattle.lockword_core.specs.declared.transition.Kind.TheVariants as kind;
 
@@ -17,7 +19,7 @@ use crate::holders::{LockWord, Place};
 use crate::local_view::LocalView;
 use crate::shared_rule::{Half, STATE};
 use atomic_table::{Play, Split};
-use lockword_core::{After, Kind, Refused, Word, unpack, word_step};
+use lockword_core::{After, Kind, Refused, Word, signal_add, signal_take, unpack, word_step};
 use std::marker::PhantomData;
 
 /// A load of the state.
@@ -85,18 +87,60 @@ impl<R, W> Play<Half<R, W>, LocalView> for Count {
     ghost then = { counted };
 }
 
-/// An exchange of a semaphore, by which a signal is given.
-pub(crate) struct GiveSignal;
-
-impl<R, W> Play<Half<R, W>, LocalView> for GiveSignal {
-    ghost then = { signalled (λ d. op.Signal d) answer.Signalled };
+/// What an exchange of a semaphore does with one signal.
+#[derive(Drop)]
+pub(crate) enum SignalMove {
+    Gives,
+    Takes,
 }
 
-/// An exchange of a semaphore, by which a signal is taken.
+/// What an exchange of a semaphore does, as a type.
+pub(crate) trait SignalStep {
+    ghost way: { SignalMove };
+
+    fn way() -> SignalMove
+        ensures { result ≡ way };
+
+    /// The signals once one was given or taken, or `None` where the semaphore is full or empty.
+    fn next(found: u64) -> Option<u64>
+        ensures { IfSome result (Changes way found) };
+}
+
+/// An exchange of a semaphore, as a step of the sort `M`.
+pub(crate) struct Signalling<M: SignalStep> {
+    marker: PhantomData<M>,
+}
+
+impl<R, W, M: SignalStep> Play<Half<R, W>, LocalView> for Signalling<M> {
+    ghost then = { signalled (op_at M.way) (answer_at M.way) };
+}
+
+pub(crate) struct GiveSignal;
+
+impl SignalStep for GiveSignal {
+    ghost way = { signal_move.Gives };
+
+    fn way() -> SignalMove {
+        SignalMove::Gives
+    }
+
+    fn next(found: u64) -> Option<u64> {
+        signal_add(found)
+    }
+}
+
 pub(crate) struct TakeSignal;
 
-impl<R, W> Play<Half<R, W>, LocalView> for TakeSignal {
-    ghost then = { signalled (λ d. op.Wake d) answer.Woken };
+impl SignalStep for TakeSignal {
+    ghost way = { signal_move.Takes };
+
+    fn way() -> SignalMove {
+        SignalMove::Takes
+    }
+
+    fn next(found: u64) -> Option<u64> {
+        signal_take(found)
+    }
 }
 
 /// A load of the done word.

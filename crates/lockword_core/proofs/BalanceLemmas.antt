@@ -1,17 +1,14 @@
 -- What each operation does to the counts and to the word, as arithmetic. A balance says what `IsConsistentCensus`
 -- says, in sums without subtractions, so that one call of arithmetic carries it over an operation.
-use Rattle.std.proofs.Common.{◌≡◌, ◌≢◌, ℕ, ◌+◌, ◌-◌, ◌*◌, ◌%◌, ◌≤◌, ◌<◌, List, arith}
-use Rattle.stream_base.specs.declared.direction.Dir.{Dir}
-use Rattle.stream_base.specs.declared.direction.Dir.TheVariants.{Read, Write}
-use Rattle.lockword_core.specs.declared.stake.Stake.{Stake}
+use Rattle.std.proofs.Common.{◌≡◌, ◌≢◌, ◌+◌, ◌-◌, ◌*◌, ◌%◌, ◌≤◌, ◌<◌}
+use Rattle.lockword_core.proofs.Words.{ℕ, List, arith, Dir, Read, Write, Stake, CLOSED, NO_WORD, MAX_REFERENCES}
+use Rattle.lockword_core.proofs.Words.{MAX_WAITERS, MAX_SIGNALS, signals_in, bit, waiters_in, Census, references, locks}
+use Rattle.lockword_core.proofs.Words.{queued, owed, closers, lasts, number, pending, ChangesOneStake, nothing, closes}
+use Rattle.lockword_core.proofs.Words.{adds_signal, takes_signal, destroys, changed, lock_stake, stake_after_signal}
 use Rattle.lockword_core.specs.declared.stake.Stake.TheVariants as stake
-use Rattle.lockword_core.specs.declared.word.TheConstants.{CLOSED, READ_LOCK, WRITE_LOCK, REFERENCE, READ_WAITER, WRITE_WAITER, NO_WORD, MAX_REFERENCES, MAX_WAITERS}
-use Rattle.lockword_core.specs.declared.signals.TheConstants.{MAX_SIGNALS}
-use Rattle.lockword_core.specs.Signals.{signals_in}
-use Rattle.lockword_core.specs.Word.{bit, lock_unit, waiter_unit, lock_in, references_in, waiters_in}
-use Rattle.lockword_core.specs.LockState.{Census, references, locks, queued, owed, closers, lasts, number, pending, owed_part}
-use Rattle.lockword_core.specs.LockInvariant.{ChangesOneStake}
-use Rattle.lockword_core.specs.Transition.{nothing, closes, adds_signal, takes_signal, destroys, changed, lock_stake, stake_after_signal}
+use Rattle.lockword_core.specs.declared.word.TheConstants.{READ_LOCK, WRITE_LOCK, REFERENCE, READ_WAITER, WRITE_WAITER}
+use Rattle.lockword_core.specs.Word.{lock_unit, waiter_unit, lock_in, references_in}
+use Rattle.lockword_core.specs.LockState.{owed_part}
 use Rattle.lockword_core.proofs.CountLemmas.{moves, count-within}
 
 -- what holds of one direction
@@ -34,8 +31,10 @@ pub record IsBalanced (c : Census) (word : ℕ) : Type 0 where
   pub unclosed : bit c.closed ≡ 0 → number lasts c + bit c.destroyed ≡ 0
   pub in_use : 0 < number references c → number lasts c + bit c.destroyed ≡ 0
   pub word_is :
-      word + READ_WAITER * (number (owed Read) c + signals_in Read c.signals) + WRITE_WAITER * (number (owed Write) c + signals_in Write c.signals)
-      ≡ CLOSED * bit c.closed + READ_LOCK * number (locks Read) c + WRITE_LOCK * number (locks Write) c + REFERENCE * number references c
+      word + READ_WAITER * (number (owed Read) c + signals_in Read c.signals)
+      + WRITE_WAITER * (number (owed Write) c + signals_in Write c.signals)
+      ≡ CLOSED * bit c.closed + READ_LOCK * number (locks Read) c + WRITE_LOCK * number (locks Write) c
+      + REFERENCE * number references c
       + READ_WAITER * number (queued Read) c + WRITE_WAITER * number (queued Write) c
 
 -- ---- The fields of the word

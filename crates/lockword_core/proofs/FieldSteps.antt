@@ -1,17 +1,13 @@
 -- What the table of decisions shows, by what a step comes to.
-use Rattle.std.proofs.Common.{◌≡◌, ◌≢◌, ℕ, Bool, true, false, List, [], ◌∷◌, refl, subst, arith, Option, None, Some, Result, Ok, Err}
-use Rattle.std.specs.Prelude.{◌==◌, ◌&&◌, ◌||◌, not, if◌then◌else◌}
-use Rattle.std.proofs.lemmas.Bool.Decides.{nat_tests}
-use Rattle.stream_base.specs.declared.direction.Dir.{Dir}
-use Rattle.lockword_core.specs.declared.word.Word.{Word}
-use Rattle.lockword_core.specs.declared.word.TheConstants.{MAX_REFERENCES, MAX_WAITERS}
-use Rattle.lockword_core.specs.declared.transition.Kind.{Kind}
+use Rattle.std.proofs.Common.{◌≡◌, ◌≢◌, [], ◌∷◌, Err}
+use Rattle.std.specs.Prelude.{◌==◌, ◌&&◌, ◌||◌, if◌then◌else◌}
+use Rattle.lockword_core.proofs.Words.{ℕ, Bool, true, false, List, refl, subst, arith, Option, None, Some, Result, Ok}
+use Rattle.lockword_core.proofs.Words.{not, nat_tests, Dir, Word, MAX_REFERENCES, MAX_WAITERS, Kind, After, Refused}
+use Rattle.lockword_core.proofs.Words.{lock_of, waiters_of, fields_after, field_step}
 use Rattle.lockword_core.specs.declared.transition.Kind.TheVariants as kind
-use Rattle.lockword_core.specs.declared.transition.After.{After}
 use Rattle.lockword_core.specs.declared.transition.After.TheVariants as after
-use Rattle.lockword_core.specs.declared.transition.Refused.{Refused}
 use Rattle.lockword_core.specs.declared.transition.Refused.TheVariants as why
-use Rattle.lockword_core.specs.FieldStep.{Guard, guards, is_full, lock_of, waiters_of, left, comes_to, fields_after, first_refusal, unless_refused, field_step}
+use Rattle.lockword_core.specs.FieldStep.{Guard, guards, is_full, left, comes_to, first_refusal, unless_refused}
 
 -- ---- Tests
 
@@ -135,7 +131,8 @@ shows f (kind.Lock d) passes = by (lock_of d f) refl (passes why.TooMany)
     by false e room = (e, other_numbers _ _ room)
 shows f (kind.Unlock d) passes =
     let held = is_held (lock_of d f) (f.refs == 0) refl refl (passes why.Misuse) in
-    by_test (Shows f (kind.Unlock d)) (waiters_of d f == 0) _ _ (λ _. gone held (left f) (is_left f)) (λ e. (held, other_numbers _ _ e))
+    by_test (Shows f (kind.Unlock d)) (waiters_of d f == 0) _ _ (λ _. gone held (left f) (is_left f))
+    (λ e. (held, other_numbers _ _ e))
   where
     is_held : (l z : Bool) → lock_of d f ≡ l → (f.refs == 0) ≡ z → (z || not l) ≡ false → IsHeld d f
     is_held l true e h passed = absurd (cc)

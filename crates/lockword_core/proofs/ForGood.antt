@@ -1,14 +1,12 @@
 -- What no operation takes back.
-use Rattle.std.proofs.Common.{◌≡◌, ℕ, ◌∙◌, true, false, List, [], ◌∷◌, refl, ap, arith, Option, Some, inl, inr}
-use Rattle.std.specs.Prelude.{◌⊎◌, is_some}
-use Rattle.lockword_core.specs.declared.stake.Event.{Event}
-use Rattle.lockword_core.specs.Word.{bit}
-use Rattle.lockword_core.specs.LockState.{LockState, census, stake_of}
-use Rattle.lockword_core.specs.LockInvariant.{IsConsistent}
-use Rattle.lockword_core.specs.Transition.{Change, nothing, closes, adds_signal, takes_signal, destroys, Outcome, refused, moved, outcome, with_stake, with_change, carried_out, transition}
-use Rattle.lockword_core.specs.Replay.{state_after}
+use Rattle.std.proofs.Common.{◌≡◌, ◌∙◌, [], ◌∷◌}
+use Rattle.std.specs.Prelude.{◌⊎◌}
+use Rattle.lockword_core.proofs.Words.{ℕ, true, false, List, refl, ap, arith, Option, Some, inl, inr, is_some, Event}
+use Rattle.lockword_core.proofs.Words.{bit, LockState, census, stake_of, IsConsistent, Change, nothing, closes}
+use Rattle.lockword_core.proofs.Words.{adds_signal, takes_signal, destroys, Outcome, refused, moved, outcome}
+use Rattle.lockword_core.proofs.Words.{with_stake, with_change, carried_out, transition, state_after}
 use Rattle.lockword_core.proofs.StateLemmas.{transition_consistent}
-use Rattle.lockword_core.proofs.LawLemmas.{TellsEnds, tells_ends, is_destroying, no_mark_yet}
+use Rattle.lockword_core.proofs.EndCounts.{TellsEnds, tells_ends, is_destroying, no_mark_yet}
 
 -- ---- The flag
 
@@ -27,7 +25,8 @@ flag_carried s holder (moved a new change) e = flag_kept (with_stake s holder ne
 pub closed_for_good : (s : LockState) (events : List Event) → s.closed ≡ true → (state_after s events).closed ≡ true
 closed_for_good s [] e = e
 closed_for_good s (x ∷ events) e =
-    closed_for_good (transition s x.holder x.op).0 events (flag_carried s x.holder (outcome (census s) (stake_of s x.holder) x.op) e)
+    closed_for_good (transition s x.holder x.op).0 events
+    (flag_carried s x.holder (outcome (census s) (stake_of s x.holder) x.op) e)
 
 -- ---- The mark
 
@@ -42,7 +41,8 @@ mark_kept s holder destroys other = absurd (cc)
 mark_carried : (s : LockState) (holder q : ℕ) (o : Outcome) → IsConsistent s → TellsEnds (stake_of s holder) o
     → s.destroyed_by ≡ Some q → (carried_out s holder o).0.destroyed_by ≡ Some q
 mark_carried s holder q (refused a) good ends e = e
-mark_carried s holder q (moved a new change) good (done, last, own_last) e = by (no_mark_yet s holder change good own_last)
+mark_carried s holder q (moved a new change) good (done, last, own_last) e =
+    by (no_mark_yet s holder change good own_last)
   where
     by : bit (is_some s.destroyed_by) ≡ 0 ⊎ (is_destroying change ≡ false)
         → (with_change (with_stake s holder new) holder change).destroyed_by ≡ Some q
@@ -55,4 +55,5 @@ pub destroyed_for_good : (s : LockState) (events : List Event) (q : ℕ) → IsC
 destroyed_for_good s [] q good e = e
 destroyed_for_good s (x ∷ events) q good e =
     destroyed_for_good (transition s x.holder x.op).0 events q (transition_consistent s x.holder x.op good)
-    (mark_carried s x.holder q (outcome (census s) (stake_of s x.holder) x.op) good (tells_ends (census s) (stake_of s x.holder) x.op) e)
+    (mark_carried s x.holder q (outcome (census s) (stake_of s x.holder) x.op) good
+    (tells_ends (census s) (stake_of s x.holder) x.op) e)

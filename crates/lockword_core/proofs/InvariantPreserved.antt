@@ -1,13 +1,9 @@
 -- A consistent census is one that balances.
-use Rattle.std.proofs.Common.{◌≡◌, ◌≢◌, ℕ, ◌+◌, ◌≤◌, ◌<◌, Bool, true, false, refl, ap, arith}
+use Rattle.std.proofs.Common.{◌≡◌, ◌≢◌, ◌+◌, ◌≤◌, ◌<◌}
 use Rattle.std.specs.Prelude.{◌==◌, ◌&&◌}
-use Rattle.std.proofs.lemmas.Bool.Decides.{nat_tests}
-use Rattle.stream_base.specs.declared.direction.Dir.{Dir}
-use Rattle.stream_base.specs.declared.direction.Dir.TheVariants.{Read, Write}
-use Rattle.lockword_core.specs.declared.word.TheConstants.{NO_WORD}
-use Rattle.lockword_core.specs.Word.{bit}
-use Rattle.lockword_core.specs.LockState.{Census, references, lasts, number, encoded}
-use Rattle.lockword_core.specs.LockInvariant.{IsConsistentWay, IsConsistentCensus}
+use Rattle.lockword_core.proofs.Words.{ℕ, Bool, true, false, refl, ap, arith, nat_tests, Dir, Read, Write, NO_WORD, bit}
+use Rattle.lockword_core.proofs.Words.{Census, references, lasts, number, encoded, IsConsistentCensus}
+use Rattle.lockword_core.specs.LockInvariant.{IsConsistentWay}
 use Rattle.lockword_core.proofs.BalanceLemmas.{IsBalancedWay, IsBalanced, reads_as}
 
 pub bit-le : (b : Bool) → bit b ≤ 1
@@ -30,9 +26,11 @@ end-arith true refs ends e = by (refs == 0) refl e
   where
     by : (t : Bool) → (refs == 0) ≡ t → ends ≡ bit t → IsEnd 1 refs ends
     by true h e =
-        let zero_refs : refs ≡ 0 = grind (arith, nat_tests) in record { ended = λ c r. e; unclosed = λ c. absurd (omega arith); in_use = λ r. absurd (omega arith) }
+        let zero_refs : refs ≡ 0 = grind (arith, nat_tests) in
+        record { ended = λ c r. e; unclosed = λ c. absurd (omega arith); in_use = λ r. absurd (omega arith) }
     by false h e =
-        let some_refs : refs ≢ 0 = grind (arith, nat_tests) in record { ended = λ c r. absurd (some_refs r); unclosed = λ c. absurd (omega arith); in_use = λ r. e }
+        let some_refs : refs ≢ 0 = grind (arith, nat_tests) in
+        record { ended = λ c r. absurd (some_refs r); unclosed = λ c. absurd (omega arith); in_use = λ r. e }
 
 arith-end : (b : Bool) (refs ends : ℕ) → (bit b ≡ 1 → refs ≡ 0 → ends ≡ 1) → (bit b ≡ 0 → ends ≡ 0)
     → (0 < refs → ends ≡ 0) → ends ≡ bit (b && (refs == 0))
@@ -50,7 +48,8 @@ way_balances d c good =
       signals_have_waiters = good.signals_have_waiters;
       waiters_fit = let fit = good.waiters_fit in omega arith;
       signals_fit = good.signals_fit;
-      none_pending = λ e. let none = good.none_pending_when_closed (bit-true c.closed e) in let have = good.signals_have_waiters in omega arith;
+      none_pending = λ e. let none = good.none_pending_when_closed (bit-true c.closed e) in
+          let have = good.signals_have_waiters in omega arith;
     }
 
 pub balance_of : (c : Census) → IsConsistentCensus c → IsBalanced c (encoded c)
@@ -66,7 +65,8 @@ balance_of c good =
       ended = end.ended;
       unclosed = end.unclosed;
       in_use = end.in_use;
-      word_is = let reading = good.reading.signals_have_waiters in let writing = good.writing.signals_have_waiters in omega arith;
+      word_is = let reading = good.reading.signals_have_waiters in let writing = good.writing.signals_have_waiters in
+          omega arith;
     }
 
 way_consistent : (d : Dir) (c : Census) → IsBalancedWay d c → IsConsistentWay c d
@@ -86,7 +86,8 @@ consistent_of c n b =
       writing = way_consistent Write c b.writing;
       references_fit = b.references_fit;
       one_closer = b.one_closer;
-      one_last = arith-end c.closed (number references c) (number lasts c + bit c.destroyed) b.ended b.unclosed b.in_use;
+      one_last = arith-end c.closed (number references c)
+          (number lasts c + bit c.destroyed) b.ended b.unclosed b.in_use;
     }
 
 pub encoded_of : (c : Census) (n : ℕ) → IsBalanced c n → n ≡ encoded c

@@ -1,36 +1,29 @@
 -- The machine's fields stand for a state, before and after each operation.
-use Rattle.std.proofs.Common.{◌≡◌, ℕ, ◌+◌, ◌-◌, ◌≤◌, ◌<◌, ◌∙◌, Bool, true, false, refl, sym, ap, arith, subst, Ok, None, Some}
+use Rattle.std.proofs.Common.{◌≡◌, ◌+◌, ◌-◌, ◌≤◌, ◌<◌, ◌∙◌}
 use Rattle.std.specs.Prelude.{◌==◌, ◌&&◌, if◌then◌else◌}
-use Rattle.std.specs.Ordering.{nat_cmp}
-use Rattle.std.specs.Map.{values_of}
-use Rattle.std.specs.BTreeMap.{insert_entry}
-use Rattle.std.proofs.lemmas.Bool.Decides.{nat_tests}
-use Rattle.stream_base.specs.declared.direction.Dir.{Dir}
-use Rattle.stream_base.specs.declared.direction.Dir.TheVariants.{Read, Write}
-use Rattle.lockword_core.specs.declared.stake.Stake.{Stake}
+use Rattle.lockword_core.proofs.Words.{ℕ, Bool, true, false, refl, sym, ap, arith, subst, Ok, None, Some, nat_cmp}
+use Rattle.lockword_core.proofs.Words.{values_of, insert_entry, nat_tests, Dir, Read, Write, Stake, Op, Answer}
+use Rattle.lockword_core.proofs.Words.{MAX_SIGNALS, MAX_REFERENCES, MAX_WAITERS, Kind, After, signals_in, LockState}
+use Rattle.lockword_core.proofs.Words.{empty, Census, census, stake_of, references, locks, number, pending, encoded}
+use Rattle.lockword_core.proofs.Words.{IsConsistent, IsConsistentCensus, Change, nothing, closes, adds_signal}
+use Rattle.lockword_core.proofs.Words.{takes_signal, destroys, Outcome, refused, moved, allows, outcome}
+use Rattle.lockword_core.proofs.Words.{allowed_outcome, drop_outcome, stake_after_signal, changed, with_stake}
+use Rattle.lockword_core.proofs.Words.{with_change, carried_out, transition, op_of, gained, Tells}
 use Rattle.lockword_core.specs.declared.stake.Stake.TheVariants as stake
-use Rattle.lockword_core.specs.declared.stake.Op.{Op}
 use Rattle.lockword_core.specs.declared.stake.Op.TheVariants as op
-use Rattle.lockword_core.specs.declared.stake.Answer.{Answer}
 use Rattle.lockword_core.specs.declared.stake.Answer.TheVariants as answer
-use Rattle.lockword_core.specs.declared.signals.TheConstants.{MAX_SIGNALS}
-use Rattle.lockword_core.specs.declared.word.TheConstants.{MAX_REFERENCES, MAX_WAITERS}
-use Rattle.lockword_core.specs.declared.transition.Kind.{Kind}
 use Rattle.lockword_core.specs.declared.transition.Kind.TheVariants as kind
-use Rattle.lockword_core.specs.declared.transition.After.{After}
 use Rattle.lockword_core.specs.declared.machine.Machine.TheInside.{Inside}
-use Rattle.lockword_core.specs.Signals.{signals_in, with_signals}
+use Rattle.lockword_core.specs.Signals.{with_signals}
 use Rattle.lockword_core.specs.Word.{closed_in}
-use Rattle.lockword_core.specs.LockState.{LockState, empty, Census, census, stake_of, references, locks, number, pending, encoded}
-use Rattle.lockword_core.specs.LockInvariant.{IsConsistent, IsConsistentCensus}
-use Rattle.lockword_core.specs.Transition.{Change, nothing, closes, adds_signal, takes_signal, destroys, Outcome, refused, moved, allows, outcome, allowed_outcome, drop_outcome, stake_after_signal, changed, with_stake, with_change, carried_out, transition}
-use Rattle.lockword_core.specs.WordStep.{op_of, gained, Tells}
 use Rattle.lockword_core.specs.Machine.{state_in, IsSound}
 use Rattle.lockword_core.proofs.CountLemmas.{changes-insert}
 use Rattle.lockword_core.proofs.InvariantPreserved.{balance_of, encoded_of}
 use Rattle.lockword_core.proofs.BalanceLemmas.{reads_as}
-use Rattle.lockword_core.proofs.WordRefines.{flag_is, pick_then, pick_else}
-use Rattle.lockword_core.proofs.StateLemmas.{IsBeside, Keeps, beside_keeps, census-change, names-change, transition_consistent, empty_consistent, empty-word}
+use Rattle.lockword_core.proofs.WordTable.{flag_is}
+use Rattle.lockword_core.proofs.WordRefines.{pick_then, pick_else}
+use Rattle.lockword_core.proofs.StateLemmas.{IsBeside, Keeps, beside_keeps, census-change, names-change}
+use Rattle.lockword_core.proofs.StateLemmas.{transition_consistent, empty_consistent, empty-word}
 
 -- ---- The fields stand for a state
 
@@ -49,7 +42,10 @@ pub sound_new : (m : Inside) → m.holders.entries ≡ empty.holders → m.word 
 sound_new m holders word signals mark =
     let zero_word : 0 ≡ encoded (census empty) = empty-word in
     let is : state_in m ≡ empty = same_state m empty empty_consistent holders (word ∙ zero_word) signals mark in
-    record { consistent = subst (λ (s : LockState). IsConsistent s) (sym is) empty_consistent; word = word ∙ zero_word ∙ ap (λ (s : LockState). encoded (census s)) (sym is) }
+    record {
+      consistent = subst (λ (s : LockState). IsConsistent s) (sym is) empty_consistent;
+      word = word ∙ zero_word ∙ ap (λ (s : LockState). encoded (census s)) (sym is);
+    }
 
 -- ---- After an operation
 
@@ -68,11 +64,17 @@ pub has_made : (m : Inside) (s : LockState) (holder : ℕ) (o : Op) (a : Answer)
 has_made m s holder o a new change good is holders word signals mark =
     let next : LockState = with_change (with_stake s holder new) holder change in
     let leads : transition s holder o ≡ (next, a) = ap (carried_out s holder) is in
-    let fine : IsConsistent next = subst (λ (p : LockState × Answer). IsConsistent p.0) leads (transition_consistent s holder o good) in
+    let fine : IsConsistent next =
+    subst (λ (p : LockState × Answer). IsConsistent p.0) leads (transition_consistent s holder o good) in
     let next_word : m.word ≡ encoded (census next) = word ∙ ap encoded (sym (census-change s holder new change)) in
-    let same : state_in m ≡ next = same_state m next fine (holders ∙ sym (names-change (with_stake s holder new) holder change)) next_word signals mark in
+    let same : state_in m ≡ next =
+    same_state m next fine
+    (holders ∙ sym (names-change (with_stake s holder new) holder change)) next_word signals mark in
     record {
-      sound = record { consistent = subst (λ (z : LockState). IsConsistent z) (sym same) fine; word = next_word ∙ ap (λ (z : LockState). encoded (census z)) (sym same) };
+      sound = record {
+        consistent = subst (λ (z : LockState). IsConsistent z) (sym same) fine;
+        word = next_word ∙ ap (λ (z : LockState). encoded (census z)) (sym same);
+      };
       made = ap (λ (z : LockState). (z, a)) same ∙ sym leads;
     }
 
@@ -95,7 +97,9 @@ allowed_of_word : (c : Census) (own : Stake) (k : Kind) → IsOfWord (allowed_ou
 allowed_of_word c own kind.Incref = by_test c.closed _ _ tt (by_test (number references c == MAX_REFERENCES) _ _ tt tt)
 allowed_of_word c own kind.Decref = drop_of_word c
 allowed_of_word c own (kind.Lock d) =
-    by_test c.closed _ _ tt (by_test (number (locks d) c == 0) _ _ (by_test (number references c == MAX_REFERENCES) _ _ tt tt) (by_test (pending d c == MAX_WAITERS) _ _ tt tt))
+    by_test c.closed _ _ tt
+    (by_test (number (locks d) c == 0) _ _ (by_test (number references c == MAX_REFERENCES) _ _ tt tt)
+    (by_test (pending d c == MAX_WAITERS) _ _ tt tt))
 allowed_of_word c own (kind.Unlock d) = by_test (pending d c == 0) _ _ (drop_of_word c) tt
 allowed_of_word c own kind.Close = by_test c.closed _ _ tt (by_test (number references c == MAX_REFERENCES) _ _ tt tt)
 
@@ -121,16 +125,21 @@ keeps-mark s holder a new destroys of_word = absurd of_word
 -- the machine m has made a step on the word and is now n
 pub word_made : (m n : Inside) (holder : ℕ) (k : Kind) (gain : After) → IsSound m
     → allows (stake_of (state_in m) holder) (op_of k) ≡ true
-    → Tells (census (state_in m)) (stake_of (state_in m) holder) k (outcome (census (state_in m)) (stake_of (state_in m) holder) (op_of k)) (Ok (n.word, gain))
+    → Tells (census (state_in m)) (stake_of (state_in m) holder) k
+    (outcome (census (state_in m)) (stake_of (state_in m) holder) (op_of k)) (Ok (n.word, gain))
     → n.holders.entries ≡ insert_entry nat_cmp m.holders.entries holder (gained k gain).1 → n.signals ≡ m.signals
     → n.destroyed_by ≡ m.destroyed_by
     → HasMade n (state_in m) holder (op_of k) (gained k gain).0
 word_made m n holder k gain sound may (change, is, word) holders signals mark =
     let s : LockState = state_in m in
-    let of_word : IsOfWord (moved (gained k gain).0 (gained k gain).1 change) = subst (λ (o : Outcome). IsOfWord o) is (outcome_of_word (census s) (stake_of s holder) k) in
+    let of_word : IsOfWord (moved (gained k gain).0 (gained k gain).1 change) =
+    subst (λ (o : Outcome). IsOfWord o) is (outcome_of_word (census s) (stake_of s holder) k) in
     has_made n s holder (op_of k) (gained k gain).0 (gained k gain).1 change sound.consistent is holders
     (word _ (changes-insert s.holders holder (gained k gain).1 sound.consistent.names))
-    (signals ∙ sym (keeps-signals (with_stake s holder (gained k gain).1) holder (gained k gain).0 (gained k gain).1 change of_word)) (mark ∙ sym (keeps-mark (with_stake s holder (gained k gain).1) holder (gained k gain).0 (gained k gain).1 change of_word))
+    (signals ∙ sym (keeps-signals (with_stake s holder (gained k gain).1) holder (gained k gain).0
+    (gained k gain).1 change of_word))
+    (mark ∙ sym (keeps-mark (with_stake s holder (gained k gain).1) holder (gained k gain).0
+    (gained k gain).1 change of_word))
 
 -- ---- An operation beside the word leaves it
 
@@ -140,7 +149,9 @@ kept_word : (s : LockState) (holder : ℕ) (o : Op) (a : Answer) (new : Stake) (
     → encoded (census s) ≡ encoded (changed (census s) (values_of (insert_entry nat_cmp s.holders holder new)) change)
 kept_word s holder o a new change good beside may is =
     let keeps : Keeps (census s) (stake_of s holder) (encoded (census s)) (moved a new change) =
-    subst (λ (x : Outcome). Keeps (census s) (stake_of s holder) (encoded (census s)) x) is (beside_keeps (census s) (stake_of s holder) o (encoded (census s)) beside (balance_of (census s) good.counts) may) in
+    subst (λ (x : Outcome). Keeps (census s) (stake_of s holder) (encoded (census s)) x) is
+    (beside_keeps (census s) (stake_of s holder) o (encoded (census s)) beside
+    (balance_of (census s) good.counts) may) in
     encoded_of _ _ (keeps _ (changes-insert s.holders holder new good.names))
 
 pub beside_made : (m n : Inside) (holder : ℕ) (o : Op) (a : Answer) (new : Stake) (change : Change) → IsSound m
@@ -196,7 +207,8 @@ pub destroy_made : (m n : Inside) (holder : ℕ) → IsSound m → allows (stake
     → n.signals ≡ m.signals → n.destroyed_by ≡ Some holder
     → HasMade n (state_in m) holder op.Destroy answer.Done
 destroy_made m n holder sound may holders word signals mark =
-    beside_made m n holder op.Destroy answer.Done stake.Free destroys sound tt may (pick_then _ _ _ may) holders word signals mark
+    beside_made m n holder op.Destroy answer.Done stake.Free destroys sound tt may
+    (pick_then _ _ _ may) holders word signals mark
 
 pub signal_made : (m n : Inside) (holder : ℕ) (d : Dir) (left : Stake) (more : ℕ) → IsSound m
     → allows (stake_of (state_in m) holder) (op.Signal d) ≡ true
@@ -206,9 +218,11 @@ pub signal_made : (m n : Inside) (holder : ℕ) (d : Dir) (left : Stake) (more :
     → n.signals ≡ with_signals d more m.signals → n.destroyed_by ≡ m.destroyed_by
     → HasMade n (state_in m) holder (op.Signal d) answer.Signalled
 signal_made m n holder d left more sound may room one rest holders word signals mark =
-    beside_made m n holder (op.Signal d) answer.Signalled (stake_after_signal d (stake_of (state_in m) holder)) (adds_signal d) sound tt may
+    beside_made m n holder (op.Signal d) answer.Signalled (stake_after_signal d (stake_of (state_in m) holder))
+    (adds_signal d) sound tt may
     (signal_moves (census (state_in m)) (stake_of (state_in m) holder) d may room)
-    (holders ∙ ap (λ (own : Stake). insert_entry nat_cmp m.holders.entries holder own) rest) word (signals ∙ ap (λ (k : ℕ). with_signals d k m.signals) one) mark
+    (holders ∙ ap (λ (own : Stake). insert_entry nat_cmp m.holders.entries holder own) rest) word
+    (signals ∙ ap (λ (k : ℕ). with_signals d k m.signals) one) mark
 
 pub wake_made : (m n : Inside) (holder : ℕ) (d : Dir) (fewer : ℕ) → IsSound m
     → allows (stake_of (state_in m) holder) (op.Wake d) ≡ true

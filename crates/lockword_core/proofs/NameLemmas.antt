@@ -1,20 +1,16 @@
 -- Counts over seats, where each seat has what the holder of its number has.
-use Rattle.std.proofs.Common.{◌≡◌, ℕ, zero, suc, ◌+◌, ◌∙◌, false, List, [], ◌∷◌, refl, sym, ap, subst, arith, Option, Some, None, set, get_or, get_or-set_other}
-use Rattle.std.specs.Prelude.{unwrap_or}
-use Rattle.std.specs.declared.cmp.Ordering.TheVariants.{Less}
-use Rattle.std.specs.Ordering.{nat_cmp, is_eq}
-use Rattle.std.specs.Map.{lookup, keys_of, values_of}
-use Rattle.std.specs.BTreeMap.{is_at}
+use Rattle.std.proofs.Common.{◌≡◌, zero, suc, ◌+◌, ◌∙◌, [], ◌∷◌, set, get_or-set_other}
+use Rattle.std.specs.Ordering.{is_eq}
 use Rattle.std.specs.List.{AllByRecursion}
-use Rattle.std.specs.List.Sorted.{IsStrictlySortedBy}
+use Rattle.lockword_core.proofs.Words.{ℕ, false, List, refl, sym, ap, subst, arith, Option, Some, None, get_or}
+use Rattle.lockword_core.proofs.Words.{unwrap_or, Less, nat_cmp, lookup, keys_of, values_of, is_at, IsStrictlySortedBy}
+use Rattle.lockword_core.proofs.Words.{Stake, LockState, census, stake_of, part, number, IsConsistent}
 use mathlib.Core.Logic.{dite}
 use native.Mathlib.Decide.{ℕ_discrete}
-use Rattle.lockword_core.specs.declared.stake.Stake.{Stake}
 use Rattle.lockword_core.specs.declared.stake.Stake.TheVariants as stake
-use Rattle.lockword_core.specs.LockState.{LockState, census, stake_of, Counted, part, count, number}
-use Rattle.lockword_core.specs.LockInvariant.{IsConsistent}
+use Rattle.lockword_core.specs.LockState.{Counted, count}
 use Rattle.lockword_core.proofs.CountLemmas.{count-nil, count-cons, part-free}
-use Rattle.lockword_core.proofs.LawLemmas.{same_key, other_key}
+use Rattle.lockword_core.proofs.EndHolders.{same_key, other_key}
 
 -- ---- Seats of which one has nothing any more
 
@@ -44,13 +40,15 @@ count-freed what [] (suc k) =
     let none : part what (get_or [] (suc k) stake.Free) ≡ 0 = part-free what in
     omega arith
 count-freed what (x ∷ xs) zero =
-    let now : count what (set (x ∷ xs) zero stake.Free) ≡ part what stake.Free + count what xs = count-cons what stake.Free xs in
+    let now : count what (set (x ∷ xs) zero stake.Free) ≡ part what stake.Free + count what xs =
+    count-cons what stake.Free xs in
     let was : part what (get_or (x ∷ xs) zero stake.Free) ≡ part what x = refl in
     let all = count-cons what x xs in
     let none = part-free what in
     omega arith
 count-freed what (x ∷ xs) (suc k) =
-    let now : count what (set (x ∷ xs) (suc k) stake.Free) ≡ part what x + count what (set xs k stake.Free) = count-cons what x (set xs k stake.Free) in
+    let now : count what (set (x ∷ xs) (suc k) stake.Free) ≡ part what x + count what (set xs k stake.Free) =
+    count-cons what x (set xs k stake.Free) in
     let was : part what (get_or (x ∷ xs) (suc k) stake.Free) ≡ part what (get_or xs k stake.Free) = refl in
     let all = count-cons what x xs in
     let rest = count-freed what xs k in
@@ -80,7 +78,8 @@ others_listed : (e : ℕ × Stake) (es : List (ℕ × Stake)) (stakes : List Sta
     → IsListed (set stakes e.0 stake.Free) es
 others_listed e es stakes above same i =
     dite (ℕ_discrete i e.0)
-    (λ is. subst (λ (q : ℕ). get_or (set stakes e.0 stake.Free) q stake.Free ≡ unwrap_or (lookup (is_at (nat_cmp q)) es) stake.Free) (sym is)
+    (λ is. subst (λ (q : ℕ). get_or (set stakes e.0 stake.Free) q stake.Free
+    ≡ unwrap_or (lookup (is_at (nat_cmp q)) es) stake.Free) (sym is)
     (freed stakes e.0 ∙ sym (ap (λ (o : Option Stake). unwrap_or o stake.Free) (not_listed e.0 es above))))
     (λ ne. get_or-set_other stakes e.0 i stake.Free stake.Free ne ∙ same i
     ∙ ap (λ (o : Option Stake). unwrap_or o stake.Free) (passed i e es (other_key i e.0 ne)))
@@ -91,10 +90,12 @@ unfolding IsStrictlySortedBy
 same_counts what [] stakes sorted same = all_free what stakes same ∙ sym (count-nil what)
 same_counts what (e ∷ es) stakes sorted same =
     let rest = same_counts what es (set stakes e.0 stake.Free) sorted.1 (others_listed e es stakes sorted.0 same) in
-    let here : get_or stakes e.0 stake.Free ≡ e.1 = same e.0 ∙ ap (λ (o : Option Stake). unwrap_or o stake.Free) (listed e es) in
+    let here : get_or stakes e.0 stake.Free ≡ e.1 =
+    same e.0 ∙ ap (λ (o : Option Stake). unwrap_or o stake.Free) (listed e es) in
     let one = ap (part what) here in
     let left = count-freed what stakes e.0 in
-    let sum : count what (values_of (e ∷ es)) ≡ part what e.1 + count what (values_of es) = count-cons what e.1 (values_of es) in
+    let sum : count what (values_of (e ∷ es)) ≡ part what e.1 + count what (values_of es) =
+    count-cons what e.1 (values_of es) in
     omega arith
 
 pub counts_by_seats : (s : LockState) (stakes : List Stake) → IsConsistent s

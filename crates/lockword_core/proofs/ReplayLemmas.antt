@@ -1,12 +1,8 @@
 -- Lists of events: one event more, and what holds after every list.
-use Rattle.std.proofs.Common.{◌≡◌, ℕ, ◌+◌, ◌<◌, ◌∙◌, List, [], ◌∷◌, ◌++◌, refl, sym, ap, length, take, get_or}
+use Rattle.std.proofs.Common.{◌≡◌, ◌+◌, ◌<◌, ◌∙◌, [], ◌∷◌, ◌++◌, length}
 use Rattle.std.proofs.lemmas.List.{take_more}
-use Rattle.lockword_core.specs.declared.stake.Event.{Event}
-use Rattle.lockword_core.specs.declared.stake.Answer.{Answer}
-use Rattle.lockword_core.specs.LockState.{LockState, empty}
-use Rattle.lockword_core.specs.LockInvariant.{IsConsistent}
-use Rattle.lockword_core.specs.Transition.{transition}
-use Rattle.lockword_core.specs.Replay.{state_after, answers_of}
+use Rattle.lockword_core.proofs.Words.{ℕ, List, refl, sym, ap, take, get_or, Event, Answer, LockState, empty}
+use Rattle.lockword_core.proofs.Words.{IsConsistent, transition, state_after, answers_of}
 use Rattle.lockword_core.proofs.StateLemmas.{transition_consistent, empty_consistent}
 
 pub state_after-append : (s : LockState) (xs ys : List Event)
@@ -18,15 +14,18 @@ pub answers_of-push : (s : LockState) (events : List Event) (e : Event)
     → answers_of s (events ++ e ∷ []) ≡ answers_of s events ++ (transition (state_after s events) e.holder e.op).1 ∷ []
 answers_of-push s [] e = refl
 answers_of-push s (x ∷ events) e =
-    ap (λ (rest : List Answer). (transition s x.holder x.op).1 ∷ rest) (answers_of-push (transition s x.holder x.op).0 events e)
+    ap (λ (rest : List Answer). (transition s x.holder x.op).1 ∷ rest)
+    (answers_of-push (transition s x.holder x.op).0 events e)
 
 state_more : (s : LockState) (events : List Event) (i : ℕ) (d : Event) → i < length events
-    → state_after s (take (i + 1) events) ≡ (transition (state_after s (take i events)) (get_or events i d).holder (get_or events i d).op).0
+    → state_after s (take (i + 1) events)
+    ≡ (transition (state_after s (take i events)) (get_or events i d).holder (get_or events i d).op).0
 state_more s events i d inside =
     ap (state_after s) (take_more events i d inside) ∙ state_after-append s (take i events) (get_or events i d ∷ [])
 
 answers_more : (s : LockState) (events : List Event) (i : ℕ) (d : Event) → i < length events
-    → answers_of s (take (i + 1) events) ≡ answers_of s (take i events) ++ (transition (state_after s (take i events)) (get_or events i d).holder (get_or events i d).op).1 ∷ []
+    → answers_of s (take (i + 1) events) ≡ answers_of s (take i events)
+    ++ (transition (state_after s (take i events)) (get_or events i d).holder (get_or events i d).op).1 ∷ []
 answers_more s events i d inside =
     ap (answers_of s) (take_more events i d inside) ∙ answers_of-push s (take i events) (get_or events i d)
 
@@ -36,16 +35,21 @@ pub state_next : (s now next : LockState) (a : Answer) (events : List Event) (i 
     → (next, a) ≡ transition now (get_or events i d).holder (get_or events i d).op
     → next ≡ state_after s (take (i + 1) events)
 state_next s now next a events i d inside is made =
-    ap (λ (p : LockState × Answer). p.0) made ∙ ap (λ (u : LockState). (transition u (get_or events i d).holder (get_or events i d).op).0) is ∙ sym (state_more s events i d inside)
+    ap (λ (p : LockState × Answer). p.0) made
+    ∙ ap (λ (u : LockState). (transition u (get_or events i d).holder (get_or events i d).op).0) is
+    ∙ sym (state_more s events i d inside)
 
-pub answers_next : (s now next : LockState) (a : Answer) (before : List Answer) (events : List Event) (i : ℕ) (d : Event) → i < length events → now ≡ state_after s (take i events)
+pub answers_next : (s now next : LockState) (a : Answer) (before : List Answer) (events : List Event) (i : ℕ)
+    (d : Event) → i < length events → now ≡ state_after s (take i events)
     → before ≡ answers_of s (take i events)
     → (next, a) ≡ transition now (get_or events i d).holder (get_or events i d).op
     → before ++ a ∷ [] ≡ answers_of s (take (i + 1) events)
 answers_next s now next a before events i d inside is so_far made =
     let last : a ≡ (transition (state_after s (take i events)) (get_or events i d).holder (get_or events i d).op).1 =
-    ap (λ (p : LockState × Answer). p.1) made ∙ ap (λ (u : LockState). (transition u (get_or events i d).holder (get_or events i d).op).1) is in
-    ap (λ (xs : List Answer). xs ++ a ∷ []) so_far ∙ ap (λ (x : Answer). answers_of s (take i events) ++ x ∷ []) last ∙ sym (answers_more s events i d inside)
+    ap (λ (p : LockState × Answer). p.1) made
+    ∙ ap (λ (u : LockState). (transition u (get_or events i d).holder (get_or events i d).op).1) is in
+    ap (λ (xs : List Answer). xs ++ a ∷ []) so_far ∙ ap (λ (x : Answer). answers_of s (take i events) ++ x ∷ []) last
+    ∙ sym (answers_more s events i d inside)
 
 pub stays_consistent_after : (s : LockState) (events : List Event) → IsConsistent s
     → IsConsistent (state_after s events)

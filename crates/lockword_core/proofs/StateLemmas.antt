@@ -1,31 +1,24 @@
 -- States with the holders' names: every transition keeps a consistent state consistent.
-use Rattle.std.proofs.Common.{◌≡◌, ℕ, ◌<◌, ◌∙◌, Bool, true, false, List, [], ◌∷◌, refl, sym, ap, arith, subst, Ordering, Result, Ok, Err}
+use Rattle.std.proofs.Common.{◌≡◌, ◌<◌, ◌∙◌, [], ◌∷◌, Ordering, Err}
 use Rattle.std.specs.Prelude.{◌==◌, if◌then◌else◌, nat_lt}
-use Rattle.std.specs.declared.cmp.Ordering.TheVariants.{Less, Equal, Greater}
-use Rattle.std.specs.Ordering.{nat_cmp, match_ordering}
-use Rattle.std.specs.Map.{keys_of, values_of}
-use Rattle.std.specs.BTreeMap.{insert_entry}
+use Rattle.std.specs.declared.cmp.Ordering.TheVariants.{Equal, Greater}
+use Rattle.std.specs.Ordering.{match_ordering}
 use Rattle.std.specs.List.{AllByRecursion}
-use Rattle.std.specs.List.Sorted.{IsStrictlySortedBy}
-use Rattle.std.proofs.lemmas.Bool.Decides.{nat_tests}
-use Rattle.stream_base.specs.declared.direction.Dir.{Dir}
-use Rattle.stream_base.specs.declared.direction.Dir.TheVariants.{Read, Write}
-use Rattle.lockword_core.specs.declared.stake.Stake.{Stake}
+use Rattle.lockword_core.proofs.Words.{ℕ, Bool, true, false, List, refl, sym, ap, arith, subst, Result, Ok, Less}
+use Rattle.lockword_core.proofs.Words.{nat_cmp, keys_of, values_of, insert_entry, IsStrictlySortedBy, nat_tests, Dir}
+use Rattle.lockword_core.proofs.Words.{Read, Write, Stake, Op, MAX_SIGNALS, Kind, After, Refused, signals_in, LockState}
+use Rattle.lockword_core.proofs.Words.{empty, Census, census, stake_of, references, locks, queued, owed, closers, lasts}
+use Rattle.lockword_core.proofs.Words.{encoded, IsConsistent, IsConsistentCensus, IsCounted, ChangesOneStake, Change}
+use Rattle.lockword_core.proofs.Words.{nothing, closes, adds_signal, takes_signal, destroys, Outcome, refused, moved}
+use Rattle.lockword_core.proofs.Words.{allows, outcome, allowed_outcome, stake_after_signal, changed, with_stake}
+use Rattle.lockword_core.proofs.Words.{with_change, carried_out, transition, op_of, gained, Tells, stepped_word}
 use Rattle.lockword_core.specs.declared.stake.Stake.TheVariants as stake
-use Rattle.lockword_core.specs.declared.stake.Op.{Op}
 use Rattle.lockword_core.specs.declared.stake.Op.TheVariants as op
 use Rattle.lockword_core.specs.declared.stake.Answer.TheVariants as answer
-use Rattle.lockword_core.specs.declared.signals.TheConstants.{MAX_SIGNALS}
-use Rattle.lockword_core.specs.declared.transition.Kind.{Kind}
 use Rattle.lockword_core.specs.declared.transition.Kind.TheVariants as kind
-use Rattle.lockword_core.specs.declared.transition.After.{After}
-use Rattle.lockword_core.specs.declared.transition.Refused.{Refused}
-use Rattle.lockword_core.specs.Signals.{signals_in}
-use Rattle.lockword_core.specs.LockState.{LockState, empty, Census, census, stake_of, references, locks, queued, owed, closers, lasts, encoded, owed_part}
-use Rattle.lockword_core.specs.LockInvariant.{IsConsistent, IsConsistentCensus, IsCounted, ChangesOneStake}
-use Rattle.lockword_core.specs.Transition.{Change, nothing, closes, adds_signal, takes_signal, destroys, Outcome, refused, moved, allows, outcome, allowed_outcome, signal_outcome, wake_outcome, stake_after_signal, changed, with_stake, with_change, carried_out, transition}
-use Rattle.lockword_core.specs.WordStep.{op_of, gained, Tells, TellsTransition}
-use Rattle.lockword_core.specs.FieldStep.{stepped_word}
+use Rattle.lockword_core.specs.LockState.{owed_part}
+use Rattle.lockword_core.specs.Transition.{signal_outcome, wake_outcome}
+use Rattle.lockword_core.specs.WordStep.{TellsTransition}
 use Rattle.lockword_core.proofs.CountLemmas.{count-nil, changes-insert}
 use Rattle.lockword_core.proofs.BalanceLemmas as laws
 use Rattle.lockword_core.proofs.BalanceLemmas.{IsBalanced}
@@ -56,7 +49,8 @@ pay_keeps : (d : Dir) (r w : ℕ) (c : Census) (n : ℕ) → IsBalanced c n → 
     → Keeps c (stake.Closing r w) n (signal_outcome d c (stake_after_signal d (stake.Closing r w)))
 pay_keeps d r w c n b owes =
     by_test (signals_in d c.signals == MAX_SIGNALS) (Keeps c (stake.Closing r w) n) _ _ (λ _. tt)
-    (λ room stakes one. laws.pay_keeps c stakes n b d r w one (some_owed (owed_part d r w) owes) (other_numbers _ _ room))
+    (λ room stakes one. laws.pay_keeps c stakes n b d r w one (some_owed (owed_part d r w) owes)
+    (other_numbers _ _ room))
   where
     some_owed : (k : ℕ) → nat_lt 0 k ≡ true → 0 < k
     some_owed k e = grind (arith, nat_tests)
@@ -123,7 +117,8 @@ by_op c own op.Decref good counted may =
 by_op c own (op.Lock d) good counted may =
     word_consistent c own (kind.Lock d) _ _ (step_is c own (kind.Lock d) (encoded c) (balance_of c good) counted may)
 by_op c own (op.Unlock d) good counted may =
-    word_consistent c own (kind.Unlock d) _ _ (step_is c own (kind.Unlock d) (encoded c) (balance_of c good) counted may)
+    word_consistent c own (kind.Unlock d) _ _
+    (step_is c own (kind.Unlock d) (encoded c) (balance_of c good) counted may)
 by_op c own op.Close good counted may =
     word_consistent c own kind.Close _ _ (step_is c own kind.Close (encoded c) (balance_of c good) counted may)
 by_op c own (op.Signal d) good counted may =
@@ -140,7 +135,8 @@ stays_consistent c own o good counted = by (allows own o) refl
     by : (t : Bool) → allows own o ≡ t → KeepsConsistent c own (outcome c own o)
     by true e = by_op c own o good counted e
     by false e =
-        subst (λ (x : Outcome). KeepsConsistent c own x) (sym (pick_else (allows own o) (allowed_outcome c own o) (refused answer.Misuse) e)) tt
+        subst (λ (x : Outcome). KeepsConsistent c own x)
+        (sym (pick_else (allows own o) (allowed_outcome c own o) (refused answer.Misuse) e)) tt
 
 -- ---- The names stay in order
 
@@ -168,7 +164,8 @@ all_inserted x k v [] below above = (is_less x k below, tt)
 all_inserted x k v (e ∷ es) below above = by_order (nat_cmp k e.0) (all_inserted x k v es below above.1)
   where
     by_order : (o : Ordering) → AllByRecursion (λ y. nat_cmp x y ≡ Less) (keys_of (insert_entry nat_cmp es k v))
-        → AllByRecursion (λ y. nat_cmp x y ≡ Less) (keys_of (match_ordering o ((k, v) ∷ e ∷ es) ((e.0, v) ∷ es) (e ∷ insert_entry nat_cmp es k v)))
+        → AllByRecursion (λ y. nat_cmp x y ≡ Less)
+        (keys_of (match_ordering o ((k, v) ∷ e ∷ es) ((e.0, v) ∷ es) (e ∷ insert_entry nat_cmp es k v)))
     by_order Less rest = (is_less x k below, above)
     by_order Equal rest = above
     by_order Greater rest = (above.0, rest)
@@ -180,7 +177,8 @@ sorted-insert k v [] sorted = (tt, tt)
 sorted-insert k v (e ∷ es) sorted = by_order (nat_cmp k e.0) refl (sorted-insert k v es sorted.1)
   where
     by_order : (o : Ordering) → nat_cmp k e.0 ≡ o → IsStrictlySortedBy nat_cmp (keys_of (insert_entry nat_cmp es k v))
-        → IsStrictlySortedBy nat_cmp (keys_of (match_ordering o ((k, v) ∷ e ∷ es) ((e.0, v) ∷ es) (e ∷ insert_entry nat_cmp es k v)))
+        → IsStrictlySortedBy nat_cmp
+        (keys_of (match_ordering o ((k, v) ∷ e ∷ es) ((e.0, v) ∷ es) (e ∷ insert_entry nat_cmp es k v)))
     by_order Less h rest = ((h, all_above k e.0 (keys_of es) (less k e.0 h) sorted.0), sorted)
     by_order Equal h rest = sorted
     by_order Greater h rest = (all_inserted e.0 k v es (greater k e.0 h) sorted.0, rest)
@@ -194,7 +192,8 @@ counted_in state holder good =
     record { at_least = λ what. let before = one.counted_before what in omega arith }
 
 pub census-change : (state : LockState) (holder : ℕ) (own : Stake) (change : Change)
-    → census (with_change (with_stake state holder own) holder change) ≡ changed (census state) (values_of (insert_entry nat_cmp state.holders holder own)) change
+    → census (with_change (with_stake state holder own) holder change)
+    ≡ changed (census state) (values_of (insert_entry nat_cmp state.holders holder own)) change
 census-change state holder own nothing = refl
 census-change state holder own closes = refl
 census-change state holder own (adds_signal d) = refl
@@ -214,8 +213,11 @@ carried_consistent : (state : LockState) (holder : ℕ) (o : Outcome) → IsCons
 carried_consistent state holder (refused a) good keeps = good
 carried_consistent state holder (moved a new change) good keeps =
     record {
-      names = rw (names-change (with_stake state holder new) holder change) (sorted-insert holder new state.holders good.names);
-      counts = rw (census-change state holder new change) (keeps (values_of (insert_entry nat_cmp state.holders holder new)) (changes-insert state.holders holder new good.names));
+      names = rw (names-change (with_stake state holder new) holder change)
+          (sorted-insert holder new state.holders good.names);
+      counts = rw (census-change state holder new change)
+          (keeps (values_of (insert_entry nat_cmp state.holders holder new))
+          (changes-insert state.holders holder new good.names));
     }
 
 -- every transition leads from a consistent state to a consistent one
@@ -227,7 +229,18 @@ transition_consistent state holder o good =
 
 empty-balance : IsBalanced (census empty) 0
 empty-balance =
-    omega (arith, count-nil references, count-nil (locks Read), count-nil (locks Write), count-nil (queued Read), count-nil (queued Write), count-nil (owed Read), count-nil (owed Write), count-nil closers, count-nil lasts)
+    omega (
+      arith,
+      count-nil references,
+      count-nil (locks Read),
+      count-nil (locks Write),
+      count-nil (queued Read),
+      count-nil (queued Write),
+      count-nil (owed Read),
+      count-nil (owed Write),
+      count-nil closers,
+      count-nil lasts,
+    )
 
 pub empty-word : 0 ≡ encoded (census empty)
 empty-word = encoded_of (census empty) 0 empty-balance
@@ -244,9 +257,11 @@ tells_carried : (state : LockState) (holder : ℕ) (k : Kind) (o : Outcome) (r :
 tells_carried state holder k o (Err e) good same = ap (carried_out state holder) same
 tells_carried state holder k o (Ok (n, gain)) good (change, same, word) =
     let new : Stake = (gained k gain).1 in
-    let next : TellsTransition state k (carried_out state holder (moved (gained k gain).0 new change)) (Ok (n, gain)) = (
+    let next : TellsTransition state k (carried_out state holder (moved (gained k gain).0 new change))
+    (Ok (n, gain)) = (
       refl,
-      word (values_of (insert_entry nat_cmp state.holders holder new)) (changes-insert state.holders holder new good.names)
+      word (values_of (insert_entry nat_cmp state.holders holder new))
+          (changes-insert state.holders holder new good.names)
           ∙ ap encoded (sym (census-change state holder new change)),
     ) in
     subst (λ (x : Outcome). TellsTransition state k (carried_out state holder x) (Ok (n, gain))) (sym same) next

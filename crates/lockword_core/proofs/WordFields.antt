@@ -1,12 +1,11 @@
 -- The packed word by its six fields: it has one reading.
-use Rattle.std.proofs.Common.{◌≡◌, ◌≢◌, ℕ, ◌+◌, ◌-◌, ◌%◌, ◌≤◌, ◌<◌, ◌∙◌, Bool, true, false, refl, sym, ap, arith}
-use Rattle.std.specs.Prelude.{◌==◌, not}
-use Rattle.stream_base.specs.declared.direction.Dir.{Dir}
-use Rattle.stream_base.specs.declared.direction.Dir.TheVariants.{Read, Write}
-use Rattle.lockword_core.specs.declared.word.Word.{Word}
-use Rattle.lockword_core.specs.declared.word.TheConstants.{CLOSED, READ_LOCK, REFERENCE, READ_WAITER, NO_WORD}
-use Rattle.lockword_core.specs.Word.{bit, IsWord, packed, lock_unit, waiter_unit, lock_in, references_in, waiters_in}
-use Rattle.lockword_core.specs.FieldStep.{lock_of, waiters_of, with_lock, with_waiters, fields_in}
+use Rattle.std.proofs.Common.{◌≡◌, ◌≢◌, ◌+◌, ◌-◌, ◌%◌, ◌≤◌, ◌<◌, ◌∙◌}
+use Rattle.std.specs.Prelude.{◌==◌}
+use Rattle.lockword_core.proofs.Words.{ℕ, Bool, true, false, refl, sym, ap, arith, not, Dir, Read, Write, Word, CLOSED}
+use Rattle.lockword_core.proofs.Words.{NO_WORD, bit, IsWord, packed, waiters_in, lock_of, waiters_of, fields_in}
+use Rattle.lockword_core.specs.declared.word.TheConstants.{READ_LOCK, REFERENCE, READ_WAITER}
+use Rattle.lockword_core.specs.Word.{lock_unit, waiter_unit, lock_in, references_in}
+use Rattle.lockword_core.specs.FieldStep.{with_lock, with_waiters}
 use Rattle.lockword_core.proofs.InvariantPreserved.{bit-le}
 use Rattle.lockword_core.proofs.FieldSteps.{same_numbers, other_numbers}
 
@@ -91,11 +90,13 @@ unlocked_sum Read f n e locked some = let one : bit f.rlock ≡ 1 = ap bit locke
 unlocked_sum Write f n e locked some = let one : bit f.wlock ≡ 1 = ap bit locked in omega arith
 
 pub owing_sum : (d : Dir) (f : Word) (n : ℕ) → packed f ≡ n → lock_of d f ≡ true → f.refs ≢ 0 → waiters_of d f ≢ 0
-    → n - REFERENCE - lock_unit d - waiter_unit d ≡ packed (with_lock d false (f.refs - 1) (with_waiters d (waiters_of d f - 1) f))
+    → n - REFERENCE - lock_unit d - waiter_unit d
+    ≡ packed (with_lock d false (f.refs - 1) (with_waiters d (waiters_of d f - 1) f))
 owing_sum Read f n e locked some waits = let one : bit f.rlock ≡ 1 = ap bit locked in omega arith
 owing_sum Write f n e locked some waits = let one : bit f.wlock ≡ 1 = ap bit locked in omega arith
 
 pub close_sum : (f : Word) (n : ℕ) → IsWord f → packed f ≡ n → bit f.closed ≡ 0 → waiters_in Read n ≡ f.rwait
     → waiters_in Write n ≡ f.wwait
-    → n % READ_WAITER + REFERENCE + CLOSED ≡ packed (record f { closed = true; refs = f.refs + 1; rwait = 0; wwait = 0 })
+    → n % READ_WAITER + REFERENCE + CLOSED
+    ≡ packed (record f { closed = true; refs = f.refs + 1; rwait = 0; wwait = 0 })
 close_sum f n fits e flag readers writers = let b = bit-le f.rlock in let c = bit-le f.wlock in omega arith

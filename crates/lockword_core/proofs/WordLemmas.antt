@@ -1,16 +1,11 @@
 -- What a step leaves is a word, and it changes the fields that it names.
-use Rattle.std.proofs.Common.{◌≡◌, ℕ, ◌<◌, ap, subst, refl, arith, sym}
-use Rattle.std.specs.Prelude.{Result, Ok, Err, IfOk}
-use Rattle.stream_base.specs.declared.direction.Dir.TheVariants.{Read, Write}
-use Rattle.lockword_core.specs.declared.word.Word.{Word}
-use Rattle.lockword_core.specs.declared.word.TheConstants.{NO_WORD}
-use Rattle.lockword_core.specs.declared.transition.Kind.{Kind}
+use Rattle.std.proofs.Common.{◌≡◌, ◌<◌}
+use Rattle.std.specs.Prelude.{Result, Ok, IfOk}
+use Rattle.lockword_core.proofs.Words.{ℕ, ap, subst, refl, arith, sym, Err, Read, Write, Word, NO_WORD, Kind, After}
+use Rattle.lockword_core.proofs.Words.{Refused, IsWord, packed, fields_after, field_step, fields_in, stepped_word}
 use Rattle.lockword_core.specs.declared.transition.Kind.TheVariants as kind
-use Rattle.lockword_core.specs.declared.transition.After.{After}
 use Rattle.lockword_core.specs.declared.transition.After.TheVariants as after
-use Rattle.lockword_core.specs.declared.transition.Refused.{Refused}
-use Rattle.lockword_core.specs.Word.{IsWord, packed}
-use Rattle.lockword_core.specs.FieldStep.{fields_after, field_step, packed_result, fields_in, stepped_word}
+use Rattle.lockword_core.specs.FieldStep.{packed_result}
 use Rattle.lockword_core.proofs.FieldSteps.{Shows, Stepped, stepped}
 use Rattle.lockword_core.proofs.WordFields.{reads_fields, unpacks, fields_fit}
 

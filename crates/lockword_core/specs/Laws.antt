@@ -7,7 +7,8 @@ use Rattle.lockword_core.specs.declared.stake.Op.{Op}
 use Rattle.lockword_core.specs.declared.stake.Answer.{Answer}
 use Rattle.lockword_core.specs.declared.stake.Answer.TheVariants as answer
 use Rattle.lockword_core.specs.Word.{bit}
-use Rattle.lockword_core.specs.LockState.{LockState, empty, census, references, locks, number, pending}
+use Rattle.lockword_core.specs.LockState.{LockState, empty, census, references, locks, number}
+use Rattle.lockword_core.specs.LockState.{pending}
 use Rattle.lockword_core.specs.Transition.{transition}
 use Rattle.lockword_core.specs.Replay.{state_after}
 

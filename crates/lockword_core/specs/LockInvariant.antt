@@ -10,7 +10,9 @@ use Rattle.lockword_core.specs.declared.word.TheConstants.{MAX_REFERENCES, MAX_W
 use Rattle.lockword_core.specs.declared.signals.TheConstants.{MAX_SIGNALS}
 use Rattle.lockword_core.specs.Signals.{signals_in}
 use Rattle.lockword_core.specs.Word.{bit}
-use Rattle.lockword_core.specs.LockState.{LockState, Census, census, Counted, references, locks, queued, owed, closers, lasts, part, count, number, pending}
+use Rattle.lockword_core.specs.LockState.{LockState, Census, census, Counted, references, locks}
+use Rattle.lockword_core.specs.LockState.{queued, owed, closers, lasts, part, count, number}
+use Rattle.lockword_core.specs.LockState.{pending}
 
 -- what holds of one direction
 pub record IsConsistentWay (c : Census) (d : Dir) : Type 0 where
@@ -39,7 +41,8 @@ pub record IsConsistent (state : LockState) : Type 0 where
   pub counts : IsConsistentCensus (census state)
 
 -- one holder's stake changes from `old` to `new`, and `others` is what all others add to each count
-pub record ChangesOneStake (before : List Stake) (old : Stake) (after : List Stake) (new : Stake) : Type 0 where
+pub record ChangesOneStake (before : List Stake) (old : Stake) (after : List Stake)
+    (new : Stake) : Type 0 where
   pub others : Counted → ℕ
   pub counted_before : (what : Counted) → count what before ≡ part what old + others what
   pub counted_after : (what : Counted) → count what after ≡ part what new + others what

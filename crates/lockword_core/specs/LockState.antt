@@ -1,6 +1,7 @@
 -- The abstract state of a lock word: which holder has which stake. There is no word in it; the word
 -- is what the counts over the stakes give.
-use Rattle.std.specs.Prelude.{◌+◌, ◌-◌, ◌*◌, ℕ, Bool, true, false, List, [], Option, None, is_some, unwrap_or, sum_by}
+use Rattle.std.specs.Prelude.{◌+◌, ◌-◌, ◌*◌, ℕ, Bool, true, false, List, [], Option, None, is_some}
+use Rattle.std.specs.Prelude.{unwrap_or, sum_by}
 use Rattle.std.specs.Ordering.{nat_cmp}
 use Rattle.std.specs.Map.{lookup, values_of}
 use Rattle.std.specs.BTreeMap.{is_at}
@@ -9,7 +10,8 @@ use Rattle.stream_base.specs.declared.direction.Dir.TheVariants.{Read, Write}
 use Rattle.lockword_core.specs.declared.stake.Stake.{Stake}
 use Rattle.lockword_core.specs.declared.stake.Stake.TheVariants as stake
 use Rattle.lockword_core.specs.declared.signals.Signals.{Signals}
-use Rattle.lockword_core.specs.declared.word.TheConstants.{CLOSED, READ_LOCK, WRITE_LOCK, REFERENCE, READ_WAITER, WRITE_WAITER}
+use Rattle.lockword_core.specs.declared.word.TheConstants.{CLOSED, READ_LOCK, WRITE_LOCK, REFERENCE}
+use Rattle.lockword_core.specs.declared.word.TheConstants.{READ_WAITER, WRITE_WAITER}
 use Rattle.lockword_core.specs.Signals.{signals_in}
 use Rattle.lockword_core.specs.Word.{bit}
 
@@ -24,7 +26,12 @@ pub record LockState : Type 0 where
 -- the state before anything happened
 abbrev pub empty : LockState
 empty =
-    record { holders = []; closed = false; signals = record { read = 0; write = 0 }; destroyed_by = None }
+    record {
+      holders = [];
+      closed = false;
+      signals = record { read = 0; write = 0 };
+      destroyed_by = None;
+    }
 
 -- what this holder has
 abbrev pub stake_of : LockState → ℕ → Stake
@@ -98,4 +105,5 @@ pending d c = number (queued d) c - (number (owed d) c + signals_in d c.signals)
 abbrev pub encoded : Census → ℕ
 encoded c =
     CLOSED * bit c.closed + READ_LOCK * number (locks Read) c + WRITE_LOCK * number (locks Write) c
-    + REFERENCE * number references c + READ_WAITER * pending Read c + WRITE_WAITER * pending Write c
+    + REFERENCE * number references c + READ_WAITER * pending Read c
+    + WRITE_WAITER * pending Write c

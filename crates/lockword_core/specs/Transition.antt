@@ -1,5 +1,6 @@
 -- What one operation of one holder answers and changes.
-use Rattle.std.specs.Prelude.{◌==◌, nat_lt, ◌+◌, ◌-◌, ℕ, Bool, true, false, ◌&&◌, List, Some, if◌then◌else◌}
+use Rattle.std.specs.Prelude.{◌==◌, nat_lt, ◌+◌, ◌-◌, ℕ, Bool, true, false, ◌&&◌, List, Some}
+use Rattle.std.specs.Prelude.{if◌then◌else◌}
 use Rattle.std.specs.Ordering.{nat_cmp}
 use Rattle.std.specs.BTreeMap.{insert_entry}
 use Rattle.stream_base.specs.declared.direction.Dir.{Dir}
@@ -13,7 +14,8 @@ use Rattle.lockword_core.specs.declared.stake.Answer.TheVariants as answer
 use Rattle.lockword_core.specs.declared.word.TheConstants.{MAX_REFERENCES, MAX_WAITERS}
 use Rattle.lockword_core.specs.declared.signals.TheConstants.{MAX_SIGNALS}
 use Rattle.lockword_core.specs.Signals.{signals_in, with_signals}
-use Rattle.lockword_core.specs.LockState.{LockState, Census, census, stake_of, references, locks, number, pending, is_same, owed_part}
+use Rattle.lockword_core.specs.LockState.{LockState, Census, census, stake_of, references, locks}
+use Rattle.lockword_core.specs.LockState.{number, pending, is_same, owed_part}
 
 -- the stake lets its holder ask this; any other operation is a misuse
 abbrev pub allows : Stake → Op → Bool

@@ -3,7 +3,9 @@ use Rattle.std.specs.Prelude.{◌==◌, ◌≤◌, ◌+◌, ◌*◌, ◌/◌, �
 use Rattle.stream_base.specs.declared.direction.Dir.{Dir}
 use Rattle.stream_base.specs.declared.direction.Dir.TheVariants.{Read, Write}
 use Rattle.lockword_core.specs.declared.word.Word.{Word}
-use Rattle.lockword_core.specs.declared.word.TheConstants.{CLOSED, READ_LOCK, WRITE_LOCK, REFERENCE, READ_WAITER, WRITE_WAITER, MAX_REFERENCES, MAX_WAITERS}
+use Rattle.lockword_core.specs.declared.word.TheConstants.{CLOSED, READ_LOCK, WRITE_LOCK, REFERENCE}
+use Rattle.lockword_core.specs.declared.word.TheConstants.{READ_WAITER, WRITE_WAITER}
+use Rattle.lockword_core.specs.declared.word.TheConstants.{MAX_REFERENCES, MAX_WAITERS}
 
 -- a bit as a number
 abbrev pub bit : Bool → ℕ

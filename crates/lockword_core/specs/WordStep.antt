@@ -50,7 +50,8 @@ abbrev pub Tells : Census → Stake → Kind → Outcome → Result (ℕ × Afte
 Tells c own k o (Err e) = o ≡ refused (refusal_of e)
 Tells c own k o (Ok (word, after)) =
     (change : Change) × (o ≡ moved (gained k after).0 (gained k after).1 change)
-    × ((stakes : List Stake) → ChangesOneStake c.stakes own stakes (gained k after).1 → word ≡ encoded (changed c stakes change))
+    × ((stakes : List Stake) → ChangesOneStake c.stakes own stakes (gained k after).1
+    → word ≡ encoded (changed c stakes change))
 
 -- the result is this transition from the state: its refusal, which changes nothing, or its answer
 -- with its word

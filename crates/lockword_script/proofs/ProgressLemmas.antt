@@ -1,7 +1,7 @@
 -- Bytes, and how far they bring a run.
-use Rattle.std.specs.Prelude.{◌≡◌, ◌≢◌, ◌+◌, ◌*◌, ◌≤◌, ◌<◌, ◌∷◌, ◌++◌, ◌⊎◌}
+use Rattle.std.specs.Prelude.{◌≡◌, ◌+◌, ◌*◌, ◌≤◌, ◌<◌, ◌∷◌, ◌++◌, ◌⊎◌}
 use Rattle.lockword_script.proofs.Words.{◌∙◌, sym, ap, refl, subst, ℕ, List, []}
-use Rattle.lockword_script.proofs.Words.{length, arith, inl, inr, append_assoc, length-append, append-nil}
+use Rattle.lockword_script.proofs.Words.{length, arith, inr, append_assoc, length-append, append-nil}
 use Rattle.lockword_script.proofs.Words.{Reading, EndsLines, Lacks, line_feed, lines_of, HasLongFirstLine, ends_none}
 use Rattle.lockword_script.proofs.Words.{ends_then, lines_of-empty, lines_of-last_line, LineEnds, LineGrows, Op}
 use Rattle.lockword_script.proofs.Words.{LockState, state_after, MAX_LINES, MAX_LINE_BYTES, Says, IsBadLine, events_of}

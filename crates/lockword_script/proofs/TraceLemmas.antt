@@ -1,7 +1,7 @@
 -- What is known of the script and of the text, one chunk after the other.
-use Rattle.std.specs.Prelude.{◌≡◌, ◌≤◌, ◌<◌, ◌++◌}
+use Rattle.std.specs.Prelude.{◌≡◌, ◌++◌}
 use Rattle.lockword_script.proofs.Words.{◌∙◌, sym, ap, refl, subst, ℕ, List, [], length, take}
-use Rattle.lockword_script.proofs.Words.{drop, Option, None, Some, Result, Ok, Err, append_assoc, arith, length-take}
+use Rattle.lockword_script.proofs.Words.{drop, Option, None, Some, Result, Ok, Err, append_assoc, arith}
 use Rattle.lockword_script.proofs.Words.{IfSome, IfNone, IfOk, OnErr, Appends, Consumes, Keeps, IsAtEnd, append-nil}
 use Rattle.lockword_script.proofs.Words.{take-append-drop, AppendsFront, ended_lines, lines_of, appends_nothing}
 use Rattle.lockword_script.proofs.Words.{appends_then_appends, appends_then_keeps, consumes_nothing}

@@ -12,7 +12,6 @@ macro_rules! want {
 
 mod answers;
 mod close_under_load;
-mod crew;
 mod halves;
 mod limit;
 mod lock_rows;
@@ -22,6 +21,7 @@ mod references;
 mod threads;
 mod waiter_limit;
 mod waits;
+mod workers;
 
 ghost use Rattle.std.specs.Prelude.{◌≡◌};
 ghost use Rattle.stream_base.specs.declared.direction.Dir.TheVariants.{Read, Write};

@@ -5,8 +5,8 @@ ghost use Rattle.fdmutex.specs.Refusal.{IsFreedOf};
 ghost use Rattle.lockword.specs.Places.{seat_place};
 ghost use Rattle.lockword.specs.TransitionOutcomes.{IsSeatOf};
 
-use super::crew::{Part, all_play, wait_for};
 use super::threads::add_slowly;
+use super::workers::{Worker, all_work, wait_for};
 use super::{CounterSeat, Counters, closed, destroy};
 use fdmutex::{Freed, Refusal, drop_closing, read_lock, read_unlock, write_lock, write_unlock};
 use lockword::LockWord;
@@ -137,8 +137,8 @@ enum Role {
     Closes(u64),
 }
 
-impl<R: Wait + Abort + Clock> Part<R, Tally> for Role {
-    fn play(&self, rt: &R, word: &Counters, seat: CounterSeat, tally: &Tally) {
+impl<R: Wait + Abort + Clock> Worker<R, Tally> for Role {
+    fn work(&self, rt: &R, word: &Counters, seat: CounterSeat, tally: &Tally) {
         match *self {
             Role::Adds(dir) => add_until_closed(rt, word, seat, dir, tally),
             Role::Closes(turns) => close_after(rt, word, seat, turns, tally),
@@ -189,7 +189,7 @@ fn round<R: Threads + Wait + Abort + Clock + Sync>(
     let (word, seat) = LockWord::new(alloc, 0u64, 0u64)?;
     let (mut spare, seat) = word.split(seat);
     let tally = Tally::new();
-    all_play(rt, &word, seat, &roles(turns), &tally);
+    all_work(rt, &word, seat, &roles(turns), &tally);
     conserved(rt, &tally, turns);
     assert_eq!(rt;
         pack(word.look(&mut spare)),

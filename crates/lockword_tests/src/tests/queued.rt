@@ -5,7 +5,7 @@ ghost use Rattle.lockword.specs.Places.{seat_place};
 ghost use Rattle.lockword.specs.TransitionOutcomes.{IsSeatOf};
 
 use super::answers::refused;
-use super::crew::{Part, all_play, wait_for};
+use super::workers::{Worker, all_work, wait_for};
 use super::{CounterSeat, Counters, closed, kept, leave, reading, shows, writing};
 use fdmutex::{Freed, Refusal, drop_closing, read_lock, read_unlock, write_lock, write_unlock};
 use lockword::LockWord;
@@ -128,8 +128,8 @@ const ROLES: [Role; 9] = [
     Role::Closes,
 ];
 
-impl<R: Wait + Abort + Clock> Part<R, Tally> for Role {
-    fn play(&self, rt: &R, word: &Counters, seat: CounterSeat, tally: &Tally) {
+impl<R: Wait + Abort + Clock> Worker<R, Tally> for Role {
+    fn work(&self, rt: &R, word: &Counters, seat: CounterSeat, tally: &Tally) {
         match *self {
             Role::Holds(dir) => leave(word, hold(rt, word, seat, dir, tally), &tally.lasts),
             Role::Queues(dir) => queue(rt, word, seat, dir, tally),
@@ -148,7 +148,7 @@ fn every_queued_waiter_of_a_closed_word_ends_as_closed(rt: HostRuntime) -> Resul
         released: AtomicU64::new(0),
         lasts: AtomicU64::new(0),
     };
-    all_play(&rt, &word, seat, &ROLES, &tally);
+    all_work(&rt, &word, seat, &ROLES, &tally);
     assert_eq!(rt; tally.refused.load(Ordering::SeqCst), 6, "each waiter once");
     assert_eq!(rt; tally.lasts.load(Ordering::SeqCst), 1, "exactly one last");
     shows(&rt, &word, &mut spare, 1, "the flag and nothing else");

@@ -3,7 +3,7 @@
 ghost use Rattle.lockword.specs.Places.{seat_place};
 ghost use Rattle.lockword.specs.TransitionOutcomes.{IsSeatOf};
 
-use super::crew::{Part, all_play, wait_for};
+use super::workers::{Worker, all_work, wait_for};
 use super::{CounterSeat, Counters, closed, kept, leave, reference, shows};
 use fdmutex::{decref, drop_closing};
 use lockword::LockWord;
@@ -27,8 +27,8 @@ fn take_and_give<R: Wait + Abort>(rt: &R, word: &Counters, seat: CounterSeat)
 #[derive(Clone, Copy)]
 struct TakesAndGives;
 
-impl<R: Wait + Abort> Part<R, ()> for TakesAndGives {
-    fn play(&self, rt: &R, word: &Counters, seat: CounterSeat, _tally: &()) {
+impl<R: Wait + Abort> Worker<R, ()> for TakesAndGives {
+    fn work(&self, rt: &R, word: &Counters, seat: CounterSeat, _tally: &()) {
         take_and_give(rt, word, seat);
     }
 }
@@ -37,7 +37,7 @@ impl<R: Wait + Abort> Part<R, ()> for TakesAndGives {
 fn eight_threads_take_and_give_back_a_thousand_references(rt: HostRuntime) -> Result<(), Fail> {
     let (word, seat) = LockWord::new(rt.alloc(), 1u64, 2u64)?;
     let (mut spare, seat) = word.split(seat);
-    all_play(&rt, &word, seat, &[TakesAndGives; 8], &());
+    all_work(&rt, &word, seat, &[TakesAndGives; 8], &());
     shows(&rt, &word, &mut spare, 0, "all fields are 0 at the end");
     Ok(())
 }
@@ -96,8 +96,8 @@ enum Role {
     HoldsAndCloses,
 }
 
-impl<R: Wait + Abort + Clock> Part<R, Tally> for Role {
-    fn play(&self, rt: &R, word: &Counters, seat: CounterSeat, tally: &Tally) {
+impl<R: Wait + Abort + Clock> Worker<R, Tally> for Role {
+    fn work(&self, rt: &R, word: &Counters, seat: CounterSeat, tally: &Tally) {
         match *self {
             Role::Holds => hold(rt, word, seat, tally),
             Role::Closes => close_when_held(rt, word, seat, tally),
@@ -121,7 +121,7 @@ fn all_end_in_one_last<R: Threads + Wait + Abort + Clock + Sync>(
         closed: AtomicU64::new(0),
         lasts: AtomicU64::new(0),
     };
-    all_play(rt, word, seat, roles, &tally);
+    all_work(rt, word, seat, roles, &tally);
     assert_eq!(rt; tally.lasts.load(Ordering::SeqCst), 1, "exactly one last");
     shows(rt, word, &mut spare, 1, "the flag and nothing else");
     assert!(rt; word.is_done(&mut spare), "destroyed");

@@ -3,7 +3,7 @@
 ghost use Rattle.lockword.specs.Places.{seat_place};
 ghost use Rattle.lockword.specs.TransitionOutcomes.{IsSeatOf};
 
-use super::crew::{Part, all_play};
+use super::workers::{Worker, all_work};
 use super::{CounterSeat, Counters, closed, destroyed, kept, reading, writing};
 use fdmutex::{drop_closing, read_unlock, write_unlock};
 use lockword::LockWord;
@@ -56,8 +56,8 @@ fn add_a_thousand<R: Wait + Abort>(rt: &R, word: &Counters, seat: CounterSeat, d
 #[derive(Clone, Copy)]
 struct Adds(Dir);
 
-impl<R: Wait + Abort> Part<R, ()> for Adds {
-    fn play(&self, rt: &R, word: &Counters, seat: CounterSeat, _tally: &()) {
+impl<R: Wait + Abort> Worker<R, ()> for Adds {
+    fn work(&self, rt: &R, word: &Counters, seat: CounterSeat, _tally: &()) {
         add_a_thousand(rt, word, seat, self.0);
     }
 }
@@ -70,7 +70,7 @@ fn halves_after<R: Threads + Wait + Abort + Clock + Sync>(
 ) -> Result<(u64, u64), Fail> {
     let (word, seat) = LockWord::new(alloc, 0u64, 0u64)?;
     let (spare, seat) = word.split(seat);
-    all_play(rt, &word, seat, ways, &());
+    all_work(rt, &word, seat, ways, &());
     let closing = closed(rt, &word, spare);
     Ok(destroyed(rt, &word, drop_closing(&word, closing)))
 }

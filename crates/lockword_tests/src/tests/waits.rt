@@ -3,7 +3,7 @@
 ghost use Rattle.lockword.specs.Places.{seat_place};
 ghost use Rattle.lockword.specs.TransitionOutcomes.{IsSeatOf};
 
-use super::crew::{Part, all_play};
+use super::workers::{Worker, all_work};
 use super::{CounterSeat, Counters, closed, destroy, wrong};
 use fdmutex::{Freed, drop_closing, wait_done};
 use lockword::LockWord;
@@ -34,8 +34,8 @@ enum Role {
     Destroys,
 }
 
-impl<R: Wait + Abort + Clock> Part<R, AtomicU64> for Role {
-    fn play(&self, rt: &R, word: &Counters, seat: CounterSeat, woken: &AtomicU64) {
+impl<R: Wait + Abort + Clock> Worker<R, AtomicU64> for Role {
+    fn work(&self, rt: &R, word: &Counters, seat: CounterSeat, woken: &AtomicU64) {
         match *self {
             Role::Waits => {
                 let _seat = wait_done(rt, word, seat);
@@ -52,7 +52,7 @@ fn all_who_wait_for_the_end_are_woken(rt: HostRuntime) -> Result<(), Fail> {
     let woken = AtomicU64::new(0);
     let mut roles = [Role::Waits; 5];
     roles[4] = Role::Destroys;
-    all_play(&rt, &word, seat, &roles, &woken);
+    all_work(&rt, &word, seat, &roles, &woken);
     assert_eq!(rt;
         woken.load(Ordering::SeqCst),
         4,

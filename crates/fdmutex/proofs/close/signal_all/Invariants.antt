@@ -6,4 +6,5 @@ use Rattle.lockword.specs.Places.{closing_place, owed_by}
 use Rattle.fdmutex.proofs.close.signal_all.Given as goal
 
 abbrev pub invariant-loop : goal.invariant-loop
-invariant-loop g l = SameMarks (closing_place l.initial.closing) (closing_place l.closing) × ((d : Dir) → is_same l.initial.dir d ≡ false → owed_by l.closing d ≡ owed_by l.initial.closing d)
+invariant-loop g l = SameMarks (closing_place l.initial.closing) (closing_place l.closing)
+    × ((d : Dir) → is_same l.initial.dir d ≡ false → owed_by l.closing d ≡ owed_by l.initial.closing d)

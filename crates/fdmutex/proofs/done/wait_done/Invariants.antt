@@ -4,4 +4,5 @@ use Rattle.lockword.specs.Places.{seat_place}
 use Rattle.fdmutex.proofs.done.wait_done.Given as goal
 
 abbrev pub invariant-loop : goal.invariant-loop
-invariant-loop g l = (word_of (seat_place l.seat) ≡ word_of (seat_place l.initial.seat)) × (saw_closed (seat_place l.seat) ≡ saw_closed (seat_place l.initial.seat))
+invariant-loop g l = (word_of (seat_place l.seat) ≡ word_of (seat_place l.initial.seat))
+    × (saw_closed (seat_place l.seat) ≡ saw_closed (seat_place l.initial.seat))

@@ -1,4 +1,5 @@
-use Rattle.lockword_core.proofs.LawLemmas.{done_once, last_once, destroyer_returned}
+use Rattle.lockword_core.proofs.EndCounts.{done_once, last_once}
+use Rattle.lockword_core.proofs.EndHolders.{destroyer_returned}
 use Rattle.lockword_core.proofs.laws.the_last_return_destroys_once.Goals as goal
 
 pub returns-clause-done_once : goal.returns-clause-done_once

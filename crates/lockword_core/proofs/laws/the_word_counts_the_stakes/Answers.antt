@@ -1,8 +1,7 @@
-use Rattle.lockword_core.specs.LockState.{empty, census}
-use Rattle.lockword_core.specs.Replay.{state_after}
+use Rattle.lockword_core.proofs.Words.{empty, census, state_after}
 use Rattle.lockword_core.proofs.InvariantPreserved.{encoded-small}
 use Rattle.lockword_core.proofs.ReplayLemmas.{always_consistent}
-use Rattle.lockword_core.proofs.LawLemmas.{counts_stakes, one_lock}
+use Rattle.lockword_core.proofs.WordLaws.{counts_stakes, one_lock}
 use Rattle.lockword_core.proofs.laws.the_word_counts_the_stakes.Goals as goal
 
 pub returns-clause-is_word : goal.returns-clause-is_word

@@ -1,6 +1,4 @@
-use Rattle.std.proofs.Common.{rules, subst, sym, ap}
-use Rattle.lockword.specs.declared.local_view.LocalView.{LocalView}
-use Rattle.lockword.specs.Moment.{IsFound}
+use Rattle.lockword.proofs.Words.{rules, subst, sym, ap, LocalView, IsFound}
 use Rattle.lockword.proofs.WordTests.{shown}
 use Rattle.lockword.proofs.LookSteps.{looks}
 use Rattle.lockword.proofs.holders.LockWord.look_at.Goals as goal
@@ -13,7 +11,8 @@ returns-clause-looks g c =
     let told = c.load.ensures.2.0 in
     record {
       shown = shown g.row.R.Denot g.row.W.Denot c.load.result c.fields_of.result c.load.new.seat.me.0
-          (subst (λ (v : LocalView). IsFound g.row.R.Denot g.row.W.Denot c.load.result v) (sym (ap (λ m. m.0) c.load.ensures.2.1)) told.found) c.fields_of.ensures.fits c.fields_of.ensures.same;
+          (subst (λ (v : LocalView). IsFound g.row.R.Denot g.row.W.Denot c.load.result v)
+          (sym (ap (λ m. m.0) c.load.ensures.2.1)) told.found) c.fields_of.ensures.fits c.fields_of.ensures.same;
       same_deeds = search rules;
       is_word = search rules;
       same_word = search rules;

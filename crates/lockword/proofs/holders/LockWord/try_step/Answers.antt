@@ -1,8 +1,6 @@
-use Rattle.std.proofs.Common.{rules, ◌≡◌, ◌∙◌, sym, ap, subst, Ok, Err, true}
+use Rattle.std.proofs.Common.{◌≡◌, ◌∙◌, Err}
+use Rattle.lockword.proofs.Words.{rules, sym, ap, subst, Ok, true, allows, op_of, stepped_word}
 use Rattle.lockword_core.specs.declared.transition.Refused.TheVariants as why
-use Rattle.lockword_core.specs.Transition.{allows}
-use Rattle.lockword_core.specs.WordStep.{op_of}
-use Rattle.lockword_core.specs.FieldStep.{stepped_word}
 use Rattle.lockword.specs.Steps.{HasSlots}
 use Rattle.lockword.proofs.LookSteps.{looks}
 use Rattle.lockword.proofs.WordTests.{is_stepped, came_after, lost, refused_closed, refused_full, no_misuse}
@@ -17,9 +15,12 @@ compare_exchange-requires g c =
     let n = c.load-found.result in
     let told = c.load-found.ensures.2 in
     let ok : c.word_step.result ≡ Ok (c.in-Ok.next, c.in-Ok.after) = search rules in
-    let is : stepped_word n c.args.kind ≡ Ok (c.in-Ok.next, c.in-Ok.after) = sym (is_stepped n c.args.kind c.word_step.result told.0.is_word c.word_step.ensures.fields) ∙ ok in
-    let may : allows c.load-found.new.seat.me.0.stake (op_of c.args.kind) ≡ true = ap (λ me. allows me.0.stake (op_of c.args.kind)) told.1 ∙ c.requires.allowed in
-    let has : HasSlots c.args.kind c.load-found.new.seat.me.1 = subst (λ me. HasSlots c.args.kind me.1) (sym told.1) c.requires.slots in
+    let is : stepped_word n c.args.kind ≡ Ok (c.in-Ok.next, c.in-Ok.after) =
+    sym (is_stepped n c.args.kind c.word_step.result told.0.is_word c.word_step.ensures.fields) ∙ ok in
+    let may : allows c.load-found.new.seat.me.0.stake (op_of c.args.kind) ≡ true =
+    ap (λ me. allows me.0.stake (op_of c.args.kind)) told.1 ∙ c.requires.allowed in
+    let has : HasSlots c.args.kind c.load-found.new.seat.me.1 =
+    subst (λ me. HasSlots c.args.kind me.1) (sym told.1) c.requires.slots in
     (search rules, search rules, moves _ _ _ _ _ _ _ _ _ c.in-Ok.after c.requires.kind is may has)
 
 pub unreachable-requires : goal.unreachable-requires
@@ -27,7 +28,8 @@ unreachable-requires g c =
     let n = c.load-found.result in
     let told = c.load-found.ensures.2 in
     let err : c.word_step.result ≡ Err why.Misuse = search rules in
-    let is : stepped_word n c.args.kind ≡ Err why.Misuse = sym (is_stepped n c.args.kind c.word_step.result told.0.is_word c.word_step.ensures.fields) ∙ err in
+    let is : stepped_word n c.args.kind ≡ Err why.Misuse =
+    sym (is_stepped n c.args.kind c.word_step.result told.0.is_word c.word_step.ensures.fields) ∙ err in
     no_misuse c.args.kind c.args.place.now.me.0.stake n told.0.shows c.requires.allowed is
 
 pub returns-then-compare_exchange-found-clause-step : goal.returns-then-compare_exchange-found-clause-step
@@ -35,25 +37,31 @@ returns-then-compare_exchange-found-clause-step g c =
     let n = c.load-found.result in
     let told = c.load-found.ensures.2 in
     let ok : c.word_step.result ≡ Ok (c.in-Ok.next, c.in-Ok.after) = search rules in
-    let is : stepped_word n c.args.kind ≡ Ok (c.in-Ok.next, c.in-Ok.after) = sym (is_stepped n c.args.kind c.word_step.result told.0.is_word c.word_step.ensures.fields) ∙ ok in
-    came_after c.args.kind _ c.in-Ok.after n c.in-Ok.next c.args.place.now c.load-found.new.seat c.compare_exchange.new.seat c.requires.kind told.0 is told.1
-    (c.compare_exchange.ensures.2.0 c.if-compare_exchange-found.true) (c.compare_exchange.ensures.0 ∙ c.load-found.ensures.0)
+    let is : stepped_word n c.args.kind ≡ Ok (c.in-Ok.next, c.in-Ok.after) =
+    sym (is_stepped n c.args.kind c.word_step.result told.0.is_word c.word_step.ensures.fields) ∙ ok in
+    came_after c.args.kind _ c.in-Ok.after n c.in-Ok.next c.args.place.now c.load-found.new.seat
+    c.compare_exchange.new.seat c.requires.kind told.0 is told.1
+    (c.compare_exchange.ensures.2.0 c.if-compare_exchange-found.true)
+    (c.compare_exchange.ensures.0 ∙ c.load-found.ensures.0)
 
 pub returns-else-compare_exchange-found-clause-step : goal.returns-else-compare_exchange-found-clause-step
 returns-else-compare_exchange-found-clause-step g c =
     let n = c.load-found.result in
     let told = c.load-found.ensures.2 in
     let ok : c.word_step.result ≡ Ok (c.in-Ok.next, c.in-Ok.after) = search rules in
-    let is : stepped_word n c.args.kind ≡ Ok (c.in-Ok.next, c.in-Ok.after) = sym (is_stepped n c.args.kind c.word_step.result told.0.is_word c.word_step.ensures.fields) ∙ ok in
+    let is : stepped_word n c.args.kind ≡ Ok (c.in-Ok.next, c.in-Ok.after) =
+    sym (is_stepped n c.args.kind c.word_step.result told.0.is_word c.word_step.ensures.fields) ∙ ok in
     lost c.args.kind c.in-Ok.after n c.in-Ok.next c.args.place.now c.compare_exchange.new.seat told.0 is
-    (c.compare_exchange.ensures.2.1 c.if-compare_exchange-found.false ∙ told.1) (c.compare_exchange.ensures.0 ∙ c.load-found.ensures.0)
+    (c.compare_exchange.ensures.2.1 c.if-compare_exchange-found.false ∙ told.1)
+    (c.compare_exchange.ensures.0 ∙ c.load-found.ensures.0)
 
 pub returns-in-Err-Closed-clause-step : goal.returns-in-Err-Closed-clause-step
 returns-in-Err-Closed-clause-step g c =
     let n = c.load-found.result in
     let told = c.load-found.ensures.2 in
     let err : c.word_step.result ≡ Err why.Closed = search rules in
-    let is : stepped_word n c.args.kind ≡ Err why.Closed = sym (is_stepped n c.args.kind c.word_step.result told.0.is_word c.word_step.ensures.fields) ∙ err in
+    let is : stepped_word n c.args.kind ≡ Err why.Closed =
+    sym (is_stepped n c.args.kind c.word_step.result told.0.is_word c.word_step.ensures.fields) ∙ err in
     refused_closed c.args.kind n c.args.place.now c.load-found.new.seat is told.1 c.load-found.ensures.0
 
 pub returns-in-Err-TooMany-clause-step : goal.returns-in-Err-TooMany-clause-step
@@ -61,5 +69,7 @@ returns-in-Err-TooMany-clause-step g c =
     let n = c.load-found.result in
     let told = c.load-found.ensures.2 in
     let err : c.word_step.result ≡ Err why.TooMany = search rules in
-    let is : stepped_word n c.args.kind ≡ Err why.TooMany = sym (is_stepped n c.args.kind c.word_step.result told.0.is_word c.word_step.ensures.fields) ∙ err in
-    refused_full c.args.kind n c.fields_of.result c.args.place.now c.load-found.new.seat told.0 is c.fields_of.ensures.fits c.fields_of.ensures.same told.1 c.load-found.ensures.0
+    let is : stepped_word n c.args.kind ≡ Err why.TooMany =
+    sym (is_stepped n c.args.kind c.word_step.result told.0.is_word c.word_step.ensures.fields) ∙ err in
+    refused_full c.args.kind n c.fields_of.result c.args.place.now c.load-found.new.seat told.0 is
+    c.fields_of.ensures.fits c.fields_of.ensures.same told.1 c.load-found.ensures.0

@@ -1,7 +1,6 @@
-use Rattle.std.proofs.Common.{◌≡◌, true, sym, subst, refl}
+use Rattle.std.proofs.Common.{◌≡◌}
+use Rattle.lockword_core.proofs.Words.{true, sym, subst, refl, LockState, stake_of, allows}
 use Rattle.lockword_core.specs.declared.stake.Op.TheVariants as op
-use Rattle.lockword_core.specs.LockState.{LockState, stake_of}
-use Rattle.lockword_core.specs.Transition.{allows}
 use Rattle.lockword_core.proofs.MachineLemmas.{destroy_made}
 use Rattle.lockword_core.proofs.machine.Machine.destroy.Goals as goal
 

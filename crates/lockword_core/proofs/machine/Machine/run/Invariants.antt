@@ -1,5 +1,5 @@
-use Rattle.std.proofs.Common.{◌≡◌, take}
-use Rattle.lockword_core.specs.Replay.{state_after, answers_of}
+use Rattle.std.proofs.Common.{◌≡◌}
+use Rattle.lockword_core.proofs.Words.{take, state_after, answers_of}
 use Rattle.lockword_core.proofs.machine.Machine.run.Given as goal
 
 abbrev pub invariant-loop-done : goal.invariant-loop-done

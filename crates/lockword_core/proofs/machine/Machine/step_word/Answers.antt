@@ -1,26 +1,30 @@
-use Rattle.std.proofs.Common.{◌≡◌, ◌∙◌, true, sym, ap, subst, refl}
-use Rattle.std.specs.Ordering.{nat_cmp}
-use Rattle.std.specs.BTreeMap.{insert_entry}
-use Rattle.lockword_core.specs.declared.stake.Stake.{Stake}
-use Rattle.lockword_core.specs.declared.stake.Answer.{Answer}
-use Rattle.lockword_core.specs.LockState.{LockState, census, stake_of}
-use Rattle.lockword_core.specs.Transition.{allows, transition}
-use Rattle.lockword_core.specs.WordStep.{op_of, gained}
+use Rattle.std.proofs.Common.{◌≡◌, ◌∙◌}
+use Rattle.lockword_core.proofs.Words.{true, sym, ap, subst, refl, nat_cmp, insert_entry, Stake, Answer, LockState}
+use Rattle.lockword_core.proofs.Words.{census, stake_of, allows, transition, op_of, gained}
 use Rattle.lockword_core.specs.Machine.{state_in}
 use Rattle.lockword_core.proofs.StateLemmas.{counted_in}
 use Rattle.lockword_core.proofs.MachineLemmas.{HasMade, word_made}
 use Rattle.lockword_core.proofs.machine.Machine.step_word.Goals as goal
 
 made : (c : goal.After-self-1)
-    → HasMade (record { word = c.in-Ok.word; signals = c.self.inside.signals; destroyed_by = c.self.inside.destroyed_by; holders = c.put.new.holders })
+    → HasMade (record {
+      word = c.in-Ok.word;
+      signals = c.self.inside.signals;
+      destroyed_by = c.self.inside.destroyed_by;
+      holders = c.put.new.holders;
+    })
     (state_in c.self.inside) c.args.holder (op_of c.args.kind) (gained c.args.kind c.in-Ok.after).0
 made c =
     let may : allows (stake_of (state_in c.self.inside) c.args.holder) (op_of c.args.kind) ≡ true =
-    subst (λ (s : LockState). allows (stake_of s c.args.holder) (op_of c.args.kind) ≡ true) (sym c.self.view_is) c.requires in
+    subst (λ (s : LockState). allows (stake_of s c.args.holder) (op_of c.args.kind) ≡ true)
+    (sym c.self.view_is) c.requires in
     word_made c.self.inside _ c.args.holder c.args.kind c.in-Ok.after c.self.invariant may
-    (c.in-Ok.ensures.census (census (state_in c.self.inside)) (stake_of (state_in c.self.inside) c.args.holder) c.self.invariant.consistent.counts
+    (c.in-Ok.ensures.census (census (state_in c.self.inside))
+    (stake_of (state_in c.self.inside) c.args.holder) c.self.invariant.consistent.counts
     (counted_in (state_in c.self.inside) c.args.holder c.self.invariant.consistent) c.self.invariant.word may)
-    (c.in_ok-put-in-Ok.ensures.ok ∙ ap (λ (p : Answer × Stake). insert_entry nat_cmp c.self.inside.holders.entries c.args.holder p.1) c.gained-answer.ensures)
+    (c.in_ok-put-in-Ok.ensures.ok
+    ∙ ap (λ (p : Answer
+    × Stake). insert_entry nat_cmp c.self.inside.holders.entries c.args.holder p.1) c.gained-answer.ensures)
     refl refl
 
 pub invariant_of-self-in-Ok : goal.invariant_of-self-in-Ok
@@ -28,5 +32,12 @@ invariant_of-self-in-Ok c = (made c).sound
 
 pub returns-in_ok-put-in-Ok-clause-ok : goal.returns-in_ok-put-in-Ok-clause-ok
 returns-in_ok-put-in-Ok-clause-ok c =
-    let next : LockState = state_in (record { word = c.in-Ok.word; signals = c.self.inside.signals; destroyed_by = c.self.inside.destroyed_by; holders = c.put.new.holders }) in
-    ap (λ (p : Answer × Stake). (next, p.0)) c.gained-answer.ensures ∙ (made c).made ∙ ap (λ (s : LockState). transition s c.args.holder (op_of c.args.kind)) c.self.view_is
+    let next : LockState =
+    state_in (record {
+      word = c.in-Ok.word;
+      signals = c.self.inside.signals;
+      destroyed_by = c.self.inside.destroyed_by;
+      holders = c.put.new.holders;
+    }) in
+    ap (λ (p : Answer × Stake). (next, p.0)) c.gained-answer.ensures ∙ (made c).made
+    ∙ ap (λ (s : LockState). transition s c.args.holder (op_of c.args.kind)) c.self.view_is

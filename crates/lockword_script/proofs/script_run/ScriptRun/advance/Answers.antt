@@ -1,4 +1,4 @@
-use Rattle.std.proofs.Common.{◌≡◌, ◌<◌, ◌∙◌, sym, length, arith, []}
+use Rattle.std.proofs.Common.{◌≡◌, ◌<◌, length, arith, []}
 use Rattle.lockword_script.specs.Progress.{ahead_of, progress_of}
 use Rattle.lockword_script.proofs.ProgressLemmas.{empty_of_length, leads_to_end, bad_line_leads_to_end}
 use Rattle.lockword_script.proofs.ProgressLemmas.{leads_partly_nowhere}

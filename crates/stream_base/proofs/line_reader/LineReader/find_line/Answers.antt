@@ -1,6 +1,5 @@
-use Rattle.std.proofs.Common.{◌≡◌, ◌∙◌, ◌≤◌, ◌<◌, ◌+◌, length, get_or, sym, subst, arith}
-use Rattle.stream_base.specs.LineReader.{Reading}
-use Rattle.stream_base.proofs.LineReaderLemmas.{Went, ahead_in, ahead_begins, ahead_is_none, finds_line, finds_too_long}
+use Rattle.std.proofs.Common.{◌≡◌, ◌∙◌, ◌≤◌, ◌<◌, length, get_or, sym, subst, arith}
+use Rattle.stream_base.proofs.LineReaderLemmas.{Went, ahead_begins, ahead_is_none, finds_line, finds_too_long}
 use Rattle.stream_base.proofs.LineReaderLemmas.{finds_unended, lower_number, same_number, went_nowhere_as, went_on}
 use Rattle.stream_base.proofs.line_reader.LineReader.find_line.Goals as goal
 

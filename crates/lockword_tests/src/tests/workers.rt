@@ -12,8 +12,8 @@ use std::thread::Threads;
 use std::time::{Clock, Duration};
 
 /// What one thread does at the word, and where it writes down what it saw.
-pub(super) trait Part<R, T> {
-    fn play(&self, rt: &R, word: &Counters, seat: CounterSeat, tally: &T)
+pub(super) trait Worker<R, T> {
+    fn work(&self, rt: &R, word: &Counters, seat: CounterSeat, tally: &T)
         requires seat { IsSeatOf word.now (seat_place seat) };
 }
 
@@ -28,12 +28,12 @@ pub(super) fn wait_for<R: Abort + Clock>(rt: &R, count: &AtomicU64, want: u64) {
     panic!(rt; "waited 10,000 turns")
 }
 
-/// Each part is played by a thread of its own, and all come to their end.
-pub(super) fn all_play<R: Threads + Wait + Abort + Clock + Sync, P: Part<R, T> + Sync, T: Sync>(
+/// Each worker has a thread of its own, and all come to their end.
+pub(super) fn all_work<R: Threads + Wait + Abort + Clock + Sync, W: Worker<R, T> + Sync, T: Sync>(
     rt: &R,
     word: &Counters,
     seat: CounterSeat,
-    parts: &[P],
+    workers: &[W],
     tally: &T,
 )
     requires seat { IsSeatOf word.now (seat_place seat) }
@@ -48,7 +48,7 @@ pub(super) fn all_play<R: Threads + Wait + Abort + Clock + Sync, P: Part<R, T> +
         {
             let mut seat = seat;
             let mut started = 0u64;
-            for part in parts {
+            for worker in workers {
                 let (mine, theirs) = word.split(seat);
                 seat = mine;
                 if scope
@@ -56,7 +56,7 @@ pub(super) fn all_play<R: Threads + Wait + Abort + Clock + Sync, P: Part<R, T> +
                         move ||
                             requires { IsSeatOf word.now (seat_place theirs) }
                         {
-                            part.play(rt, word, theirs, tally);
+                            worker.work(rt, word, theirs, tally);
                             count.fetch_add(1, Ordering::SeqCst);
                         },
                     )
