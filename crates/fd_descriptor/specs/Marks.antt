@@ -37,3 +37,8 @@ module _ {R W : Type 0} where
   abbrev pub marks_left : Freed R W → Marks
   marks_left (left.Kept s) = marks_at (seat_place s)
   marks_left (left.Last l) = marks_at (last_place l)
+
+  -- somebody else has a reference still, and destroys
+  abbrev pub IsKept : Freed R W → Type 0
+  IsKept (left.Kept s) = Unit {0}
+  IsKept (left.Last l) = ⊥

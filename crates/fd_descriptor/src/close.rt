@@ -1,17 +1,41 @@
 //! The close of a descriptor.
 
-ghost use Rattle.std.specs.Prelude.{◌≡◌, true, Err, IfErr};
+ghost use Rattle.std.specs.Prelude.{◌≡◌, true, Ok, Err, IfErr};
+ghost use Rattle.lockword.specs.Marks.{marks_of as marks_at};
+ghost use Rattle.lockword.specs.Places.{seat_place};
+ghost use Rattle.lockword.specs.TransitionOutcomes.{IsSeatOf};
+ghost use Rattle.fdmutex.specs.Refusal.{IsFreedOf};
 ghost use Rattle.fd_descriptor.specs.HandleCalls.{Closes, MayTell, HasEnded};
-ghost use Rattle.fd_descriptor.specs.Marks.{HoldsSeatOf, KeepsMarks, marks_in};
+ghost use Rattle.fd_descriptor.specs.Marks.{HoldsSeatOf, KeepsMarks, SawTheEnd, IsKept};
+ghost use Rattle.fd_descriptor.specs.Marks.{marks_in, marks_left};
 
 use crate::descriptor::Fd;
 use crate::leave::{finish, lock_fault};
 use crate::resource::Resource;
 use fdmutex::{Freed, close_mark, drop_closing, wait_done};
-use lockword::Seat;
-use rwloops::Fault;
+use lockword::{LockWord, Seat};
+use rwloops::{DevKind, Fault};
 use std::alloc::Allocator;
 use std::sync::Wait;
+
+/// What is left to do for a closer that gave its reference back: to destroy, where it came last, or
+/// else to wait until another has. Only who destroys is told the device's fault.
+fn end_close<X: Resource, T: Wait>(
+    rt: &T,
+    word: &LockWord<X::R, X::W>,
+    freed: Freed<X::R, X::W>,
+) -> (Seat<X::R, X::W>, Result<(), DevKind>)
+    requires freed { IsFreedOf word.now freed }
+    requires closed { (marks_left freed).closed ≡ true }
+    ensures seat { IsSeatOf word.now (seat_place result.0) }
+    ensures marks { SawTheEnd (marks_at (seat_place result.0)) }
+    ensures told { IsKept freed → result.1 ≡ Ok tt }
+{
+    match freed {
+        Freed::Kept(left) => (wait_done(rt, word, left), Ok(())),
+        Freed::Last(last) => finish::<X>(word, last),
+    }
+}
 
 /// Closes: the flag first, so that nobody comes in; then all that wait are woken, to leave; then the
 /// closer's own reference goes, and it waits until whoever leaves last has destroyed.
@@ -38,11 +62,8 @@ pub(crate) fn close_by<X: Resource, A: Allocator, T: Wait>(
             return Err(lock_fault(refusal));
         }
     };
-    fd.cell.evict(rt);
-    let (left, told) = match drop_closing(word, closing) {
-        Freed::Kept(left) => (wait_done(rt, word, left), Ok(())),
-        Freed::Last(last) => finish::<X>(word, last),
-    };
+    fd.cell.evict(rt, &closing);
+    let (left, told) = end_close::<X, T>(rt, word, drop_closing(word, closing));
     *seat = Some(left);
     match told {
         Ok(()) => Ok(()),

@@ -1,25 +1,28 @@
-//! Setting a deadline in a poll state that is held, with its alarm.
+//! Setting a deadline in what a cell's lock guards, with its alarm, which is decided before.
 
-ghost use Rattle.std.specs.Prelude.{◌≡◌, List, ◌∷◌, true, false, Ok, Err, IfErr};
-ghost use Rattle.deadline_core.specs.PollHistory.{Call, DeadlineSet, StandsFor, closing};
+ghost use Rattle.std.specs.Prelude.{◌≡◌, ◌&&◌, not, List, ◌∷◌, true, false, Ok, Err, IfOk, IfErr};
+ghost use Rattle.stream_base.specs.declared.direction.Dir.{Dir};
+ghost use Rattle.deadline_core.specs.PollHistory.{Call, DeadlineSet, closing, covers};
 ghost use Rattle.fd_descriptor.specs.Deadlines.{alarm_at};
+ghost use Rattle.fd_descriptor.specs.Parking.{IsAfter, is_parked, is_woken};
 ghost use Rattle.fd_descriptor.specs.HandleCalls.{IsOwnFault, SetsDeadline};
 
 use crate::resource::Alarms;
-use deadline_core::{Deadline, Dirs, PollState};
+use crate::watched::{Parked, Watched};
+use deadline_core::{Deadline, Dirs};
 use rwloops::Fault;
 use stream_base::OutOfMemory;
 
 /// What one call asks: a deadline for some directions, at a moment.
 #[derive(Clone, Copy)]
-pub(crate) struct Setting {
-    pub(crate) dirs: Dirs,
-    pub(crate) deadline: Deadline,
-    pub(crate) now: u64,
+pub struct Setting {
+    pub dirs: Dirs,
+    pub deadline: Deadline,
+    pub now: u64,
 }
 
 impl Setting {
-    pub(crate) fn new(dirs: Dirs, deadline: Deadline, now: u64) -> Setting
+    pub fn new(dirs: Dirs, deadline: Deadline, now: u64) -> Setting
         ensures { result ≡ record { dirs = dirs; deadline = deadline; now = now } }
     {
         Setting {
@@ -29,8 +32,9 @@ impl Setting {
         }
     }
 
-    /// The alarm that goes with it, for this key.
-    pub(crate) fn plan(self, key: u64) -> AlarmPlan
+    /// The alarm that goes with it, for this key. What has passed already, and no deadline at all, end
+    /// an alarm that was asked for before.
+    pub fn plan(self, key: u64) -> AlarmPlan
         ensures key { result.key ≡ key }
         ensures dirs { result.dirs ≡ self.dirs }
         ensures at { result.at ≡ alarm_at self.deadline self.now }
@@ -49,10 +53,10 @@ impl Setting {
 /// What is asked of the alarms with a deadline: in place of what was asked for a key and its
 /// directions, a moment that is still to come, or none.
 #[derive(Clone, Copy)]
-pub(crate) struct AlarmPlan {
-    key: u64,
-    dirs: Dirs,
-    at: Option<u64>,
+pub struct AlarmPlan {
+    pub key: u64,
+    pub dirs: Dirs,
+    pub at: Option<u64>,
 }
 
 impl AlarmPlan {
@@ -72,30 +76,33 @@ impl AlarmPlan {
 /// Sets a deadline, and arms or disarms its alarm. What can be refused comes first: the state, then
 /// the alarm.
 pub(crate) fn set_in<A: Alarms>(
-    state: &mut PollState,
+    watched: &mut Watched,
     alarms: &A,
     key: u64,
     setting: Setting,
-) -> Result<(), Fault>
-    ensures closing { (calls : List Call) → StandsFor state.old calls → closing calls ≡ true
+) -> Result<Parked, Fault>
+    ensures closing { (calls : List Call) → IsAfter watched.old calls → closing calls ≡ true
         → result ≡ Err Fault.Closed }
-    ensures open { (calls : List Call) → StandsFor state.old calls → closing calls ≡ false
+    ensures open { (calls : List Call) → IsAfter watched.old calls → closing calls ≡ false
         → IfErr result (λ fault. fault ≡ Fault.OutOfMemory) }
-    ensures set { (calls : List Call) → StandsFor state.old calls → result ≡ Ok tt
-        → StandsFor state.new
-        (DeadlineSet setting.dirs setting.deadline setting.now (Ok tt) ∷ calls) }
-    ensures refused { (calls : List Call) → StandsFor state.old calls
-        → IfErr result (λ fault. StandsFor state.new calls) }
+    ensures set { (calls : List Call) → IsAfter watched.old calls
+        → IfOk result (λ woken. IsAfter watched.new
+        (DeadlineSet setting.dirs setting.deadline setting.now (Ok tt) ∷ calls)) }
+    ensures woken { IfOk result (λ woken. (d : Dir)
+        → is_woken woken d ≡ (covers setting.dirs d && is_parked watched.old d)) }
+    ensures parked { IfOk result (λ woken. (d : Dir)
+        → is_parked watched.new d ≡ (not (covers setting.dirs d) && is_parked watched.old d)) }
+    ensures refused { IfErr result (λ fault. watched.new ≡ watched.old) }
     ensures faults { IfErr result (IsOwnFault SetsDeadline) }
 {
-    if state.is_closing() {
+    if watched.is_closing() {
         return Err(Fault::Closed);
     }
     if setting.plan(key).carry_out(alarms).is_err() {
         return Err(Fault::OutOfMemory);
     }
-    match state.set(setting.dirs, setting.deadline, setting.now) {
-        Ok(()) => Ok(()),
+    match watched.set(setting) {
+        Ok(woken) => Ok(woken),
         Err(_) => Err(Fault::Closed),
     }
 }

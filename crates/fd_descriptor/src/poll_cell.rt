@@ -1,131 +1,22 @@
-//! Where the calls on one descriptor wait: a poll state under a lock, and the parking of both
-//! directions.
+//! Where the calls on one descriptor wait: what `watched` decides, under a lock, and the parking of
+//! both directions.
 //!
-//! Whoever changes the state clears the parked flags of the directions that may now go on, gives the
-//! lock up, and only then wakes those that were parked; each of them looks again. A waiter sets the
-//! flag of its direction under the lock, and parking gives the lock up, so no wake-up is lost.
+//! Whoever changes the state is told there who was parked and may now go on, gives the lock up, and
+//! only then wakes those; each of them looks again. A waiter sets the flag of its direction under the
+//! lock, and parking gives the lock up, so no wake-up is lost.
 
-ghost use Rattle.std.specs.Prelude.{◌≡◌, ◌&&◌, not, List, [], ◌∷◌, true, false, Ok, IfOk, IfErr};
-ghost use Rattle.stream_base.specs.declared.direction.Dir.{Dir};
-ghost use Rattle.deadline_core.specs.PollHistory.{Call, Looked, Readied, DeadlineSet, Ticked, Evicted};
-ghost use Rattle.deadline_core.specs.PollHistory.{StandsFor, look_answer, covers};
-ghost use Rattle.fd_descriptor.specs.Parking.{is_parked, is_woken};
+ghost use Rattle.std.specs.Prelude.{◌≡◌, IfErr};
 ghost use Rattle.fd_descriptor.specs.CellKey.{key_of_cell};
 ghost use Rattle.fd_descriptor.specs.HandleCalls.{IsOwnFault, SetsDeadline};
 
 use crate::deadlines::{Setting, set_in};
 use crate::resource::Alarms;
-use deadline_core::{Dirs, Look, PollState, Refusal};
+use crate::watched::{Parked, Watched};
+use deadline_core::{Look, Refusal};
+use lockword::Closing;
 use rwloops::{Fault, Waits};
 use std::sync::{Condvar, Mutex, Wait};
 use stream_base::Dir;
-
-// What the lock guards.
-#[derive(Drop)]
-struct Watched {
-    state: PollState,
-    read_parked: bool,
-    write_parked: bool,
-}
-
-// The directions in which somebody was parked.
-#[derive(Clone, Copy)]
-struct Parked {
-    read: bool,
-    write: bool,
-}
-
-impl Watched {
-    fn new() -> Watched
-        ensures state { StandsFor result.state [] }
-        ensures nobody { (d : Dir) → is_parked result d ≡ false }
-    {
-        Watched {
-            state: PollState::new(),
-            read_parked: false,
-            write_parked: false,
-        }
-    }
-
-    // Looks whether a call may go on. Where it has to park its flag is set, so that it is woken.
-    fn look(&mut self, dir: Dir) -> Look
-        ensures answer { (calls : List Call) → StandsFor self.old.state calls
-            → result ≡ look_answer dir calls }
-        ensures state { (calls : List Call) → StandsFor self.old.state calls
-            → StandsFor self.new.state (Looked dir result ∷ calls) }
-        ensures parks { result ≡ Look.Park → is_parked self.new dir ≡ true }
-        ensures others { (d : Dir) → is_parked self.old d ≡ true → is_parked self.new d ≡ true }
-    {
-        let answer = self.state.look(dir);
-        if answer == Look::Park {
-            match dir {
-                Dir::Read => self.read_parked = true,
-                Dir::Write => self.write_parked = true,
-            }
-        }
-        answer
-    }
-
-    // Clears the flags of these directions, whose callers are woken next.
-    fn unpark(&mut self, dirs: Dirs) -> Parked
-        ensures woken { (d : Dir) → is_woken result d ≡ (covers dirs d && is_parked self.old d) }
-        ensures left { (d : Dir) → is_parked self.new d ≡
-            (not (covers dirs d) && is_parked self.old d) }
-        ensures state { self.new.state ≡ self.old.state }
-    {
-        let read = dirs != Dirs::Write && self.read_parked;
-        let write = dirs != Dirs::Read && self.write_parked;
-        self.read_parked = dirs == Dirs::Write && self.read_parked;
-        self.write_parked = dirs == Dirs::Read && self.write_parked;
-        Parked { read, write }
-    }
-
-    fn notify(&mut self, dir: Dir) -> Parked
-        ensures state { (calls : List Call) → StandsFor self.old.state calls
-            → StandsFor self.new.state (Readied dir ∷ calls) }
-        ensures woken { is_woken result dir ≡ is_parked self.old dir }
-        ensures left { is_parked self.new dir ≡ false }
-    {
-        self.state.ready(dir);
-        self.unpark(match dir {
-            Dir::Read => Dirs::Read,
-            Dir::Write => Dirs::Write,
-        })
-    }
-
-    fn tick(&mut self, now: u64) -> Parked
-        ensures state { (calls : List Call) → StandsFor self.old.state calls
-            → StandsFor self.new.state (Ticked now ∷ calls) }
-        ensures woken { (d : Dir) → is_woken result d ≡ is_parked self.old d }
-    {
-        self.state.tick(now);
-        self.unpark(Dirs::Both)
-    }
-
-    fn evict(&mut self) -> Parked
-        ensures state { (calls : List Call) → StandsFor self.old.state calls
-            → StandsFor self.new.state (Evicted ∷ calls) }
-        ensures woken { (d : Dir) → is_woken result d ≡ is_parked self.old d }
-    {
-        self.state.evict();
-        self.unpark(Dirs::Both)
-    }
-
-    // Sets a deadline, with its alarm; those that wait look again, at the new one.
-    fn set<A: Alarms>(&mut self, alarms: &A, key: u64, setting: Setting) -> Result<Parked, Fault>
-        ensures set { (calls : List Call) → StandsFor self.old.state calls
-            → IfOk result (λ parked. StandsFor self.new.state
-            (DeadlineSet setting.dirs setting.deadline setting.now (Ok tt) ∷ calls)) }
-        ensures woken { IfOk result (λ parked. (d : Dir)
-            → is_woken parked d ≡ (covers setting.dirs d && is_parked self.old d)) }
-        ensures refused { (calls : List Call) → StandsFor self.old.state calls
-            → IfErr result (λ fault. StandsFor self.new.state calls) }
-        ensures faults { IfErr result (IsOwnFault SetsDeadline) }
-    {
-        set_in(&mut self.state, alarms, key, setting)?;
-        Ok(self.unpark(setting.dirs))
-    }
-}
 
 /// A poll state under a lock, and the parking of both directions, as Go's poll descriptor.
 ///
@@ -180,8 +71,9 @@ impl PollCell {
         self.wake(parked);
     }
 
-    /// Makes the state closing, for good.
-    pub(crate) fn evict<T: Wait>(&self, rt: &T) {
+    /// Makes the state closing, for good. Only who set the word's flag has the value that this takes,
+    /// so that a close which is refused leaves the cell as it was.
+    pub(crate) fn evict<R, W, T: Wait>(&self, rt: &T, _closing: &Closing<R, W>) {
         let parked = self.watched.lock(rt).evict();
         self.wake(parked);
     }
@@ -195,13 +87,13 @@ impl PollCell {
     ) -> Result<(), Fault>
         ensures { IfErr result (IsOwnFault SetsDeadline) }
     {
-        let parked = self.watched.lock(rt).set(alarms, self.key, setting)?;
+        let parked = set_in(&mut *self.watched.lock(rt), alarms, self.key, setting)?;
         self.wake(parked);
         Ok(())
     }
 
     fn prepare<T: Wait>(&self, rt: &T, dir: Dir) -> Result<(), Refusal> {
-        self.watched.lock(rt).state.prepare(dir)
+        self.watched.lock(rt).prepare(dir)
     }
 
     fn wait<T: Wait>(&self, rt: &T, dir: Dir) -> Result<(), Refusal> {
