@@ -4,8 +4,6 @@
 
 pub mod laws;
 pub mod table;
-#[cfg(test)]
-mod tests;
 pub mod token;
 
 pub use table::{ConnTable, Entry, Refusal};

@@ -17,6 +17,3 @@ pub use deadline::{Deadline, Dirs};
 pub use poll_state::{Look, PollState};
 pub use refusal::Refusal;
 pub use timers::{MAX_DUE, Timers};
-
-#[cfg(test)]
-mod tests;

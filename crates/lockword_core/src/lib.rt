@@ -13,6 +13,3 @@ pub use signals::{MAX_SIGNALS, Signals, signal_add, signal_take};
 pub use stake::{Answer, Event, Op, Stake};
 pub use transition::{After, Kind, Refused, word_step};
 pub use word::{MAX_REFERENCES, MAX_WAITERS, REFERENCE, Word, pack, unpack};
-
-#[cfg(test)]
-mod tests;

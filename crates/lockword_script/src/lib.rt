@@ -12,6 +12,3 @@ mod trace_run;
 pub use outcome::{End, TraceFault};
 pub use script::{HOLDERS, MAX_LINE_BYTES, MAX_LINES};
 pub use trace_run::{trace, trace_on};
-
-#[cfg(test)]
-mod tests;

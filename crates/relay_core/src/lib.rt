@@ -9,8 +9,6 @@ mod gate;
 mod idle;
 pub mod laws;
 mod pair;
-#[cfg(test)]
-mod tests;
 
 pub use accepting::{AcceptEnded, AcceptGate, MAX_FAULTS_IN_A_ROW, accept_worker, next_pause_ms};
 pub use copying::{BUFFER_BYTES, Ended, copy_worker};

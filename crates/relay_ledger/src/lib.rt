@@ -7,8 +7,6 @@ pub mod book;
 mod gathering;
 pub mod laws;
 pub mod share;
-#[cfg(test)]
-mod tests;
 
 pub use book::{Book, Full, MAX_SHARES, PARTS};
 pub use share::{CarriedShare, Share, give_up_all};

@@ -9,8 +9,6 @@ mod limits;
 mod outcome;
 mod read_loop;
 mod retries;
-#[cfg(test)]
-mod tests;
 mod waits;
 mod write_loop;
 

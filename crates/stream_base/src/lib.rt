@@ -14,6 +14,3 @@ pub mod writer_sink;
 
 pub use direction::Dir;
 pub use std::alloc::AllocError as OutOfMemory;
-
-#[cfg(test)]
-mod tests;

@@ -123,6 +123,3 @@ impl<const LIMIT: usize> LineReader<LIMIT> {
         self.line.clear();
     }
 }
-
-#[cfg(test)]
-mod tests;

@@ -1,6 +1,6 @@
 //! Each time that an insert or `ids` asks for memory it is refused once, by a heap that is filled
 //! up before, or by one that is too small.
-use crate::table::{ConnTable, Refusal};
+use conntable::table::{ConnTable, Refusal};
 use linked_list_allocator::LocalHeap;
 use std::alloc::{AllocError, Allocator, Global};
 use std::test::Fail;

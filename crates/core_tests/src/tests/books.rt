@@ -2,8 +2,8 @@
 
 ghost use Rattle.std.specs.Prelude.{◌≡◌};
 
-use crate::book::{Book, Full, PARTS};
-use crate::share::{CarriedShare, Share, give_up_all};
+use relay_ledger::book::{Book, Full, PARTS};
+use relay_ledger::share::{CarriedShare, Share, give_up_all};
 use std::alloc::{AllocError, Global};
 use std::marker::Brand;
 use std::sync::ledger::{Blank, Ledger};

@@ -1,5 +1,5 @@
 //! Rows of calls on one poll state, each with the answers that it must get.
-use crate::{Deadline, Dirs, Look, PollState, Refusal};
+use deadline_core::{Deadline, Dirs, Look, PollState, Refusal};
 use std::process::Abort;
 use stream_base::Dir;
 

@@ -2,7 +2,7 @@
 //! blocks are given back one by one until the call is done.
 //!
 //! A heap that was used more after a refusal met one request of that call and refused a later one.
-use crate::Timers;
+use deadline_core::Timers;
 use linked_list_allocator::LocalHeap;
 use std::alloc::{AllocError, Global};
 use std::test::Fail;

@@ -1,11 +1,10 @@
 //! Devices that are slow, interrupted or broken, lines at their limits, and memory that may be refused.
 
-use crate::laws::{
+use lockword_script::laws::{
     a_line_says_one_thing, a_long_line_is_bad, each_script_has_a_text, one_script_has_one_text,
     only_the_first_bad_line_counts,
 };
-use crate::outcome::{End, TraceFault};
-use crate::trace_run::trace;
+use lockword_script::{End, TraceFault, trace};
 use std::cell::Cell;
 use std::io::{ErrorKind, Read, Result, Write};
 use std::prelude::HostRuntime;

@@ -4,8 +4,8 @@
 ghost use Rattle.std.specs.Prelude.{◌≡◌, ◌+◌};
 ghost use Rattle.relay_core.specs.CopyTrace.{written, uncredited};
 
-use crate::laws::each_is_delivered_in_order;
-use crate::{
+use relay_core::laws::each_is_delivered_in_order;
+use relay_core::{
     AcceptEnded, AcceptGate, CopyGate, Ended, InsertedSides, MAX_PAIRS, accept_worker, copy_worker,
     end_closes_pair, has_room_for_pair, idle_deadline, next_pause_ms,
 };

@@ -1,7 +1,7 @@
 //! Rows from outside, a full table, and refused memory.
 mod refused_memory;
 
-use crate::table::{ConnTable, Refusal};
+use conntable::table::{ConnTable, Refusal};
 use std::test::Fail;
 
 #[test]

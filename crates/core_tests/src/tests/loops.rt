@@ -1,11 +1,11 @@
 //! Rows of answers, by scripted halves and waits, and the order between tries and waits, which no clause can say.
 ghost use Rattle.rwloops.specs.Outcome.{IsCountWithin};
 
-use crate::{
+use deadline_core::Refusal;
+use rwloops::{
     AcceptLoop, AcceptOutcome, DevKind, Fault, Next, Outcome, ReadLoop, TryAccept, TryRead,
     TryWrite, Waits, WriteFault, WriteLoop, accept, chunk_of, read, write,
 };
-use deadline_core::Refusal;
 use std::cell::Cell;
 use std::process::Abort;
 use std::sync::Wait;

@@ -1,14 +1,14 @@
 //! Devices that are slow, interrupted or broken, and numbers as texts have them.
 
-use crate::attempt::AttemptError;
-use crate::decimal::parse_decimal;
-use crate::laws::{lines_of_a_text, one_number_a_spelling};
-use crate::reader_source::ReaderSource;
-use crate::sink::{SinkFault, flush_to, write_to};
-use crate::source::{SourceFault, read_from};
-use crate::writer_sink::WriterSink;
 use std::io::{BufWriter, Error, ErrorKind, Read, Result, Write};
 use std::prelude::HostRuntime;
+use stream_base::attempt::AttemptError;
+use stream_base::decimal::parse_decimal;
+use stream_base::laws::{lines_of_a_text, one_number_a_spelling};
+use stream_base::reader_source::ReaderSource;
+use stream_base::sink::{SinkFault, flush_to, write_to};
+use stream_base::source::{SourceFault, read_from};
+use stream_base::writer_sink::WriterSink;
 
 /// A reader that is interrupted some times before each read, gives a few bytes by a read, and ends
 /// or breaks when they are given.

@@ -3,7 +3,7 @@ use Rattle.stream_base.specs.declared.direction.Dir.TheVariants.{Read}
 use Rattle.deadline_core.specs.declared.deadline.Dirs.TheVariants.{Read as ReadAlone}
 use Rattle.deadline_core.specs.declared.deadline.Deadline.TheVariants.{At}
 use Rattle.deadline_core.specs.PollHistory.{DeadlineSet, prepare_answer}
-use Rattle.deadline_core.proofs.tests.callers.expired_at_once.Goals as goal
+use Rattle.core_tests.proofs.tests.deadlines.callers.expired_at_once.Goals as goal
 
 pub returns : goal.returns
 returns c =

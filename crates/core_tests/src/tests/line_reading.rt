@@ -1,10 +1,11 @@
 //! Lines at their limit, and a line over reads that end or fail in its middle.
 
-use super::*;
-use crate::reader_source::ReaderSource;
 use std::io;
 use std::io::{ErrorKind, Read};
 use std::prelude::HostRuntime;
+use stream_base::line_reader::{Found, LineReader};
+use stream_base::reader_source::ReaderSource;
+use stream_base::source::SourceFault;
 
 #[test]
 fn a_line_ends_at_its_line_feed_or_is_too_long(rt: HostRuntime) {

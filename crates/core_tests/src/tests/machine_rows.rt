@@ -1,6 +1,6 @@
 //! Worked values from outside the definitions, and each call once on its way to an answer.
 
-use crate::{
+use lockword_core::{
     After, Answer, Event, Kind, MAX_SIGNALS, Machine, Op, Refused, Signals, Stake, Word, pack,
     signal_add, signal_take, unpack, word_step,
 };

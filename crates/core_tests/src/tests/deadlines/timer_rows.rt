@@ -1,5 +1,5 @@
 //! Rows of timers, with what is due and in which order.
-use crate::Timers;
+use deadline_core::Timers;
 use std::process::Abort;
 use std::test::Fail;
 use stream_base::Dir;

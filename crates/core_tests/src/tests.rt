@@ -1,0 +1,11 @@
+//! Worked values from outside, scripted devices and halves, and memory that is refused, by the subject of each crate.
+
+mod books;
+mod copies;
+mod deadlines;
+mod line_reading;
+mod loops;
+mod machine_rows;
+mod scripts;
+mod streams;
+mod tables;
