@@ -1,6 +1,6 @@
 use Rattle.std.proofs.Common.{◌≡◌, ◌∙◌, sym, ap, ◌+◌, [], append-nil}
 use Rattle.relay_core.specs.CopyTrace.{written}
-use Rattle.relay_core.proofs.tests.copied_and_counted.Goals as goal
+use Rattle.core_tests.proofs.tests.copies.copied_and_counted.Goals as goal
 
 -- from no call told before, the gate counts exactly the calls of the run
 pub returns : goal.returns
