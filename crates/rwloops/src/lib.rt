@@ -7,6 +7,7 @@ mod fault;
 pub mod laws;
 mod limits;
 mod outcome;
+mod pair;
 mod read_loop;
 mod retries;
 #[cfg(test)]
@@ -14,11 +15,11 @@ mod tests;
 mod waits;
 mod write_loop;
 
-pub use accept_loop::{AcceptLoop, TryAccept, accept};
+pub use accept_loop::{AcceptLoop, AcceptTurns, TryAccept, accept, accept_in_turn};
 pub use fault::{Fault, WriteFault};
 pub use limits::{MAX_RETRIES, MAX_TRY_BYTES, chunk_of};
 pub use outcome::{AcceptOutcome, DevKind, Outcome};
-pub use read_loop::{ReadLoop, TryRead, read};
+pub use read_loop::{ReadLoop, ReadTurns, TryRead, read, read_in_turn};
 pub use retries::Next;
 pub use waits::Waits;
-pub use write_loop::{TryWrite, WriteLoop, write};
+pub use write_loop::{TryWrite, WriteLoop, WriteTurns, write, write_in_turn};
