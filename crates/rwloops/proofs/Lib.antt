@@ -4,3 +4,4 @@ pub mod AcceptLemmas
 pub mod PartialWriteLemmas
 pub mod RetryLemmas
 pub mod AnswerLemmas
+pub mod TurnLemmas

@@ -19,6 +19,7 @@ use Rattle.std.proofs.Math.Nat.{min-le_left}
 use Rattle.rwloops.specs.ReadTrace.{ReadTry, read_goes_on, read_is_inconclusive, read_decision, read_outcome}
 use Rattle.rwloops.specs.ReadTrace.{read_try_rules, IsReadTry, ReadAnswers, ReadTrace, Empty, Tried, HasRead}
 use Rattle.rwloops.specs.ReadTrace.{StandsForTries}
+use Rattle.rwloops.specs.Turns.{Event}
 use Rattle.rwloops.proofs.TraceLemmas.{GoesOn, IsSoFar, no_try_in_none, decisive_is_newest}
 use Rattle.rwloops.proofs.RetryLemmas.{both, list_all_of_older, short_rows_of_older}
 
@@ -72,12 +73,11 @@ has_tried buffer len some same result tries calls trace =
     (ReadAnswers buffer) tries calls result) (sym same) trace)
 
 -- what holds at one buffer holds at another of the same length
-pub at_length : {h h' : List ReadTry → Type 0} {w w' : List WaitCall → Type 0} {StandsFor : List ReadTry → Type 0}
+pub at_length : {Went : List (Event ReadTry) → Type 0} {StandsFor : List ReadTry → Type 0}
     (len len' : ℕ) → len' ≡ len
-    → IsSoFar read_try_rules (IsReadTry len) h h' w w' StandsFor →
-    IsSoFar read_try_rules (IsReadTry len') h h' w w' StandsFor
-at_length {h = h} {h' = h'} {w = w} {w' = w'} {StandsFor = StandsFor} len len' same s =
-    subst (λ n. IsSoFar read_try_rules (IsReadTry n) h h' w w' StandsFor) (sym same) s
+    → IsSoFar read_try_rules (IsReadTry len) Went StandsFor → IsSoFar read_try_rules (IsReadTry len') Went StandsFor
+at_length {Went = Went} {StandsFor = StandsFor} len len' same s =
+    subst (λ n. IsSoFar read_try_rules (IsReadTry n) Went StandsFor) (sym same) s
 
 -- a decision that answers a count is a count above 0
 decided_count : (buffer : List ℕ) (tries : List ReadTry) (outcome : Outcome) (count : ℕ) →

@@ -2,6 +2,8 @@ pub mod RetryBound
 pub mod Outcome
 pub mod Waits
 pub mod OutcomeTrace
+pub mod Turns
+pub mod Pair
 pub mod ReadTrace
 pub mod WriteTrace
 pub mod AcceptTrace

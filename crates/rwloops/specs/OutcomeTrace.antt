@@ -77,14 +77,3 @@ pub record IsTraced {A : Type 0} (Trace : List A → List WaitCall → Type 0)
   pub trace : Trace tries calls
   pub half_tells : Tells half_before half_after tries
   pub waits_tell : Tells waits_before waits_after calls
-
--- one turn of a call: one try, and what its loop makes of it; only private functions cite it
-pub record IsTurn {A D : Type 0} (rules : OutcomeRules A D) (IsOffered Made : A → List A → Type 0)
-    (before after : List A → Type 0) (StandsFor : List A → Type 0) (earlier : List A)
-    (next : Next D) : Type 0 where
-  pub made : A
-  pub told : Tells before after (made ∷ [])
-  pub offered : IsOffered made earlier
-  pub holds : Made made earlier
-  pub answer : next ≡ next_after rules earlier made
-  pub stands : IsTrue (is_open next) → StandsFor (made ∷ earlier)

@@ -1,13 +1,17 @@
 //! Accepts: the pure loop, and the call over a half that may have to wait.
 ghost use Rattle.std.specs.Prelude.{◌≡◌, List, [], ◌∷◌, IsTrue};
 ghost use Rattle.rwloops.specs.declared.outcome.AcceptOutcome.{AcceptOutcome};
-ghost use Rattle.rwloops.specs.OutcomeTrace.{next_after, is_open, IsTraced, IsTurn};
+ghost use Rattle.rwloops.specs.OutcomeTrace.{next_after, is_open, IsTraced};
+ghost use Rattle.rwloops.specs.Turns.{Event, Tried, Asked, IsTurn, IsInTurn};
+ghost use Rattle.rwloops.specs.Waits.{Prepared, Waited};
 ghost use Rattle.rwloops.specs.AcceptTrace.{accept_rules, AcceptStandsFor, IsAcceptTry, AcceptTrace};
 
 use crate::fault::Fault;
 use crate::outcome::AcceptOutcome;
+use crate::pair::Pair;
 use crate::retries::{Next, Retries};
 use crate::waits::Waits;
+use deadline_core::Refusal;
 use std::marker::PhantomData;
 use std::sync::Wait;
 use stream_base::Dir;
@@ -65,34 +69,63 @@ pub trait TryAccept {
             → tells self.new (result ∷ tries) };
 }
 
+/// A half that connections are accepted from, with its waits.
+pub trait AcceptTurns {
+    ghost use Rattle.rwloops.specs.declared.outcome.AcceptOutcome.{AcceptOutcome};
+    ghost use Rattle.rwloops.specs.Turns.{Event};
+
+    /// What is accepted.
+    type T;
+
+    /// These events, newest first, led from the first value to the second.
+    ghost went: { Self → List (Event (AcceptOutcome Self.T)) → Self → Type 0 };
+
+    /// Says that tries in this direction begin, unless it may not go on.
+    fn prepare(&mut self, dir: Dir) -> Result<(), Refusal>
+        ensures told { (first : Self) (events : List (Event (AcceptOutcome Self.T)))
+            → went first events self.old
+            → went first (Asked (Prepared dir result) ∷ events) self.new };
+
+    /// Waits until the direction may be ready, unless it may not go on.
+    fn wait(&mut self, dir: Dir) -> Result<(), Refusal>
+        ensures told { (first : Self) (events : List (Event (AcceptOutcome Self.T)))
+            → went first events self.old
+            → went first (Asked (Waited dir result) ∷ events) self.new };
+
+    /// One try to accept, that doesn't wait.
+    fn try_accept(&mut self) -> AcceptOutcome<Self::T>
+        ensures told { (first : Self) (events : List (Event (AcceptOutcome Self.T)))
+            → went first events self.old → went first (Tried result ∷ events) self.new };
+
+    ghost went_nowhere: { (first : Self) → went first [] first };
+}
+
 // One try, and what the loop makes of it.
-fn try_once<H: TryAccept>(half: &mut H, accepting: &mut AcceptLoop<H::T>) -> Next<H::T>
-    ensures { (earlier : List (AcceptOutcome H.T)) → AcceptStandsFor accepting.old earlier
-        → IsTurn (accept_rules H.T) IsAcceptTry IsAcceptTry
-        (H.tells half.old) (H.tells half.new) (AcceptStandsFor accepting.new) earlier result }
+fn try_once<P: AcceptTurns>(pair: &mut P, accepting: &mut AcceptLoop<P::T>) -> Next<P::T>
+    ensures { (first : P) (earlier : List (AcceptOutcome P.T))
+        → AcceptStandsFor accepting.old earlier
+        → IsTurn (accept_rules P.T) IsAcceptTry IsAcceptTry
+        (λ events. P.went first events pair.old) (λ events. P.went first events pair.new)
+        (AcceptStandsFor accepting.new) earlier result }
 {
-    let outcome = half.try_accept();
+    let outcome = pair.try_accept();
     accepting.feed(outcome)
 }
 
-/// Accepts one connection.
-pub fn accept<H: TryAccept, W: Waits>(
-    rt: &impl Wait,
-    half: &mut H,
-    waits: &mut W,
-) -> Result<H::T, Fault>
-    ensures trace { IsTraced (λ tries calls. AcceptTrace tries calls result)
-        (H.tells half.old) (H.tells half.new) (W.tells waits.old) (W.tells waits.new) }
+/// Accepts one connection: `accept` over a half and waits that tell their events in one list.
+pub fn accept_in_turn<P: AcceptTurns>(rt: &impl Wait, pair: &mut P) -> Result<P::T, Fault>
+    ensures turns { IsInTurn (accept_rules P.T) (λ events. P.went pair.old events pair.new)
+        (λ tries calls. AcceptTrace tries calls result) }
 {
-    match waits.prepare(Dir::Read) {
+    match pair.prepare(Dir::Read) {
         Ok(()) => {}
         Err(refused) => return Err(Fault::from(refused)),
     }
     let mut accepting = AcceptLoop::new();
     for _ in rt.forever() {
-        match try_once(half, &mut accepting) {
+        match try_once(pair, &mut accepting) {
             Next::Try => {}
-            Next::Wait => match waits.wait(Dir::Read) {
+            Next::Wait => match pair.wait(Dir::Read) {
                 Ok(()) => {}
                 Err(refusal) => return Err(Fault::from(refusal)),
             },
@@ -101,4 +134,16 @@ pub fn accept<H: TryAccept, W: Waits>(
         }
     }
     unreachable!()
+}
+
+/// Accepts one connection: one `accept_in_turn`.
+pub fn accept<H: TryAccept, W: Waits>(
+    rt: &impl Wait,
+    half: &mut H,
+    waits: &mut W,
+) -> Result<H::T, Fault>
+    ensures trace { IsTraced (λ tries calls. AcceptTrace tries calls result)
+        (H.tells half.old) (H.tells half.new) (W.tells waits.old) (W.tells waits.new) }
+{
+    accept_in_turn(rt, &mut Pair::new(half, waits))
 }

@@ -10,9 +10,10 @@ ghost use Rattle.rwloops.specs.declared.outcome.AcceptOutcome.{AcceptOutcome};
 ghost use Rattle.rwloops.specs.RetryBound.{HasNoLongRow};
 ghost use Rattle.rwloops.specs.Outcome.{is_interrupted, count_in, sum_of_counts};
 ghost use Rattle.rwloops.specs.Waits.{WaitCall};
-ghost use Rattle.rwloops.specs.ReadTrace.{ReadTry, read_goes_on, read_is_inconclusive, read_outcome, ReadTrace};
-ghost use Rattle.rwloops.specs.WriteTrace.{WriteTry, write_goes_on, write_is_inconclusive, write_outcome, count_of, chunk_after, taken_bytes, WriteTrace};
-ghost use Rattle.rwloops.specs.AcceptTrace.{accept_goes_on, accept_is_inconclusive, is_retried, AcceptTrace};
+ghost use Rattle.rwloops.specs.ReadTrace.{ReadTry, read_goes_on, read_is_inconclusive, read_outcome, read_try_rules, ReadTrace};
+ghost use Rattle.rwloops.specs.WriteTrace.{WriteTry, write_goes_on, write_is_inconclusive, write_outcome, write_try_rules, count_of, chunk_after, taken_bytes, WriteTrace};
+ghost use Rattle.rwloops.specs.AcceptTrace.{accept_goes_on, accept_is_inconclusive, accept_rules, is_retried, AcceptTrace};
+ghost use Rattle.rwloops.specs.Turns.{HasOneWaitEach};
 
 /// A read goes on after exactly the lists of `Interrupted` and `WouldBlock` that, however they are cut, show no row of more than
 /// `MAX_RETRIES` `Interrupted`.
@@ -108,6 +109,14 @@ pub fn outcomes_decide_an_accept<T>()
     ensures { (tries others : List (AcceptOutcome T)) (calls asked : List WaitCall)
         (result answer : Result T Fault) → AcceptTrace tries calls result
         → AcceptTrace others asked answer → tries ≡ others → calls ≡ asked → result ≡ answer }
+{}
+
+/// Among events in turn a wait comes right after each try that blocks, and a try that blocks right before each wait: so each such try has
+/// exactly one wait, and nothing comes between.
+pub fn each_block_has_one_wait<T>()
+    ensures read { HasOneWaitEach read_try_rules }
+    ensures write { (len : ℕ) → HasOneWaitEach (write_try_rules len) }
+    ensures accept { HasOneWaitEach (accept_rules T) }
 {}
 
 /// The limits of a call in figures: 1,024 inconclusive answers in a row, and 1,073,741,824 bytes a try.

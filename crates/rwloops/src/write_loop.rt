@@ -3,14 +3,18 @@ ghost use Rattle.std.specs.Prelude.{◌≡◌, ◌<◌, ◌≤◌, ◌-◌, ℕ,
 ghost use Rattle.rwloops.specs.declared.outcome.Outcome.{Outcome};
 ghost use Rattle.rwloops.specs.declared.limits.TheConstants.{MAX_TRY_BYTES};
 ghost use Rattle.rwloops.specs.Outcome.{IsCountWithin, sum_of_counts};
-ghost use Rattle.rwloops.specs.OutcomeTrace.{next_after, is_open, IsTraced, IsTurn};
+ghost use Rattle.rwloops.specs.OutcomeTrace.{next_after, is_open, IsTraced};
+ghost use Rattle.rwloops.specs.Turns.{Event, Tried, Asked, IsTurn, IsInTurn};
+ghost use Rattle.rwloops.specs.Waits.{Prepared, Waited};
 ghost use Rattle.rwloops.specs.WriteTrace.{write_rules, WriteStandsFor, written, IsOfferedCount, WriteTry, write_try_rules, IsWriteTry, WriteTrace, HasWritten, StandsForTries, chunk_after};
 
 use crate::fault::{Fault, WriteFault};
 use crate::limits::chunk_of;
 use crate::outcome::{DevKind, Outcome};
+use crate::pair::Pair;
 use crate::retries::{Next, Retries};
 use crate::waits::Waits;
+use deadline_core::Refusal;
 use std::sync::Wait;
 use stream_base::Dir;
 
@@ -87,44 +91,75 @@ pub trait TryWrite {
             → tells self.new (record { offered = bytes.now; outcome = result } ∷ tries) };
 }
 
+/// A half that bytes are written to, with its waits.
+pub trait WriteTurns {
+    ghost use Rattle.rwloops.specs.Turns.{Event};
+
+    /// These events, newest first, led from the first value to the second.
+    ghost went: { Self → List (Event WriteTry) → Self → Type 0 };
+
+    /// Says that tries in this direction begin, unless it may not go on.
+    fn prepare(&mut self, dir: Dir) -> Result<(), Refusal>
+        ensures told { (first : Self) (events : List (Event WriteTry)) → went first events self.old
+            → went first (Asked (Prepared dir result) ∷ events) self.new };
+
+    /// Waits until the direction may be ready, unless it may not go on.
+    fn wait(&mut self, dir: Dir) -> Result<(), Refusal>
+        ensures told { (first : Self) (events : List (Event WriteTry)) → went first events self.old
+            → went first (Asked (Waited dir result) ∷ events) self.new };
+
+    /// One try to write the front of `bytes`, that doesn't wait.
+    fn try_write(&mut self, bytes: &[u8]) -> Outcome
+        ensures within { IsCountWithin (length bytes.now) result }
+        ensures told { (first : Self) (events : List (Event WriteTry)) → went first events self.old
+            → went first (Tried (record { offered = bytes.now; outcome = result }) ∷ events)
+            self.new };
+
+    ghost went_nowhere: { (first : Self) → went first [] first };
+}
+
 // One try with what is left after so many bytes.
-fn offer<H: TryWrite>(half: &mut H, bytes: &[u8], done: usize) -> Outcome
+fn offer<P: WriteTurns>(pair: &mut P, bytes: &[u8], done: usize) -> Outcome
     requires { done ≤ length bytes.now }
     ensures within { IsCountWithin (length (chunk_after bytes.now done)) result }
-    ensures told { (tries : List WriteTry) → H.tells half.old tries → H.tells half.new
-        (record { offered = chunk_after bytes.now done; outcome = result } ∷ tries) }
+    ensures told { (first : P) (events : List (Event WriteTry)) → P.went first events pair.old
+        → P.went first (Tried (record { offered = chunk_after bytes.now done; outcome = result })
+        ∷ events) pair.new }
 {
     let rest = &bytes[done..];
     let chunk = chunk_of(rest.len());
-    half.try_write(&rest[..chunk])
+    pair.try_write(&rest[..chunk])
 }
 
 // One try, and what the loop makes of it.
-fn try_once<H: TryWrite>(half: &mut H, bytes: &[u8], writing: &mut WriteLoop) -> Next<usize>
+fn try_once<P: WriteTurns>(pair: &mut P, bytes: &[u8], writing: &mut WriteLoop) -> Next<usize>
     requires { written writing.old ≤ length bytes.now }
     ensures done { (count : ℕ) → result ≡ Next.Done count → written writing.new ≡ count }
-    ensures turn { (earlier : List WriteTry) → StandsForTries writing.old (length bytes.now) earlier
+    ensures turn { (first : P) (earlier : List WriteTry)
+        → StandsForTries writing.old (length bytes.now) earlier
         → IsTurn (write_try_rules (length bytes.now)) (IsWriteTry bytes.now)
-        (HasWritten writing.new) (H.tells half.old) (H.tells half.new)
+        (HasWritten writing.new)
+        (λ events. P.went first events pair.old) (λ events. P.went first events pair.new)
         (StandsForTries writing.new (length bytes.now)) earlier result }
 {
-    let outcome = offer(half, bytes, writing.count());
+    let outcome = offer(pair, bytes, writing.count());
     writing.feed(outcome)
 }
 
-/// Writes all bytes, or says how many were taken.
-pub fn write<H: TryWrite, W: Waits>(
+/// Writes all bytes, or says how many were taken: `write` over a half and waits that tell their
+/// events in one list.
+pub fn write_in_turn<P: WriteTurns>(
     rt: &impl Wait,
-    half: &mut H,
+    pair: &mut P,
     bytes: &[u8],
-    waits: &mut W,
 ) -> Result<usize, WriteFault>
-    ensures trace { IsTraced (λ tries calls. WriteTrace bytes.now tries calls result)
-        (H.tells half.old) (H.tells half.new) (W.tells waits.old) (W.tells waits.new) }
+    ensures turns { IsInTurn (write_try_rules (length bytes.now))
+        (λ events. P.went pair.old events pair.new)
+        (λ tries calls. WriteTrace bytes.now tries calls result) }
     ensures whole { IfOk result (λ count. count ≡ length bytes.now) }
     ensures part { IfErr result (λ failed. failed.count ≤ length bytes.now) }
 {
-    match waits.prepare(Dir::Write) {
+    match pair.prepare(Dir::Write) {
         Ok(()) => {}
         Err(refusal) => return Err(WriteFault {
             fault: Fault::from(refusal),
@@ -136,9 +171,9 @@ pub fn write<H: TryWrite, W: Waits>(
     }
     let mut writing = WriteLoop::new(bytes.len());
     for _ in rt.forever() {
-        match try_once(half, bytes, &mut writing) {
+        match try_once(pair, bytes, &mut writing) {
             Next::Try => {}
-            Next::Wait => match waits.wait(Dir::Write) {
+            Next::Wait => match pair.wait(Dir::Write) {
                 Ok(()) => {}
                 Err(refusal) => return Err(WriteFault {
                     fault: Fault::from(refusal),
@@ -153,4 +188,19 @@ pub fn write<H: TryWrite, W: Waits>(
         }
     }
     unreachable!()
+}
+
+/// Writes all bytes, or says how many were taken: one `write_in_turn`.
+pub fn write<H: TryWrite, W: Waits>(
+    rt: &impl Wait,
+    half: &mut H,
+    bytes: &[u8],
+    waits: &mut W,
+) -> Result<usize, WriteFault>
+    ensures trace { IsTraced (λ tries calls. WriteTrace bytes.now tries calls result)
+        (H.tells half.old) (H.tells half.new) (W.tells waits.old) (W.tells waits.new) }
+    ensures whole { IfOk result (λ count. count ≡ length bytes.now) }
+    ensures part { IfErr result (λ failed. failed.count ≤ length bytes.now) }
+{
+    write_in_turn(rt, &mut Pair::new(half, waits), bytes)
 }

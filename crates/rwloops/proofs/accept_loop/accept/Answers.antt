@@ -1,66 +1,12 @@
-use Rattle.std.proofs.Common.{[], ◌∷◌, refl, ap, Err}
-use Rattle.stream_base.specs.declared.direction.Dir.TheVariants.{Read}
-use Rattle.rwloops.specs.Waits.{Prepared}
-use Rattle.rwloops.specs.OutcomeTrace.{Refused, is_open}
-use Rattle.rwloops.proofs.TraceLemmas.{tries_on, waits_on, wait_refused, decided}
-use Rattle.rwloops.proofs.AcceptLemmas.{accept_goes_on_with, answers_taken, answers_fault}
+use Rattle.std.proofs.Common.{rules}
+use Rattle.rwloops.proofs.TraceLemmas.{told_apart}
 use Rattle.rwloops.proofs.accept_loop.accept.Goals as goal
 
--- prepare was refused
-pub returns-in-Err : goal.returns-in-Err
-returns-in-Err g c = record {
-  trace = record {
-    tries = [];
-    calls = Prepared Read (Err c.in-Err.refused) ∷ [];
-    trace = Refused c.in-Err.refused refl refl (ap Err c.from.ensures);
-    half_tells = λ earlier h. h;
-    waits_tell = c.in-Err.ensures.told;
-  };
-}
-
--- prepare was granted
-pub loop-init : goal.loop-init
-loop-init g c = record {
-  tries = [];
-  told = λ earlier h. h;
-  asked = c.in-Ok.ensures.told;
-  offered = tt;
-  stands =
-      c.new-accepting.ensures;
-}
-
--- the loop tries again at once
-pub loop-preserved-in-Try : goal.loop-preserved-in-Try
-loop-preserved-in-Try g c = tries_on _ _ _ _ _ _ _ _ _ _ _ (accept_goes_on_with _)
-    (accept_goes_on_with _) c.loop.invariant c.try_once.ensures c.in-Try.is
-
--- the loop waited, and tries again
-pub loop-preserved : goal.loop-preserved
-loop-preserved g c =
-    waits_on _ _ _ _ _ _ _ _ _ _ _ (accept_goes_on_with _) (accept_goes_on_with _) (g.W.Waits.tells c.wait.new.self)
-    c.loop.invariant c.try_once.ensures c.in-Ok-wait.ensures.told c.in-Wait.is
-
--- the wait was refused
-pub returns-in-Err-wait : goal.returns-in-Err-wait
-returns-in-Err-wait g c = record {
-  trace = wait_refused _ _ _ _ _ _ _ _ _ _ _ (accept_goes_on_with _) (accept_goes_on_with _) _ _
-      (g.W.Waits.tells c.wait.new.self) c.in-Err-wait.refusal
-      c.loop.invariant c.try_once.ensures c.in-Err-wait.ensures.told c.in-Wait.is
-      (λ made earlier none. ap Err c.from-in-Err-wait.ensures);
-}
-
--- a connection was taken
-pub returns-in-Done : goal.returns-in-Done
-returns-in-Done g c = record {
-  trace = decided _ _ _ _ _ _ _ _ _ _ _ (accept_goes_on_with _)
-      (accept_goes_on_with _) _ _ c.loop.invariant c.try_once.ensures (ap is_open c.in-Done.is)
-      (answers_taken _ _ c.in-Done.is);
-}
-
--- a decisive fault
-pub returns-in-Failed : goal.returns-in-Failed
-returns-in-Failed g c = record {
-  trace = decided _ _ _ _ _ _ _ _ _ _ _ (accept_goes_on_with _)
-      (accept_goes_on_with _) _ _ c.loop.invariant c.try_once.ensures (ap is_open c.in-Failed.is)
-      (answers_fault _ _ c.in-Failed.is);
-}
+pub returns : goal.returns
+returns g c =
+    let t = c.accept_in_turn.ensures.turns in
+    record {
+      trace = told_apart _ g.H.TryAccept.tells g.W.Waits.tells _ _ _ _ _ _ _ _ _ t
+          c.new.ensures.half_value (search (rules, t.went.same_half))
+          c.new.ensures.waits_value (search (rules, t.went.same_waits));
+    }

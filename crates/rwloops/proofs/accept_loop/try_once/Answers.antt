@@ -1,9 +1,9 @@
 use Rattle.rwloops.proofs.accept_loop.try_once.Goals as goal
 
 pub returns : goal.returns
-returns g c = λ earlier stands. record {
+returns g c = λ first earlier stands. record {
   made = c.try_accept-outcome.result;
-  told = c.try_accept-outcome.ensures.told;
+  told = c.try_accept-outcome.ensures.told first;
   offered = tt;
   holds = tt;
   answer = c.feed.ensures.answer earlier stands;

@@ -5,9 +5,9 @@ use Rattle.rwloops.specs.ReadTrace.{read_try, read_outcome}
 use Rattle.rwloops.proofs.read_loop.try_once.Goals as goal
 
 pub returns : goal.returns
-returns g c = λ earlier stands. record {
+returns g c = λ first earlier stands. record {
   made = read_try c.try_read-outcome.new.buf c.try_read-outcome.result;
-  told = c.try_read-outcome.ensures.told;
+  told = c.try_read-outcome.ensures.told first;
   offered = record { room = search rules; count = search (rules, c.try_read-outcome.ensures.within) };
   holds =
       let fits : count_in c.try_read-outcome.result ≤ length c.try_read-outcome.new.buf =
