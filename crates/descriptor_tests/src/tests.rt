@@ -1,17 +1,21 @@
 //! What no clause says: that a handle hands its half to the loops, that waiting calls end, that the
 //! halves are destroyed once, which alarms are asked for, and refused memory.
 
+mod alarms;
 mod closing;
 mod deadlines;
+mod destroying;
 mod eight_threads;
 mod memory;
 mod outcome_lists;
 mod rows;
 mod scripted;
+mod wakes;
+mod watch;
 
 use deadline_core::Dirs;
 use fd_descriptor::{Alarms, FdHandle, Resource};
-use rwloops::{DevKind, Fault};
+use rwloops::{DevKind, Fault, WriteFault};
 use scripted::{ClockAlone, OwnCell, Played, Script, ScriptedHalf, Told};
 use std::alloc::{Allocator, Global};
 use std::sync::atomic::{AtomicU64, Ordering};
@@ -112,4 +116,13 @@ fn start_two_reads<T: Threads + Wait + Clock + Copy + Send + Drop + 'static>(
     Ok(thread::spawn(&rt, move || {
         [reader.read(&rt, &mut [0; 4]), reader.read(&rt, &mut [0; 4])]
     })?)
+}
+
+/// Writes on a handle of its own, in a thread of its own.
+fn start_write<T: Threads + Wait + Clock + Copy + Send + Drop + 'static>(
+    rt: T,
+    handle: &mut Plain<T>,
+) -> Result<JoinHandle<Result<usize, WriteFault>>, Fail> {
+    let mut writer = share(handle)?;
+    Ok(thread::spawn(&rt, move || writer.write(&rt, b"abc"))?)
 }

@@ -1,7 +1,8 @@
 //! Closes: they end calls that wait, destroy once, and tell the device's fault to the right caller.
 
 use super::scripted::{ALWAYS_BLOCKS, BLOCKS, END, Told, Try};
-use super::{Plain, TURNS, comes_to, open_plain, share, start_read};
+use super::watch::Watch;
+use super::{Plain, TURNS, comes_to, open_plain, share, start_read, start_write};
 use fd_descriptor::{FdHandle, Resource};
 use rwloops::{DevKind, Fault, WriteFault};
 use std::process::Abort;
@@ -12,15 +13,6 @@ use std::thread;
 use std::thread::{JoinHandle, Threads};
 use std::time::{Clock, Duration};
 
-/// Writes on a handle of its own, in a thread of its own.
-fn start_write<T: Threads + Wait + Clock + Copy + Send + Drop + 'static>(
-    rt: T,
-    handle: &mut Plain<T>,
-) -> Result<JoinHandle<Result<usize, WriteFault>>, Fail> {
-    let mut writer = share(handle)?;
-    Ok(thread::spawn(&rt, move || writer.write(&rt, b"abc"))?)
-}
-
 /// Each call on a closed descriptor is told so.
 fn all_are_closed<T: Wait + Clock + Copy + Drop + Abort>(rt: T, handle: &mut Plain<T>) {
     assert!(rt; handle.close(&rt) == Err(Fault::Closed), "a close");
@@ -30,6 +22,7 @@ fn all_are_closed<T: Wait + Clock + Copy + Drop + Abort>(rt: T, handle: &mut Pla
 
 #[test]
 fn halves_are_destroyed_once(rt: HostRuntime) -> Result<(), Fail> {
+    let watch = Watch::start(rt, rt.alloc())?;
     let told = Told::shared(rt.alloc())?;
     let mut closer = open_plain(rt, rt.alloc(), &told, ALWAYS_BLOCKS, None)?;
     let reading = start_read(rt, &mut closer)?;
@@ -46,11 +39,12 @@ fn halves_are_destroyed_once(rt: HostRuntime) -> Result<(), Fail> {
     all_are_closed(rt, &mut closer);
     drop(closer);
     assert!(rt; told.destroys.load(Ordering::SeqCst) == 1, "at the end");
+    watch.end(&rt);
     Ok(())
 }
 
 /// Waits until the word is closed with one reference left, which is then that of a call in its half.
-fn closer_has_left<C: Clock, X: Resource>(clock: &C, handle: &mut FdHandle<X>) -> bool {
+pub(super) fn closer_has_left<C: Clock, X: Resource>(clock: &C, handle: &mut FdHandle<X>) -> bool {
     for _ in 0..TURNS {
         let word = handle.look();
         if word.closed && word.refs == 1 {
@@ -86,6 +80,7 @@ fn leave_a_reader<T: Threads + Wait + Clock + Copy + Send + Drop + Abort + 'stat
 
 #[test]
 fn a_closer_whose_reader_destroys_is_told_nothing(rt: HostRuntime) -> Result<(), Fail> {
+    let watch = Watch::start(rt, rt.alloc())?;
     let told = Told::shared(rt.alloc())?;
     let script = [(Try::Gated, 1), (BLOCKS, u32::MAX), END, END, END];
     let mut spare = open_plain(rt, rt.alloc(), &told, script, Some(DevKind::Reset))?;
@@ -102,6 +97,7 @@ fn a_closer_whose_reader_destroys_is_told_nothing(rt: HostRuntime) -> Result<(),
     assert!(rt; reading.join(&rt) == Err(Fault::Closed));
     assert!(rt; told.destroys.load(Ordering::SeqCst) == 1);
     assert!(rt; spare.close(&rt) == Err(Fault::Closed));
+    watch.end(&rt);
     Ok(())
 }
 

@@ -1,6 +1,7 @@
 //! Deadlines set by one thread for calls of another, and the alarms that go with them.
 
 use super::scripted::{ALWAYS_BLOCKS, BLOCKS, END, Script, Told, Try};
+use super::watch::Watch;
 use super::{KEY, Plain, Silent, comes_to, open_plain, share, start_read, start_two_reads};
 use deadline_core::{Deadline, Dirs};
 use fd_descriptor::{Alarms, PollCell};
@@ -68,6 +69,7 @@ const LATE: Result<usize, Fault> = Err(Fault::DeadlineExceeded);
 
 #[test]
 fn a_deadline_ends_a_parked_read(rt: HostRuntime) -> Result<(), Fail> {
+    let watch = Watch::start(rt, rt.alloc())?;
     let told = Told::shared(rt.alloc())?;
     let mut handle = open_plain(rt, rt.alloc(), &told, ALWAYS_BLOCKS, None)?;
     let cell = handle.cell()?;
@@ -78,28 +80,34 @@ fn a_deadline_ends_a_parked_read(rt: HostRuntime) -> Result<(), Fail> {
     cell.tick(&rt, 99);
     cell.tick(&rt, 100);
     assert!(rt; reading.join(&rt) == [LATE, LATE], "the second read, too");
+    watch.end(&rt);
     Ok(())
 }
 
 #[test]
 fn a_deadline_that_has_passed_ends_a_parked_read_at_once(rt: HostRuntime) -> Result<(), Fail> {
+    let watch = Watch::start(rt, rt.alloc())?;
     let told = Told::shared(rt.alloc())?;
     let alarms = Noted::new(rt);
     let mut handle = open_plain(rt, rt.alloc(), &told, ALWAYS_BLOCKS, None)?;
     let reading = start_read(rt, &mut handle)?;
     assert!(rt; comes_to(&rt, &told.tries, 1));
-    let set = handle.set_deadline(&rt, Deadline::At(100), 100, &alarms);
-    assert!(rt; set == Ok(()));
+    for (deadline, now) in [(200, 99), (100, 100)] {
+        let set = handle.set_deadline(&rt, Deadline::At(deadline), now, &alarms);
+        assert!(rt; set == Ok(()), "{deadline}");
+    }
     assert!(rt; reading.join(&rt) == LATE);
+    watch.end(&rt);
     assert!(rt;
         alarms.asked() == Some((KEY, Dirs::Both, None)),
-        "no alarm for what has passed"
+        "the alarm of the earlier one is gone"
     );
     Ok(())
 }
 
 #[test]
 fn a_later_deadline_replaces_the_earlier(rt: HostRuntime) -> Result<(), Fail> {
+    let watch = Watch::start(rt, rt.alloc())?;
     let told = Told::shared(rt.alloc())?;
     let mut handle = open_plain(rt, rt.alloc(), &told, THEN_THREE, None)?;
     let cell = handle.cell()?;
@@ -117,11 +125,13 @@ fn a_later_deadline_replaces_the_earlier(rt: HostRuntime) -> Result<(), Fail> {
     );
     cell.tick(&rt, 200);
     assert!(rt; reading.join(&rt) == [Ok(3), LATE]);
+    watch.end(&rt);
     Ok(())
 }
 
 #[test]
 fn no_deadline_lifts_the_earlier(rt: HostRuntime) -> Result<(), Fail> {
+    let watch = Watch::start(rt, rt.alloc())?;
     let told = Told::shared(rt.alloc())?;
     let alarms = Noted::new(rt);
     let mut handle = open_plain(rt, rt.alloc(), &told, THEN_THREE, None)?;
@@ -139,6 +149,7 @@ fn no_deadline_lifts_the_earlier(rt: HostRuntime) -> Result<(), Fail> {
     cell.tick(&rt, 100);
     cell.notify(&rt, Dir::Read);
     assert!(rt; reading.join(&rt) == Ok(3));
+    watch.end(&rt);
     Ok(())
 }
 

@@ -1,6 +1,7 @@
 //! Eight threads on one descriptor whose halves are never ready.
 
 use super::scripted::{ALWAYS_BLOCKS, Told};
+use super::watch::Watch;
 use super::{Plain, Silent, comes_to, open_plain, share};
 use deadline_core::Deadline;
 use rwloops::{Fault, WriteFault};
@@ -89,6 +90,7 @@ fn play_round<T: Threads + Wait + Clock + Copy + Send + Drop + Abort + 'static>(
     alloc: Global,
     round: u64,
 ) -> Result<(), Fail> {
+    let watch = Watch::start(rt, alloc)?;
     let told = Told::shared(alloc)?;
     let mut handle = open_plain(rt, alloc, &told, ALWAYS_BLOCKS, None)?;
     let threads = start_eight(rt, alloc, &mut handle, &told)?;
@@ -99,6 +101,7 @@ fn play_round<T: Threads + Wait + Clock + Copy + Send + Drop + Abort + 'static>(
     }
     assert!(rt; told.destroys.load(Ordering::SeqCst) == 1, "round {round}");
     assert!(rt; handle.close(&rt) == Err(Fault::Closed), "round {round}");
+    watch.end(&rt);
     Ok(())
 }
 
