@@ -1,5 +1,5 @@
-//! Each list of at most three outcomes and then a reset: a handle answers, tries and leaves in the
-//! buffer what the loop does on the half itself.
+//! Each list of at most three outcomes and then a reset: a handle answers, tries, offers and leaves
+//! in the buffer what the loop does on the half itself.
 
 use super::scripted::{END, Notice, OwnCell, Script, ScriptedHalf, Told, Try};
 use super::{Woken, open_woken};
@@ -83,6 +83,14 @@ fn play<T: Wait + Abort + Copy + Drop>(
         "other tries of {call:?}"
     );
     assert!(rt; tries > 0, "{call:?} asked the half");
+    assert!(rt;
+        through.offered.load(Ordering::SeqCst) == direct.offered.load(Ordering::SeqCst),
+        "{call:?} offered something else"
+    );
+    assert!(rt;
+        through.taken.load(Ordering::SeqCst) == direct.taken.load(Ordering::SeqCst),
+        "other bytes were written"
+    );
     assert!(rt; handle.close(&rt) == Ok(()));
     assert!(rt; through.destroys.load(Ordering::SeqCst) == 1);
     Ok(())

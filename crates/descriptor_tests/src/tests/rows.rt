@@ -1,6 +1,6 @@
 //! Worked rows of reads, writes and accepts, through a handle.
 
-use super::scripted::{END, Notice, RESET, Script, Told, Try};
+use super::scripted::{END, GIVEN, Notice, RESET, Script, Told, Try, folded};
 use super::{Silent, Woken, open_woken};
 use deadline_core::Deadline;
 use rwloops::{DevKind, Fault, Outcome, WriteFault};
@@ -22,6 +22,11 @@ struct Row {
     steps: Script,
     deadline_set_at: Option<u64>,
     tries: u64,
+}
+
+/// The first bytes, so many at most.
+fn first(bytes: &[u8], count: usize) -> &[u8] {
+    &bytes[..count.min(bytes.len())]
 }
 
 /// A descriptor whose halves play the row, and its deadline, if it has one.
@@ -58,10 +63,7 @@ fn check_read<T: Wait + Abort + Copy + Drop>(
         "tries of {name}"
     );
     if let Ok(count) = answer {
-        assert!(rt;
-            buf[..count].iter().all(|byte| *byte == b'x'),
-            "bytes of {name}"
-        );
+        assert!(rt; first(buf, count) == first(GIVEN, count), "bytes of {name}");
     }
     Ok(())
 }
@@ -77,6 +79,15 @@ fn check_write<T: Wait + Abort + Copy + Drop>(
     let told = Told::shared(alloc)?;
     let mut handle = open_row(rt, alloc, row, &told)?;
     assert!(rt; handle.write(&rt, bytes) == want, "{name}");
+    let count = match want {
+        Ok(count) => count,
+        Err(failed) => failed.count,
+    };
+    let written = folded(0, first(bytes, count));
+    assert!(rt;
+        told.taken.load(Ordering::SeqCst) == written,
+        "bytes of {name}"
+    );
     assert!(rt;
         told.tries.load(Ordering::SeqCst) == row.tries,
         "tries of {name}"

@@ -48,11 +48,30 @@ pub(super) type Script = [Step; 5];
 /// A script of one try, again and again.
 pub(super) const ALWAYS_BLOCKS: Script = [(BLOCKS, u32::MAX), END, END, END, END];
 
+/// The bytes that a half gives, in order, a next one each time; after them it gives zeros.
+pub(super) const GIVEN: &[u8] = b"abcdefghijkl";
+
+/// One number for these bytes after those that were folded before: another byte, another order or a
+/// byte more or less gives another number.
+pub(super) fn folded(before: u64, bytes: &[u8]) -> u64 {
+    let mut sum = before;
+    for byte in bytes {
+        sum = sum
+            .wrapping_mul(257)
+            .wrapping_add(u64::from(*byte))
+            .wrapping_add(1);
+    }
+    sum
+}
+
 /// What halves and their destruction tell, the gate that a try may wait for, and the cell of the
-/// descriptor, once it is open, for tests of one thread.
+/// descriptor, once it is open, for tests of one thread. `offered` has the bytes of all tries to
+/// write and the room of all tries to read, `taken` the bytes that were counted as written.
 #[derive(Drop)]
 pub(super) struct Told {
     pub(super) tries: AtomicU64,
+    pub(super) offered: AtomicU64,
+    pub(super) taken: AtomicU64,
     pub(super) destroys: AtomicU64,
     pub(super) gate: AtomicU64,
     pub(super) cell: Mutex<Option<Arc<PollCell, Global>>>,
@@ -62,11 +81,33 @@ impl Told {
     pub(super) fn shared(alloc: Global) -> Result<Arc<Told, Global>, Fail> {
         let told = Told {
             tries: AtomicU64::new(0),
+            offered: AtomicU64::new(0),
+            taken: AtomicU64::new(0),
             destroys: AtomicU64::new(0),
             gate: AtomicU64::new(0),
             cell: Mutex::new(None),
         };
         Ok(Arc::new(alloc, told)?)
+    }
+
+    /// A try was offered so many bytes of room.
+    fn offer_room(&self, room: usize) {
+        let before = self.offered.load(Ordering::SeqCst);
+        self.offered.store(
+            before.wrapping_mul(257).wrapping_add(room as u64),
+            Ordering::SeqCst,
+        );
+    }
+
+    /// A try was offered these bytes, and counted so many of them.
+    fn offer_bytes(&self, bytes: &[u8], outcome: Outcome) {
+        let before = self.offered.load(Ordering::SeqCst);
+        self.offered.store(folded(before, bytes), Ordering::SeqCst);
+        if let Outcome::Count(count) = outcome {
+            let before = self.taken.load(Ordering::SeqCst);
+            let counted = &bytes[..count.min(bytes.len())];
+            self.taken.store(folded(before, counted), Ordering::SeqCst);
+        }
     }
 }
 
@@ -117,6 +158,7 @@ pub(super) struct ScriptedHalf<H: Around + Drop> {
     script: Script,
     step: usize,
     repeats: u32,
+    given: usize,
     pub(super) fault: Option<DevKind>,
     told: Arc<Told, Global>,
     around: H,
@@ -132,6 +174,7 @@ impl<H: Around + Drop> ScriptedHalf<H> {
             script,
             step: 0,
             repeats: 0,
+            given: 0,
             fault: None,
             told: Arc::try_clone(told)?,
             around,
@@ -151,6 +194,15 @@ impl<H: Around + Drop> ScriptedHalf<H> {
             }
             _ => RESET,
         }
+    }
+
+    fn next_given(&mut self) -> u8 {
+        let byte = match GIVEN.get(self.given) {
+            Some(byte) => *byte,
+            None => 0,
+        };
+        self.given = self.given.saturating_add(1);
+        byte
     }
 
     fn outcome(&mut self, dir: Dir, offered: usize) -> Outcome
@@ -184,9 +236,10 @@ impl<H: Around + Drop> TryRead for ScriptedHalf<H> {
 
     fn try_read(&mut self, buf: &mut [u8]) -> Outcome {
         let outcome = self.outcome(Dir::Read, buf.len());
+        self.told.offer_room(buf.len());
         if let Outcome::Count(count) = outcome {
             for byte in &mut buf[..count] {
-                *byte = b'x';
+                *byte = self.next_given();
             }
         }
         outcome
@@ -197,7 +250,9 @@ impl<H: Around + Drop> TryWrite for ScriptedHalf<H> {
     ghost tells = { λ _ _. ⊥ };
 
     fn try_write(&mut self, bytes: &[u8]) -> Outcome {
-        self.outcome(Dir::Write, bytes.len())
+        let outcome = self.outcome(Dir::Write, bytes.len());
+        self.told.offer_bytes(bytes, outcome);
+        outcome
     }
 }
 
