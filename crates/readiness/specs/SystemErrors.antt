@@ -15,11 +15,7 @@ use Rattle.rwloops.specs.declared.outcome.Outcome.{Outcome}
 use Rattle.rwloops.specs.declared.outcome.Outcome.TheVariants.{Count, Interrupted, Aborted}
 use Rattle.rwloops.specs.declared.outcome.Outcome.TheVariants.{WouldBlock, Broken}
 use Rattle.rwloops.specs.declared.outcome.AcceptOutcome.{AcceptOutcome}
-use Rattle.rwloops.specs.declared.outcome.AcceptOutcome.TheVariants.{Took}
-use Rattle.rwloops.specs.declared.outcome.AcceptOutcome.TheVariants.{Interrupted as AcceptInterrupted}
-use Rattle.rwloops.specs.declared.outcome.AcceptOutcome.TheVariants.{Aborted as AcceptAborted}
-use Rattle.rwloops.specs.declared.outcome.AcceptOutcome.TheVariants.{WouldBlock as AcceptWouldBlock}
-use Rattle.rwloops.specs.declared.outcome.AcceptOutcome.TheVariants.{Broken as AcceptBroken}
+use Rattle.rwloops.specs.declared.outcome.AcceptOutcome.TheVariants as accept
 use Rattle.readiness.specs.declared.sock.Sock.{Sock}
 
 -- the kinds that callers tell apart by name, and one for all others
@@ -54,13 +50,13 @@ outcome_told (Err error) = error_told (error_kind error)
 
 -- an error of a try to accept, as one of a read
 abbrev pub accept_error_told : ErrorKind → AcceptOutcome Sock
-accept_error_told WaitIsNeeded = AcceptWouldBlock
-accept_error_told NotConnected = AcceptWouldBlock
-accept_error_told SignalCame = AcceptInterrupted
-accept_error_told ConnectionAborted = AcceptAborted
-accept_error_told kind = AcceptBroken (kind_told kind)
+accept_error_told WaitIsNeeded = accept.WouldBlock
+accept_error_told NotConnected = accept.WouldBlock
+accept_error_told SignalCame = accept.Interrupted
+accept_error_told ConnectionAborted = accept.Aborted
+accept_error_told kind = accept.Broken (kind_told kind)
 
 -- what a try to accept gave
 abbrev pub accept_told : Result Sock Error → AcceptOutcome Sock
-accept_told (Ok sock) = Took sock
+accept_told (Ok sock) = accept.Took sock
 accept_told (Err error) = accept_error_told (error_kind error)
