@@ -1,7 +1,9 @@
 #!/bin/sh
 # Runs a million random steps, by 2 to 50 holders, on Go's own fd_mutex.go and on the built program, and compares every
-# word and answer; a panic of Go's is `toomany` or `misuse` here. Go's file is copied out of Debian's golang-src when
-# this runs; nothing of it is kept. Then two wrong copies of it must be told apart. About two minutes.
+# answer, and every word by its fields, since Go's counts have other widths; a panic of Go's is `toomany` or `misuse`
+# here. A tenth of the steps runs on a copy of Go's file with our widths, where the limits are compared too. Go's file
+# is copied out of Debian's golang-src when this runs; nothing of it is kept. Then two wrong copies of it must be told
+# apart.
 # Usage: tests/against_go.sh [STEPS]; PROGRAM is the program, by default crates/pollrelay/out/pollrelay.
 set -eu
 root=$(cd "$(dirname "$0")/.." && pwd)
@@ -32,6 +34,10 @@ build() {
 
 build right ''
 "$work/against-right" -program "$program" -steps "$steps"
+build our_widths 's/(1<<20 - 1) << 3$/(1<<24 - 1) << 3/; s/= 1 << 23$/= 1 << 27/; s/= 1 << 43$/= 1 << 45/
+    s/(1<<20 - 1) << 23$/(1<<18 - 1) << 27/; s/(1<<20 - 1) << 43$/(1<<18 - 1) << 45/'
+[ "$(grep -Ec '<< (3|27|45)$' "$work/our_widths/fd_mutex.go")" -eq 6 ]
+"$work/against-our_widths" -program "$program" -steps $((steps / 10))
 build keeps_waiters 's/new &^= mutexRMask | mutexWMask/new \&^= mutexRMask/'
 build forgets_a_waiter 's/new -= mutexWait/new -= mutexWait - mutexWait/'
 for wrong in keeps_waiters forgets_a_waiter; do

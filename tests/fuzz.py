@@ -32,9 +32,9 @@ from relay_process import REPLY_SECONDS, ROOT, Checks, wait_until
 CORPUS = f"{ROOT}/tests/corpus"
 MOST_BYTES = 4_096
 OPERATIONS = "incref decref rlock wlock runlock wunlock rsignal wsignal rwake wwake close destroy".split()
-NUMBERS = "0 1 2 01 64 65 1048575 1048576 4194303 4194304 16777217 4294967296 4503599627370494 4503599627370495 86400000 86400001".split()
+NUMBERS = "0 1 2 01 64 65 262143 262144 67108863 67108864 16777217 4294967296 4503599627370494 4503599627370495 86400000 86400001".split()
 TOKENS = {
-    "trace": [*(f"{it}\n" for it in OPERATIONS), *NUMBERS, "+", "1+1048575 incref\n", "1+1048576 rlock\n", " ", "\n", "\r\n"],
+    "trace": [*(f"{it}\n" for it in OPERATIONS), *NUMBERS, "+", "1+262143 incref\n", "1+262144 rlock\n", " ", "\n", "\r\n"],
     "check": [
         "relay ", "web ", "tcp:", "unix:/", "tcp:127.0.0.1:", "255.255.255.255", "0.0.0.0", "65535", "65536", " never\n", " 86400000\n",
         "#", "\n", "\r\n", " ", ":", ".", "/", "relay a tcp:1.1.1.1:1 unix:/x never\n", "x" * 16, "x" * 17, "/" + "x" * 100, *NUMBERS,
@@ -48,7 +48,7 @@ SEEDS = {
     "check": [f"{ROOT}/examples/rules/*.rules"],
     "session": [],
 }
-PLANTED = {"trace": "+1048576 rlock", "check": "255.255.255.255", "session": "1048576"}
+PLANTED = {"trace": "+262144 rlock", "check": "255.255.255.255", "session": "262144"}
 
 
 PLANTED_SECONDS = 300

@@ -8,7 +8,8 @@ import tempfile
 
 from relay_process import PROGRAM, ROOT, Relay, free_port
 
-HANG_MS = 2_000
+# A line may name 67,108,864 holders, which takes 17 s.
+HANG_MS = 60_000
 STOPPED = 7
 
 

@@ -8,7 +8,7 @@ use std::sync::atomic::{AtomicU64, Ordering::SeqCst};
 const CLOSED: u64 = 1;
 const READ_LOCK: u64 = 2;
 const REFERENCE: u64 = 8;
-const REFERENCES: u64 = 0x7f_fff8;
+const REFERENCES: u64 = 0x7ff_fff8;
 
 /// A word, and a half that belongs to the holder of its read lock.
 #[derive(Default)]

@@ -16,11 +16,11 @@ fn proved(codes: &[u8], first: u64) -> u64 {
 
 const CLOSED: u64 = 1;
 const REFERENCE: u64 = 8;
-const REFERENCES: u64 = 0x7f_fff8;
-const WAITERS: u64 = 0xf_ffff;
+const REFERENCES: u64 = 0x7ff_fff8;
+const WAITERS: u64 = 0x3_ffff;
 
 fn step(word: u64, code: u8) -> Option<u64> {
-    let (lock, shift) = if code < 4 { (2, 23) } else { (4, 43) };
+    let (lock, shift) = if code < 4 { (2, 27) } else { (4, 45) };
     match code {
         0 if word & CLOSED != 0 || word & REFERENCES == REFERENCES => None,
         0 => Some(word + REFERENCE),
@@ -35,7 +35,7 @@ fn step(word: u64, code: u8) -> Option<u64> {
         3 | 5 if word >> shift & WAITERS == 0 => Some(word - REFERENCE - lock),
         3 | 5 => Some(word - REFERENCE - lock - (1 << shift)),
         _ if word & CLOSED != 0 || word & REFERENCES == REFERENCES => None,
-        _ => Some((word & 0x7f_ffff) + REFERENCE + CLOSED),
+        _ => Some((word & 0x7ff_ffff) + REFERENCE + CLOSED),
     }
 }
 

@@ -25,10 +25,20 @@ type holder struct {
 }
 
 const (
-	mostWaiting = 1_048_575
+	// what one who waits adds to our word, and its limits
+	readWaiter     = 1 << 27
+	writeWaiter    = 1 << 45
+	mostReferences = 1<<24 - 1
+	mostWaiting    = 1<<18 - 1
 	// names of holders that only fill a count
 	fillers = 1_000
 )
+
+// ours is our word with the fields of Go's.
+func ours(word uint64) uint64 {
+	return word&(mutexClosed|mutexRLock|mutexWLock|mutexRefMask) |
+		word&mutexRMask/mutexRWait*readWaiter | word&mutexWMask/mutexWWait*writeWaiter
+}
 
 // play makes so many steps, or ends once nothing but a closed word is left.
 func (r *round) play(steps int) {
@@ -127,7 +137,7 @@ func (r *round) step(i int, op string) {
 func (r *round) say(line, answer string, steps int) {
 	mu := &r.fd.fdmu
 	r.script = append(r.script, line)
-	r.expected = append(r.expected, fmt.Sprintf("%s %016x %d %d %s", answer, mu.state, mu.rsema, mu.wsema, r.mark))
+	r.expected = append(r.expected, fmt.Sprintf("%s %016x %d %d %s", answer, ours(mu.state), mu.rsema, mu.wsema, r.mark))
 	r.steps += steps
 }
 
@@ -164,16 +174,26 @@ func (h *holder) signalled(op string) {
 	}
 }
 
-// fill takes one count to its limit, or one below it, before the holders begin.
+// near is a count at the limit, or one or two below it, where Go's and ours are the same; else one that no holder
+// takes to either.
+func (r *round) near(limitOfGo, limit int) int {
+	if limitOfGo == limit {
+		return limit - r.random.Intn(3)
+	}
+	return min(limitOfGo, limit) - len(r.holders)
+}
+
+// fill takes one count to its limit, or near it, before the holders begin.
 func (r *round) fill() {
-	n := mostWaiting - r.random.Intn(3)
 	if r.random.Intn(2) == 0 {
+		n := r.near(mutexRefMask/mutexRef, mostReferences)
 		for i := 0; i < n; i++ {
 			r.fd.fdmu.incref()
 		}
 		r.say(fmt.Sprintf("%d+%d incref", fillers, n), "held", 1)
 		return
 	}
+	n := r.near(mutexRMask/mutexRWait, mostWaiting)
 	way := []string{"r", "w"}[r.random.Intn(2)]
 	r.step(0, way+"lock")
 	running = nil

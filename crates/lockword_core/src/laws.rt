@@ -74,9 +74,9 @@ pub fn operations_add_up()
 /// The layout and its limits in figures, as `docs/lock-word.md` draws them.
 pub fn the_layout_in_figures()
     ensures bits { (CLOSED ≡ 1) × (READ_LOCK ≡ 2) × (WRITE_LOCK ≡ 4) }
-    ensures units { (REFERENCE ≡ 8) × (READ_WAITER ≡ 8388608) × (WRITE_WAITER ≡ 8796093022208) }
+    ensures units { (REFERENCE ≡ 8) × (READ_WAITER ≡ 134217728) × (WRITE_WAITER ≡ 35184372088832) }
     ensures no_word { NO_WORD ≡ 9223372036854775808 }
-    ensures limits { (MAX_REFERENCES ≡ 1048575) × (MAX_WAITERS ≡ 1048575) }
+    ensures limits { (MAX_REFERENCES ≡ 16777215) × (MAX_WAITERS ≡ 262143) }
     ensures signals { MAX_SIGNALS ≡ 4294967295 }
 {}
 

@@ -5,9 +5,9 @@
 //! | 0 | closed; never cleared | 1 |
 //! | 1 | read lock | 1 |
 //! | 2 | write lock | 1 |
-//! | 3 to 22 | references, of which each lock and the closer hold one | 1,048,575 |
-//! | 23 to 42 | read waiters whom nobody is bound to signal | 1,048,575 |
-//! | 43 to 62 | write waiters whom nobody is bound to signal | 1,048,575 |
+//! | 3 to 26 | references, of which each lock and the closer hold one | 16,777,215 |
+//! | 27 to 44 | read waiters whom nobody is bound to signal | 262,143 |
+//! | 45 to 62 | write waiters whom nobody is bound to signal | 262,143 |
 //! | 63 | unused, always 0 | |
 //!
 //! The width of the references is the one number of the layout: all else is computed from it.
@@ -16,7 +16,7 @@ ghost use Rattle.std.specs.Prelude.{◌≡◌, ◌≤◌, ◌<◌, IfNone, IfSom
 ghost use Rattle.lockword_core.specs.Word.{bit, IsWord, packed};
 
 /// Bits of the count of references.
-const REFERENCES_WIDTH: u32 = 20;
+const REFERENCES_WIDTH: u32 = 24;
 /// Bits of each count of waiters: half of what the flag, the locks and the references leave below bit 63.
 const WAITERS_WIDTH: u32 = (63 - 3 - REFERENCES_WIDTH) / 2;
 

@@ -1,11 +1,11 @@
 -- A line's parts, and that it has them in one way.
-use Rattle.std.specs.Prelude.{◌≡◌, ◌+◌, ◌^◌, ◌≤◌, ◌<◌, ◌∷◌, ◌++◌, if◌then◌else◌}
+use Rattle.std.specs.Prelude.{◌≡◌, ◌+◌, ◌*◌, ◌^◌, ◌≤◌, ◌<◌, ◌∷◌, ◌++◌, if◌then◌else◌}
 use Rattle.lockword_script.proofs.Words.{◌∙◌, sym, ap, refl, subst, ℕ, List, length}
 use Rattle.lockword_script.proofs.Words.{arith, inl, inr, length-append, codes, decimal, bytes_eq}
 use Rattle.lockword_script.proofs.Words.{decimal_injective, length-decimal-le, Lacks, cut_once, lacks-append, lacks_not}
 use Rattle.lockword_script.proofs.Words.{decimal-lacks, Read, Write, Op}
 use Rattle.lockword_core.specs.declared.stake.Op.TheVariants as op
-use Rattle.lockword_script.specs.declared.script.TheConstants.{HOLDERS, MAX_LINE_BYTES}
+use Rattle.lockword_script.specs.declared.script.TheConstants.{HOLDERS, HOLDER_DIGITS, NAME_BYTES, MAX_LINE_BYTES}
 use Rattle.lockword_script.specs.Script.{operation_name, NamesHolders, Says, IsBadLine}
 
 -- the names of holders have no space
@@ -134,7 +134,7 @@ says_once line first count first' count' asked asked' says says' =
 
 -- ---- A long line is bad
 
-length-operation_name : (asked : Op) → length (operation_name asked) ≤ 7
+length-operation_name : (asked : Op) → length (operation_name asked) ≤ NAME_BYTES
 length-operation_name op.Incref = omega arith
 length-operation_name op.Decref = omega arith
 length-operation_name (op.Lock Read) = omega arith
@@ -148,12 +148,12 @@ length-operation_name (op.Wake Write) = omega arith
 length-operation_name op.Close = omega arith
 length-operation_name op.Destroy = omega arith
 
--- names of holders below ten million are short
-holders_short : (text : List ℕ) (first count : ℕ) → first < 10 ^ 7 → count < 10 ^ 7 → NamesHolders text first count
-    → length text ≤ 15
+-- names of holders of so many digits are short
+holders_short : (text : List ℕ) (first count : ℕ) → first < 10 ^ HOLDER_DIGITS → count < 10 ^ HOLDER_DIGITS
+    → NamesHolders text first count → length text ≤ 2 * HOLDER_DIGITS + 1
 holders_short text first count p q =
-    let a : length (decimal first) ≤ 7 = length-decimal-le 7 first (omega arith) p (omega arith) in
-    let b : length (decimal count) ≤ 7 = length-decimal-le 7 count (omega arith) q (omega arith) in
+    let a : length (decimal first) ≤ HOLDER_DIGITS = length-decimal-le HOLDER_DIGITS first (omega arith) p (omega arith) in
+    let b : length (decimal count) ≤ HOLDER_DIGITS = length-decimal-le HOLDER_DIGITS count (omega arith) q (omega arith) in
     elim [
       | inl alone ↦ omega (arith, ap length alone.1)
       | inr range ↦ omega (arith, ap length range, length-append (decimal first) (43 ∷ decimal count))
@@ -163,7 +163,7 @@ holders_short text first count p q =
 pub long_line_bad : (line : List ℕ) → MAX_LINE_BYTES < length line → IsBadLine line
 long_line_bad line long first count asked says =
     let named : first + count ≤ HOLDERS = says.named in
-    let short : length says.holders ≤ 15 =
+    let short : length says.holders ≤ 2 * HOLDER_DIGITS + 1 =
     holders_short says.holders first count (omega arith) (omega arith) says.names in
     omega (
       arith,

@@ -39,9 +39,9 @@ pub fn only_the_first_bad_line_counts()
         → IsTextOf other text (End.BadLine number) }
 {}
 
-/// The limits of a script in figures: 4,194,304 holders, lines of 23 bytes, and 16,777,216 lines.
+/// The limits of a script in figures: 67,108,864 holders, lines of 25 bytes, and 16,777,216 lines.
 pub fn the_limits_in_figures()
-    ensures holders { HOLDERS ≡ 4194304 }
-    ensures line_bytes { MAX_LINE_BYTES ≡ 23 }
+    ensures holders { HOLDERS ≡ 67108864 }
+    ensures line_bytes { MAX_LINE_BYTES ≡ 25 }
     ensures lines { MAX_LINES ≡ 16777216 }
 {}

@@ -16,10 +16,16 @@ use stream_base::Dir;
 use stream_base::decimal::parse_decimal;
 
 /// The first number that names no holder.
-pub const HOLDERS: u64 = 4_194_304;
+pub const HOLDERS: u64 = 67_108_864;
 
-/// The most bytes of a line that isn't bad, without its line feed.
-pub const MAX_LINE_BYTES: usize = 23;
+/// The most digits of a holder, and of how many there are.
+const HOLDER_DIGITS: usize = 8;
+
+/// The most bytes of an operation's name.
+const NAME_BYTES: usize = 7;
+
+/// The most bytes of a line that isn't bad, without its line feed: holder, `+`, count, space and name.
+pub const MAX_LINE_BYTES: usize = 2 * HOLDER_DIGITS + 2 + NAME_BYTES;
 
 /// The most lines of a script; the next line is bad whatever it holds.
 pub const MAX_LINES: u64 = 16_777_216;

@@ -13,7 +13,6 @@ macro_rules! want {
 mod answers;
 mod close_under_load;
 mod halves;
-mod limit;
 mod lock_rows;
 mod queued;
 mod reference_rows;

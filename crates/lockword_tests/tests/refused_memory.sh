@@ -1,6 +1,6 @@
 #!/bin/sh
-# Refuses each allocation of each test in turn. `LockWord::new` makes three, the room for as many references as
-# there may be is a fourth, and only the test of a hundred words makes more. Where one is refused, the test
+# Refuses each allocation of each test in turn. `LockWord::new` makes three, the room for as many as may
+# wait is a fourth, and only the test of a hundred words makes more. Where one is refused, the test
 # `a_word_drops_its_halves_once` holds, and each test that can't have its memory gives up with the allocator's
 # error: none faults, panics or hangs. It takes three minutes.
 cd "$(dirname "$0")/.." || exit 1

@@ -75,7 +75,7 @@ fn locks_waiters_and_signals_print_their_words(rt: HostRuntime) {
     let rows = [
         good_row(
             "1 rlock\n2 rlock\n1 runlock\n1 rsignal\n2 rwake\n",
-            "held 000000000000000a 0 0 -\nqueued 000000000080000a 0 0 -\n\
+            "held 000000000000000a 0 0 -\nqueued 000000000800000a 0 0 -\n\
              owes 0000000000000000 0 0 -\nsignalled 0000000000000000 1 0 -\n\
              woken 0000000000000000 0 0 -\n",
         ),
@@ -85,7 +85,7 @@ fn locks_waiters_and_signals_print_their_words(rt: HostRuntime) {
         ),
         good_row(
             "1 rlock\n2 rlock\n3 close\n3 rsignal\n2 rwake\n2 rlock\n3 decref\n1 runlock\n1 destroy\n",
-            "held 000000000000000a 0 0 -\nqueued 000000000080000a 0 0 -\n\
+            "held 000000000000000a 0 0 -\nqueued 000000000800000a 0 0 -\n\
              closing 0000000000000013 0 0 -\nsignalled 0000000000000013 1 0 -\n\
              woken 0000000000000013 0 0 -\nclosed 0000000000000013 0 0 -\n\
              kept 000000000000000b 0 0 -\nlast 0000000000000001 0 0 -\n\
@@ -93,20 +93,20 @@ fn locks_waiters_and_signals_print_their_words(rt: HostRuntime) {
         ),
         good_row(
             "1 wlock\n2 wlock\n1 wunlock\n2 wwake\n1 wsignal\n2 wwake\n",
-            "held 000000000000000c 0 0 -\nqueued 000008000000000c 0 0 -\n\
+            "held 000000000000000c 0 0 -\nqueued 000020000000000c 0 0 -\n\
              owes 0000000000000000 0 0 -\nnotyet 0000000000000000 0 0 -\n\
              signalled 0000000000000000 0 1 -\nwoken 0000000000000000 0 0 -\n",
         ),
         good_row(
             "1 rlock\n2 rlock\n1 runlock\n3 close\n3 decref\n1 rsignal\n2 rwake\n3 destroy\n",
-            "held 000000000000000a 0 0 -\nqueued 000000000080000a 0 0 -\n\
+            "held 000000000000000a 0 0 -\nqueued 000000000800000a 0 0 -\n\
              owes 0000000000000000 0 0 -\nclosing 0000000000000009 0 0 -\n\
              last 0000000000000001 0 0 -\nsignalled 0000000000000001 1 0 -\n\
              woken 0000000000000001 0 0 -\ndone 0000000000000001 0 0 3\n",
         ),
         good_row(
             "1 rlock\n2 rlock\n3 close\n3 decref\n",
-            "held 000000000000000a 0 0 -\nqueued 000000000080000a 0 0 -\n\
+            "held 000000000000000a 0 0 -\nqueued 000000000800000a 0 0 -\n\
              closing 0000000000000013 0 0 -\nmisuse 0000000000000013 0 0 -\n",
         ),
     ];
@@ -118,24 +118,25 @@ fn counts_stop_at_their_limits(rt: HostRuntime) {
     let rows = [
         good_row(
             "1+1048575 incref\n0 incref\n0 rlock\n0 close\n",
-            "held 00000000007ffff8 0 0 -\ntoomany 00000000007ffff8 0 0 -\n\
-             toomany 00000000007ffff8 0 0 -\ntoomany 00000000007ffff8 0 0 -\n",
+            "held 00000000007ffff8 0 0 -\nheld 0000000000800000 0 0 -\n\
+             misuse 0000000000800000 0 0 -\nmisuse 0000000000800000 0 0 -\n",
         ),
         good_row(
-            "1 rlock\n2+1048575 rlock\n0 rlock\n",
-            "held 000000000000000a 0 0 -\nqueued 000007ffff80000a 0 0 -\n\
-             toomany 000007ffff80000a 0 0 -\n",
+            "1 rlock\n2+262143 rlock\n0 rlock\n",
+            "held 000000000000000a 0 0 -\nqueued 00001ffff800000a 0 0 -\n\
+             toomany 00001ffff800000a 0 0 -\n",
         ),
         good_row(
-            "1 wlock\n2+1048575 wlock\n0 wlock\n0 close\n",
-            "held 000000000000000c 0 0 -\nqueued 7ffff8000000000c 0 0 -\n\
-             toomany 7ffff8000000000c 0 0 -\nclosing 0000000000000015 0 0 -\n",
+            "1 wlock\n2+262143 wlock\n0 wlock\n0 close\n",
+            "held 000000000000000c 0 0 -\nqueued 7fffe0000000000c 0 0 -\n\
+             toomany 7fffe0000000000c 0 0 -\nclosing 0000000000000015 0 0 -\n",
         ),
-        good_row("4194303 incref\n", "held 0000000000000008 0 0 -\n"),
+        good_row("4194304 incref\n", "held 0000000000000008 0 0 -\n"),
+        good_row("67108863 incref\n", "held 0000000000000008 0 0 -\n"),
         good_row(
             "1+1048574 incref\n0 rlock\n2000000 rlock\n",
             "held 00000000007ffff0 0 0 -\nheld 00000000007ffffa 0 0 -\n\
-             queued 0000000000fffffa 0 0 -\n",
+             queued 00000000087ffffa 0 0 -\n",
         ),
     ];
     runs_as_it_must(&rt, &rows);
@@ -148,13 +149,13 @@ fn the_first_bad_line_ends_the_script(rt: HostRuntime) {
             "1 incref\n01 incref\n1 decref\n",
             "held 0000000000000008 0 0 -\nbad line 2\n",
         ),
-        bad_row("4194304 incref\n", "bad line 1\n"),
+        bad_row("67108864 incref\n", "bad line 1\n"),
         bad_row("1+0 incref\n", "bad line 1\n"),
         bad_row("\n", "bad line 1\n"),
         bad_row("1 incref\r\n", "bad line 1\n"),
         bad_row("1 open\n", "bad line 1\n"),
-        bad_row("4194303+2 incref\n", "bad line 1\n"),
-        bad_row("1000000+1000000 rsignals\n", "bad line 1\n"),
+        bad_row("67108863+2 incref\n", "bad line 1\n"),
+        bad_row("10000000+10000000 rsignals\n", "bad line 1\n"),
     ];
     runs_as_it_must(&rt, &rows);
 }

@@ -16,30 +16,41 @@ fn a_step_on_the_word_gives_the_worked_words(rt: HostRuntime) {
         (9, Kind::Lock(Dir::Write), Err(Refused::Closed)),
         (9, Kind::Decref, Ok((1, After::Last))),
         (0x11, Kind::Decref, Ok((9, After::Kept))),
-        (8_388_600, Kind::Incref, Err(Refused::TooMany)),
-        (8_388_600, Kind::Lock(Dir::Read), Err(Refused::TooMany)),
-        (8_388_600, Kind::Close, Err(Refused::TooMany)),
+        (8_388_600, Kind::Incref, Ok((8_388_608, After::Held))),
+        (
+            8_388_600,
+            Kind::Lock(Dir::Read),
+            Ok((8_388_610, After::Held)),
+        ),
+        (
+            8_388_600,
+            Kind::Close,
+            Ok((8_388_609, After::Closing { read: 0, write: 0 })),
+        ),
+        (134_217_720, Kind::Incref, Err(Refused::TooMany)),
+        (134_217_720, Kind::Lock(Dir::Read), Err(Refused::TooMany)),
+        (134_217_720, Kind::Close, Err(Refused::TooMany)),
         (0, Kind::Decref, Err(Refused::Misuse)),
         (8, Kind::Unlock(Dir::Read), Err(Refused::Misuse)),
         (2, Kind::Unlock(Dir::Read), Err(Refused::Misuse)),
         (1 << 63, Kind::Incref, Err(Refused::Misuse)),
         (0, Kind::Lock(Dir::Read), Ok((0xa, After::Held))),
-        (0xa, Kind::Lock(Dir::Read), Ok((0x80_000a, After::Queued))),
+        (0xa, Kind::Lock(Dir::Read), Ok((0x800_000a, After::Queued))),
         (0xa, Kind::Lock(Dir::Write), Ok((0x16, After::Held))),
         (
-            0x7ff_ff80_000a,
+            0x1fff_f800_000a,
             Kind::Lock(Dir::Read),
             Err(Refused::TooMany),
         ),
-        (0x80_000a, Kind::Unlock(Dir::Read), Ok((0, After::Owes))),
+        (0x800_000a, Kind::Unlock(Dir::Read), Ok((0, After::Owes))),
         (
-            0x800_0000_000c,
+            0x2000_0000_000c,
             Kind::Unlock(Dir::Write),
             Ok((0, After::Owes)),
         ),
         (0xb, Kind::Unlock(Dir::Read), Ok((1, After::Last))),
         (
-            0x80_000a,
+            0x800_000a,
             Kind::Close,
             Ok((0x13, After::Closing { read: 1, write: 0 })),
         ),
@@ -56,11 +67,11 @@ fn a_word_is_packed_and_unpacked(rt: HostRuntime) {
         rlock: false,
         wlock: true,
         refs: 3,
-        rwait: 1_048_575,
+        rwait: 262_143,
         wwait: 2,
     };
     let word = pack(fields);
-    assert!(&rt; word == 0x17ff_ff80_001d);
+    assert!(&rt; word == 0x5fff_f800_001d);
     assert!(&rt; unpack(word) == Some(fields));
     assert!(&rt; unpack(9_223_372_036_854_775_808) == None);
 }

@@ -153,12 +153,20 @@ fn lines_at_their_limits_are_good_or_bad(rt: HostRuntime) {
         ("", "", End::Whole),
         ("1 incref\n1 decref", HELD_AND_KEPT, End::Whole),
         (
-            "1000000+1000000 rsignal\n",
+            "10000000+10000000 rsignal\n",
             "misuse 0000000000000000 0 0 -\n",
             End::Whole,
         ),
-        ("1000000+1000000 rsignals", "bad line 1\n", End::BadLine(1)),
-        ("xxxxxxxxxxxxxxxxxxxxxxxx", "bad line 1\n", End::BadLine(1)),
+        (
+            "10000000+10000000 rsignals",
+            "bad line 1\n",
+            End::BadLine(1),
+        ),
+        (
+            "xxxxxxxxxxxxxxxxxxxxxxxxxx",
+            "bad line 1\n",
+            End::BadLine(1),
+        ),
         ("\0", "bad line 1\n", End::BadLine(1)),
         ("1 incref\r\n", "bad line 1\n", End::BadLine(1)),
         ("0+2 incref\n", "held 0000000000000010 0 0 -\n", End::Whole),
@@ -187,7 +195,7 @@ fn lines_at_their_limits_are_good_or_bad(rt: HostRuntime) {
 #[test]
 fn a_long_line_is_bad_before_its_end_comes(rt: HostRuntime) {
     let passed_on = Cell::new(0);
-    let mut source = reader(0, 24, b"1000000+1000000 rsignals", true, &passed_on);
+    let mut source = reader(0, 26, b"10000000+10000000 rsignals", true, &passed_on);
     let mut sink = writer(&rt, 0, 100, 100, false, 10, &passed_on);
     let answer = trace(rt.alloc(), &mut source, &mut sink);
     assert_eq!(rt; answer, Ok(End::BadLine(1)), "the next read would fail");

@@ -30,7 +30,7 @@ fn reads_and_waits<R: Abort>(
     let lock = want!(rt; word.try_lock_read(one), LockRead::Held);
     shows(rt, word, spare, 0xa, "1 rlock");
     let wait = want!(rt; word.try_lock_read(two), LockRead::Queued);
-    shows(rt, word, spare, 0x80_000a, "2 rlock");
+    shows(rt, word, spare, 0x800_000a, "2 rlock");
     (lock, wait)
 }
 
@@ -100,7 +100,7 @@ fn a_queued_writer_wakes_once_it_is_signalled(rt: HostRuntime) -> Result<(), Fai
     let lock = want!(&rt; word.try_lock_write(one), LockWrite::Held);
     shows(&rt, &word, &mut spare, 0xc, "1 wlock");
     let wait = want!(&rt; word.try_lock_write(two), LockWrite::Queued);
-    shows(&rt, &word, &mut spare, 0x800_0000_000c, "2 wlock");
+    shows(&rt, &word, &mut spare, 0x2000_0000_000c, "2 wlock");
     let owing = want!(&rt; word.try_unlock_write(lock), UnlockWrite::Owes);
     shows(&rt, &word, &mut spare, 0, "1 wunlock");
     let wait = want!(&rt; word.try_wake_write(wait), WakeWrite::NotYet);

@@ -1,12 +1,13 @@
-//! The limit of those who wait for one lock, by the single tries.
+//! The limit of those who wait for one lock, by the single tries and by the call that waits.
 
 ghost use Rattle.std.specs.Prelude.{◌≡◌};
 ghost use Rattle.stream_base.specs.declared.direction.Dir.TheVariants.{Read, Write};
 ghost use Rattle.lockword.specs.Places.{seat_place, lock_place, closing_place, wait_place, owed_by};
 ghost use Rattle.lockword.specs.TransitionOutcomes.{IsSeatOf};
 
+use super::answers::refused;
 use super::{CounterSeat, Counters, destroyed, kept, owes_nobody, shows, wrong};
-use fdmutex::{drop_closing, write_unlock};
+use fdmutex::{Refusal, drop_closing, write_lock, write_unlock};
 use lockword::{
     Close, Closing, LockWord, LockWrite, SignalClosing, WakeWrite, WriteLock, WriteWait,
 };
@@ -113,14 +114,16 @@ fn at_the_limit_of_write_waiters_a_lock_is_refused_and_a_close_owes_them_all(
         &rt,
         &word,
         &mut spare,
-        0x7fff_f800_0000_000c,
-        "2+1048575 wlock",
+        0x7fff_e000_0000_000c,
+        "2+262143 wlock",
     );
     let (seat, found) = match word.try_lock_write(seat) {
         LockWrite::TooMany(seat, found) => (seat, found),
         other => wrong(&rt, "at the limit", other),
     };
     assert_eq!(rt; found.wwait, MAX_WAITERS, "0 wlock");
+    let full = Refusal::TooMany(found);
+    let seat = refused(&rt, "0 wlock", &word, write_lock(&rt, &word, seat), &full);
     let closing = want!(&rt; word.try_close(seat), Close::Closing);
     shows(&rt, &word, &mut spare, 0x15, "0 close");
     assert_eq!(rt;
