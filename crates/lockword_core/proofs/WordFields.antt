@@ -43,14 +43,14 @@ packed-injective f g f_fits g_fits e =
     let wwait : f.wwait ≡ g.wwait = sym of_f.wwait ∙ of_g.wwait in
     rw (closed, rlock, wlock, refs, rwait, wwait) refl
 
-bit_of : (x : ℕ) → x ≤ 1 → bit (not (x == 0)) ≡ x
+pub bit_of : (x : ℕ) → x ≤ 1 → bit (not (x == 0)) ≡ x
 bit_of x h = by (x == 0) refl
   where
     by : (b : Bool) → (x == 0) ≡ b → bit (not b) ≡ x
     by true e = sym (same_numbers x 0 e)
     by false e = let ne = other_numbers x 0 e in omega arith
 
-flag_of : (x : ℕ) → x ≤ 1 → bit (x == CLOSED) ≡ x
+pub flag_of : (x : ℕ) → x ≤ 1 → bit (x == CLOSED) ≡ x
 flag_of x h = by (x == CLOSED) refl
   where
     by : (b : Bool) → (x == CLOSED) ≡ b → bit b ≡ x

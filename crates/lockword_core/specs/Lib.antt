@@ -1,6 +1,7 @@
 pub mod Signals
 pub mod Word
 pub mod LockState
+pub mod LayoutOne
 pub mod FieldStep
 pub mod Transition
 pub mod LockInvariant

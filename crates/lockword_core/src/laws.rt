@@ -1,7 +1,7 @@
 //! What the definitions come to, in the words of the subject. Each law is the contract of a function
 //! that does nothing.
 
-ghost use Rattle.std.specs.Prelude.{◌≡◌, ◌<◌, ◌≤◌, ◌+◌, ℕ, true, List, [], ◌∷◌, ◌++◌, Some, is_some, count_by, length, slice_set, slice_index_or};
+ghost use Rattle.std.specs.Prelude.{◌≡◌, ◌<◌, ◌≤◌, ◌+◌, ◌^◌, ℕ, Bool, true, List, [], ◌∷◌, ◌++◌, Some, is_some, count_by, length, slice_set, slice_index_or};
 ghost use Rattle.std.specs.Ordering.{nat_cmp};
 ghost use Rattle.std.specs.Map.{values_of};
 ghost use Rattle.std.specs.BTreeMap.{insert_entry};
@@ -12,9 +12,11 @@ ghost use Rattle.lockword_core.specs.declared.stake.Op.{Op};
 ghost use Rattle.lockword_core.specs.declared.stake.Answer.{Answer};
 ghost use Rattle.lockword_core.specs.declared.word.Word.{Word};
 ghost use Rattle.lockword_core.specs.declared.word.TheConstants.{CLOSED, READ_LOCK, WRITE_LOCK, REFERENCE, READ_WAITER, WRITE_WAITER, NO_WORD, MAX_REFERENCES, MAX_WAITERS};
+ghost use Rattle.lockword_core.specs.declared.layout_one.TheConstants as one;
 ghost use Rattle.lockword_core.specs.declared.signals.TheConstants.{MAX_SIGNALS};
 ghost use Rattle.lockword_core.specs.declared.transition.Kind.{Kind};
 ghost use Rattle.lockword_core.specs.Word.{bit, IsWord, packed};
+ghost use Rattle.lockword_core.specs.LayoutOne.{HasFirstFields};
 ghost use Rattle.lockword_core.specs.LockState.{LockState, empty, Census, census, stake_of, Counted, locks, part, count, number, encoded};
 ghost use Rattle.lockword_core.specs.LockInvariant.{IsConsistent, IsConsistentCensus, IsCounted, ChangesOneStake};
 ghost use Rattle.lockword_core.specs.Transition.{Change, moved, outcome, changed, transition};
@@ -78,6 +80,18 @@ pub fn the_layout_in_figures()
     ensures no_word { NO_WORD ≡ 9223372036854775808 }
     ensures limits { (MAX_REFERENCES ≡ 16777215) × (MAX_WAITERS ≡ 262143) }
     ensures signals { MAX_SIGNALS ≡ 4294967295 }
+{}
+
+/// The layout before this one, in figures; what the flag, a lock and a reference add is the same in both.
+pub fn the_first_layout_in_figures()
+    ensures units { (one.READ_WAITER ≡ 8388608) × (one.WRITE_WAITER ≡ 8796093022208) }
+    ensures limits { (one.MAX_REFERENCES ≡ 1048575) × (one.MAX_WAITERS ≡ 1048575) }
+{}
+
+/// Each number of 64 bits has fields in the layout before this one, and a bit 63.
+pub fn each_number_has_a_first_reading()
+    ensures { (word : ℕ) → word < 2 ^ 64
+        → (fields : Word) × (top : Bool) × HasFirstFields word fields top }
 {}
 
 /// A word has one reading: fields that pack to the same word are the same.

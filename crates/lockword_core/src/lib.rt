@@ -2,6 +2,7 @@
 #![tactic(auto)]
 
 pub mod laws;
+pub mod layout_one;
 mod machine;
 mod signals;
 mod stake;

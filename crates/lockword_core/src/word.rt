@@ -10,7 +10,8 @@
 //! | 45 to 62 | write waiters whom nobody is bound to signal | 262,143 |
 //! | 63 | unused, always 0 | |
 //!
-//! The width of the references is the one number of the layout: all else is computed from it.
+//! The width of the references is the one number of the layout: all else is computed from it. The layout
+//! before this one is in `layout_one`.
 
 ghost use Rattle.std.specs.Prelude.{◌≡◌, ◌≤◌, ◌<◌, IfNone, IfSome};
 ghost use Rattle.lockword_core.specs.Word.{bit, IsWord, packed};

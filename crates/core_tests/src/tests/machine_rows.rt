@@ -1,5 +1,6 @@
 //! Worked values from outside the definitions, and each call once on its way to an answer.
 
+use lockword_core::layout_one::to_two;
 use lockword_core::{
     After, Answer, Event, Kind, MAX_SIGNALS, Machine, Op, Refused, Signals, Stake, Word, pack,
     signal_add, signal_take, unpack, word_step,
@@ -74,6 +75,23 @@ fn a_word_is_packed_and_unpacked(rt: HostRuntime) {
     assert!(&rt; word == 0x5fff_f800_001d);
     assert!(&rt; unpack(word) == Some(fields));
     assert!(&rt; unpack(9_223_372_036_854_775_808) == None);
+}
+
+#[test]
+fn a_word_of_the_first_layout_becomes_one_of_this(rt: HostRuntime) {
+    let rows = [
+        (0x80_000a, Some(0x800_000a)),
+        (0x7f_fff8, Some(0x7f_fff8)),
+        (0x1ff_ff80_000a, Some(0x1fff_f800_000a)),
+        (0x200_0000_000a, None),
+        (0x7ff_ff80_000a, None),
+        (0x1fff_f800_0000_000c, Some(0x7fff_e000_0000_000c)),
+        (0x2000_0000_0000_000c, None),
+        (0x8000_0800_0080_001f, Some(0x8000_2000_0800_001f)),
+    ];
+    for (first, now) in rows {
+        assert!(&rt; to_two(first) == now, "{first:#x}");
+    }
 }
 
 #[test]
