@@ -20,9 +20,8 @@ ghost use Rattle.lockword_core.specs.LayoutOne.{HasFirstFields, first_encoded};
 ghost use Rattle.lockword_core.specs.LockState.{Census, references, number, encoded};
 ghost use Rattle.lockword_core.specs.LockInvariant.{IsConsistentCensus};
 
-pub use crate::word::{CLOSED, READ_LOCK, REFERENCE, WRITE_LOCK};
-
 use crate::word;
+pub use crate::word::{CLOSED, READ_LOCK, REFERENCE, WRITE_LOCK};
 
 /// Bits of each count.
 const COUNT_WIDTH: u32 = 20;
