@@ -8,7 +8,8 @@ use crate::transitions::{Advance, TakeReference};
 use lockword_core::Kind;
 
 impl<R: Drop, W: Drop> LockWord<R, W> {
-    /// Takes a reference, as `incref` of Go's `fd_mutex.go`; where Go panics this answers `TooMany`.
+    /// Takes a reference, as `incref` of Go's `fd_mutex.go`; where Go panics this answers `TooMany`. The
+    /// refusals are told as in `try_close`: each call has an answer of its own, so each has its arms.
     pub fn try_incref(&self, seat: Seat<R, W>) -> Incref<R, W>
         requires { IsSeatOf self.now (seat_place seat) }
         ensures { AnswersIncref (seat_place seat) result }

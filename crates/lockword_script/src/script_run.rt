@@ -185,7 +185,8 @@ impl ScriptRun {
     }
 
     /// Goes on through the bytes that were read, which are so many; none is the end of the script. The
-    /// answer is how the script ended, if it has ended.
+    /// answer is how the script ended, if it has ended. What goes on is promised in the words of
+    /// `run_lines`, written out: only here is some progress promised, and any end.
     pub fn advance(&mut self, count: usize, out: &mut Vec<u8>) -> Result<Option<End>, OutOfMemory>
         requires ready { IsReady (progress_of self.old) }
         requires count { count ≡ length (ahead_of self.old) }

@@ -135,7 +135,8 @@ pub fn flush_to<K: Sink>(sink: &mut K) -> Result<(), SinkFault>
 }
 
 /// Writes the whole text, and makes the sink pass on all that it holds. At a fault the sink has taken a
-/// front of the text, which is the whole where the fault is the flush's.
+/// front of the text, which is the whole where the fault is the flush's. The clauses are those of
+/// `write_to` but for `flushed` and `front`, written out, since a caller reads them here alone.
 pub fn deliver_to<K: Sink>(sink: &mut K, text: &[u8]) -> Result<(), SinkFault>
     requires uninterrupted { K.interruptions sink.old ≡ 0 }
     ensures ok { OnOk result (Appends (K.contents sink.old) (K.contents sink.new) text.now) }
