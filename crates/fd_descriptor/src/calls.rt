@@ -133,7 +133,8 @@ impl<X: Resource, A: Allocator> FdHandle<X, A> {
         self.set(rt, alarms, Setting::new(Dirs::Both, deadline, now))
     }
 
-    /// Sets the deadline of reads and accepts.
+    /// Sets the deadline of reads and accepts. The three differ in their directions alone; each is a
+    /// call of Go's `net.Conn`.
     pub fn set_read_deadline<T: Wait, L: Alarms>(
         &mut self,
         rt: &T,
