@@ -5,7 +5,7 @@ use Rattle.deadline_core.specs.declared.deadline.Deadline.TheVariants.{Never, At
 use Rattle.rwloops.specs.declared.fault.Fault.{Fault}
 use Rattle.rwloops.specs.declared.fault.Fault.TheVariants.{Closed}
 use Rattle.fd_descriptor.specs.declared.descriptor.FdHandle.{FdHandle}
-use Rattle.fd_descriptor.specs.FdHandle.{KeepsHandle, marks_of, saw_closed}
+use Rattle.fd_descriptor.specs.FdHandle.{KeepsHandle, marks_of, saw_closed, closes_of}
 use Rattle.fd_descriptor.specs.HandleCalls.{MayTell, SetsDeadline}
 
 -- the moment of a deadline that is still to come
@@ -19,3 +19,4 @@ pub record IsSetting {X R W A : Type 0} (before after : FdHandle X R W A)
   pub keeps : KeepsHandle before after
   pub closed : saw_closed before ≡ true → result ≡ Err Closed
   pub allowed : IfErr result (MayTell SetsDeadline (marks_of before) (marks_of after))
+  pub no_close : closes_of after ≡ closes_of before

@@ -5,7 +5,7 @@ use Rattle.fd_descriptor.specs.declared.descriptor.Fd.{Fd}
 use Rattle.fd_descriptor.specs.declared.descriptor.FdHandle.{FdHandle}
 use Rattle.fd_descriptor.specs.declared.poll_cell.PollCell.{PollCell}
 use Rattle.fd_descriptor.specs.CellKey.{key_of_cell}
-use Rattle.fd_descriptor.specs.Marks.{Marks, KeepsMarks, marks_in}
+use Rattle.fd_descriptor.specs.Marks.{Marks, KeepsMarks, marks_in, closes_in, destroys_in}
 
 module _ {X R W A : Type 0} where
   -- the descriptor that a handle is on
@@ -31,6 +31,14 @@ module _ {X R W A : Type 0} where
   -- the handle saw that the halves are destroyed
   abbrev pub saw_done : FdHandle X R W A → Bool
   saw_done h = (marks_of h).done
+
+  -- how many times this handle set the descriptor's flag
+  abbrev pub closes_of : FdHandle X R W A → ℕ
+  closes_of h = closes_in h.seat
+
+  -- how many times this handle destroyed the halves
+  abbrev pub destroys_of : FdHandle X R W A → ℕ
+  destroys_of h = destroys_in h.seat
 
 -- what every call keeps of its handle
 pub record KeepsHandle {X R W A : Type 0} (before after : FdHandle X R W A) : Type 0 where

@@ -1,5 +1,5 @@
 -- The calls of a handle, and which faults each may tell.
-use Rattle.std.specs.Prelude.{◌≡◌, ◌⊎◌, true, false, Result, Ok, Err}
+use Rattle.std.specs.Prelude.{◌≡◌, ◌⊎◌, ◌+◌, ℕ, true, false, Result, Ok, Err}
 use Rattle.fdmutex.specs.declared.answers.Refusal.{Refusal}
 use Rattle.fdmutex.specs.declared.answers.Refusal.TheVariants as refusal
 use Rattle.rwloops.specs.declared.fault.Fault.{Fault}
@@ -60,3 +60,17 @@ abbrev pub HasEnded : Result (Unit {0}) Fault → Marks → Type 0
 HasEnded (Ok u) after = SawTheEnd after
 HasEnded (Err (fault.Device kind)) after = SawTheEnd after
 HasEnded _ after = Unit {0}
+
+-- a close that is Ok, or tells the fault of destroying the halves, set the flag itself, once; one that
+-- is refused set none
+abbrev pub TellsWhoClosed : Result (Unit {0}) Fault → ℕ → ℕ → Type 0
+TellsWhoClosed (Ok u) before after = after ≡ before + 1
+TellsWhoClosed (Err (fault.Device kind)) before after = after ≡ before + 1
+TellsWhoClosed _ before after = after ≡ before
+
+-- a close that tells the fault of destroying the halves destroyed them itself; one that is refused
+-- destroyed none
+abbrev pub TellsOwnDestroy : Result (Unit {0}) Fault → ℕ → ℕ → Type 0
+TellsOwnDestroy (Ok u) before after = Unit {0}
+TellsOwnDestroy (Err (fault.Device kind)) before after = after ≡ before + 1
+TellsOwnDestroy _ before after = after ≡ before

@@ -1,5 +1,5 @@
 -- What has been seen of a descriptor's end, by the seat of its lock word that a handle holds.
-use Rattle.std.specs.Prelude.{◌≡◌, true, false, Option, Some, None}
+use Rattle.std.specs.Prelude.{◌≡◌, ℕ, true, false, Option, Some, None}
 use Rattle.lockword.specs.declared.holders.Seat.{Seat}
 use Rattle.lockword.specs.declared.holders.LockWord.{LockWord}
 use Rattle.lockword.specs.Marks.{WordId, word_of, marks_of as marks_at}
@@ -7,6 +7,7 @@ use Rattle.lockword.specs.Places.{seat_place, last_place}
 use Rattle.lockword.specs.TransitionOutcomes.{word_id}
 use Rattle.lockword.specs.declared.holders.Freed.{Freed}
 use Rattle.lockword.specs.declared.holders.Freed.TheVariants as left
+use Rattle.fdmutex.specs.Deeds.{closes, destroys}
 pub use Rattle.lockword.specs.declared.local_view.Marks.{Marks}
 
 -- what was seen stays seen
@@ -24,6 +25,16 @@ module _ {R W : Type 0} where
   marks_in None = record { closed = false; done = false }
   marks_in (Some s) = marks_at (seat_place s)
 
+  -- how many closes the seat that a handle holds has made
+  abbrev pub closes_in : Option (Seat R W) → ℕ
+  closes_in None = 0
+  closes_in (Some s) = closes (seat_place s)
+
+  -- how many destroys it has made
+  abbrev pub destroys_in : Option (Seat R W) → ℕ
+  destroys_in None = 0
+  destroys_in (Some s) = destroys (seat_place s)
+
   -- the word of the seat, where there is a seat
   abbrev pub word_in : Option (Seat R W) → Option WordId
   word_in None = None
@@ -37,6 +48,16 @@ module _ {R W : Type 0} where
   abbrev pub marks_left : Freed R W → Marks
   marks_left (left.Kept s) = marks_at (seat_place s)
   marks_left (left.Last l) = marks_at (last_place l)
+
+  -- how many closes the seat has made of which this is left
+  abbrev pub closes_left : Freed R W → ℕ
+  closes_left (left.Kept s) = closes (seat_place s)
+  closes_left (left.Last l) = closes (last_place l)
+
+  -- how many destroys it has made
+  abbrev pub destroys_left : Freed R W → ℕ
+  destroys_left (left.Kept s) = destroys (seat_place s)
+  destroys_left (left.Last l) = destroys (last_place l)
 
   -- somebody else has a reference still, and destroys
   abbrev pub IsKept : Freed R W → Type 0

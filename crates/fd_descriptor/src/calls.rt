@@ -2,7 +2,9 @@
 
 ghost use Rattle.std.specs.Prelude.{◌≡◌, ◌≤◌, ◌<◌, true, length, Err, IfOk, IfErr};
 ghost use Rattle.fd_descriptor.specs.FdHandle.{KeepsHandle, marks_of, saw_closed};
+ghost use Rattle.fd_descriptor.specs.FdHandle.{closes_of, destroys_of};
 ghost use Rattle.fd_descriptor.specs.HandleCalls.{IsLockFault, MayTell, HasEnded};
+ghost use Rattle.fd_descriptor.specs.HandleCalls.{TellsWhoClosed, TellsOwnDestroy};
 ghost use Rattle.fd_descriptor.specs.HandleCalls.{Reads, Accepts, Writes, Shuts, Closes};
 ghost use Rattle.fd_descriptor.specs.Deadlines.{IsSetting};
 
@@ -26,6 +28,7 @@ impl<X: Resource, A: Allocator> FdHandle<X, A> {
     where
         X::R: TryRead,
         ensures keeps { KeepsHandle self.old self.new }
+        ensures no_close { closes_of self.new ≡ closes_of self.old }
         ensures closed { saw_closed self.old ≡ true → result ≡ Err Fault.Closed }
         ensures allowed { IfErr result (MayTell Reads (marks_of self.old) (marks_of self.new)) }
         ensures within { IfOk result (λ count. count ≤ length buf.old) }
@@ -44,6 +47,7 @@ impl<X: Resource, A: Allocator> FdHandle<X, A> {
     where
         X::R: TryAccept,
         ensures keeps { KeepsHandle self.old self.new }
+        ensures no_close { closes_of self.new ≡ closes_of self.old }
         ensures closed { saw_closed self.old ≡ true → result ≡ Err Fault.Closed }
         ensures allowed { IfErr result (MayTell Accepts (marks_of self.old) (marks_of self.new)) }
     {
@@ -58,6 +62,7 @@ impl<X: Resource, A: Allocator> FdHandle<X, A> {
     where
         X::W: TryWrite,
         ensures keeps { KeepsHandle self.old self.new }
+        ensures no_close { closes_of self.new ≡ closes_of self.old }
         ensures allowed { IfErr result (λ failed.
             MayTell Writes (marks_of self.old) (marks_of self.new) failed.fault) }
         ensures closed { saw_closed self.old ≡ true
@@ -83,6 +88,7 @@ impl<X: Resource, A: Allocator> FdHandle<X, A> {
     where
         X::W: HalfClose,
         ensures keeps { KeepsHandle self.old self.new }
+        ensures no_close { closes_of self.new ≡ closes_of self.old }
         ensures closed { saw_closed self.old ≡ true → result ≡ Err Fault.Closed }
         ensures allowed { IfErr result (MayTell Shuts (marks_of self.old) (marks_of self.new)) }
     {
@@ -127,7 +133,8 @@ impl<X: Resource, A: Allocator> FdHandle<X, A> {
         self.set(rt, alarms, Setting::new(Dirs::Both, deadline, now))
     }
 
-    /// Sets the deadline of reads and accepts.
+    /// Sets the deadline of reads and accepts. The three differ in their directions alone; each is a
+    /// call of Go's `net.Conn`.
     pub fn set_read_deadline<T: Wait, L: Alarms>(
         &mut self,
         rt: &T,
@@ -161,6 +168,8 @@ impl<X: Resource, A: Allocator> FdHandle<X, A> {
         ensures closed { saw_closed self.old ≡ true → result ≡ Err Fault.Closed }
         ensures allowed { IfErr result (MayTell Closes (marks_of self.old) (marks_of self.new)) }
         ensures ended { HasEnded result (marks_of self.new) }
+        ensures closer { TellsWhoClosed result (closes_of self.old) (closes_of self.new) }
+        ensures destroyer { TellsOwnDestroy result (destroys_of self.old) (destroys_of self.new) }
     {
         close_by(rt, &self.fd, &mut self.seat)
     }

@@ -8,7 +8,7 @@ ghost use Rattle.fd_descriptor.specs.Parking.{IsAfter, is_parked, is_woken};
 ghost use Rattle.fd_descriptor.specs.HandleCalls.{IsOwnFault, SetsDeadline};
 
 use crate::resource::Alarms;
-use crate::watched::{Parked, Watched};
+use crate::watched::{NotClosing, Parked, Watched};
 use deadline_core::{Deadline, Dirs};
 use rwloops::Fault;
 use stream_base::OutOfMemory;
@@ -61,8 +61,8 @@ pub struct AlarmPlan {
 
 impl AlarmPlan {
     // Everything is decided before: no clause can say what alarms were asked for, so this decides
-    // nothing.
-    fn carry_out<A: Alarms>(self, alarms: &A) -> Result<(), OutOfMemory> {
+    // nothing, and takes what only a state that isn't closing gives.
+    fn carry_out<A: Alarms>(self, alarms: &A, _open: NotClosing) -> Result<(), OutOfMemory> {
         match self.at {
             Some(at) => alarms.arm(self.key, self.dirs, at),
             None => {
@@ -74,7 +74,7 @@ impl AlarmPlan {
 }
 
 /// Sets a deadline, and arms or disarms its alarm. What can be refused comes first: the state, then
-/// the alarm.
+/// the alarm. Three clauses are those of `Watched::set`, which is public and knows no alarms.
 pub(crate) fn set_in<A: Alarms>(
     watched: &mut Watched,
     alarms: &A,
@@ -95,10 +95,10 @@ pub(crate) fn set_in<A: Alarms>(
     ensures refused { IfErr result (λ fault. watched.new ≡ watched.old) }
     ensures faults { IfErr result (IsOwnFault SetsDeadline) }
 {
-    if watched.is_closing() {
+    let Some(open) = watched.not_closing() else {
         return Err(Fault::Closed);
-    }
-    if setting.plan(key).carry_out(alarms).is_err() {
+    };
+    if setting.plan(key).carry_out(alarms, open).is_err() {
         return Err(Fault::OutOfMemory);
     }
     match watched.set(setting) {

@@ -6,7 +6,7 @@
 ghost use Rattle.std.specs.Prelude.{◌≡◌, ◌≤◌, ◌<◌, true, length, Ok, Err, IfOk, IfErr};
 ghost use Rattle.fd_descriptor.specs.HalfUse.{Did};
 ghost use Rattle.fd_descriptor.specs.HandleCalls.{Reads, Accepts, Writes, IsLockFault, IsOwnFault};
-ghost use Rattle.fd_descriptor.specs.Marks.{HoldsSeatOf, KeepsMarks, marks_in};
+ghost use Rattle.fd_descriptor.specs.Marks.{HoldsSeatOf, KeepsMarks, marks_in, closes_in};
 
 use crate::descriptor::Fd;
 use crate::leave::{leave, lock_fault};
@@ -37,6 +37,7 @@ where
     requires act { F.IsAlwaysCallable act }
     ensures seat { HoldsSeatOf fd.now.word seat.new }
     ensures marks { KeepsMarks (marks_in seat.old) (marks_in seat.new) }
+    ensures no_close { closes_in seat.new ≡ closes_in seat.old }
     ensures closed { (marks_in seat.old).closed ≡ true → result ≡ Err Fault.Closed }
     ensures no_lock { IfErr result (IsLockFault (marks_in seat.old) (marks_in seat.new)) }
     ensures did { IfOk result (λ answer. Did F.FnOnce act answer) }

@@ -5,6 +5,7 @@ ghost use Rattle.std.specs.Arc.{arc_value};
 ghost use Rattle.lockword.specs.TransitionOutcomes.{IsOnlyClosed};
 ghost use Rattle.fd_descriptor.specs.FdHandle.{descriptor_of, key_of, cell_of};
 ghost use Rattle.fd_descriptor.specs.FdHandle.{marks_of, saw_closed, saw_done};
+ghost use Rattle.fd_descriptor.specs.FdHandle.{closes_of, destroys_of};
 
 use crate::descriptor::{Fd, FdHandle};
 use crate::poll_cell::PollCell;
@@ -28,6 +29,8 @@ impl<X: Resource> FdHandle<X> {
         ensures key { IfOk result (λ handle. key_of handle ≡ key) }
         ensures open { IfOk result (λ handle. saw_closed handle ≡ false) }
         ensures not_done { IfOk result (λ handle. saw_done handle ≡ false) }
+        ensures no_close { IfOk result (λ handle. closes_of handle ≡ 0) }
+        ensures no_destroy { IfOk result (λ handle. destroys_of handle ≡ 0) }
     {
         FdHandle::open_in(alloc, alloc, read, write, key)
     }
@@ -47,6 +50,8 @@ impl<X: Resource, A: Allocator> FdHandle<X, A> {
         ensures key { IfOk result (λ handle. key_of handle ≡ key) }
         ensures open { IfOk result (λ handle. saw_closed handle ≡ false) }
         ensures not_done { IfOk result (λ handle. saw_done handle ≡ false) }
+        ensures no_close { IfOk result (λ handle. closes_of handle ≡ 0) }
+        ensures no_destroy { IfOk result (λ handle. destroys_of handle ≡ 0) }
     {
         let Ok(cell) = Arc::new(alloc, PollCell::new(key)) else {
             return Err(OutOfMemory);
@@ -80,6 +85,8 @@ impl<X: Resource, A: Allocator> FdHandle<X, A> {
         ensures stays { saw_closed self.old ≡ true → result.closed ≡ true }
         ensures done { saw_done self.new ≡ saw_done self.old }
         ensures gone { saw_done self.old ≡ true → IsOnlyClosed result }
+        ensures no_close { closes_of self.new ≡ closes_of self.old }
+        ensures no_destroy { destroys_of self.new ≡ destroys_of self.old }
     {
         let Some(mut seat) = self.seat.take() else {
             unreachable!()
@@ -94,8 +101,12 @@ impl<X: Resource, A: Allocator> FdHandle<X, A> {
     pub fn share(&mut self) -> Result<FdHandle<X, A>, Fault>
         ensures same { descriptor_of self.new ≡ descriptor_of self.old }
         ensures kept { marks_of self.new ≡ marks_of self.old }
+        ensures no_close { closes_of self.new ≡ closes_of self.old }
+        ensures no_destroy { destroys_of self.new ≡ destroys_of self.old }
         ensures shared { IfOk result (λ other. descriptor_of other ≡ descriptor_of self.old) }
         ensures seen { IfOk result (λ other. marks_of other ≡ marks_of self.old) }
+        ensures new { IfOk result (λ other. closes_of other ≡ 0) }
+        ensures new_too { IfOk result (λ other. destroys_of other ≡ 0) }
         ensures refused { IfErr result (λ fault. fault ≡ Fault.OutOfMemory) }
     {
         let Ok(fd) = Arc::try_clone(&self.fd) else {

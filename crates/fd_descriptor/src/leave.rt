@@ -3,13 +3,14 @@
 //! Whoever gives the last reference of a closed word back destroys the halves there and then. Only a
 //! close that destroys tells the device's fault; any other call has an answer of its own.
 
-ghost use Rattle.std.specs.Prelude.{◌≡◌};
+ghost use Rattle.std.specs.Prelude.{◌≡◌, ◌+◌};
 ghost use Rattle.lockword.specs.Marks.{marks_of as marks_at};
 ghost use Rattle.lockword.specs.Places.{seat_place, last_place};
 ghost use Rattle.lockword.specs.TransitionOutcomes.{IsSeatOf, HasNotTaken};
+ghost use Rattle.fdmutex.specs.Deeds.{closes, destroys};
 ghost use Rattle.fdmutex.specs.Refusal.{IsFreedOf};
 ghost use Rattle.fd_descriptor.specs.HandleCalls.{lock_fault};
-ghost use Rattle.fd_descriptor.specs.Marks.{KeepsMarks, SawTheEnd, marks_left};
+ghost use Rattle.fd_descriptor.specs.Marks.{KeepsMarks, SawTheEnd, marks_left, closes_left};
 
 use crate::resource::Resource;
 use fdmutex::{Freed, Refusal};
@@ -25,6 +26,8 @@ pub(crate) fn finish<X: Resource>(
     requires not_taken { HasNotTaken (last_place last) }
     ensures seat { IsSeatOf word.now (seat_place result.0) }
     ensures marks { SawTheEnd (marks_at (seat_place result.0)) }
+    ensures no_close { closes (seat_place result.0) ≡ closes (last_place last) }
+    ensures destroyed { destroys (seat_place result.0) ≡ destroys (last_place last) + 1 }
 {
     let mut last = last;
     let (read, write) = last.halves(word);
@@ -40,6 +43,7 @@ pub(crate) fn leave<X: Resource>(
     requires { IsFreedOf word.now freed }
     ensures seat { IsSeatOf word.now (seat_place result) }
     ensures marks { KeepsMarks (marks_left freed) (marks_at (seat_place result)) }
+    ensures no_close { closes (seat_place result) ≡ closes_left freed }
 {
     match freed {
         Freed::Kept(seat) => seat,

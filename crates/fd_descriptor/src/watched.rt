@@ -5,6 +5,7 @@
 //! else wakes them: whoever made the call owes the wake-up, once the lock is given up.
 
 ghost use Rattle.std.specs.Prelude.{◌≡◌, ◌&&◌, ◌||◌, not, List, [], ◌∷◌, true, false, Ok, IfOk, IfErr};
+ghost use Rattle.std.specs.Prelude.{OnSome, IfNone};
 ghost use Rattle.stream_base.specs.declared.direction.Dir.{Dir};
 ghost use Rattle.deadline_core.specs.PollHistory.{Call, Prepared, Looked, Readied, DeadlineSet, Ticked, Evicted};
 ghost use Rattle.deadline_core.specs.PollHistory.{prepare_answer, look_answer, closing, covers, same_dir};
@@ -31,6 +32,12 @@ pub struct Parked {
     pub write: bool,
 }
 
+/// What a state that isn't closing gives: without it no alarm is asked for.
+#[derive(Drop)]
+pub(crate) struct NotClosing {
+    asked: (),
+}
+
 impl Watched {
     /// A new poll state, and nobody parked.
     pub fn new() -> Watched
@@ -49,6 +56,20 @@ impl Watched {
         ensures answer { (calls : List Call) → IsAfter self.now calls → result ≡ closing calls }
     {
         self.state.is_closing()
+    }
+
+    /// What it takes to ask for an alarm, unless the state is closing.
+    pub(crate) fn not_closing(&self) -> Option<NotClosing>
+        ensures open { (calls : List Call) → IsAfter self.now calls
+            → OnSome result (closing calls ≡ false) }
+        ensures closing { (calls : List Call) → IsAfter self.now calls
+            → IfNone result (closing calls ≡ true) }
+    {
+        if self.is_closing() {
+            None
+        } else {
+            Some(NotClosing { asked: () })
+        }
     }
 
     /// Begins a call: answers why it is refused, or forgets the notice that an earlier one left.

@@ -1,14 +1,15 @@
 //! The close. Who closes takes over the signals of all waiters, and gives them before it returns. The
 //! woken contend again, and find the word closed.
 
-ghost use Rattle.std.specs.Prelude.{◌≡◌, false, IfOk};
+ghost use Rattle.std.specs.Prelude.{◌≡◌, false, IfOk, IfErr};
 ghost use Rattle.stream_base.specs.declared.direction.Dir.{Dir};
 ghost use Rattle.stream_base.specs.declared.direction.Dir.TheVariants.{Read, Write};
 ghost use Rattle.lockword_core.specs.LockState.{is_same};
-ghost use Rattle.lockword.specs.Marks.{NowClosed};
+ghost use Rattle.lockword.specs.Marks.{NowClosed, SameDeeds};
 ghost use Rattle.lockword.specs.Places.{seat_place, closing_place, owed_by};
 ghost use Rattle.lockword.specs.TransitionOutcomes.{IsSeatOf, IsAtLimit};
 ghost use Rattle.lockword.specs.Dropping.{IsDecided, LeavesClosed};
+ghost use Rattle.fdmutex.specs.Deeds.{MadeNoEnd, MadeTheClose, LeavesWithoutEnd};
 ghost use Rattle.fdmutex.specs.Refusal.{IsTakenOrRefused};
 
 use crate::Refusal;
@@ -25,6 +26,8 @@ fn take_over<R: Drop, W: Drop, T: Wait>(
 ) -> Result<Closing<R, W>, (Seat<R, W>, Refusal)>
     requires seat { IsSeatOf word.now (seat_place seat) }
     ensures answer { IsTakenOrRefused NowClosed closing_place IsAtLimit seat result }
+    ensures made { IfOk result (λ closing. MadeTheClose (seat_place seat) (closing_place closing)) }
+    ensures refused { IfErr result (λ back. SameDeeds (seat_place seat) (seat_place back.0)) }
 {
     let mut seat = seat;
     for _ in rt.forever() {
@@ -50,6 +53,7 @@ fn signal_all<R: Drop, W: Drop, T: Wait>(
     ensures closed { NowClosed (closing_place closing) (closing_place result) }
     ensures given { owed_by result dir ≡ 0 }
     ensures other_way { (d : Dir) → is_same dir d ≡ false → owed_by result d ≡ owed_by closing d }
+    ensures made { MadeNoEnd (closing_place closing) (closing_place result) }
 {
     let mut closing = closing;
     for _ in rt.forever() {
@@ -75,6 +79,8 @@ pub fn close_mark<R: Drop, W: Drop, T: Wait>(
     ensures answer { IsTakenOrRefused NowClosed closing_place IsAtLimit seat result }
     ensures no_reader_owed { IfOk result (λ closing. owed_by closing Read ≡ 0) }
     ensures no_writer_owed { IfOk result (λ closing. owed_by closing Write ≡ 0) }
+    ensures made { IfOk result (λ closing. MadeTheClose (seat_place seat) (closing_place closing)) }
+    ensures refused { IfErr result (λ back. SameDeeds (seat_place seat) (seat_place back.0)) }
 {
     let closing = take_over(rt, word, seat)?;
     let closing = signal_all(rt, word, closing, Dir::Read);
@@ -88,6 +94,7 @@ pub fn drop_closing<R: Drop, W: Drop>(word: &LockWord<R, W>, closing: Closing<R,
     requires no_writer_owed { owed_by closing Write ≡ 0 }
     ensures left { LeavesClosed (closing_place closing) result }
     ensures decided { IsDecided (closing_place closing) result }
+    ensures no_end { LeavesWithoutEnd (closing_place closing) result }
 {
     word.drop_closing(closing)
 }

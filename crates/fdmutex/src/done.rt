@@ -1,7 +1,7 @@
 //! The wait until the resource is destroyed. `mark_done` wakes one waiter, and each wakes the next.
 
 ghost use Rattle.std.specs.Prelude.{◌≡◌, true};
-ghost use Rattle.lockword.specs.Marks.{saw_closed, saw_done, word_of};
+ghost use Rattle.lockword.specs.Marks.{saw_closed, saw_done, word_of, SameDeeds};
 ghost use Rattle.lockword.specs.Places.{seat_place};
 ghost use Rattle.lockword.specs.TransitionOutcomes.{IsSeatOf};
 
@@ -18,6 +18,7 @@ pub fn wait_done<R: Drop, W: Drop, T: Wait>(
     ensures same_word { word_of (seat_place result) ≡ word_of (seat_place seat) }
     ensures same_closed { saw_closed (seat_place result) ≡ saw_closed (seat_place seat) }
     ensures done { saw_done (seat_place result) ≡ true }
+    ensures same_deeds { SameDeeds (seat_place seat) (seat_place result) }
 {
     let mut seat = seat;
     for _ in rt.forever() {

@@ -6,6 +6,7 @@ ghost use Rattle.lockword.specs.Marks.{SameMarks};
 ghost use Rattle.lockword.specs.Places.{seat_place, lock_place, wait_place, owing_place};
 ghost use Rattle.lockword.specs.TransitionOutcomes.{IsSeatOf};
 ghost use Rattle.lockword.specs.Dropping.{Leaves};
+ghost use Rattle.fdmutex.specs.Deeds.{MadeNoEnd, TakesWithoutEnd, LeavesWithoutEnd};
 ghost use Rattle.fdmutex.specs.Refusal.{IsLockFull, IsTakenOrRefused};
 
 use crate::Refusal;
@@ -23,6 +24,7 @@ fn await_signal<D: Direction, R: Drop, W: Drop, T: Wait>(
 ) -> Seat<R, W>
     requires seat { IsSeatOf word.now (wait_place wait) }
     ensures marks { SameMarks (wait_place wait) (seat_place result) }
+    ensures no_end { MadeNoEnd (wait_place wait) (seat_place result) }
 {
     let mut wait = wait;
     for _ in rt.forever() {
@@ -47,6 +49,7 @@ fn signal<R: Drop, W: Drop, T: Wait>(
 ) -> Seat<R, W>
     requires seat { IsSeatOf word.now (owing_place owing) }
     ensures marks { SameMarks (owing_place owing) (seat_place result) }
+    ensures no_end { MadeNoEnd (owing_place owing) (seat_place result) }
 {
     let mut owing = owing;
     for _ in rt.forever() {
@@ -66,6 +69,7 @@ pub fn lock<D: Guards<R, W>, R: Drop, W: Drop, T: Wait>(
 ) -> Result<Held<D, R, W>, (Seat<R, W>, Refusal)>
     requires seat { IsSeatOf word.now (seat_place seat) }
     ensures answer { IsTakenOrRefused SameMarks lock_place (IsLockFull D.dir) seat result }
+    ensures no_end { TakesWithoutEnd lock_place seat result }
 {
     let mut seat = seat;
     for _ in rt.forever() {
@@ -88,6 +92,7 @@ pub fn unlock<D: Guards<R, W>, R: Drop, W: Drop, T: Wait>(
 ) -> Freed<R, W>
     requires seat { IsSeatOf word.now (lock_place held) }
     ensures left { Leaves (lock_place held) result }
+    ensures no_end { LeavesWithoutEnd (lock_place held) result }
 {
     let mut held = held;
     for _ in rt.forever() {
@@ -109,6 +114,7 @@ pub fn read_lock<R: Drop, W: Drop, T: Wait>(
 ) -> Result<ReadLock<R, W>, (Seat<R, W>, Refusal)>
     requires seat { IsSeatOf word.now (seat_place seat) }
     ensures answer { IsTakenOrRefused SameMarks lock_place (IsLockFull Read) seat result }
+    ensures no_end { TakesWithoutEnd lock_place seat result }
 {
     lock(rt, word, seat)
 }
@@ -121,6 +127,7 @@ pub fn write_lock<R: Drop, W: Drop, T: Wait>(
 ) -> Result<WriteLock<R, W>, (Seat<R, W>, Refusal)>
     requires seat { IsSeatOf word.now (seat_place seat) }
     ensures answer { IsTakenOrRefused SameMarks lock_place (IsLockFull Write) seat result }
+    ensures no_end { TakesWithoutEnd lock_place seat result }
 {
     lock(rt, word, seat)
 }
@@ -133,6 +140,7 @@ pub fn read_unlock<R: Drop, W: Drop, T: Wait>(
 ) -> Freed<R, W>
     requires seat { IsSeatOf word.now (lock_place held) }
     ensures left { Leaves (lock_place held) result }
+    ensures no_end { LeavesWithoutEnd (lock_place held) result }
 {
     unlock(rt, word, held)
 }
@@ -145,6 +153,7 @@ pub fn write_unlock<R: Drop, W: Drop, T: Wait>(
 ) -> Freed<R, W>
     requires seat { IsSeatOf word.now (lock_place held) }
     ensures left { Leaves (lock_place held) result }
+    ensures no_end { LeavesWithoutEnd (lock_place held) result }
 {
     unlock(rt, word, held)
 }

@@ -4,6 +4,7 @@ ghost use Rattle.lockword.specs.Marks.{SameMarks};
 ghost use Rattle.lockword.specs.Places.{seat_place, ref_place};
 ghost use Rattle.lockword.specs.TransitionOutcomes.{IsSeatOf, IsAtLimit};
 ghost use Rattle.lockword.specs.Dropping.{IsDecided, Leaves};
+ghost use Rattle.fdmutex.specs.Deeds.{TakesWithoutEnd, LeavesWithoutEnd};
 ghost use Rattle.fdmutex.specs.Refusal.{IsTakenOrRefused};
 
 use crate::Refusal;
@@ -18,6 +19,7 @@ pub fn incref<R: Drop, W: Drop, T: Wait>(
 ) -> Result<Ref<R, W>, (Seat<R, W>, Refusal)>
     requires seat { IsSeatOf word.now (seat_place seat) }
     ensures answer { IsTakenOrRefused SameMarks ref_place IsAtLimit seat result }
+    ensures no_end { TakesWithoutEnd ref_place seat result }
 {
     let mut seat = seat;
     for _ in rt.forever() {
@@ -36,6 +38,7 @@ pub fn decref<R: Drop, W: Drop>(word: &LockWord<R, W>, held: Ref<R, W>) -> Freed
     requires seat { IsSeatOf word.now (ref_place held) }
     ensures left { Leaves (ref_place held) result }
     ensures decided { IsDecided (ref_place held) result }
+    ensures no_end { LeavesWithoutEnd (ref_place held) result }
 {
     word.drop_ref(held)
 }

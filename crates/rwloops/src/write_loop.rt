@@ -91,7 +91,8 @@ pub trait TryWrite {
             → tells self.new (record { offered = bytes.now; outcome = result } ∷ tries) };
 }
 
-/// A half that bytes are written to, with its waits.
+/// A half that bytes are written to, with its waits. `prepare` and `wait` are those of `ReadTurns`, but
+/// told in a list of tries to write: a trait has one kind of list.
 pub trait WriteTurns {
     ghost use Rattle.rwloops.specs.Turns.{Event};
 

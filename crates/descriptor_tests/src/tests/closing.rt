@@ -103,6 +103,7 @@ fn a_closer_whose_reader_destroys_is_told_nothing(rt: HostRuntime) -> Result<(),
 
 #[test]
 fn a_closer_that_destroys_is_told_the_fault(rt: HostRuntime) -> Result<(), Fail> {
+    let watch = Watch::start(rt, rt.alloc())?;
     let told = Told::shared(rt.alloc())?;
     let mut handle = open_plain(rt, rt.alloc(), &told, ALWAYS_BLOCKS, Some(DevKind::Reset))?;
     let shut = handle.close_write(&rt);
@@ -117,11 +118,13 @@ fn a_closer_that_destroys_is_told_the_fault(rt: HostRuntime) -> Result<(), Fail>
     assert!(rt; handle.close(&rt) == Err(Fault::Device(DevKind::Reset)));
     assert!(rt; handle.close(&rt) == Err(Fault::Closed), "told once");
     assert!(rt; told.destroys.load(Ordering::SeqCst) == 1);
+    watch.end(&rt);
     Ok(())
 }
 
 #[test]
 fn handles_that_go_close_nothing(rt: HostRuntime) -> Result<(), Fail> {
+    let watch = Watch::start(rt, rt.alloc())?;
     let told = Told::shared(rt.alloc())?;
     let mut handle = open_plain(rt, rt.alloc(), &told, ALWAYS_BLOCKS, None)?;
     drop(share(&mut handle)?);
@@ -131,5 +134,6 @@ fn handles_that_go_close_nothing(rt: HostRuntime) -> Result<(), Fail> {
     );
     drop(handle);
     assert!(rt; told.destroys.load(Ordering::SeqCst) == 0, "nobody closed");
+    watch.end(&rt);
     Ok(())
 }

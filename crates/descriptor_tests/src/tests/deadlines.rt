@@ -192,6 +192,7 @@ fn expire_in_turn<T: Wait + Clock + Copy + Drop + Abort>(
 
 #[test]
 fn each_deadline_is_for_its_directions(rt: HostRuntime) -> Result<(), Fail> {
+    let watch = Watch::start(rt, rt.alloc())?;
     let told = Told::shared(rt.alloc())?;
     let alarms = Noted::new(rt);
     let mut handle = open_plain(rt, rt.alloc(), &told, ALWAYS_BLOCKS, None)?;
@@ -208,11 +209,13 @@ fn each_deadline_is_for_its_directions(rt: HostRuntime) -> Result<(), Fail> {
         alarms.asked() == Some((KEY, Dirs::Both, Some(300))),
         "for both"
     );
+    watch.end(&rt);
     Ok(())
 }
 
 #[test]
 fn a_closed_descriptor_arms_nothing(rt: HostRuntime) -> Result<(), Fail> {
+    let watch = Watch::start(rt, rt.alloc())?;
     let told = Told::shared(rt.alloc())?;
     let alarms = Noted::new(rt);
     let mut handle = open_plain(rt, rt.alloc(), &told, ALWAYS_BLOCKS, None)?;
@@ -226,11 +229,13 @@ fn a_closed_descriptor_arms_nothing(rt: HostRuntime) -> Result<(), Fail> {
     let lifted = other.set_deadline(&rt, Deadline::Never, 0, &alarms);
     assert!(rt; lifted == Err(Fault::Closed));
     assert!(rt; alarms.asked().is_none(), "neither armed nor disarmed");
+    watch.end(&rt);
     Ok(())
 }
 
 #[test]
 fn a_refused_alarm_changes_no_deadline(rt: HostRuntime) -> Result<(), Fail> {
+    let watch = Watch::start(rt, rt.alloc())?;
     let told = Told::shared(rt.alloc())?;
     let mut handle = open_plain(rt, rt.alloc(), &told, ALWAYS_BLOCKS, None)?;
     let set = handle.set_deadline(&rt, Deadline::At(100), 0, &Silent);
@@ -242,5 +247,6 @@ fn a_refused_alarm_changes_no_deadline(rt: HostRuntime) -> Result<(), Fail> {
     assert!(rt; handle.write(&rt, b"") == Ok(0), "not expired at 99");
     cell.tick(&rt, 100);
     assert!(rt; handle.read(&rt, &mut [0; 4]) == LATE, "expired at 100");
+    watch.end(&rt);
     Ok(())
 }

@@ -2,6 +2,7 @@
 //! size; the three blocks of the lock word come from the global heap, and `tests/refused_memory.sh`
 //! refuses those.
 
+use super::watch::Watch;
 use super::{KEY, Silent, share};
 use deadline_core::Deadline;
 use fd_descriptor::{FdHandle, Resource};
@@ -109,6 +110,7 @@ fn use_it<T: Wait + Abort>(rt: &T, handle: &mut FdHandle<Pair, &LocalHeap>) -> R
 
 #[test]
 fn a_handle_is_shared_and_used_with_no_memory_left(rt: HostRuntime) -> Result<(), Fail> {
+    let watch = Watch::start(rt, rt.alloc())?;
     let heap = LocalHeap::new(rt.alloc(), 4096)?;
     let drops = Arc::new(rt.alloc(), AtomicU64::new(0))?;
     let read = half_of(&drops)?;
@@ -120,6 +122,7 @@ fn a_handle_is_shared_and_used_with_no_memory_left(rt: HostRuntime) -> Result<()
     assert!(rt; heap.used() == full, "no call took memory");
     assert!(rt; drops.load(Ordering::SeqCst) == DESTROYED.saturating_add(2));
     drop(blocks);
+    watch.end(&rt);
     Ok(())
 }
 

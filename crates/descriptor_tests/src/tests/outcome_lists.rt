@@ -2,6 +2,7 @@
 //! in the buffer what the loop does on the half itself.
 
 use super::scripted::{END, Notice, OwnCell, Script, ScriptedHalf, Told, Try};
+use super::watch::Watch;
 use super::{Woken, open_woken};
 use deadline_core::Refusal;
 use rwloops::{DevKind, Outcome, Waits, accept, read, write};
@@ -114,8 +115,10 @@ fn play_all<T: Wait + Abort + Copy + Drop>(rt: T, alloc: Global, call: Call) -> 
 
 #[test]
 fn handle_answers_what_the_half_gave(rt: HostRuntime) -> Result<(), Fail> {
+    let watch = Watch::start(rt, rt.alloc())?;
     for call in [Call::Read, Call::Write, Call::Accept] {
         play_all(rt, rt.alloc(), call)?;
     }
+    watch.end(&rt);
     Ok(())
 }

@@ -1,6 +1,7 @@
 //! Worked rows of reads, writes and accepts, through a handle.
 
 use super::scripted::{END, GIVEN, Notice, RESET, Script, Told, Try, folded};
+use super::watch::Watch;
 use super::{Silent, Woken, open_woken};
 use deadline_core::Deadline;
 use rwloops::{DevKind, Fault, Outcome, WriteFault};
@@ -114,6 +115,7 @@ fn check_accept<T: Wait + Abort + Copy + Drop>(
 
 #[test]
 fn a_handle_reads_as_the_rows_say(rt: HostRuntime) -> Result<(), Fail> {
+    let watch = Watch::start(rt, rt.alloc())?;
     let alloc = rt.alloc();
     let row = Row {
         name: "length 0, the deadline expired",
@@ -193,11 +195,14 @@ fn a_handle_reads_as_the_rows_say(rt: HostRuntime) -> Result<(), Fail> {
         row,
         &mut [0; 8],
         Err(Fault::Device(DevKind::Reset)),
-    )
+    )?;
+    watch.end(&rt);
+    Ok(())
 }
 
 #[test]
 fn a_handle_writes_as_the_rows_say(rt: HostRuntime) -> Result<(), Fail> {
+    let watch = Watch::start(rt, rt.alloc())?;
     let alloc = rt.alloc();
     let row = Row {
         name: "length 0, the deadline expired",
@@ -252,11 +257,14 @@ fn a_handle_writes_as_the_rows_say(rt: HostRuntime) -> Result<(), Fail> {
         row,
         b"0123456789",
         Err(WriteFault { fault, count: 7 }),
-    )
+    )?;
+    watch.end(&rt);
+    Ok(())
 }
 
 #[test]
 fn a_handle_counts_the_pieces_before_a_reset(rt: HostRuntime) -> Result<(), Fail> {
+    let watch = Watch::start(rt, rt.alloc())?;
     let four = (Try::Gives(Outcome::Count(4)), 1);
     let three = (Try::Gives(Outcome::Count(3)), 1);
     let fault = Fault::Device(DevKind::Reset);
@@ -287,11 +295,13 @@ fn a_handle_counts_the_pieces_before_a_reset(rt: HostRuntime) -> Result<(), Fail
         };
         check_write(rt, rt.alloc(), row, b"0123456789", want)?;
     }
+    watch.end(&rt);
     Ok(())
 }
 
 #[test]
 fn a_handle_accepts_as_the_rows_say(rt: HostRuntime) -> Result<(), Fail> {
+    let watch = Watch::start(rt, rt.alloc())?;
     let alloc = rt.alloc();
     let row = Row {
         name: "600 aborted and 424 interrupted",
@@ -325,5 +335,7 @@ fn a_handle_accepts_as_the_rows_say(rt: HostRuntime) -> Result<(), Fail> {
         deadline_set_at: Some(100),
         tries: 0,
     };
-    check_accept(rt, alloc, row, Err(Fault::DeadlineExceeded))
+    check_accept(rt, alloc, row, Err(Fault::DeadlineExceeded))?;
+    watch.end(&rt);
+    Ok(())
 }
