@@ -83,12 +83,18 @@ def body_around(text, at):
     return None
 
 
+def place_of(text, old, new):
+    """A place in what an edit changes. A line that is only added to is changed behind its end, as where a body begins."""
+    end = text.index(old) + len(old)
+    return end + 1 if new.startswith(old) and text[end : end + 1] == "\n" else end - 1
+
+
 def bodies(edit, read):
     """The functions whose bodies the edit changes, each as its file, line and name; or None where it changes anything else."""
     found = set()
-    for path, old, _ in edit.pairs:
+    for path, old, new in edit.pairs:
         text = read(path)
-        body = body_around(text, text.index(old) + len(old) - 1) if path.startswith("src/") else None
+        body = body_around(text, place_of(text, old, new)) if path.startswith("src/") else None
         if body is None:
             return None
         found.add((path, *body))

@@ -84,6 +84,13 @@ class Edits(unittest.TestCase):
         again = LOW._replace(name="low_adds_more")
         self.assertEqual(wrong_bodies.packed([LOW, HIGH, again, LIMITED], read), [[LOW, HIGH], [again], [LIMITED]])
 
+    def test_what_is_put_behind_the_head_of_a_function_is_of_its_body(self):
+        head = "    fn other(&self) -> u64 {"
+        first = OTHER._replace(pairs=(("src/lib.rt", head, head + " low(3);"),))
+        self.assertEqual(wrong_bodies.packed([LOW, first], read), [[LOW, first]])
+        changed = OTHER._replace(pairs=(("src/lib.rt", head, "    fn other(&mut self) -> u64 {"),))
+        self.assertEqual(wrong_bodies.packed([LOW, changed], read), [[LOW], [changed]])
+
     def test_an_edit_that_another_keeps_from_applying_stands_in_another_batch(self):
         twice = HIGH._replace(pairs=(("src/lib.rt", "low(x) + 1", "low(2)"),))
         self.assertEqual(wrong_bodies.packed([twice, OTHER], read), [[twice], [OTHER]])

@@ -91,6 +91,20 @@ fn opened<'a, U: Ledger, D: Ledger, R: Net + Files + Clock>(
     Ok((relay, unstarted))
 }
 
+// Says that a relay listens whose threads were started.
+fn tell_start<W: Write>(
+    started: Result<(), ServeFault>,
+    rules: u64,
+    writer: &mut W,
+) -> Result<(), ServeFault>
+    ensures refused { IfErr started (λ fault. result ≡ Err fault) }
+    ensures said { OnOk result (SaysItListens (W.contents writer.old) (W.contents writer.new)) }
+    ensures faults { OnOk started (IfErr result (λ fault. IsRunFault fault)) }
+{
+    started?;
+    say_listening(writer, rules)
+}
+
 // Starts the relay's threads, says that it listens, and runs it until it is stopped. The threads are
 // started first, so that nothing which is refused after the line ends it.
 fn start_and_run<U, D, R, W: Write>(
@@ -108,9 +122,8 @@ where
     ensures said { OnOk result (SaysItListens (W.contents writer.old) (W.contents writer.new)) }
     ensures faults { IfErr result (λ fault. IsRunFault fault) }
 {
-    helpers.start(rt, relay, listeners, door)?;
-    let rules = relay.rules.len();
-    say_listening(writer, rules as u64)?;
+    let started = helpers.start(rt, relay, listeners, door);
+    tell_start(started, relay.rules.len() as u64, writer)?;
     relay.turn_until_stop(rt)
 }
 
