@@ -1,6 +1,11 @@
 //! What the program is asked to do, by four words: a load, the number of threads, how many rounds each
 //! of them makes, and the bytes that lie ahead of the lock word.
 
+ghost use Rattle.std.specs.Prelude.{◌≡◌, Some, IfSome, length};
+ghost use Rattle.std.specs.List.{HoldsAt};
+ghost use Rattle.std.specs.String.{string_bytes};
+ghost use Rattle.bench_lock_word.specs.Words.{load_named, number_in};
+
 /// What a thread does in a round.
 #[derive(Clone, Copy, Drop)]
 pub enum Load {
@@ -20,7 +25,9 @@ pub struct Job {
     pub lead: u16,
 }
 
-fn load_of(word: &str) -> Option<Load> {
+fn load_of(word: &str) -> Option<Load>
+    ensures { result ≡ load_named word.now }
+{
     match word {
         "references" => Some(Load::References),
         "reads" => Some(Load::Reads),
@@ -29,7 +36,17 @@ fn load_of(word: &str) -> Option<Load> {
 }
 
 /// The job that the words after the program's name ask for.
-pub fn job_of(words: &[String]) -> Option<Job> {
+pub fn job_of(words: &[String]) -> Option<Job>
+    ensures words { IfSome result (λ job. length words.now ≡ 5) }
+    ensures load { IfSome result (λ job.
+        HoldsAt (λ word. load_named (string_bytes word) ≡ Some job.load) words.now 1) }
+    ensures threads { IfSome result (λ job.
+        HoldsAt (λ word. number_in (string_bytes word) ≡ job.threads) words.now 2) }
+    ensures rounds { IfSome result (λ job.
+        HoldsAt (λ word. number_in (string_bytes word) ≡ job.rounds) words.now 3) }
+    ensures lead { IfSome result (λ job.
+        HoldsAt (λ word. number_in (string_bytes word) ≡ job.lead) words.now 4) }
+{
     match words {
         [_, load, threads, rounds, lead] => Some(Job {
             load: load_of(load.as_str())?,

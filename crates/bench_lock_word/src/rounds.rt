@@ -1,7 +1,8 @@
 //! The rounds of one thread. Each round ends with the holder's seat, which the next one needs; where a
 //! round leaves none, or the word refuses, the thread stops.
 
-ghost use Rattle.std.specs.Prelude.{◌≡◌, IfSome};
+ghost use Rattle.std.specs.Prelude.{◌≡◌, ◌≤◌, true, false, IfSome};
+ghost use Rattle.lockword.specs.Marks.{saw_closed};
 ghost use Rattle.lockword.specs.Places.{seat_place};
 ghost use Rattle.lockword.specs.TransitionOutcomes.{IsSeatOf};
 ghost use Rattle.fdmutex.specs.Refusal.{IsFreedOf};
@@ -30,10 +31,11 @@ fn seat_of(word: &Counters, freed: Freed<u64, u64>) -> Option<CounterSeat>
     }
 }
 
-/// Takes a reference, and drops it.
+/// Takes a reference, and drops it. No round is made on a word that was seen closed.
 pub fn take_and_drop<T: Wait>(rt: &T, word: &Counters, seat: CounterSeat) -> Option<CounterSeat>
     requires { IsSeatOf word.now (seat_place seat) }
-    ensures { IfSome result (λ seat. IsSeatOf word.now (seat_place seat)) }
+    ensures same { IfSome result (λ seat. IsSeatOf word.now (seat_place seat)) }
+    ensures open { IfSome result (λ _. saw_closed (seat_place seat) ≡ false) }
 {
     match incref(rt, word, seat) {
         Ok(held) => seat_of(word, decref(word, held)),
@@ -41,10 +43,11 @@ pub fn take_and_drop<T: Wait>(rt: &T, word: &Counters, seat: CounterSeat) -> Opt
     }
 }
 
-/// Takes the read lock, adds 1 to the read half, and unlocks.
+/// Takes the read lock, adds 1 to the read half, and unlocks, likewise.
 pub fn add_under_lock<T: Wait>(rt: &T, word: &Counters, seat: CounterSeat) -> Option<CounterSeat>
     requires { IsSeatOf word.now (seat_place seat) }
-    ensures { IfSome result (λ seat. IsSeatOf word.now (seat_place seat)) }
+    ensures same { IfSome result (λ seat. IsSeatOf word.now (seat_place seat)) }
+    ensures open { IfSome result (λ _. saw_closed (seat_place seat) ≡ false) }
 {
     match read_lock(rt, word, seat) {
         Ok(mut held) => {
@@ -59,6 +62,8 @@ pub fn add_under_lock<T: Wait>(rt: &T, word: &Counters, seat: CounterSeat) -> Op
 /// Takes and drops references, and says how many.
 pub fn references<T: Wait>(rt: &T, word: &Counters, seat: CounterSeat, rounds: u64) -> u64
     requires { IsSeatOf word.now (seat_place seat) }
+    ensures most { result ≤ rounds }
+    ensures closed { saw_closed (seat_place seat) ≡ true → result ≡ 0 }
 {
     let mut seat = seat;
     for made in 0..rounds {
@@ -73,6 +78,8 @@ pub fn references<T: Wait>(rt: &T, word: &Counters, seat: CounterSeat, rounds: u
 /// Adds to the read half, and says how often.
 pub fn reads<T: Wait>(rt: &T, word: &Counters, seat: CounterSeat, rounds: u64) -> u64
     requires { IsSeatOf word.now (seat_place seat) }
+    ensures most { result ≤ rounds }
+    ensures closed { saw_closed (seat_place seat) ≡ true → result ≡ 0 }
 {
     let mut seat = seat;
     for made in 0..rounds {
@@ -87,13 +94,12 @@ pub fn reads<T: Wait>(rt: &T, word: &Counters, seat: CounterSeat, rounds: u64) -
 /// The read half, or 0 where it can't be had.
 pub fn half_of<T: Wait>(rt: &T, word: &Counters, seat: CounterSeat) -> u64
     requires { IsSeatOf word.now (seat_place seat) }
+    ensures closed { saw_closed (seat_place seat) ≡ true → result ≡ 0 }
 {
-    match read_lock(rt, word, seat) {
-        Ok(mut held) => {
-            let half = *held.half(word);
-            let _seat = seat_of(word, read_unlock(rt, word, held));
-            half
-        }
-        Err(_) => 0,
-    }
+    let Ok(mut held) = read_lock(rt, word, seat) else {
+        return 0;
+    };
+    let half = *held.half(word);
+    let _seat = seat_of(word, read_unlock(rt, word, held));
+    half
 }

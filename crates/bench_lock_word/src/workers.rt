@@ -1,6 +1,7 @@
 //! The threads of a job.
 
-ghost use Rattle.std.specs.Prelude.{◌≡◌};
+ghost use Rattle.std.specs.Prelude.{◌<◌, IfOk};
+ghost use Rattle.lockword_core.specs.declared.word.TheConstants.{NO_WORD};
 ghost use Rattle.lockword.specs.Places.{seat_place};
 ghost use Rattle.lockword.specs.TransitionOutcomes.{IsSeatOf};
 
@@ -68,8 +69,11 @@ fn count_all<T: Threads + Wait + Sync>(
     );
 }
 
-/// Runs a job to its end.
-pub fn run<T: Threads + Wait + Sync>(rt: &T, alloc: Global, job: Job) -> Result<Left, OutOfMemory> {
+/// Runs a job to its end. How many rounds are made, and what is left in the half, hangs on the threads
+/// that can be had.
+pub fn run<T: Threads + Wait + Sync>(rt: &T, alloc: Global, job: Job) -> Result<Left, OutOfMemory>
+    ensures word { IfOk result (λ left. left.word < NO_WORD) }
+{
     let lead: Vec<u8> = Vec::with_capacity(alloc, usize::from(job.lead))?;
     let (word, seat) = LockWord::new(alloc, 0u64, 0u64)?;
     let (mut spare, seat) = word.split(seat);

@@ -7,9 +7,12 @@
 
 mod client;
 mod server;
+mod shared;
 
-use crate::client::talk;
+use crate::client::{HELLO, Seen, hear};
 use crate::server::Server;
+use std::io::Write;
+use std::net::{Ipv4Addr, Net, SocketAddr, TcpStream};
 use std::process::ExitCode;
 use std::sync::Arc;
 use std::sync::atomic::Ordering;
@@ -23,6 +26,19 @@ fn asked(words: &[String]) -> Option<(u16, u64)> {
         [_] => Some((0, 100)),
         [_, port, idle_ms] => Some((port.parse().ok()?, idle_ms.parse().ok()?)),
         _ => None,
+    }
+}
+
+/// What a client sees of the server at this port of loopback.
+fn seen_at<N: Net>(net: &N, port: u16) -> Seen {
+    let addr = SocketAddr::from((Ipv4Addr::LOCALHOST, port));
+    let Ok(stream) = TcpStream::connect(net, addr) else {
+        return Seen::NoConnection;
+    };
+    let mut stream = stream;
+    match stream.write_all(HELLO) {
+        Ok(()) => hear(&mut stream),
+        Err(_) => Seen::NoAnswer,
     }
 }
 
@@ -41,9 +57,9 @@ fn main(rt: HostRuntime) -> io::Result<ExitCode> {
         let shared = Arc::try_clone(&server.shared)?;
         let port = server.port;
         let talking = thread::spawn(&rt, move || {
-            let told = talk(&rt, port);
+            let seen = seen_at(&rt, port);
             shared.stopped.store(true, Ordering::SeqCst);
-            told
+            seen
         })?;
         let served = server.run();
         println!(rt; "{}", talking.join(&rt))?;

@@ -1,10 +1,14 @@
-//! One thread turns the poller and accepts. Each connection has a thread of its own, which reads and
-//! writes as if it were alone, and an entry in the table, by which it is closed.
+//! A server: one thread turns the poller and accepts, and each connection has a thread of its own, and
+//! an entry in the table, by which turns find it.
 
-use fd_descriptor::{AcceptOutcome, Deadline, Fault, FdHandle, TryAccept};
-use readiness::{
-    Addr, ConnTable, Held, Listen, Poller, Sock, SockRes, TimerAlarms, Timers, listen,
-};
+ghost use Rattle.std.specs.Prelude.{◌≡◌, IfSome, IfErr};
+ghost use Rattle.rwloops.specs.declared.fault.Fault.{Fault};
+ghost use Rattle.rwloops.specs.declared.outcome.DevKind.{DevKind};
+ghost use Rattle.echo_server.specs.Server.{HasOwnAlarms, idle_of};
+
+use crate::shared::Shared;
+use fd_descriptor::{AcceptOutcome, Fault, TryAccept};
+use readiness::{Addr, ConnTable, Listen, Poller, Sock, TimerAlarms, Timers, listen};
 use std::alloc::Global;
 use std::fs::Files;
 use std::net::Net;
@@ -19,51 +23,6 @@ const LISTENER: u64 = 0;
 
 /// The most connections that are accepted between two turns.
 const MOST_ACCEPTED: u32 = 4_096;
-
-/// What all threads share.
-#[derive(Drop)]
-pub struct Shared<R: Wait + Clock + Copy + Drop> {
-    rt: R,
-    start: Instant,
-    idle: u64,
-    clients: Mutex<ConnTable<Held<SockRes>>>,
-    timers: Arc<Mutex<Timers>>,
-    alarms: TimerAlarms<R>,
-    pub stopped: AtomicBool,
-}
-
-impl<R: Wait + Clock + Copy + Drop> Shared<R> {
-    /// The nanoseconds since the start, which are the moments of all deadlines here.
-    fn now(&self) -> u64 {
-        match self.start.elapsed(&self.rt) {
-            Ok(passed) => u64::try_from(passed.as_nanos()).unwrap_or(u64::MAX),
-            Err(_) => u64::MAX,
-        }
-    }
-
-    /// Gives back what comes, until its end, a fault, or an idle time with nothing.
-    fn echo(&self, handle: &mut FdHandle<SockRes>) -> Result<(), Fault> {
-        let mut buf = [0; 4_096];
-        for _ in self.rt.forever() {
-            let now = self.now();
-            let until = Deadline::At(now.saturating_add(self.idle));
-            handle.set_read_deadline(&self.rt, until, now, &self.alarms)?;
-            let count = handle.read(&self.rt, &mut buf)?;
-            if handle.write(&self.rt, &buf[..count]).is_err() {
-                return Ok(());
-            }
-        }
-        unreachable!()
-    }
-
-    /// Takes a connection out of the table, and then closes it for all its handles.
-    fn close(&self, id: u64) {
-        let removed = self.clients.lock(&self.rt).remove(id);
-        if let Ok(mut held) = removed {
-            let _ = held.handle.close(&self.rt);
-        }
-    }
-}
 
 /// A server at a port of loopback, that closes a connection with nothing to read for so many
 /// nanoseconds.
@@ -81,7 +40,10 @@ where
     R: Wait + Threads + Net + Files + Clock + Copy + Drop + Send + Sync + 'static,
 {
     /// Listens at this port, or at any that is free where it is 0.
-    pub fn open(rt: R, alloc: Global, port: u16, idle: u64) -> Option<Server<R>> {
+    pub fn open(rt: R, alloc: Global, port: u16, idle: u64) -> Option<Server<R>>
+        ensures idle { IfSome result (λ server. idle_of server ≡ idle) }
+        ensures alarms { IfSome result HasOwnAlarms }
+    {
         let poller = Poller::new(&rt, alloc).ok()?;
         let mut listener = listen(&rt, &Addr::Tcp([127, 0, 0, 1], port)).ok()?;
         poller.register_listener(&mut listener, LISTENER).ok()?;
@@ -96,11 +58,9 @@ where
             alarms: TimerAlarms::new(rt, alarmed, poller.waker().ok()?),
             stopped: AtomicBool::new(false),
         };
-        let port = listener.port()?;
-        let shared = Arc::new(alloc, shared).ok()?;
         Some(Server {
-            port,
-            shared,
+            port: listener.port()?,
+            shared: Arc::new(alloc, shared).ok()?,
             alloc,
             poller,
             listener,
@@ -117,10 +77,11 @@ where
         let (id, mut handle) = held.ok()?;
         let started = thread::spawn(&rt, move || {
             let _ = shared.echo(&mut handle);
-            shared.close(id);
+            let _ = shared.close(id, &mut handle);
         });
         if started.is_err() {
-            self.shared.close(id);
+            // The thread's handle is gone, and with the entry the last one goes.
+            let _ = self.shared.clients.lock(&rt).remove(id);
         }
         Some(())
     }
@@ -146,7 +107,9 @@ where
     }
 
     /// Serves until it is stopped and no connection is left, or the poller fails.
-    pub fn run(&mut self) -> Result<(), Fault> {
+    pub fn run(&mut self) -> Result<(), Fault>
+        ensures faults { IfErr result (λ fault. fault ≡ Fault.Device DevKind.Other) }
+    {
         let rt = self.shared.rt;
         for _ in rt.forever() {
             let shared = &self.shared;

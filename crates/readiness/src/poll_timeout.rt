@@ -1,6 +1,5 @@
 //! How long a poll may wait.
 
-ghost use Rattle.std.specs.Prelude.{◌≡◌};
 ghost use Rattle.readiness.specs.PollTimeout.{IsWait};
 
 /// The longest that a poll waits, in milliseconds.

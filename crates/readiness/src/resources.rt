@@ -1,9 +1,7 @@
 //! The halves of sockets, and what a descriptor makes of them. A socket is closed when its last half
 //! is dropped.
 
-ghost use Rattle.std.specs.Prelude.{◌≡◌, ◌≤◌, Ok, None, IfOk, length};
-ghost use Rattle.std.specs.Arc.{arc_value};
-ghost use Rattle.rwloops.specs.Outcome.{IsCountWithin};
+ghost use Rattle.std.specs.Prelude.{◌≡◌, Ok, None, IfOk};
 ghost use Rattle.readiness.specs.Sockets.{read_from, written_to, failure_of};
 
 use crate::sock::{Listen, Sock};

@@ -1,9 +1,9 @@
 -- The words and lemmas that several proofs cite, from one place.
 pub use Rattle.relay_admin.specs.TextReading.{◌>>=◌}
-unfoldable pub use Rattle.relay_admin.specs.TextReading.{split_at_first, number_within}
-pub use Rattle.relay_admin.specs.admin.Command.{IsDeadline, IsCommand, after_text, command_text, SpellsCommand}
+unfoldable pub use Rattle.relay_admin.specs.TextReading.{split_at_first, number_within, time_within}
+pub use Rattle.relay_admin.specs.admin.Command.{IsDeadline, IsCommand, command_text, SpellsCommand}
 pub use Rattle.relay_admin.specs.admin.Command.{words_of, end_of, AreArguments, arguments_text}
-unfoldable pub use Rattle.relay_admin.specs.admin.CommandReading.{after_at, arguments_at, words_at}
+unfoldable pub use Rattle.relay_admin.specs.admin.CommandReading.{arguments_at, words_at}
 pub use Rattle.relay_admin.specs.admin.CommandReading.{arguments_of_parts, words_of_parts}
 pub use Rattle.relay_admin.specs.admin.Devices.{IsFlushedOrUntouched}
 pub use Rattle.relay_admin.specs.admin.Progress.{Position, start, IsReady, Meanwhile, Advances, progress_of}
@@ -21,7 +21,7 @@ pub use Rattle.relay_admin.specs.rules.Addr.{Address, tcp, unix}
 pub use Rattle.relay_admin.specs.rules.Fault.{CanStandTogether, HasName, LacksName, HasListen, LacksListen, LineFault}
 pub use Rattle.relay_admin.specs.rules.Fault.{bad_line, too_many, same_name, same_listen, FirstFault, SaysRules}
 pub use Rattle.relay_admin.specs.rules.Fault.{SaysFault}
-pub use Rattle.relay_admin.specs.rules.Grammar.{space, Entry, IsSkipped, SpellsRule, Spell, nothing, skipped, rule}
+pub use Rattle.relay_admin.specs.rules.Grammar.{space, time_text, Entry, IsSkipped, SpellsRule, Spell, nothing, skipped, rule}
 pub use Rattle.relay_admin.specs.rules.Grammar.{entry_of, entries_of}
 pub use Rattle.relay_admin.specs.rules.Reading.{is_skipped, same_address, finds_name, finds_listen, TakesGoodLine}
 pub use Rattle.relay_admin.specs.rules.Reading.{skips, adds}

@@ -1,6 +1,6 @@
 -- Reading a text from left to right, as the code does. No public clause cites this module.
 use Rattle.std.specs.Prelude.{◌≡◌, ◌==◌, ◌+◌, ◌-◌, ◌*◌, ℕ, ◌&&◌, List, [], ◌∷◌, Option, Some, None}
-use Rattle.std.specs.Prelude.{nat_le, if◌then◌else◌}
+use Rattle.std.specs.Prelude.{nat_le, codes, if◌then◌else◌}
 use Rattle.std.specs.Fmt.{decimal}
 use Rattle.std.specs.Str.{bytes_eq}
 
@@ -37,3 +37,9 @@ number_within low high text =
     if bytes_eq text (decimal (value_from 0 text))
     && (nat_le low (value_from 0 text) && nat_le (value_from 0 text) high)
     then Some (value_from 0 text) else None
+
+-- so many milliseconds from low to high, or never
+unfoldable pub time_within : ℕ → ℕ → List ℕ → Option (Option ℕ)
+time_within low high text =
+    if bytes_eq text (codes "never") then Some None
+    else (number_within low high text >>= λ ms. Some (Some ms))

@@ -1,5 +1,11 @@
 //! Laws of the grammars and of the transcripts, in the words of an operator. The bodies are empty.
 
+ghost use Rattle.std.specs.Prelude.{◌≡◌};
+ghost use Rattle.relay_admin.specs.declared.admin.command.TheConstants.{MAX_DEADLINE_MS, MAX_ID};
+ghost use Rattle.relay_admin.specs.declared.admin.dialogue.TheConstants.{MAX_LINES, MAX_LINE_BYTES};
+ghost use Rattle.relay_admin.specs.declared.rules.addr.TheConstants.{MAX_PATH_BYTES};
+ghost use Rattle.relay_admin.specs.declared.rules.file.TheConstants.{MAX_BYTES, MAX_RULES};
+ghost use Rattle.relay_admin.specs.declared.rules.rule.TheConstants.{MAX_IDLE_MS, MAX_NAME_BYTES};
 ghost use Rattle.relay_admin.specs.Laws.{NoRulesWithFault, OneCommandALine, OneDialogueAText, OneFault, OneListOfRules, OneRuleALine, OneTextAnAddress};
 
 /// Two addresses are one exactly where their texts are one.
@@ -20,4 +26,22 @@ pub fn one_verdict_a_text()
 pub fn one_dialogue_a_text()
     ensures line { OneCommandALine }
     ensures text { OneDialogueAText }
+{}
+
+/// The limits of a rules file in figures. The definitions follow the code's constants, so that this
+/// alone says which they are.
+pub fn the_limits_of_rules_in_figures()
+    ensures bytes { MAX_BYTES ≡ 65536 }
+    ensures rules { MAX_RULES ≡ 64 }
+    ensures name_bytes { MAX_NAME_BYTES ≡ 16 }
+    ensures path_bytes { MAX_PATH_BYTES ≡ 100 }
+    ensures idle_ms { MAX_IDLE_MS ≡ 86400000 }
+{}
+
+/// The limits of an admin session in figures, likewise.
+pub fn the_limits_of_a_session_in_figures()
+    ensures lines { MAX_LINES ≡ 65536 }
+    ensures line_bytes { MAX_LINE_BYTES ≡ 64 }
+    ensures id { MAX_ID ≡ 4503599627370494 }
+    ensures deadline_ms { MAX_DEADLINE_MS ≡ 86400000 }
 {}

@@ -1,7 +1,7 @@
 //! Reading a text: its parts, and its numbers within bounds.
 
-ghost use Rattle.std.specs.Prelude.{◌≡◌, ◌≤◌, IfSome};
-ghost use Rattle.relay_admin.specs.TextReading.{Views, number_within, split_at_first};
+ghost use Rattle.std.specs.Prelude.{◌≡◌, ◌≤◌, ◌<◌, ◌^◌, IfSome};
+ghost use Rattle.relay_admin.specs.TextReading.{Views, number_within, split_at_first, time_within};
 
 use stream_base::decimal::parse_decimal;
 
@@ -20,6 +20,20 @@ pub(crate) fn number_between(low: u64, high: u64, text: &[u8]) -> Option<u64>
         return None;
     }
     Some(n)
+}
+
+/// The milliseconds from `low` to `high` that the text spells, or never, by this word; and none where
+/// it spells neither.
+#[tactic(auto, unfolding(crate::specs::TextReading::time_within))]
+pub(crate) fn time_between(low: u64, high: u64, text: &[u8]) -> Option<Option<u32>>
+    requires { high < 2 ^ 32 }
+    ensures { result ≡ time_within low high text.now }
+{
+    if text == b"never".as_slice() {
+        return Some(None);
+    }
+    let ms = number_between(low, high, text)?;
+    Some(Some(ms as u32))
 }
 
 /// What stands before the first such byte, and what stands behind it.

@@ -4,8 +4,8 @@ use Rattle.relay_admin.proofs.Words.{◌∙◌, sym, ap, refl, subst, ℕ, List,
 use Rattle.relay_admin.proofs.Words.{Option, Some, None, IfSome, IfNone, arith, codes, bytes_eq, decimal, nat_tests}
 use Rattle.relay_admin.proofs.Words.{inl, inr}
 use Rattle.relay_admin.proofs.Words.{Command, space, ◌>>=◌, split_at_first, number_within, IsDeadline, IsCommand}
-use Rattle.relay_admin.proofs.Words.{AreArguments, arguments_text, words_of, after_text, command_text, SpellsCommand}
-use Rattle.relay_admin.proofs.Words.{after_at, arguments_at, arguments_of_parts, words_at, words_of_parts, Lacks}
+use Rattle.relay_admin.proofs.Words.{AreArguments, arguments_text, words_of, time_text, command_text, SpellsCommand}
+use Rattle.relay_admin.proofs.Words.{time_within, arguments_at, arguments_of_parts, words_at, words_of_parts, Lacks}
 use Rattle.relay_admin.specs.declared.admin.command.Arguments.{Arguments}
 use Rattle.relay_admin.specs.declared.admin.command.Arguments.TheVariants as behind
 use Rattle.relay_admin.specs.declared.admin.command.TheConstants.{MAX_ID, MAX_DEADLINE_MS}
@@ -13,29 +13,15 @@ use Rattle.relay_admin.proofs.TextLemmas.{bind_some, bind_is, same_bytes, split_
 use Rattle.relay_admin.proofs.TextLemmas.{word_lacks, Lacks-word}
 use Rattle.relay_admin.proofs.NumberLemmas.{within_sound, within_complete, Lacks-decimal}
 use Rattle.relay_admin.proofs.GrammarBytes.{digit_no_space}
-use Rattle.relay_admin.proofs.rules.Complete.{decimal_not_never, else_is}
+use Rattle.relay_admin.proofs.rules.Complete.{time_complete}
+use Rattle.relay_admin.proofs.rules.Sound.{time_sound}
 
 -- ---- What is read
 
-after_sound : (text : List ℕ) (after : Option ℕ) → after_at text ≡ Some after
-    → (text ≡ after_text after) × IsDeadline after
-unfolding after_at
-after_sound text after e = by_word (bytes_eq text (codes "never")) (λ t. same_bytes text (codes "never") t) e
-  where
-    by_word : (b : Bool) → (b ≡ true → text ≡ codes "never")
-        → (if b then Some None else (number_within 0 MAX_DEADLINE_MS text >>= λ ms. Some (Some ms))) ≡ Some after
-        → (text ≡ after_text after) × IsDeadline after
-    by_word true word h =
-        let P : Option ℕ → Type 0 = λ o. (text ≡ after_text o) × IsDeadline o in
-        let same : None ≡ after = cc in
-        subst P same (word refl, tt)
-    by_word false word h =
-        let P : Option ℕ → Type 0 = λ o. (text ≡ after_text o) × IsDeadline o in
-        let ms = bind_some (number_within 0 MAX_DEADLINE_MS text) _ after h in
-        let is : Some (Some ms.0) ≡ Some after = ms.2 in
-        let same : Some ms.0 ≡ after = cc in
-        let spelled = within_sound 0 MAX_DEADLINE_MS text ms.0 ms.1 in
-        subst P same (spelled.0, spelled.2)
+-- a time from 0 on is a deadline
+deadline_of_time : (after : Option ℕ) → IfSome after (λ ms. (0 ≤ ms) × (ms ≤ MAX_DEADLINE_MS)) → IsDeadline after
+deadline_of_time None is = tt
+deadline_of_time (Some ms) is = is.1
 
 -- the text is that of these arguments of the grammar
 abbrev SpellsArguments : List ℕ → Arguments → Type 0
@@ -54,17 +40,18 @@ id_and_deadline_sound : (text : List ℕ) (parts : List ℕ × List ℕ) (a : Ar
     → SpellsArguments (space ∷ text) a
 id_and_deadline_sound text parts a cut e =
     let id = bind_some (number_within 1 MAX_ID parts.0) _ a e in
-    let after = bind_some (after_at parts.1) _ a id.2 in
+    let after = bind_some (time_within 0 MAX_DEADLINE_MS parts.1) _ a id.2 in
     let is_id = within_sound 1 MAX_ID parts.0 id.0 id.1 in
-    let is_after = after_sound parts.1 after.0 after.1 in
-    joined parts.0 parts.1 id.0 after.0 after.2 cut is_id.0 is_after.0 is_id.1 is_id.2 is_after.1
+    let is_after = time_sound 0 MAX_DEADLINE_MS parts.1 after.0 after.1 in
+    joined parts.0 parts.1 id.0 after.0 after.2 cut is_id.0 is_after.0 is_id.1 is_id.2
+    (deadline_of_time after.0 is_after.1)
   where
     joined : (id rest : List ℕ) (n : ℕ) (after : Option ℕ) → Some (behind.IdAndDeadline n after) ≡ Some a
-        → text ≡ id ++ space ∷ rest → id ≡ decimal n → rest ≡ after_text after → 1 ≤ n → n ≤ MAX_ID → IsDeadline after
+        → text ≡ id ++ space ∷ rest → id ≡ decimal n → rest ≡ time_text after → 1 ≤ n → n ≤ MAX_ID → IsDeadline after
         → SpellsArguments (space ∷ text) a
     joined id rest n after is e1 e2 e3 low high fits =
         let same : behind.IdAndDeadline n after ≡ a = cc in
-        let spelled : text ≡ decimal n ++ space ∷ after_text after = cc in
+        let spelled : text ≡ decimal n ++ space ∷ time_text after = cc in
         subst (SpellsArguments (space ∷ text)) same (ap (λ t. space ∷ t) spelled, ((low, high), fits))
 
 arguments_sound : (text : List ℕ) (a : Arguments) → arguments_at text ≡ Some a → SpellsArguments (space ∷ text) a
@@ -99,14 +86,10 @@ words_sound line words e = by_parts (split_at_first space line) refl e
 
 -- ---- What is in the grammar
 
-after_complete : (after : Option ℕ) → IsDeadline after → after_at (after_text after) ≡ Some after
-unfolding after_at
-after_complete None is = refl
-after_complete (Some ms) is =
-    else_is (bytes_eq (decimal ms) (codes "never")) (Some None)
-    (number_within 0 MAX_DEADLINE_MS (decimal ms) >>= λ n. Some (Some n)) (decimal_not_never ms (omega arith))
-    ∙ bind_is (number_within 0 MAX_DEADLINE_MS (decimal ms)) _ ms
-    (within_complete 0 MAX_DEADLINE_MS ms (omega arith) (omega arith) is)
+-- a deadline is a time from 0 on
+time_of_deadline : (after : Option ℕ) → IsDeadline after → IfSome after (λ ms. (0 ≤ ms) × (ms ≤ MAX_DEADLINE_MS))
+time_of_deadline None is = tt
+time_of_deadline (Some ms) is = (omega arith, is)
 
 arguments_complete : (text : List ℕ) (a : Arguments) → AreArguments a → space ∷ text ≡ arguments_text a
     → arguments_at text ≡ Some a
@@ -120,19 +103,19 @@ arguments_complete text (behind.Id id) is e =
     (split_lacks space (decimal id) (Lacks-decimal space id digit_no_space short))
     ∙ bind_is _ _ _ (within_complete 1 MAX_ID id short is.0 is.1)
 arguments_complete text (behind.IdAndDeadline id after) is e =
-    let spelled : text ≡ decimal id ++ space ∷ after_text after = cc in
+    let spelled : text ≡ decimal id ++ space ∷ time_text after = cc in
     let short : id < 2 ^ 64 = let high = is.0.1 in omega arith in
     ap arguments_at spelled
-    ∙ ap (arguments_of_parts (decimal id ++ space ∷ after_text after))
-    (split_complete space (decimal id) (after_text after) (Lacks-decimal space id digit_no_space short))
+    ∙ ap (arguments_of_parts (decimal id ++ space ∷ time_text after))
+    (split_complete space (decimal id) (time_text after) (Lacks-decimal space id digit_no_space short))
     ∙ bind_is _ _ _ (within_complete 1 MAX_ID id short is.0.0 is.0.1)
-    ∙ bind_is _ _ _ (after_complete after is.1)
+    ∙ bind_is _ _ _ (time_complete 0 MAX_DEADLINE_MS after (omega arith) (time_of_deadline after is.1))
 
 -- arguments are none, or their text begins with a space
 arguments_begin : (a : Arguments) → (a ≡ behind.Nothing) ⊎ ((text : List ℕ) × (arguments_text a ≡ space ∷ text))
 arguments_begin behind.Nothing = inl refl
 arguments_begin (behind.Id id) = inr (decimal id, refl)
-arguments_begin (behind.IdAndDeadline id after) = inr (decimal id ++ space ∷ after_text after, refl)
+arguments_begin (behind.IdAndDeadline id after) = inr (decimal id ++ space ∷ time_text after, refl)
 
 words_complete : (word : List ℕ) (a : Arguments) → Lacks space word → AreArguments a
     → words_at (word ++ arguments_text a) ≡ Some (word, a)

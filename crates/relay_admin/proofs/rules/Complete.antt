@@ -2,12 +2,12 @@
 use Rattle.std.specs.Prelude.{◌≡◌, ◌^◌, ◌≤◌, ◌<◌, ◌∷◌, ◌++◌, ◌&&◌, ◌==◌, if◌then◌else◌}
 use Rattle.relay_admin.proofs.Words.{◌∙◌, refl, ℕ, List, [], Bool, true, false}
 use Rattle.relay_admin.proofs.Words.{Option, Some, None, arith, codes, is_ascii_digit}
-use Rattle.relay_admin.proofs.Words.{all_ascii_digits, bytes_eq, decimal, nat_tests, Lacks}
+use Rattle.relay_admin.proofs.Words.{all_ascii_digits, bytes_eq, decimal, nat_tests, Lacks, IfSome}
 use Rattle.relay_admin.specs.rules.Addr.{Address, tcp, unix, dot, colon, is_path, IsAddress, address_text}
-use Rattle.relay_admin.specs.rules.Grammar.{Entry, IsEntry, IsIdle, idle_text, is_name, space, line_text}
+use Rattle.relay_admin.specs.rules.Grammar.{Entry, IsEntry, IsIdle, time_text, is_name, space, line_text}
 use Rattle.relay_admin.specs.declared.rules.rule.TheConstants.{MAX_IDLE_MS}
-use Rattle.relay_admin.specs.TextReading.{◌>>=◌, split_at_first, number_within}
-use Rattle.relay_admin.specs.rules.Reading.{tcp_at, path_at, address_at, idle_at, rule_at}
+use Rattle.relay_admin.specs.TextReading.{◌>>=◌, split_at_first, number_within, time_within}
+use Rattle.relay_admin.specs.rules.Reading.{tcp_at, path_at, address_at, rule_at}
 use Rattle.relay_admin.proofs.TextLemmas.{bind_is, guard_true, split_complete, Lacks-append, Lacks-from_list_all}
 use Rattle.relay_admin.proofs.TextLemmas.{Lacks-word}
 use Rattle.relay_admin.proofs.NumberLemmas.{within_complete, decimal_digits, Lacks-decimal}
@@ -61,15 +61,21 @@ decimal_not_never n wide = of_digits (decimal n) (decimal_digits n wide)
 pub else_is : {A : Type 0} (b : Bool) (x y : A) → b ≡ false → (if b then x else y) ≡ y
 else_is b x y e = rw e refl
 
-idle_complete : (idle : Option ℕ) → IsIdle idle → idle_at (idle_text idle) ≡ Some idle
-unfolding idle_at
-idle_complete None is = refl
-idle_complete (Some ms) is =
-    let low : 1 ≤ ms = let some = is.0 in omega arith in
-    let high = is.1 in
+pub time_complete : (low high : ℕ) (time : Option ℕ) → high < 2 ^ 64
+    → IfSome time (λ ms. (low ≤ ms) × (ms ≤ high)) → time_within low high (time_text time) ≡ Some time
+unfolding time_within
+time_complete low high None wide is = refl
+time_complete low high (Some ms) wide is =
+    let most = is.1 in
+    let short : ms < 2 ^ 64 = omega arith in
     else_is (bytes_eq (decimal ms) (codes "never")) (Some None)
-    (number_within 1 MAX_IDLE_MS (decimal ms) >>= λ n. Some (Some n)) (decimal_not_never ms (omega arith))
-    ∙ bind_is (number_within 1 MAX_IDLE_MS (decimal ms)) _ ms (within_complete 1 MAX_IDLE_MS ms (omega arith) low high)
+    (number_within low high (decimal ms) >>= λ n. Some (Some n)) (decimal_not_never ms short)
+    ∙ bind_is (number_within low high (decimal ms)) _ ms (within_complete low high ms short is.0 is.1)
+
+-- an idle time is a time from 1 on
+time_of_idle : (idle : Option ℕ) → IsIdle idle → IfSome idle (λ ms. (1 ≤ ms) × (ms ≤ MAX_IDLE_MS))
+time_of_idle None is = tt
+time_of_idle (Some ms) is = let some = is.0 in (omega arith, is.1)
 
 -- ---- Lines
 
@@ -108,19 +114,19 @@ rule_complete entry is =
     bind_is (split_at_first space (line_text entry)) _ (
       codes "relay",
       entry.name ++ space ∷ (address_text entry.listen
-          ++ space ∷ (address_text entry.target ++ space ∷ idle_text entry.idle)),
+          ++ space ∷ (address_text entry.target ++ space ∷ time_text entry.idle)),
     )
     (split_complete space (codes "relay") (entry.name
-    ++ space ∷ (address_text entry.listen ++ space ∷ (address_text entry.target ++ space ∷ idle_text entry.idle)))
+    ++ space ∷ (address_text entry.listen ++ space ∷ (address_text entry.target ++ space ∷ time_text entry.idle)))
     (Lacks-word space (codes "relay") refl))
     ∙ bind_is _ _ _ (split_complete space entry.name
-    (address_text entry.listen ++ space ∷ (address_text entry.target ++ space ∷ idle_text entry.idle))
+    (address_text entry.listen ++ space ∷ (address_text entry.target ++ space ∷ time_text entry.idle))
     (name_lacks_space entry.name is.name))
     ∙ bind_is _ _ _ (split_complete space (address_text entry.listen)
-    (address_text entry.target ++ space ∷ idle_text entry.idle) (address_lacks_space entry.listen is.listen))
-    ∙ bind_is _ _ _ (split_complete space (address_text entry.target) (idle_text entry.idle)
+    (address_text entry.target ++ space ∷ time_text entry.idle) (address_lacks_space entry.listen is.listen))
+    ∙ bind_is _ _ _ (split_complete space (address_text entry.target) (time_text entry.idle)
     (address_lacks_space entry.target is.target))
     ∙ bind_is _ _ _ (address_complete entry.listen is.listen)
     ∙ bind_is _ _ _ (address_complete entry.target is.target)
-    ∙ bind_is _ _ _ (idle_complete entry.idle is.idle)
+    ∙ bind_is _ _ _ (time_complete 1 MAX_IDLE_MS entry.idle (omega arith) (time_of_idle entry.idle is.idle))
     ∙ guard_true (is_name entry.name) entry is.name

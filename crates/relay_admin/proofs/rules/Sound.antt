@@ -1,14 +1,14 @@
 -- What is read is a rule of the grammar, and this is its text.
 use Rattle.std.proofs.Common.{◌≡◌, ◌∙◌, ap, refl, subst, ℕ, ◌≤◌, List, ◌∷◌, ◌++◌, Bool, true, false, ◌&&◌, Option, Some}
 use Rattle.std.proofs.Common.{None, arith}
-use Rattle.std.specs.Prelude.{if◌then◌else◌, codes}
+use Rattle.std.specs.Prelude.{if◌then◌else◌, codes, IfSome}
 use Rattle.std.specs.Str.{bytes_eq}
 use Rattle.std.specs.Fmt.{decimal}
 use Rattle.relay_admin.specs.rules.Addr.{Address, tcp, unix, dot, colon, is_path, IsAddress, address_text}
-use Rattle.relay_admin.specs.rules.Grammar.{Entry, IsIdle, idle_text, is_name, space, SpellsRule}
+use Rattle.relay_admin.specs.rules.Grammar.{Entry, IsIdle, time_text, is_name, space, SpellsRule}
 use Rattle.relay_admin.specs.declared.rules.rule.TheConstants.{MAX_IDLE_MS}
-use Rattle.relay_admin.specs.TextReading.{◌>>=◌, split_at_first, number_within}
-use Rattle.relay_admin.specs.rules.Reading.{tcp_at, path_at, address_at, idle_at, rule_at}
+use Rattle.relay_admin.specs.TextReading.{◌>>=◌, split_at_first, number_within, time_within}
+use Rattle.relay_admin.specs.rules.Reading.{tcp_at, path_at, address_at, rule_at}
 use Rattle.relay_admin.proofs.TextLemmas.{both, bind_some, guard_some, same_bytes, split_sound}
 use Rattle.relay_admin.proofs.NumberLemmas.{within_sound}
 
@@ -85,25 +85,31 @@ address_sound text address e =
     (spelled ∙ ap (λ t. t ++ colon ∷ kind.0.1) (same_bytes kind.0.0 (codes "unix") is) ∙ rest.0, rest.1))
     kind.2
 
-idle_sound : (text : List ℕ) (idle : Option ℕ) → idle_at text ≡ Some idle → (text ≡ idle_text idle) × IsIdle idle
-unfolding idle_at
-idle_sound text idle e = by_word (bytes_eq text (codes "never")) (λ t. same_bytes text (codes "never") t) e
+pub time_sound : (low high : ℕ) (text : List ℕ) (time : Option ℕ) → time_within low high text ≡ Some time
+    → (text ≡ time_text time) × IfSome time (λ ms. (low ≤ ms) × (ms ≤ high))
+unfolding time_within
+time_sound low high text time e = by_word (bytes_eq text (codes "never")) (λ t. same_bytes text (codes "never") t) e
   where
+    Spelled : Option ℕ → Type 0
+    Spelled o = (text ≡ time_text o) × IfSome o (λ ms. (low ≤ ms) × (ms ≤ high))
+
     by_word : (b : Bool) → (b ≡ true → text ≡ codes "never")
-        → (if b then Some None else (number_within 1 MAX_IDLE_MS text >>= λ n. Some (Some n))) ≡ Some idle
-        → (text ≡ idle_text idle) × IsIdle idle
+        → (if b then Some None else (number_within low high text >>= λ n. Some (Some n))) ≡ Some time
+        → Spelled time
     by_word true word h =
-        let P : Option ℕ → Type 0 = λ o. (text ≡ idle_text o) × IsIdle o in
-        let same : None ≡ idle = cc in
-        subst P same (word refl, tt)
+        let same : None ≡ time = cc in
+        subst Spelled same (word refl, tt)
     by_word false word h =
-        let P : Option ℕ → Type 0 = λ o. (text ≡ idle_text o) × IsIdle o in
-        let ms = bind_some (number_within 1 MAX_IDLE_MS text) _ idle h in
-        let is : Some (Some ms.0) ≡ Some idle = ms.2 in
-        let same : Some ms.0 ≡ idle = cc in
-        let spelled = within_sound 1 MAX_IDLE_MS text ms.0 ms.1 in
-        let low = spelled.1 in
-        subst P same (spelled.0, (omega arith, spelled.2))
+        let ms = bind_some (number_within low high text) _ time h in
+        let is : Some (Some ms.0) ≡ Some time = ms.2 in
+        let same : Some ms.0 ≡ time = cc in
+        let spelled = within_sound low high text ms.0 ms.1 in
+        subst Spelled same (spelled.0, (spelled.1, spelled.2))
+
+-- a time from 1 on is an idle time
+idle_of_time : (idle : Option ℕ) → IfSome idle (λ ms. (1 ≤ ms) × (ms ≤ MAX_IDLE_MS)) → IsIdle idle
+idle_of_time None is = tt
+idle_of_time (Some ms) is = let low = is.0 in (omega arith, is.1)
 
 pub rule_sound : (text : List ℕ) (entry : Entry) → rule_at text ≡ Some entry → SpellsRule text entry
 unfolding rule_at
@@ -114,7 +120,7 @@ rule_sound text entry e =
     let target = bind_some (split_at_first space listen.0.1) _ entry listen.2 in
     let on = bind_some (address_at listen.0.0) _ entry target.2 in
     let to = bind_some (address_at target.0.0) _ entry on.2 in
-    let idle = bind_some (idle_at target.0.1) _ entry to.2 in
+    let idle = bind_some (time_within 1 MAX_IDLE_MS target.0.1) _ entry to.2 in
     let whole =
     guard_some (bytes_eq word.0.0 (codes "relay") && is_name name.0.0)
     (record { name = name.0.0; listen = on.0; target = to.0; idle = idle.0 }) entry idle.2 in
@@ -125,26 +131,26 @@ rule_sound text entry e =
     let text_target = (split_sound space listen.0.1 target.0 target.1).0 in
     let is_on = address_sound listen.0.0 on.0 on.1 in
     let is_to = address_sound target.0.0 to.0 to.1 in
-    let is_idle = idle_sound target.0.1 idle.0 idle.1 in
+    let is_idle = time_sound 1 MAX_IDLE_MS target.0.1 idle.0 idle.1 in
     joined text word.0.0 word.0.1 name.0.0 name.0.1 listen.0.0 listen.0.1 target.0.0 target.0.1 on.0 to.0 idle.0 entry
     whole.1
     (same_bytes word.0.0 (codes "relay") tests.0) text_word text_name text_listen text_target is_on.0 is_to.0 is_idle.0
-    tests.1 is_on.1 is_to.1 is_idle.1
+    tests.1 is_on.1 is_to.1 (idle_of_time idle.0 is_idle.1)
   where
     joined : (text w wt n nt l lt t tl : List ℕ) (on to : Address) (idle : Option ℕ) (entry : Entry)
         → record { name = n; listen = on; target = to; idle = idle } ≡ entry
         → w ≡ codes "relay" → text ≡ w ++ space ∷ wt → wt ≡ n ++ space ∷ nt → nt ≡ l ++ space ∷ lt
         → lt ≡ t ++ space ∷ tl
-        → l ≡ address_text on → t ≡ address_text to → tl ≡ idle_text idle
+        → l ≡ address_text on → t ≡ address_text to → tl ≡ time_text idle
         → is_name n ≡ true → IsAddress on → IsAddress to → IsIdle idle
         → SpellsRule text entry
     joined text w wt n nt l lt t tl on to idle entry is word e1 e2 e3 e4 f1 f2 f3 is_n is_on is_to is_idle =
         let spelled : text ≡ w ++ space ∷ (n ++ space
-        ∷ (address_text on ++ space ∷ (address_text to ++ space ∷ idle_text idle))) = cc in
+        ∷ (address_text on ++ space ∷ (address_text to ++ space ∷ time_text idle))) = cc in
         let all : text ≡ codes "relay" ++ space ∷
-        (n ++ space ∷ (address_text on ++ space ∷ (address_text to ++ space ∷ idle_text idle))) =
+        (n ++ space ∷ (address_text on ++ space ∷ (address_text to ++ space ∷ time_text idle))) =
         spelled ∙ ap (λ w. w ++ space ∷ (n ++ space
-        ∷ (address_text on ++ space ∷ (address_text to ++ space ∷ idle_text idle)))) word in
+        ∷ (address_text on ++ space ∷ (address_text to ++ space ∷ time_text idle)))) word in
         subst (SpellsRule text) is (record {
           fits =
               record { name = is_n; listen = is_on; target = is_to; idle = is_idle };

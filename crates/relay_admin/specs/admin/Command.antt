@@ -1,7 +1,7 @@
 -- Commands, the one text of each, and what each brings to a session.
 use Rattle.std.specs.Prelude.{◌≡◌, ◌≤◌, ℕ, List, [], ◌∷◌, ◌++◌, Option, Some, None, IfSome, codes}
 use Rattle.std.specs.Fmt.{decimal}
-use Rattle.relay_admin.specs.rules.Grammar.{space}
+use Rattle.relay_admin.specs.rules.Grammar.{space, time_text}
 use Rattle.relay_admin.specs.declared.admin.command.Arguments.{Arguments}
 use Rattle.relay_admin.specs.declared.admin.command.Arguments.TheVariants as behind
 use Rattle.relay_admin.specs.declared.admin.command.Command.{Command}
@@ -43,17 +43,12 @@ AreArguments (behind.IdAndDeadline id after) = IsId id × IsDeadline after
 abbrev pub IsCommand : Command → Type 0
 IsCommand command = AreArguments (words_of command).1
 
--- the text of a deadline
-abbrev pub after_text : Option ℕ → List ℕ
-after_text None = codes "never"
-after_text (Some ms) = decimal ms
-
 -- the text of arguments, with one space before each
 abbrev pub arguments_text : Arguments → List ℕ
 arguments_text behind.Nothing = []
 arguments_text (behind.Id id) = space ∷ decimal id
 arguments_text (behind.IdAndDeadline id after) =
-    space ∷ (decimal id ++ space ∷ after_text after)
+    space ∷ (decimal id ++ space ∷ time_text after)
 
 -- the text of a command
 abbrev pub command_text : Command → List ℕ

@@ -1,17 +1,10 @@
 -- Reading a line from left to right, as the code does. No public clause cites this module.
-use Rattle.std.specs.Prelude.{ℕ, List, Option, Some, None, codes, if◌then◌else◌}
-use Rattle.std.specs.Str.{bytes_eq}
+use Rattle.std.specs.Prelude.{ℕ, List, Option, Some, None}
 use Rattle.relay_admin.specs.rules.Grammar.{space}
-use Rattle.relay_admin.specs.TextReading.{◌>>=◌, split_at_first, number_within}
+use Rattle.relay_admin.specs.TextReading.{◌>>=◌, split_at_first, number_within, time_within}
 use Rattle.relay_admin.specs.declared.admin.command.Arguments.{Arguments}
 use Rattle.relay_admin.specs.declared.admin.command.Arguments.TheVariants as behind
 use Rattle.relay_admin.specs.declared.admin.command.TheConstants.{MAX_ID, MAX_DEADLINE_MS}
-
--- a deadline
-unfoldable pub after_at : List ℕ → Option (Option ℕ)
-after_at text =
-    if bytes_eq text (codes "never") then Some None
-    else (number_within 0 MAX_DEADLINE_MS text >>= λ ms. Some (Some ms))
 
 -- an id where the text has one part, an id and a deadline where it has two
 abbrev pub arguments_of_parts : List ℕ → Option (List ℕ × List ℕ) → Option Arguments
@@ -20,7 +13,7 @@ arguments_of_parts text None = do
   Some (behind.Id id)
 arguments_of_parts text (Some parts) = do
   id ← number_within 1 MAX_ID parts.0
-  after ← after_at parts.1
+  after ← time_within 0 MAX_DEADLINE_MS parts.1
   Some (behind.IdAndDeadline id after)
 
 -- what stands behind a word and its space

@@ -30,7 +30,8 @@ answer_of variant.Closed = closed
 answer_of variant.Busy = busy
 answer_of variant.NoMemory = no_memory
 
--- the reply to an answer, with its line feed
+-- the reply to an answer, with its line feed; `ids` and `totals` stand in `src/admin/reply.rt` as
+-- formats, which are no constants that could be cited, so their words are spelled here too
 abbrev pub reply_text : Answer → List ℕ
 reply_text (ids list) = codes "ids" ++ flat_map (λ id. space ∷ decimal id) list ++ 10 ∷ []
 reply_text (totals up down) =

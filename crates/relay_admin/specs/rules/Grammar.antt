@@ -51,10 +51,10 @@ is_name bytes =
 abbrev pub IsIdle : Option ℕ → Type 0
 IsIdle idle = IfSome idle (λ ms. (0 < ms) × (ms ≤ MAX_IDLE_MS))
 
--- the text of an idle time
-abbrev pub idle_text : Option ℕ → List ℕ
-idle_text None = codes "never"
-idle_text (Some ms) = decimal ms
+-- the text of so many milliseconds, or of never
+abbrev pub time_text : Option ℕ → List ℕ
+time_text None = codes "never"
+time_text (Some ms) = decimal ms
 
 -- a rule of the grammar
 pub record IsEntry (entry : Entry) : Type 0 where
@@ -72,7 +72,7 @@ abbrev pub line_text : Entry → List ℕ
 line_text entry =
     codes "relay" ++ space ∷ (entry.name ++ space ∷
     (address_text entry.listen ++ space ∷
-    (address_text entry.target ++ space ∷ idle_text entry.idle)))
+    (address_text entry.target ++ space ∷ time_text entry.idle)))
 
 -- the line spells the rule
 pub record SpellsRule (line : List ℕ) (entry : Entry) : Type 0 where

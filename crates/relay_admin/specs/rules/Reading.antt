@@ -11,7 +11,7 @@ use Rattle.relay_admin.specs.rules.Fault.{LacksListen, LacksName, LineFault}
 use Rattle.relay_admin.specs.declared.rules.file.RulesFault.{RulesFault}
 use Rattle.relay_admin.specs.declared.rules.file.TheConstants.{MAX_RULES}
 use Rattle.relay_admin.specs.declared.rules.rule.TheConstants.{MAX_IDLE_MS}
-use Rattle.relay_admin.specs.TextReading.{◌>>=◌, split_at_first, number_within}
+use Rattle.relay_admin.specs.TextReading.{◌>>=◌, split_at_first, number_within, time_within}
 
 -- the address behind "tcp:"
 unfoldable pub tcp_at : List ℕ → Option Address
@@ -39,12 +39,6 @@ address_at text = do
       else if bytes_eq kind.0 (codes "unix") then path_at kind.1
       else None
 
--- an idle time
-unfoldable pub idle_at : List ℕ → Option (Option ℕ)
-idle_at text =
-    if bytes_eq text (codes "never") then Some None
-    else (number_within 1 MAX_IDLE_MS text >>= λ ms. Some (Some ms))
-
 -- a rule
 unfoldable pub rule_at : List ℕ → Option Entry
 rule_at text = do
@@ -54,7 +48,7 @@ rule_at text = do
   target ← split_at_first space listen.1
   on ← address_at listen.0
   to ← address_at target.0
-  idle ← idle_at target.1
+  idle ← time_within 1 MAX_IDLE_MS target.1
   if bytes_eq word.0 (codes "relay") && is_name name.0 then Some
       (record { name = name.0; listen = on; target = to; idle = idle }) else None
 

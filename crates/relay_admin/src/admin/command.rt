@@ -5,10 +5,10 @@
 ghost use Rattle.std.specs.Prelude.{◌≡◌, ◌≢◌, IfSome, IfNone};
 ghost use Rattle.relay_admin.specs.TextReading.{Views};
 ghost use Rattle.relay_admin.specs.admin.Command.{IsCommand, SpellsCommand, command_text, end_of, words_of};
-ghost use Rattle.relay_admin.specs.admin.CommandReading.{after_at, arguments_at, words_at};
+ghost use Rattle.relay_admin.specs.admin.CommandReading.{arguments_at, words_at};
 
 use crate::admin::end::AdminEnd;
-use crate::text::{DAY_MS, number_between, split_once};
+use crate::text::{DAY_MS, number_between, split_once, time_between};
 
 /// A command. Ids are 1 to 4,503,599,627,370,494.
 #[derive(Clone, Copy, Debug, PartialEq, Eq, Drop)]
@@ -117,21 +117,10 @@ fn arguments_of(text: &[u8]) -> Option<Arguments>
         }
         Some((id, after)) => {
             let id = number_between(1, MAX_ID, id)?;
-            let after = after_of(after)?;
+            let after = time_between(0, MAX_DEADLINE_MS, after)?;
             Some(Arguments::IdAndDeadline(id, after))
         }
     }
-}
-
-#[tactic(auto, unfolding(crate::specs::admin::CommandReading::after_at))]
-fn after_of(text: &[u8]) -> Option<Option<u32>>
-    ensures { result ≡ after_at text.now }
-{
-    if text == b"never".as_slice() {
-        return Some(None);
-    }
-    let ms = number_between(0, MAX_DEADLINE_MS, text)?;
-    Some(Some(ms as u32))
 }
 
 #[cfg(test)]

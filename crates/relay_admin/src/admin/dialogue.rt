@@ -84,7 +84,8 @@ impl Dialogue {
         }
     }
 
-    /// Answers the line, which is whole.
+    /// Answers the line, which is whole. It takes and keeps what `answer_lines` does, which calls it
+    /// once a line; what it does to the session differs, so each has its clauses.
     fn end_line<A: Allocator + Copy, K: Sink, D: Desk>(
         &mut self,
         alloc: Global,

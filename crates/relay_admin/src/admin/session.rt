@@ -70,7 +70,8 @@ pub fn serve_on<S: Source, K: Sink, D: Desk>(
 }
 
 /// `serve_on` over a reader and a writer of std's. What they answer at a fault tells no cause in
-/// proofs; that is said of `serve_on`.
+/// proofs; that is said of `serve_on`. The clauses stand here again, since the words for what is left
+/// and what is written are those of other traits.
 pub fn serve_admin<R: Read, W: Write, D: Desk>(
     alloc: Global,
     reader: &mut R,

@@ -3,11 +3,11 @@
 ghost use Rattle.std.specs.Prelude.{◌≡◌, true, IfSome, IfNone};
 ghost use Rattle.std.specs.List.{list_all};
 ghost use Rattle.relay_admin.specs.rules.Grammar.{Entry, SpellsRule, entry_of, is_name, is_name_byte};
-ghost use Rattle.relay_admin.specs.rules.Reading.{idle_at, rule_at};
+ghost use Rattle.relay_admin.specs.rules.Reading.{rule_at};
 ghost use Rattle.relay_admin.specs.TextReading.{Views};
 
 use crate::rules::addr::{Addr, addr_of, held};
-use crate::text::{DAY_MS, number_between, split_once};
+use crate::text::{DAY_MS, split_once, time_between};
 use arrayvec::ArrayString;
 
 /// The most bytes of a rule's name.
@@ -55,7 +55,7 @@ fn read_rule(text: &[u8]) -> Option<Rule>
     let (target, idle) = split_once(rest, b' ')?;
     let listen = addr_of(listen)?;
     let target = addr_of(target)?;
-    let idle = idle_of(idle)?;
+    let idle = time_between(1, MAX_IDLE_MS, idle)?;
     if word == b"relay".as_slice() && is_name_text(name) {
         Some(Rule {
             name: name_held(name),
@@ -66,17 +66,6 @@ fn read_rule(text: &[u8]) -> Option<Rule>
     } else {
         None
     }
-}
-
-#[tactic(auto, unfolding(crate::specs::rules::Reading::idle_at))]
-fn idle_of(text: &[u8]) -> Option<Option<u32>>
-    ensures { result ≡ idle_at text.now }
-{
-    if text == b"never".as_slice() {
-        return Some(None);
-    }
-    let ms = number_between(1, MAX_IDLE_MS, text)?;
-    Some(Some(ms as u32))
 }
 
 fn is_name_text(text: &[u8]) -> bool

@@ -1,0 +1,17 @@
+-- What the words of the command line ask for.
+use Rattle.std.specs.Prelude.{◌≡◌, ℕ, List, Option, Some, None, codes, if◌then◌else◌}
+use Rattle.std.specs.Str.{bytes_eq}
+use Rattle.std.specs.Str.Parse.{digits_value, without_leading_plus}
+use Rattle.bench_lock_word.specs.declared.job.Load.{Load}
+use Rattle.bench_lock_word.specs.declared.job.Load.TheVariants as load
+
+-- what a thread does, by its name
+abbrev pub load_named : List ℕ → Option Load
+load_named name =
+    if bytes_eq name (codes "references") then Some load.References
+    else if bytes_eq name (codes "reads") then Some load.Reads
+    else None
+
+-- the number that a word spells, with a plus before it or not
+abbrev pub number_in : List ℕ → ℕ
+number_in word = digits_value 10 (without_leading_plus word)

@@ -1,0 +1,21 @@
+-- A server, as its callers see it.
+use Rattle.std.specs.Prelude.{◌≡◌, ℕ}
+use Rattle.std.specs.Arc.{arc_value}
+use Rattle.readiness.specs.Alarms.{timers_of, woken_by}
+use Rattle.readiness.specs.Poller.{waker_of}
+use Rattle.echo_server.specs.declared.server.Server.{Server}
+use Rattle.echo_server.specs.declared.shared.Shared.{Shared}
+
+module _ {R : Type 0} where
+  -- what the threads of a server share
+  abbrev pub shared_of : Server R → Shared R
+  shared_of server = arc_value server.shared
+
+  -- the nanoseconds with nothing to read after which it closes a connection
+  abbrev pub idle_of : Server R → ℕ
+  idle_of server = (shared_of server).idle
+
+-- deadlines arm the timers that the server's turns take, and wake its poller
+pub record HasOwnAlarms {R : Type 0} (server : Server R) : Type 0 where
+  pub timers : timers_of (shared_of server).alarms ≡ arc_value (shared_of server).timers
+  pub waker : woken_by (shared_of server).alarms ≡ waker_of server.poller
