@@ -10,15 +10,17 @@ check    `pollrelay check --rules` of the text; the status is 0 or 1
 session  the text is an admin session of a running relay; each line is answered as it may be (fuzz_session.c), and a relay that was told to
          stop ends with status 0
 
-A crash, a run of 2 s or another status is a failure, and its text is kept in the folder that is named. The program is run as it was built: a library
-that is loaded before the C library's (fuzz_run.c) is afl-fuzz's fork server, and sets a breakpoint on each block of code, so that afl-fuzz
-learns which texts reach new code: of a session, code of the driver, which looks at each line and its reply. With --keep such texts go to
+A crash, a run of 2 s or another status is a failure, and its text is kept in the folder that is named. A run that took 2 s by the clock is made again
+alone, and is a hang if it takes 2 s of processor time. The program is run as it was built: a library that is loaded before the C library's
+(fuzz_run.c) is afl-fuzz's fork server, has a process make many runs, and sets a breakpoint on each block of code, so that afl-fuzz learns which
+texts reach new code: of a session, code of the driver, which looks at each line and its reply. With --keep such texts go to
 tests/corpus. It needs gcc, binutils and afl++: apt-get install gcc binutils afl++. POLLRELAY names another program. The gate doesn't run this.
 """
 import argparse
 import glob
 import hashlib
 import os
+import resource
 import shutil
 import subprocess
 import sys
@@ -34,7 +36,7 @@ MOST_BYTES = 4_096
 OPERATIONS = "incref decref rlock wlock runlock wunlock rsignal wsignal rwake wwake close destroy".split()
 NUMBERS = "0 1 2 01 64 65 262143 262144 67108863 67108864 16777217 4294967296 4503599627370494 4503599627370495 86400000 86400001".split()
 TOKENS = {
-    "trace": [*(f"{it}\n" for it in OPERATIONS), *NUMBERS, "+", "1+262143 incref\n", "1+262144 rlock\n", " ", "\n", "\r\n"],
+    "trace": [*(f"{it}\n" for it in OPERATIONS), *NUMBERS, "+", " ", "\n", "\r\n"],
     "check": [
         "relay ", "web ", "tcp:", "unix:/", "tcp:127.0.0.1:", "255.255.255.255", "0.0.0.0", "65535", "65536", " never\n", " 86400000\n",
         "#", "\n", "\r\n", " ", ":", ".", "/", "relay a tcp:1.1.1.1:1 unix:/x never\n", "x" * 16, "x" * 17, "/" + "x" * 100, *NUMBERS,
@@ -48,10 +50,12 @@ SEEDS = {
     "check": [f"{ROOT}/examples/rules/*.rules"],
     "session": [],
 }
-PLANTED = {"trace": "+262144 rlock", "check": "255.255.255.255", "session": "262144"}
+PLANTED = {"trace": "65 wwake", "check": "255.255.255.255", "session": "262144"}
 
 
 PLANTED_SECONDS = 300
+# afl-fuzz makes a file of each text.
+IN_MEMORY = "/dev/shm" if os.path.isdir("/dev/shm") else None
 
 
 def content(path):
@@ -92,9 +96,11 @@ def fuzz_env(target, folder):
     env = {
         **os.environ, **target.env, "AFL_PRELOAD": target.library, "FUZZ_STATUSES": target.statuses, "AFL_NO_UI": "1", "AFL_SKIP_CPUFREQ": "1",
         "AFL_NO_AFFINITY": "1", "AFL_I_DONT_CARE_ABOUT_MISSING_CRASHES": "1", "AFL_SKIP_BIN_CHECK": "1",
-        "AFL_HANG_TMOUT": str(HANG_MS), "FUZZ_BLOCKS": f"{folder}/blocks",
+        "AFL_HANG_TMOUT": str(HANG_MS), "FUZZ_BLOCKS": f"{folder}/blocks", "AFL_TMPDIR": f"{folder}/texts",
     }
-    blocks_of(target.words[0], env["FUZZ_BLOCKS"])
+    os.makedirs(env["AFL_TMPDIR"])
+    # A byte for each block, in whole pages; afl-fuzz goes through all of them after each run.
+    env["AFL_MAP_SIZE"] = str((blocks_of(target.words[0], env["FUZZ_BLOCKS"]) + 4096) & ~4095)
     return env
 
 
@@ -123,7 +129,8 @@ def fuzz(kind, folder, seconds, planted="", is_enough=lambda folder: False):
                 process.terminate()
             process.wait(30)
         wrong = target.served.wrong if target.served else []
-        return stats_of(folder), wrong
+        hangs = [it for it in found(folder, "hangs") if hangs_alone(target, it)]
+        return stats_of(folder), wrong, hangs
     finally:
         target.close()
         if keeper is not None:
@@ -149,19 +156,36 @@ def keep(kind, folder):
     return kept
 
 
+def hangs_alone(target, path):
+    """Whether a run of that text takes 2 s of processor time: beside other work any run may take so long by the clock."""
+    if target.served is not None:
+        return True
+    seconds = HANG_MS // 1000
+    with open(path, "rb") as stdin:
+        words = [path if word == "@@" else word for word in target.words]
+        limit = lambda: resource.setrlimit(resource.RLIMIT_CPU, (seconds, seconds))
+        quiet = {"stdin": stdin, "stdout": subprocess.DEVNULL, "stderr": subprocess.DEVNULL}
+        try:
+            status = subprocess.run(words, **quiet, preexec_fn=limit, timeout=60 * seconds, check=False).returncode
+        except subprocess.TimeoutExpired:
+            return True
+    return str(status) not in target.statuses
+
+
 def hostile(checks, kinds, minutes, keeps):
     for kind in kinds:
-        folder = tempfile.mkdtemp(prefix=f"fuzz-{kind}-")
-        numbers, wrong = fuzz(kind, folder, int(60 * minutes))
+        folder = tempfile.mkdtemp(prefix=f"fuzz-{kind}-", dir=IN_MEMORY)
+        numbers, wrong, hangs = fuzz(kind, folder, int(60 * minutes))
         runs, seconds = int(numbers.get("execs_done", 0)), int(numbers.get("run_time", 0))
-        crashes, hangs = found(folder, "crashes"), found(folder, "hangs")
+        crashes, slow = found(folder, "crashes"), len(found(folder, "hangs")) - len(hangs)
         checks.holds(f"{kind}: runs", runs > 10 * seconds > 0, f"{runs} in {seconds} s: see {folder}/log")
         checks.holds(f"{kind}: no crash and no other status", not crashes, f"{crashes[:3]}")
         checks.holds(f"{kind}: no run of {HANG_MS} ms", not hangs, f"{hangs[:3]}")
         checks.expect(f"{kind}: relays end by stop alone", [], wrong)
         kept = keep(kind, folder) if keeps else 0
         print(
-            f"{kind}: {runs} runs in {seconds} s, {len(crashes)} crashes, {len(hangs)} hangs, {len(found(folder, 'queue'))} texts in the queue, "
+            f"{kind}: {runs} runs in {seconds} s, {len(crashes)} crashes, {len(hangs)} hangs ({slow} runs of 2 s beside other work), "
+            f"{len(found(folder, 'queue'))} texts in the queue, "
             f"code reached {numbers.get('bitmap_cvg', '-')}, {kept} kept",
             flush=True,
         )
@@ -195,7 +219,7 @@ def planted(checks, kinds):
             began = time.monotonic()
             text = PLANTED[kind].encode()
             checks.holds(f"{kind}: no seed has the planted text", not any(text in content(it) for it in glob.glob(f"{seeds(kind, folder)}/*")), "one has")
-            numbers, _ = fuzz(kind, folder, PLANTED_SECONDS, PLANTED[kind], lambda folder: found(folder, "crashes"))
+            numbers, _, _ = fuzz(kind, folder, PLANTED_SECONDS, PLANTED[kind], lambda folder: found(folder, "crashes"))
             crashes = found(folder, "crashes")
             checks.holds(f"{kind}: a planted abort is found", crashes, f"not in {numbers.get('execs_done')} runs")
             print(f"{kind}: a planted abort at {PLANTED[kind]!r} is found after {time.monotonic() - began:.0f} s", flush=True)

@@ -12,7 +12,7 @@
 #include <sys/un.h>
 #include <unistd.h>
 
-#define MOST_INPUT 1048576
+#define MOST_INPUT 65536
 #define MOST_REPLIES (64 * MOST_INPUT)
 #define MOST_LINE 64
 #define MOST_LINES 65536

@@ -20,10 +20,18 @@ def build(folder, name, *words):
 
 
 def blocks_of(program, path):
-    """Writes down where the program's blocks of code begin: its functions, where jumps go, and what comes after a jump."""
+    """Writes down where the program's blocks of code begin: its functions, where jumps go, and what comes after a jump.
+
+    Of a program in Rattle they are those of functions that are named as in its source, not those of what it is linked with.
+    """
     text = subprocess.run(["objdump", "-d", "-j", ".text", "--no-show-raw-insn", program], capture_output=True, text=True, check=True)
     starts, at, after_jump = set(), set(), False
+    is_rattle, is_own = "::" in text.stdout, True
     for line in text.stdout.splitlines():
+        if found := re.match(r"^[0-9a-f]+ <(.*)>:$", line):
+            is_own = not is_rattle or "::" in found[1]
+        if not is_own:
+            continue
         if found := re.match(r"^\s+([0-9a-f]+):\t(\S+)\s*([0-9a-f]+ <)?", line):
             offset = int(found[1], 16)
             at.add(offset)
@@ -49,12 +57,14 @@ class Served:
     def __init__(self, env):
         self.env, self.relay, self.wrong = env, None, []
         self.stops, self.is_over = 0, False
+        # One for all relays in turn: nobody connects to it, so it is free again at once.
+        self.port = free_port()
         self.folder = tempfile.mkdtemp(prefix="sessions-")
         self.link = f"{self.folder}/admin"
         self.start()
 
     def start(self):
-        self.relay = Relay(self.RULES.format(free_port()), env=self.env)
+        self.relay = Relay(self.RULES.format(self.port), env=self.env)
         fresh = f"{self.folder}/fresh"
         os.symlink(self.relay.admin, fresh)
         os.rename(fresh, self.link)
@@ -70,7 +80,11 @@ class Served:
                 return
             self.stops += 1
             self.relay.close()
-            self.start()
+            try:
+                self.start()
+            except (OSError, RuntimeError) as fault:
+                self.wrong.append(f"no relay after {self.stops} others: {fault}")
+                return
 
     def close(self):
         self.is_over = True
@@ -83,7 +97,7 @@ class Target:
 
     def __init__(self, kind, folder, planted=""):
         self.kind, self.folder, self.served = kind, folder, None
-        self.library = build(folder, "fuzz_run", "-shared", "-fPIC", "-ldl")
+        self.library = build(folder, "fuzz_run", "-shared", "-fPIC")
         self.env = {"LC_ALL": "C"}
         if kind == "session":
             with_fault = {"LD_PRELOAD": self.library, "FUZZ_PLANTED": planted} if planted else {"LC_ALL": "C"}

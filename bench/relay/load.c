@@ -30,7 +30,7 @@ enum { CHUNK = 1 << 18, TARGET_THREADS = 2, TURN_THREADS = 2, MOST = 4096, STEPS
 static int listening;
 
 static void fail(const char *text) {
-    printf("error %s: %s\n", text, strerror(errno));
+    printf(errno ? "error %s: %s\n" : "error %s\n", text, strerror(errno));
     fflush(stdout);
     _exit(1);
 }
@@ -59,6 +59,8 @@ static void send_all(int fd, const void *from, size_t length) {
 
 static void receive_all(int fd, void *to, size_t length) {
     ssize_t count = recv(fd, to, length, MSG_WAITALL);
+    if (count < 0) fail("recv");
+    errno = 0;
     if (count != (ssize_t)length) fail("an end that came too early");
 }
 
@@ -155,10 +157,12 @@ static void *bulk(void *given) {
     uint64_t arrived;
     memset(buffer, 'B', CHUNK);
     int fd = open_conn(job->port);
-    while (now() < job->last) {
+    /* Once at least: on a loaded machine a thread may begin after the time is over, and without a first byte the target
+       doesn't answer. */
+    do {
         send_all(fd, buffer, CHUNK);
         job->bytes += CHUNK;
-    }
+    } while (now() < job->last);
     shutdown(fd, SHUT_WR);
     receive_all(fd, &arrived, sizeof arrived);
     if (arrived != job->bytes) fail("bytes that the target didn't count");
@@ -232,13 +236,13 @@ static void *turns(void *given) {
 static void *connects(void *given) {
     struct job *job = given;
     char back;
-    while (now() < job->last) {
+    do {
         int fd = open_conn(job->port);
         send_all(fd, "E", 1);
         receive_all(fd, &back, 1);
         close(fd);
         job->turns++;
-    }
+    } while (now() < job->last);
     return NULL;
 }
 

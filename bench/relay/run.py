@@ -9,6 +9,8 @@ program than crates/pollrelay/out/pollrelay, and a NAME with a slash is another 
 gcc, haproxy, nginx-light with libnginx-mod-stream, socat and golang-go is installed.
 """
 import argparse
+import contextlib
+import itertools
 import os
 import shutil
 import statistics
@@ -162,7 +164,9 @@ class Load:
         return [float(word) for word in answer[1:]]
 
     def stop(self):
-        self.process.stdin.close()
+        """Ends it by the end of its input; after a fault it has ended already."""
+        with contextlib.suppress(BrokenPipeError):
+            self.process.stdin.close()
         self.process.wait(10)
 
 
@@ -218,20 +222,37 @@ def connects_row(started, load, at_once, seconds):
 ROWS = [(bulk_row, 1), (bulk_row, 16), (turns_row, 1), (turns_row, 16), (turns_row, 64), (connects_row, 8)]
 
 
-def measure(name, folder, seconds, idle_seconds, idle):
-    """One life of one relay: all rows, and the idle one first, before the others leave anything behind."""
+@contextlib.contextmanager
+def life(name, folder):
+    """One process life of a relay, and a load generator for it."""
     load = Load(folder)
-    started = Started(name, folder, load.target)
-    found = {}
     try:
-        if name != "direct":
-            found |= idle_row(started, load, idle, idle_seconds)
-        for row, connections in ROWS:
-            found |= row(started, load, connections, seconds)
+        started = Started(name, folder, load.target)
+        try:
+            yield started, load
+        finally:
+            started.stop()
     finally:
-        started.stop()
         load.stop()
-    return {key: value for key, value in found.items() if name != "direct" or "processor" not in key}
+
+
+def measure(name, folder, seconds, idle_seconds, idle):
+    """The figures of all rows, and what went wrong. All run in one life of the relay, the idle one first, before the others leave anything
+    behind; but a row that fails ends that life, and those after it run in another.
+    """
+    rows = [(row, connections, seconds) for row, connections in ROWS]
+    rows = iter(rows if name == "direct" else [(idle_row, idle, idle_seconds), *rows])
+    found, wrong = {}, []
+    for at in rows:
+        try:
+            with life(name, folder) as (started, load):
+                for at in itertools.chain([at], rows):
+                    row, *how = at
+                    found |= row(started, load, *how)
+        except (RuntimeError, OSError, subprocess.TimeoutExpired) as fault:
+            before = f" (after {fault.__context__})" if fault.__context__ else ""
+            wrong.append(f"{name}: {at[0].__name__} of {at[1]}: {fault}{before}")
+    return {key: value for key, value in found.items() if name != "direct" or "processor" not in key}, wrong
 
 
 def is_rate(row):
@@ -240,7 +261,7 @@ def is_rate(row):
 
 def table(results):
     """Medians, least and greatest of each row, with the ratio of medians to the best peer's."""
-    rows = next(lives[0] for name, lives in results.items() if name != "direct")
+    rows = dict.fromkeys(row for name, lives in results.items() if name != "direct" for life in lives for row in life)
     for row in rows:
         print(f"\n{row} ({'higher' if is_rate(row) else 'lower'} is better)")
         values = {name: [life[row] for life in lives if row in life] for name, lives in results.items()}
@@ -249,7 +270,10 @@ def table(results):
         best = (max if is_rate(row) else min)(peers, key=peers.get) if peers else None
         for name, median in medians.items():
             ratio = f"{median / peers[best]:6.2f}" if best and peers[best] else "     -"
-            print(f"  {os.path.basename(name):10} {median:12.3f}  {min(values[name]):12.3f} to {max(values[name]):12.3f}  {ratio}" + (" best peer" if name == best else ""))
+            said = " best peer" if name == best else ""
+            if len(values[name]) < len(results[name]):
+                said += f" (of {len(values[name])} rounds)"
+            print(f"  {os.path.basename(name):10} {median:12.3f}  {min(values[name]):12.3f} to {max(values[name]):12.3f}  {ratio}{said}")
 
 
 def build_load(folder):
@@ -298,7 +322,7 @@ def main():
     names = chosen.only.split(",")
     install_missing()
     machine()
-    results = {name: [] for name in names}
+    results, wrong = {name: [] for name in names}, []
     with tempfile.TemporaryDirectory(prefix="bench-") as folder:
         build_load(folder)
         build_go_relay(folder)
@@ -306,10 +330,15 @@ def main():
             first = turn % len(names)
             for name in names[first:] + names[:first]:
                 print(f"round {turn + 1}: {name}", file=sys.stderr, flush=True)
-                results[name].append(measure(name, folder, chosen.seconds, chosen.idle_seconds, chosen.idle))
+                figures, faults = measure(name, folder, chosen.seconds, chosen.idle_seconds, chosen.idle)
+                results[name].append(figures)
+                for fault in faults:
+                    wrong.append(f"round {turn + 1}: {fault}")
+                    print(f"FAILED {wrong[-1]}", file=sys.stderr, flush=True)
     print(f"\n{chosen.rounds} rounds of {chosen.seconds} s a row, interleaved: median, least to greatest, ratio to the best of {', '.join(PEERS)}")
     table(results)
-    return 0
+    print(f"\n{len(wrong)} rows failed", *wrong, sep="\n")
+    return 1 if wrong else 0
 
 
 if __name__ == "__main__":
