@@ -3,6 +3,7 @@
 mod books;
 mod copies;
 mod deadlines;
+mod full_heap;
 mod line_reading;
 mod loops;
 mod machine_rows;

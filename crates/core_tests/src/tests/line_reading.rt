@@ -13,14 +13,19 @@ fn a_line_ends_at_its_line_feed_or_is_too_long(rt: HostRuntime) {
     let mut source = ReaderSource::new(&mut text);
     let mut lines = LineReader::<3>::new();
     assert_eq!(rt; lines.fill(&mut source), Ok(13), "the whole text");
-    for line in ["ab", "", "\rc "] {
-        assert_eq!(rt; lines.find_line(), Found::Line, "the line {line}");
-        assert_eq!(rt; lines.line(), line.as_bytes(), "the line {line}");
-        lines.start_line();
-    }
-    for _ in 0..2 {
-        assert_eq!(rt; lines.find_line(), Found::TooLong, "a fourth byte");
-        assert_eq!(rt; lines.line(), b"abc".as_slice(), "three bytes are held");
+    let rows = [
+        (Found::Line, "ab"),
+        (Found::Line, ""),
+        (Found::Line, "\rc "),
+        (Found::TooLong, "abc"),
+        (Found::TooLong, "abc"),
+    ];
+    for (found, line) in rows {
+        let seen = (lines.find_line(), lines.line());
+        assert_eq!(rt; seen, (found, line.as_bytes()), "at {line}");
+        if found == Found::Line {
+            lines.start_line();
+        }
     }
 }
 

@@ -255,10 +255,9 @@ fn a_broken_writer_leaves_a_front_of_the_text(rt: HostRuntime) {
         let mut source = reader(0, 100, b"1 incref\n1 decref\n", false, &passed_on);
         let mut sink = writer(&rt, row, chunk, room, breaks, flushes, &passed_on);
         let got = trace(rt.alloc(), &mut source, &mut sink);
-        assert_eq!(rt; got, answer, "{row} {chunk} {room} {breaks} {flushes}");
         assert_eq!(rt;
-            sink.taken.len(),
-            taken,
+            (got, sink.taken.len()),
+            (answer, taken),
             "{row} {chunk} {room} {breaks} {flushes}"
         );
         assert!(rt; HELD_AND_KEPT.as_bytes().starts_with(sink.taken.as_slice()));

@@ -2,23 +2,11 @@
 //! blocks are given back one by one until the call is done.
 //!
 //! A heap that was used more after a refusal met one request of that call and refused a later one.
+use crate::tests::full_heap::fill;
 use deadline_core::Timers;
 use linked_list_allocator::LocalHeap;
-use std::alloc::{AllocError, Global};
 use std::test::Fail;
 use stream_base::Dir::{Read, Write};
-
-// Takes what is left of a heap, in blocks of its least size.
-fn fill<'a>(alloc: Global, heap: &'a LocalHeap) -> Result<Vec<Vec<u8, &'a LocalHeap>>, AllocError> {
-    let mut blocks = Vec::new(alloc);
-    for _ in 0..4096 {
-        match Vec::with_capacity(heap, 16) {
-            Ok(block) => blocks.push(block)?,
-            Err(AllocError) => break,
-        }
-    }
-    Ok(blocks)
-}
 
 #[test]
 fn an_arm_refused_at_each_request_changes_nothing(rt: HostRuntime) -> Result<(), Fail> {

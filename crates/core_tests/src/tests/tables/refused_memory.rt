@@ -1,24 +1,14 @@
 //! Each time that an insert or `ids` asks for memory it is refused once, by a heap that is filled
 //! up before, or by one that is too small.
+use crate::tests::full_heap::fill;
 use conntable::table::{ConnTable, Refusal};
 use linked_list_allocator::LocalHeap;
-use std::alloc::{AllocError, Allocator, Global};
+use std::alloc::Global;
+use std::process::Abort;
 use std::test::Fail;
 
-// Takes what is left of a heap, in blocks of its least size.
-fn fill<'a>(alloc: Global, heap: &'a LocalHeap) -> Result<Vec<Vec<u8, &'a LocalHeap>>, AllocError> {
-    let mut blocks = Vec::new(alloc);
-    for _ in 0..4096 {
-        match Vec::with_capacity(heap, 16) {
-            Ok(block) => blocks.push(block)?,
-            Err(AllocError) => break,
-        }
-    }
-    Ok(blocks)
-}
-
 // What a caller can see of a table without memory.
-fn seen<A: Allocator>(table: &ConnTable<u64, A>) -> (Result<(u64, u64), Refusal>, Option<u64>) {
+fn seen(table: &ConnTable<u64, &LocalHeap>) -> (Result<(u64, u64), Refusal>, Option<u64>) {
     (table.vacant(), table.first_id())
 }
 
@@ -74,40 +64,54 @@ fn an_insert_refused_at_each_request_changes_nothing(rt: HostRuntime) -> Result<
     Ok(())
 }
 
+// Puts in the numbers from 0 to 7 until one is refused, and says how many went in.
+fn put_eight(rt: &impl Abort, table: &mut ConnTable<u64, &LocalHeap>, units: usize) -> u64 {
+    for n in 0..8u64 {
+        let before = seen(table);
+        if let Err(refused) = table.insert(n) {
+            assert_eq!(rt; refused, (n, Refusal::OutOfMemory), "at {units}");
+            assert_eq!(rt; seen(table), before, "insert at {units} units");
+            return n;
+        }
+    }
+    8
+}
+
+// Whether the ids came, which are as many as the entries.
+fn ids_came(
+    rt: &impl Abort,
+    heap: &LocalHeap,
+    table: &ConnTable<u64, &LocalHeap>,
+    count: u64,
+    units: usize,
+) -> bool {
+    let before = seen(table);
+    match table.ids(heap) {
+        Ok(ids) => {
+            assert_eq!(rt; ids.len() as u64, count);
+            true
+        }
+        Err(refusal) => {
+            assert_eq!(rt; refusal, Refusal::OutOfMemory);
+            assert_eq!(rt; seen(table), before, "ids at {units} units");
+            false
+        }
+    }
+}
+
 #[test]
 fn memory_refused_in_turn_changes_nothing(rt: HostRuntime) -> Result<(), Fail> {
     let mut refusals = 0u32;
     for units in 1..128usize {
         let heap = LocalHeap::new(rt.alloc(), units * 16)?;
         let mut table = ConnTable::new(&heap);
-        let mut count = 0u64;
-        let mut refused = false;
-        for n in 0..8u64 {
-            let before = seen(&table);
-            match table.insert(n) {
-                Ok(_) => count = n + 1,
-                Err((value, refusal)) => {
-                    assert_eq!(rt; (value, refusal), (n, Refusal::OutOfMemory), "at {units}");
-                    assert_eq!(rt; seen(&table), before, "insert at {units} units");
-                    refused = true;
-                    break;
-                }
-            }
-        }
-        let before = seen(&table);
-        match table.ids(&heap) {
-            Ok(ids) => assert_eq!(rt; ids.len() as u64, count),
-            Err(refusal) => {
-                assert_eq!(rt; refusal, Refusal::OutOfMemory);
-                assert_eq!(rt; seen(&table), before, "ids at {units} units");
-                refused = true;
-            }
-        }
+        let count = put_eight(&rt, &mut table, units);
+        let came = ids_came(&rt, &heap, &table, count, units);
         assert!(rt;
             has_first(rt.alloc(), &table, count)?,
             "entries at {units} units"
         );
-        if !refused {
+        if count == 8 && came {
             assert!(rt; refusals > 2, "only {refusals} refusals");
             return Ok(());
         }
