@@ -15,7 +15,6 @@ use std::test::Fail;
 use std::thread;
 use std::thread::Threads;
 use std::time::{Clock, Duration};
-use stream_base::Dir;
 
 /// What an entry and the thread that looks on tell each other.
 #[derive(Drop)]
@@ -92,7 +91,7 @@ where
         return Err(Fail::new("insert"));
     };
     let mut timers = Timers::new(alloc);
-    timers.arm(id, Dir::Read, 7)?;
+    timers.arm_both(id, 7)?;
     let world = World {
         table: Mutex::new(table),
         timers: Mutex::new(timers),

@@ -82,6 +82,17 @@ fn lines_have_their_replies(rt: HostRuntime) {
 }
 
 #[test]
+fn a_list_of_no_ids_is_a_word_alone(rt: HostRuntime) {
+    let mut reader = Cursor::new(b"list\nquit\n".as_slice());
+    let mut writer = Vec::new(rt.alloc());
+    let mut desk = FakeDesk::new();
+    desk.ids = &[];
+    let got = serve_admin(rt.alloc(), &mut reader, &mut writer, &mut desk);
+    assert!(rt; got == Ok(AdminEnd::Quit), "{got:?}");
+    assert_eq!(rt; writer.as_slice(), b"ids\nok\n".as_slice());
+}
+
+#[test]
 fn a_session_has_65536_lines_at_most(rt: HostRuntime) -> Result<(), Fail> {
     for (lines, last, end, bytes) in [
         (65_536u32, "", AdminEnd::TooManyLines, 22 * 65_536),
