@@ -1,12 +1,16 @@
 //! A table of connections that is filled, and looked up in a mixed order.
 
+ghost use Rattle.std.specs.Prelude.{◌≡◌, IfSome};
+
 use crate::job::By;
 use conntable::ConnTable;
 use std::alloc::Global;
 
 /// Puts `count` entries into a table and looks entries up `times` times. Gives the sum of the values
-/// found, or `None` where an insert or memory was refused.
-pub fn look_ups(alloc: Global, by: By, count: u64, times: u64) -> Option<u64> {
+/// found, which is 0 where nothing is looked up, or `None` where an insert or memory was refused.
+pub fn look_ups(alloc: Global, by: By, count: u64, times: u64) -> Option<u64>
+    ensures nothing { times ≡ 0 → IfSome result (λ sum. sum ≡ 0) }
+{
     let mut table = ConnTable::new(alloc);
     let mut given = Vec::new(alloc);
     for value in 0..count {

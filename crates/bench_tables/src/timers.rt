@@ -1,5 +1,7 @@
 //! Timers of many keys: armed, armed again for later moments, and taken out in their order.
 
+ghost use Rattle.std.specs.Prelude.{◌≡◌, IfSome};
+
 use deadline_core::{MAX_DUE, Timers};
 use std::alloc::Global;
 use stream_base::Dir;
@@ -12,8 +14,10 @@ fn moment(round: u64, key: u64) -> u64 {
 }
 
 /// Arms a timer for each of `count` keys, then each again in `rounds` rounds, and takes all out. Gives
-/// a sum that tells the order in which they came, or `None` where memory was refused.
-pub fn fire(alloc: Global, count: u64, rounds: u64) -> Option<u64> {
+/// a sum that tells the order in which they came, 0 where there are none, or `None` where memory was refused.
+pub fn fire(alloc: Global, count: u64, rounds: u64) -> Option<u64>
+    ensures nothing { count ≡ 0 → IfSome result (λ sum. sum ≡ 0) }
+{
     let mut timers = Timers::new(alloc);
     for round in 0..=rounds {
         for key in 0..count {
