@@ -61,8 +61,8 @@ HasEnded (Ok u) after = SawTheEnd after
 HasEnded (Err (fault.Device kind)) after = SawTheEnd after
 HasEnded _ after = Unit {0}
 
--- a close that is Ok, or tells the fault of destroying the halves, set the flag itself, once; one that
--- is refused set none
+-- a close that is Ok, or tells the fault of destroying the halves, set the flag itself, once; one
+-- that is refused set none
 abbrev pub TellsWhoClosed : Result (Unit {0}) Fault → ℕ → ℕ → Type 0
 TellsWhoClosed (Ok u) before after = after ≡ before + 1
 TellsWhoClosed (Err (fault.Device kind)) before after = after ≡ before + 1
