@@ -37,7 +37,7 @@ pub fn trace_status<R: Read, W: Write, E: Write>(
     ensures fault { result ≡ 3 → (fault : TraceFault) × Leaves fault
         (R.remaining reader.old) (R.remaining reader.new)
         (W.contents writer.old) (W.contents writer.new) }
-    ensures quiet { (result ≡ 3) ⊎ (E.contents errors.new ≡ E.contents errors.old) }
+    ensures said_at_3_alone { (result ≡ 3) ⊎ (E.contents errors.new ≡ E.contents errors.old) }
 {
     match trace(alloc, reader, writer) {
         Ok(End::Whole) => 0,

@@ -2,9 +2,8 @@
 
 ghost use Rattle.std.specs.Prelude.{◌≡◌, ◌+◌, ◌*◌, ◌-◌, ◌^◌, min};
 
-use deadline_core::Deadline;
-
-/// The nanoseconds of a millisecond.
+/// The nanoseconds of a millisecond. The clause below has the figure itself, so that another value is
+/// refused.
 const NANOS_PER_MS: u64 = 1_000_000;
 
 /// The moment at which a read or a write that begins now gives up, by the idle time of its rule.

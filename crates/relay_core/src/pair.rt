@@ -11,7 +11,8 @@ use std::marker::Model;
 /// The most pairs that stand at once. This project's own rule.
 pub const MAX_PAIRS: usize = 512;
 
-/// Whether one more pair may be set up beside so many.
+/// Whether one more pair may be set up beside so many. The clause has the figure itself, so that a
+/// constant of another value is refused.
 pub fn has_room_for_pair(pairs: usize) -> bool
     ensures { result ≡ true ↔ pairs < 512 }
 {

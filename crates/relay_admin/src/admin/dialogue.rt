@@ -2,7 +2,7 @@
 //! take memory of `alloc`; replies take theirs of `memory`, which a session passes as the same.
 
 ghost use Rattle.std.specs.Prelude.{◌≡◌};
-ghost use Rattle.relay_admin.specs.Words.{[], OnOk, OnErr, Appends, WriteStopped};
+ghost use Rattle.relay_admin.specs.Words.{[], OnOk, OnErr, WriteStopped};
 ghost use Rattle.relay_admin.specs.admin.Devices.{IsFlushedOrUntouched};
 ghost use Rattle.relay_admin.specs.admin.Progress.{EndComesTo, IsReady, LineComesTo, LinesComeTo, SinkAfter, ahead_of, position, start};
 

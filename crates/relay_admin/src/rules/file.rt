@@ -1,10 +1,10 @@
 //! A rules file: at most 65,536 bytes, at most 64 rules, no two with one name or one listening
 //! address.
 
-ghost use Rattle.std.specs.Prelude.{◌≡◌, ◌<◌, ◌+◌, ℕ, List, ◌++◌, ◌∷◌, length, IsTrue, IfOk, IfErr, OnErr, ◌↔◌};
+ghost use Rattle.std.specs.Prelude.{◌≡◌, ◌<◌, ◌+◌, List, ◌∷◌, length, IfOk, IfErr};
 ghost use Rattle.stream_base.specs.Lines.{lines_of};
 ghost use Rattle.relay_admin.specs.rules.Grammar.{Entry, entry_of, entries_of};
-ghost use Rattle.relay_admin.specs.rules.Fault.{SaysRules, SaysFault, LineFault};
+ghost use Rattle.relay_admin.specs.rules.Fault.{SaysRules, SaysFault};
 ghost use Rattle.relay_admin.specs.rules.Reading.{TakesLine, finds_listen, finds_name, is_skipped};
 
 use crate::rules::addr::is_same_addr;
