@@ -12,6 +12,7 @@ mod rows;
 mod scripted;
 mod wakes;
 mod watch;
+mod whole_life;
 
 use deadline_core::Dirs;
 use fd_descriptor::{Alarms, FdHandle, Resource};

@@ -17,6 +17,7 @@ mod lock_rows;
 mod queued;
 mod reference_rows;
 mod references;
+mod second_word;
 mod threads;
 mod waiter_limit;
 mod waits;
