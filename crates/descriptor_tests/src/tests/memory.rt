@@ -49,7 +49,10 @@ fn half_of(drops: &Arc<AtomicU64, Global>) -> Result<Counted, Fail> {
 }
 
 /// Takes what is left of a heap.
-pub(super) fn fill<'a>(alloc: Global, heap: &'a LocalHeap) -> Result<Vec<Vec<u8, &'a LocalHeap>>, AllocError> {
+pub(super) fn fill<'a>(
+    alloc: Global,
+    heap: &'a LocalHeap,
+) -> Result<Vec<Vec<u8, &'a LocalHeap>>, AllocError> {
     let mut blocks = Vec::new(alloc);
     for size in [1024usize, 256, 64, 16] {
         for _ in 0..64 {
