@@ -74,9 +74,20 @@ class Run:
             else:
                 self.wrong.append(f"no {kind} connection is taken any more")
 
+    def ids(self, desk):
+        """The list, asked again for up to three seconds while the workers of a connection that was cut have not ended."""
+        found = []
+
+        def is_short():
+            found[:] = desk.ask("list").split()[1:]
+            return len(found) <= 2 + 2 * len(self.standing)
+
+        wait_until(is_short, 3)
+        return found
+
     def look(self, desk):
-        """The list, and deadlines that are far away. A connection that was cut since isn't there any more."""
-        ids = desk.ask("list").split()[1:]
+        """The list, and deadlines that are far away. A connection that was cut isn't there any more."""
+        ids = self.ids(desk)
         if ids[:2] != ["1", "2"] or ids[2:] != sorted(ids[2:], key=int) or len(ids) > 2 + 2 * len(self.standing):
             self.wrong.append(f"the list is {ids} with {len(self.standing)} connections")
         for id in {"1", *ids[-1:]}:

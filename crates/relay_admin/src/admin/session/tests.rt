@@ -118,6 +118,39 @@ fn a_session_has_65536_lines_at_most(rt: HostRuntime) -> Result<(), Fail> {
     Ok(())
 }
 
+/// Gives a line a read, so many times, and fails from then on.
+#[derive(Drop)]
+struct LinesThenFailure {
+    left: u32,
+    is_read_on: bool,
+}
+
+impl Read for LinesThenFailure {
+    fn read(&mut self, buf: &mut [u8]) -> io::Result<usize> {
+        if self.left == 0 {
+            self.is_read_on = true;
+            return Err(io::ErrorKind::Other.into());
+        }
+        self.left -= 1;
+        let mut line = b"frob\n".as_slice();
+        line.read(buf)
+    }
+}
+
+#[test]
+fn nothing_is_read_behind_line_65536(rt: HostRuntime) {
+    let mut reader = LinesThenFailure {
+        left: 65_536,
+        is_read_on: false,
+    };
+    let mut writer = Vec::new(rt.alloc());
+    let mut desk = FakeDesk::new();
+    let got = serve_admin(rt.alloc(), &mut reader, &mut writer, &mut desk);
+    assert_eq!(rt; got, Ok(AdminEnd::TooManyLines));
+    assert_eq!(rt; writer.len(), 22 * 65_536);
+    assert!(rt; !reader.is_read_on);
+}
+
 /// Gives one byte a read, interrupted so often before each; then it fails, or is at its end.
 #[derive(Drop)]
 struct SlowReader {
