@@ -15,8 +15,8 @@ module _ {R : Type 0} where
   abbrev pub idle_of : Server R → ℕ
   idle_of server = (shared_of server).idle
 
--- deadlines wake the server's poller, and arm timers with the value of those that its turns take: two
--- mutexes that guard the same have one value, so that `timers` doesn't tell them apart
+-- deadlines wake the server's poller, and arm timers with the value of those that its turns take:
+-- two mutexes that guard the same have one value, so that `timers` doesn't tell them apart
 pub record HasOwnAlarms {R : Type 0} (server : Server R) : Type 0 where
   pub timers : timers_of (shared_of server).alarms ≡ arc_value (shared_of server).timers
   pub waker : woken_by (shared_of server).alarms ≡ waker_of server.poller

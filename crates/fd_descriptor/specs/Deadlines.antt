@@ -1,5 +1,6 @@
 -- The setting of a deadline: what it keeps of its handle, and which alarm goes with it.
-use Rattle.std.specs.Prelude.{◌≡◌, ℕ, true, Option, Some, None, Result, Err, IfErr, nat_lt, if◌then◌else◌}
+use Rattle.std.specs.Prelude.{◌≡◌, ℕ, true, nat_lt, if◌then◌else◌}
+use Rattle.std.specs.Prelude.{Option, Some, None, Result, Err, IfErr}
 use Rattle.deadline_core.specs.declared.deadline.Deadline.{Deadline}
 use Rattle.deadline_core.specs.declared.deadline.Deadline.TheVariants.{Never, At}
 use Rattle.rwloops.specs.declared.fault.Fault.{Fault}

@@ -28,8 +28,8 @@ IsLockFault before after fault.TooMany = (after ≡ before) × (before.closed �
 IsLockFault before after _ = ⊥
 
 -- The table of the other faults that each call may tell; what has no row is never told. `Closed`
--- stands where a poll state decides, which is closing as soon as a closer comes, whatever the handle
--- has seen.
+-- stands where a poll state decides, which is closing as soon as a closer comes, whatever the
+-- handle has seen.
 abbrev pub IsOwnFault : Call → Fault → Type 0
 IsOwnFault Reads fault.Closed = Unit {0}
 IsOwnFault Reads fault.DeadlineExceeded = Unit {0}

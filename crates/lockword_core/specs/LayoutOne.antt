@@ -2,7 +2,8 @@
 use Rattle.std.specs.Prelude.{◌≡◌, ◌≤◌, ◌+◌, ◌*◌, ℕ, Bool}
 use Rattle.stream_base.specs.declared.direction.Dir.TheVariants.{Read, Write}
 use Rattle.lockword_core.specs.declared.word.Word.{Word}
-use Rattle.lockword_core.specs.declared.word.TheConstants.{CLOSED, READ_LOCK, WRITE_LOCK, REFERENCE, NO_WORD}
+use Rattle.lockword_core.specs.declared.word.TheConstants.{CLOSED, READ_LOCK, WRITE_LOCK}
+use Rattle.lockword_core.specs.declared.word.TheConstants.{REFERENCE, NO_WORD}
 use Rattle.lockword_core.specs.declared.layout_one.TheConstants.{READ_WAITER, WRITE_WAITER}
 use Rattle.lockword_core.specs.declared.layout_one.TheConstants.{MAX_REFERENCES, MAX_WAITERS}
 use Rattle.lockword_core.specs.Word.{bit}

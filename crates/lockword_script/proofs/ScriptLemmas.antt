@@ -152,8 +152,10 @@ length-operation_name op.Destroy = omega arith
 holders_short : (text : List ℕ) (first count : ℕ) → first < 10 ^ HOLDER_DIGITS → count < 10 ^ HOLDER_DIGITS
     → NamesHolders text first count → length text ≤ 2 * HOLDER_DIGITS + 1
 holders_short text first count p q =
-    let a : length (decimal first) ≤ HOLDER_DIGITS = length-decimal-le HOLDER_DIGITS first (omega arith) p (omega arith) in
-    let b : length (decimal count) ≤ HOLDER_DIGITS = length-decimal-le HOLDER_DIGITS count (omega arith) q (omega arith) in
+    let a : length (decimal first) ≤ HOLDER_DIGITS =
+        length-decimal-le HOLDER_DIGITS first (omega arith) p (omega arith) in
+    let b : length (decimal count) ≤ HOLDER_DIGITS =
+        length-decimal-le HOLDER_DIGITS count (omega arith) q (omega arith) in
     elim [
       | inl alone ↦ omega (arith, ap length alone.1)
       | inr range ↦ omega (arith, ap length range, length-append (decimal first) (43 ∷ decimal count))

@@ -21,7 +21,8 @@ pub use Rattle.relay_admin.specs.rules.Addr.{Address, tcp, unix}
 pub use Rattle.relay_admin.specs.rules.Fault.{CanStandTogether, HasName, LacksName, HasListen, LacksListen, LineFault}
 pub use Rattle.relay_admin.specs.rules.Fault.{bad_line, too_many, same_name, same_listen, FirstFault, SaysRules}
 pub use Rattle.relay_admin.specs.rules.Fault.{SaysFault}
-pub use Rattle.relay_admin.specs.rules.Grammar.{space, time_text, Entry, IsSkipped, SpellsRule, Spell, nothing, skipped, rule}
+pub use Rattle.relay_admin.specs.rules.Grammar.{space, time_text, Entry, IsSkipped, SpellsRule, Spell}
+pub use Rattle.relay_admin.specs.rules.Grammar.{nothing, skipped, rule}
 pub use Rattle.relay_admin.specs.rules.Grammar.{entry_of, entries_of}
 pub use Rattle.relay_admin.specs.rules.Reading.{is_skipped, same_address, finds_name, finds_listen, TakesGoodLine}
 pub use Rattle.relay_admin.specs.rules.Reading.{skips, adds}

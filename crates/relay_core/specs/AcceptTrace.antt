@@ -1,7 +1,7 @@
 -- What an accept worker does through its gate. Lists are newest first.
 --
--- The figures 5, 1000 and 1024 are written out here, and not taken from the code's constants, so that a
--- constant of another value is refused.
+-- The figures 5, 1000 and 1024 are written out here, and not taken from the code's constants, so
+-- that a constant of another value is refused.
 use Rattle.std.specs.Prelude.{◌≡◌, ◌≢◌, ◌≤◌, ◌+◌, ◌*◌, min, ℕ, zero, suc, List, [], ◌∷◌, Result, Ok}
 use Rattle.std.specs.Prelude.{Err}
 use Rattle.rwloops.specs.Waits.{Tells}
