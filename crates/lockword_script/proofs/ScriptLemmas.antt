@@ -153,9 +153,9 @@ holders_short : (text : List ℕ) (first count : ℕ) → first < 10 ^ HOLDER_DI
     → NamesHolders text first count → length text ≤ 2 * HOLDER_DIGITS + 1
 holders_short text first count p q =
     let a : length (decimal first) ≤ HOLDER_DIGITS =
-        length-decimal-le HOLDER_DIGITS first (omega arith) p (omega arith) in
+    length-decimal-le HOLDER_DIGITS first (omega arith) p (omega arith) in
     let b : length (decimal count) ≤ HOLDER_DIGITS =
-        length-decimal-le HOLDER_DIGITS count (omega arith) q (omega arith) in
+    length-decimal-le HOLDER_DIGITS count (omega arith) q (omega arith) in
     elim [
       | inl alone ↦ omega (arith, ap length alone.1)
       | inr range ↦ omega (arith, ap length range, length-append (decimal first) (43 ∷ decimal count))
