@@ -1,7 +1,7 @@
 -- What the words of the command line ask for.
-use Rattle.std.specs.Prelude.{◌≡◌, ℕ, List, Option, Some, None, codes, if◌then◌else◌}
+use Rattle.std.specs.Prelude.{◌≡◌, ◌<◌, ℕ, List, Option, Some, None, codes, if◌then◌else◌}
 use Rattle.std.specs.Str.{bytes_eq}
-use Rattle.std.specs.Str.Parse.{digits_value, without_leading_plus}
+use Rattle.std.specs.Str.Parse.{digits_value, without_leading_plus, IsNumeral}
 use Rattle.bench_lock_word.specs.declared.job.Load.{Load}
 use Rattle.bench_lock_word.specs.declared.job.Load.TheVariants as load
 
@@ -15,3 +15,13 @@ load_named name =
 -- the number that a word spells, with a plus before it or not
 abbrev pub number_in : List ℕ → ℕ
 number_in word = digits_value 10 (without_leading_plus word)
+
+-- the word spells a number below a limit
+abbrev pub IsBelow : ℕ → List ℕ → Type 0
+IsBelow limit word = IsNumeral 10 (without_leading_plus word) × (number_in word < limit)
+
+-- these four words ask for no job: one of the numbers is none that fits, or no load has the name
+abbrev pub HasNoJob : List ℕ → List ℕ → List ℕ → List ℕ → Type 0
+HasNoJob name threads rounds lead =
+    IsBelow 256 threads → IsBelow 18446744073709551616 rounds → IsBelow 65536 lead →
+    load_named name ≡ None

@@ -1,10 +1,10 @@
 //! What the program is asked to do, by four words: a load, the number of threads, how many rounds each
 //! of them makes, and the bytes that lie ahead of the lock word.
 
-ghost use Rattle.std.specs.Prelude.{◌≡◌, Some, IfSome, length};
+ghost use Rattle.std.specs.Prelude.{◌≡◌, Some, IfSome, IfNone, length};
 ghost use Rattle.std.specs.List.{HoldsAt};
 ghost use Rattle.std.specs.String.{string_bytes};
-ghost use Rattle.bench_lock_word.specs.Words.{load_named, number_in};
+ghost use Rattle.bench_lock_word.specs.Words.{HasNoJob, load_named, number_in};
 
 /// What a thread does in a round.
 #[derive(Clone, Copy, Drop)]
@@ -46,6 +46,10 @@ pub fn job_of(words: &[String]) -> Option<Job>
         HoldsAt (λ word. number_in (string_bytes word) ≡ job.rounds) words.now 3) }
     ensures lead { IfSome result (λ job.
         HoldsAt (λ word. number_in (string_bytes word) ≡ job.lead) words.now 4) }
+    ensures none { length words.now ≡ 5 → IfNone result (
+        HoldsAt (λ load. HoldsAt (λ threads. HoldsAt (λ rounds. HoldsAt (λ lead. HasNoJob
+        (string_bytes load) (string_bytes threads) (string_bytes rounds) (string_bytes lead))
+        words.now 4) words.now 3) words.now 2) words.now 1) }
 {
     match words {
         [_, load, threads, rounds, lead] => Some(Job {

@@ -1,9 +1,9 @@
 //! The threads of a job.
 
-ghost use Rattle.std.specs.Prelude.{◌<◌, IfOk};
-ghost use Rattle.lockword_core.specs.declared.word.TheConstants.{NO_WORD};
+ghost use Rattle.std.specs.Prelude.{IfOk};
 ghost use Rattle.lockword.specs.Places.{seat_place};
 ghost use Rattle.lockword.specs.TransitionOutcomes.{IsSeatOf};
+ghost use Rattle.bench_lock_word.specs.Shown.{WasTheWord};
 
 use crate::job::{Job, Load};
 use crate::rounds::{CounterSeat, Counters, half_of, reads, references};
@@ -72,7 +72,7 @@ fn count_all<T: Threads + Wait + Sync>(
 /// Runs a job to its end. How many rounds are made, and what is left in the half, hangs on the threads
 /// that can be had.
 pub fn run<T: Threads + Wait + Sync>(rt: &T, alloc: Global, job: Job) -> Result<Left, OutOfMemory>
-    ensures word { IfOk result (λ left. left.word < NO_WORD) }
+    ensures word { IfOk result (λ left. WasTheWord left.word) }
 {
     let lead: Vec<u8> = Vec::with_capacity(alloc, usize::from(job.lead))?;
     let (word, seat) = LockWord::new(alloc, 0u64, 0u64)?;

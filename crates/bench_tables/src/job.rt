@@ -1,10 +1,10 @@
 //! What the program is asked to do, by three words: a load, how many timers or entries there are,
 //! and how often each timer is armed again or how many look-ups are made.
 
-ghost use Rattle.std.specs.Prelude.{◌≡◌, IfSome, length};
+ghost use Rattle.std.specs.Prelude.{◌≡◌, IfSome, IfNone, length};
 ghost use Rattle.std.specs.List.{HoldsAt};
 ghost use Rattle.std.specs.String.{string_bytes};
-ghost use Rattle.bench_tables.specs.Words.{IsJob, named_job};
+ghost use Rattle.bench_tables.specs.Words.{IsJob, HasNoJob, named_job};
 
 /// What an entry is looked up by.
 #[derive(Clone, Copy, Drop)]
@@ -48,6 +48,10 @@ pub fn job_of(words: &[String]) -> Option<Job>
     ensures words { IfSome result (λ job. length words.now ≡ 4) }
     ensures asked { IfSome result (λ job. HoldsAt (λ load. HoldsAt (λ count. HoldsAt (λ times.
         IsJob (string_bytes load) (string_bytes count) (string_bytes times) job)
+        words.now 3) words.now 2) words.now 1) }
+    ensures none { length words.now ≡ 4 → IfNone result (
+        HoldsAt (λ load. HoldsAt (λ count. HoldsAt (λ times.
+        HasNoJob (string_bytes load) (string_bytes count) (string_bytes times))
         words.now 3) words.now 2) words.now 1) }
 {
     let [_, load, count, times] = words else {

@@ -1,6 +1,6 @@
 //! A table of connections that is filled, and looked up in a mixed order.
 
-ghost use Rattle.std.specs.Prelude.{◌≡◌, IfSome};
+ghost use Rattle.std.specs.Prelude.{◌≡◌, ◌<◌, ◌↔◌, None, IfSome, IsSome};
 
 use crate::job::By;
 use conntable::ConnTable;
@@ -10,6 +10,8 @@ use std::alloc::Global;
 /// found, which is 0 where nothing is looked up, or `None` where an insert or memory was refused.
 pub fn look_ups(alloc: Global, by: By, count: u64, times: u64) -> Option<u64>
     ensures nothing { times ≡ 0 → IfSome result (λ sum. sum ≡ 0) }
+    ensures empty { count ≡ 0 → (IsSome result ↔ (times ≡ 0)) }
+    ensures full { 4096 < count → result ≡ None }
 {
     let mut table = ConnTable::new(alloc);
     let mut given = Vec::new(alloc);

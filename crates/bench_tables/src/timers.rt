@@ -1,6 +1,6 @@
 //! Timers of many keys: armed, armed again for later moments, and taken out in their order.
 
-ghost use Rattle.std.specs.Prelude.{◌≡◌, IfSome};
+ghost use Rattle.std.specs.Prelude.{◌≡◌, IfSome, IsSome};
 
 use deadline_core::{MAX_DUE, Timers};
 use std::alloc::Global;
@@ -17,6 +17,7 @@ fn moment(round: u64, key: u64) -> u64 {
 /// a sum that tells the order in which they came, 0 where there are none, or `None` where memory was refused.
 pub fn fire(alloc: Global, count: u64, rounds: u64) -> Option<u64>
     ensures nothing { count ≡ 0 → IfSome result (λ sum. sum ≡ 0) }
+    ensures runs { count ≡ 0 → IsSome result }
 {
     let mut timers = Timers::new(alloc);
     for round in 0..=rounds {

@@ -16,22 +16,26 @@ module _ {T : Type 0} where
   pub All-remove : (P : Entry T → Type 0) (es : List (Entry T)) (i : ℕ) → All P es → All P (remove es i)
   All-remove P es i h = All-append P (take i es) (drop (suc i) es) (All-take P i es h) (All-drop P (suc i) es h)
 
-  -- without the entry at a place, its key is free
-  pub IsFreeKey-removed : (es : List (Entry T)) (i : ℕ) (e : Entry T) → i < length es → e ≡ get_or es i e →
-      AllPairs (λ f h. key_of f.token ≢ key_of h.token) es → IsFreeKey (key_of e.token) (remove es i)
-  IsFreeKey-removed es i e within is keys = All-append (λ f. key_of f.token ≢ key_of e.token) (take i es)
-      (drop (suc i) es) front back
+  -- without the entry at a place, no entry has its number, where no two have one number
+  pub removed_has_no : (number : Entry T → ℕ) (es : List (Entry T)) (i : ℕ) (e : Entry T) → i < length es →
+      e ≡ get_or es i e → AllPairs (λ f h. number f ≢ number h) es → All (λ f. number f ≢ number e) (remove es i)
+  removed_has_no number es i e within is apart = All-append (λ f. number f ≢ number e) (take i es) (drop (suc i) es)
+      front back
     where
-      front : All (λ f. key_of f.token ≢ key_of e.token) (take i es)
+      front : All (λ f. number f ≢ number e) (take i es)
       front = λ k d h same. let below : k < i = (let l = length-take i es in omega (arith, l)) in
-          keys k i d below within (ap (λ f. key_of f.token) (sym (get_or-take i es k d below)) ∙ same ∙
-          ap (λ f. key_of f.token) (is ∙ get_or_default es i e d within))
+          apart k i d below within (ap number (sym (get_or-take i es k d below)) ∙ same ∙
+          ap number (is ∙ get_or_default es i e d within))
 
-      back : All (λ f. key_of f.token ≢ key_of e.token) (drop (suc i) es)
+      back : All (λ f. number f ≢ number e) (drop (suc i) es)
       back = λ k d h same. let above : i < suc i + k = omega arith in
           let inside : suc i + k < length es = (let l = length-drop (suc i) es in omega (arith, l)) in
-          keys i (suc i + k) d above inside (ap (λ f. key_of f.token) (sym (is ∙ get_or_default es i e d within)) ∙
-          sym same ∙ ap (λ f. key_of f.token) (get_or-drop (suc i) es k d))
+          apart i (suc i + k) d above inside (ap number (sym (is ∙ get_or_default es i e d within)) ∙ sym same ∙
+          ap number (get_or-drop (suc i) es k d))
+
+  -- no two entries whose ids rise have one id
+  pub ids_differ : (es : List (Entry T)) → AllPairs (λ e f. e.id < f.id) es → AllPairs (λ e f. e.id ≢ f.id) es
+  ids_differ es rising = λ i j d below within same. let rises = rising i j d below within in absurd (omega arith)
 
   -- a consistent table with one entry more
   pub IsConsistent-push : (old new : Table T) (e : Entry T) → IsConsistent old → length old.entries < 4096 →

@@ -14,6 +14,7 @@ use Rattle.conntable.specs.ConnTable.{first_id_of}
 use Rattle.conntable.specs.Laws.{IsLater, same, inserted, removed, TokensNameTheirEntries, IdsNameTheirEntries}
 use Rattle.conntable.specs.Laws.{RemovedNamesNothing, IdsRise, FirstIdIsLeast}
 use Rattle.conntable.proofs.TokenLemmas.{same_id}
+use Rattle.conntable.proofs.ConnTableLemmas.{ids_differ}
 
 module _ {T : Type 0} where
   -- the value of the first entry whose number is this one
@@ -66,9 +67,6 @@ module _ {T : Type 0} where
       differ a i b j made other below equal = let ids : i ≡ j =
           same_id (key_of a) i (key_of b) j (omega arith) (omega arith) (sym made ∙ equal ∙ other) in
           absurd (omega arith)
-
-  ids_differ : (t : Table T) → IsConsistent t → AllPairs (λ e f. e.id ≢ f.id) t.entries
-  ids_differ t is = λ i j d below within. let rises = is.rising i j d below within in λ equal. absurd (omega arith)
 
   -- without one entry, what holds of all still holds of all
   All-without : (P : Entry T → Type 0) (xs : List (Entry T)) (e : Entry T) (ys : List (Entry T)) →
@@ -132,7 +130,7 @@ tokens_name_their_entries {T} t is e (k, within, at) =
 
 pub ids_name_their_entries : {T : Type 0} → IdsNameTheirEntries T
 ids_name_their_entries {T} t is e (k, within, at) =
-    let own = value_at-own (λ (f : Entry T). f.id) t.entries k e (ids_differ t is) within in
+    let own = value_at-own (λ (f : Entry T). f.id) t.entries k e (ids_differ t.entries is.rising) within in
     ap (λ (f : Entry T). value_with_id f.id t.entries) (sym at) ∙ own ∙ ap (λ (f : Entry T). Some f.value) at
 
 pub removed_names_nothing : {T : Type 0} → RemovedNamesNothing T

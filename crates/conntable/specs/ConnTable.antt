@@ -55,6 +55,10 @@ module _ {T : Type 0} where
   abbrev pub id_with_token : ℕ → List (Entry T) → Option ℕ
   id_with_token token entries = option_map (λ e. e.id) (entry_with_token token entries)
 
+  -- the first entry that has this id, if one has
+  abbrev pub entry_with_id : ℕ → List (Entry T) → Option (Entry T)
+  entry_with_id id entries = find (λ e. e.id == id) entries
+
   -- the value of the first entry that has this id, if one has
   abbrev pub value_with_id : ℕ → List (Entry T) → Option T
   value_with_id id entries = option_map (λ e. e.value) (find (λ e. e.id == id) entries)

@@ -8,6 +8,10 @@ use Rattle.conntable.specs.declared.table.Refusal.TheVariants as why
 abbrev pub HasRoom : {T : Type 0} → Table T → Type 0
 HasRoom t = (length t.entries < 4096) × (t.next_id ≤ 4503599627370494) × (t.next_key < 4096)
 
+-- while a table has room for one more entry, its next key is below the limit
+abbrev pub HasKeyForRoom : {T : Type 0} → Table T → Type 0
+HasKeyForRoom t = length t.entries < 4096 → t.next_key < 4096
+
 -- a table refuses one more entry for this reason, where the tests come in this order
 abbrev pub Refuses : {T : Type 0} → Table T → Refusal → Type 0
 Refuses t why.Full = length t.entries ≡ 4096

@@ -1,7 +1,8 @@
 //! What the contracts of a table mean for its callers. Each function does nothing: its contract
 //! is a law of tables, which the check proves.
 
-ghost use Rattle.conntable.specs.ConnTable.{IsConsistent};
+ghost use Rattle.conntable.specs.ConnTable.{IsConsistent, IsFreeKey};
+ghost use Rattle.conntable.specs.Refusals.{HasKeyForRoom};
 ghost use Rattle.conntable.specs.Laws.{TokensNameTheirEntries, IdsNameTheirEntries};
 ghost use Rattle.conntable.specs.Laws.{RemovedNamesNothing, IdsRise, FirstIdIsLeast};
 ghost use Rattle.conntable.specs.Laws.{TokensTellKeyAndId, GreatestIsNoToken};
@@ -16,6 +17,15 @@ pub fn tables_are_consistent<T, A: Allocator>(table: &ConnTable<T, A>)
 {
     // The invariant of a table behind a reference is known once a call has read the table.
     let _ = table.vacant();
+}
+
+/// Every table with room for one more entry has a key for it: the next key is below the limit, and
+/// no entry has it.
+pub fn room_has_a_key<T, A: Allocator>(table: &ConnTable<T, A>)
+    ensures key { HasKeyForRoom table.now }
+    ensures free { IsFreeKey table.now.next_key table.now.entries }
+{
+    let _given = table.vacant();
 }
 
 /// In a consistent table each entry's token names this entry.

@@ -1,16 +1,17 @@
 //! The table: entries by rising id, at most 4,096 of them, each with a key of its own.
 //!
-//! The entries stand in a slab, which picks their keys, and an index leads from an id to its key. A
-//! key may be that of a later entry than the one that is asked for, so an entry counts only if its
-//! token is the one asked for. The index is ordered, so it tells the ids in their order.
+//! The entries stand in a slab, and an index leads from an id to its place there. The keys are the
+//! table's own, those below 4,096: of a slab's places no clause says how high they go. A key may be that
+//! of a later entry than the one that is asked for, so an entry counts only if its token is the one
+//! asked for. The index is ordered, so it tells the ids in their order.
 
 ghost use Rattle.std.specs.Prelude.{◌≡◌, ◌≢◌, ◌<◌, ◌≤◌, [], Err};
 ghost use Rattle.std.specs.Prelude.{IfOk, OnOk, IfErr, OnErr, option_copied};
 ghost use Rattle.conntable.specs.ConnTable.{Inserts, Removes, HasNoId, IsConsistent, next_token};
 ghost use Rattle.conntable.specs.ConnTable.{entry_with_token, value_with_token, value_with_id};
-ghost use Rattle.conntable.specs.ConnTable.{id_with_token};
+ghost use Rattle.conntable.specs.ConnTable.{entry_with_id, id_with_token};
 ghost use Rattle.conntable.specs.ConnTable.{ids_of, first_id_of};
-ghost use Rattle.conntable.specs.Refusals.{HasRoom, Refuses};
+ghost use Rattle.conntable.specs.Refusals.{HasRoom, Refuses, HasKeyForRoom};
 
 use crate::token;
 use slab::Slab;
@@ -29,8 +30,8 @@ pub enum Refusal {
     OutOfMemory,
     /// The last id was given.
     IdsSpent,
-    /// No key below 4,096 is next. The slab takes the key of a removed entry before a new one, so a
-    /// table that isn't full has one; but no clause of the slab bounds its keys.
+    /// There is room, and no key below 4,096 is free. No table answers it: where there is room, a key
+    /// is free.
     NoKey,
 }
 
@@ -51,20 +52,22 @@ pub struct Entry<T> {
 pub struct ConnTable<T, A: Allocator = Global> {
     slots: Slab<Entry<T>, A>,
     index: BTreeMap<u64, usize, A>,
+    // The keys that came back. All others that were made are those of the entries.
+    free: Vec<u64, A>,
     next_id: u64,
 }
 
 impl<T, A: Allocator> Model for ConnTable<T, A> {
-    ghost use Rattle.conntable.specs.ConnTable.{Table, IsConsistent, table_of};
-    ghost use Rattle.conntable.specs.Slots.{entries_at, Holds};
+    ghost use Rattle.std.specs.Prelude.{vec_capacity};
+    ghost use Rattle.conntable.specs.ConnTable.{Table};
+    ghost use Rattle.conntable.specs.Slots.{held, IsSound};
 
     ghost Value = { Table T };
 
-    ghost view = { λ t. table_of (entries_at t.slots t.index.entries) t.next_id t.slots.vacant_key };
+    ghost view = { λ t. held t.slots t.index.entries t.free.items t.next_id };
 
-    ghost invariant = { λ t. let entries = entries_at t.slots t.index.entries in
-        IsConsistent (table_of entries t.next_id t.slots.vacant_key)
-        × Holds t.slots t.index.entries entries };
+    ghost invariant = { λ t.
+        IsSound t.slots t.index.entries t.free.items (vec_capacity t.free) t.next_id };
 }
 
 impl<T, A: Allocator + Copy> ConnTable<T, A> {
@@ -87,6 +90,7 @@ impl<T, A: Allocator + Copy> ConnTable<T, A> {
         ConnTable {
             slots: Slab::new(alloc),
             index: BTreeMap::new(alloc),
+            free: Vec::new(alloc),
             next_id: first,
         }
     }
@@ -99,6 +103,7 @@ impl<T, A: Allocator + Copy> ConnTable<T, A> {
         ensures added { IfOk result (λ given. Inserts self.old self.new given.0 given.1 value) }
         ensures room { OnOk result (HasRoom self.old) }
         ensures why { IfErr result (λ refused. Refuses self.old refused.1) }
+        ensures keys { IfErr result (λ refused. refused.1 ≢ Refusal.NoKey) }
         ensures returned { IfErr result (λ refused. refused.0 ≡ value) }
         ensures kept { OnErr result (self.new ≡ self.old) }
     {
@@ -106,31 +111,46 @@ impl<T, A: Allocator + Copy> ConnTable<T, A> {
             Ok(given) => given,
             Err(refusal) => return Err((value, refusal)),
         };
-        // The slab's room is asked for first: once the index has the id, nothing can be refused.
-        if self.slots.reserve(1).is_err() {
+        // All other room is asked for first, that of the keys that come back among it: once the index
+        // has the id, nothing can be refused, and no removal takes memory.
+        let keys = self.index.len() + 1usize.saturating_sub(self.free.len());
+        if self.slots.reserve(1).is_err() || self.free.reserve(keys).is_err() {
             return Err((value, Refusal::OutOfMemory));
         }
         match self.index.insert(id, self.slots.vacant_key()) {
             Ok(_) => {}
             Err(_) => return Err((value, Refusal::OutOfMemory)),
         }
+        self.free.pop();
         self.slots.insert_reserved(Entry { id, token, value });
         self.next_id += 1;
-        // For the proof: its clause says that the next key is in no entry.
-        let _ = self.slots.vacant_key();
         Ok((id, token))
     }
 }
 
 impl<T, A: Allocator> ConnTable<T, A> {
+    // The free key that came back last, or else the first that was never made.
+    fn next_key(&self) -> u64
+        ensures key { result ≡ self.now.next_key }
+        ensures keys { HasKeyForRoom self.now }
+        ensures consistent { IsConsistent self.now }
+    {
+        match self.free.last() {
+            Some(key) => *key,
+            None => self.index.len() as u64,
+        }
+    }
+
     /// The id and the token that the next insert would give, if memory isn't refused.
-    /// It tests `Full`, then `IdsSpent`, then `NoKey`.
+    /// It tests `Full`, then `IdsSpent`. Then there is a key, so `NoKey` never comes.
     pub fn vacant(&self) -> Result<(u64, u64), Refusal>
         ensures id { IfOk result (λ given. given.0 ≡ self.now.next_id) }
         ensures token { IfOk result (λ given. given.1 ≡ next_token self.now) }
         ensures room { OnOk result (HasRoom self.now) }
         ensures why { IfErr result (λ refusal. Refuses self.now refusal) }
         ensures memory { result ≢ Err Refusal.OutOfMemory }
+        ensures keys { result ≢ Err Refusal.NoKey }
+        ensures free { HasKeyForRoom self.now }
         ensures consistent { IsConsistent self.now }
     {
         if self.index.len() as u64 >= token::KEYS {
@@ -139,23 +159,44 @@ impl<T, A: Allocator> ConnTable<T, A> {
         if self.next_id > token::LAST_ID {
             return Err(Refusal::IdsSpent);
         }
-        let key = self.slots.vacant_key() as u64;
-        if key >= token::KEYS {
-            return Err(Refusal::NoKey);
-        }
+        let key = self.next_key();
         Ok((self.next_id, token::join(key, self.next_id)))
     }
 
-    // The one at the token's key, unless that is a later one.
-    fn entry_by_token(&self, token: u64) -> Option<&Entry<T>>
+    // Where the index leads to.
+    fn entry_by_id(&self, id: u64) -> Option<&Entry<T>>
+        ensures { option_copied result ≡ entry_with_id id self.now.entries }
+    {
+        let place = *self.index.get(&id)?;
+        self.slots.get(place)
+    }
+
+    // Where the id in the token leads to, if this has the token.
+    #[cold]
+    #[inline(never)]
+    fn entry_elsewhere(&self, token: u64) -> Option<&Entry<T>>
         ensures { option_copied result ≡ entry_with_token token self.now.entries }
     {
-        let entry = self.slots.get(token::key_in(token) as usize)?;
+        // For the proof: what holds of a table is known once a field was read.
+        let _ = &self.slots;
+        let entry = self.entry_by_id(token::id_in(token))?;
         if entry.token == token {
             Some(entry)
         } else {
             None
         }
+    }
+
+    // The slab gives places as this table gives keys, so an entry stands at the place that is its key;
+    // but no clause of the slab says so.
+    fn entry_by_token(&self, token: u64) -> Option<&Entry<T>>
+        ensures { option_copied result ≡ entry_with_token token self.now.entries }
+    {
+        let entry = match self.slots.get(token::key_in(token) as usize) {
+            Some(entry) if entry.token == token => entry,
+            _ => self.entry_elsewhere(token)?,
+        };
+        Some(entry)
     }
 
     /// The value of the entry with this token, or `None`: a token whose entry was removed names
@@ -183,8 +224,7 @@ impl<T, A: Allocator> ConnTable<T, A> {
     pub fn by_id(&self, id: u64) -> Option<&T>
         ensures { option_copied result ≡ value_with_id id self.now.entries }
     {
-        let key = *self.index.get(&id)?;
-        let entry = self.slots.get(key)?;
+        let entry = self.entry_by_id(id)?;
         Some(&entry.value)
     }
 
@@ -195,14 +235,15 @@ impl<T, A: Allocator> ConnTable<T, A> {
         ensures unknown { OnErr result (HasNoId id self.old.entries) }
         ensures kept { OnErr result (self.new ≡ self.old) }
     {
-        let Some(key) = self.index.remove(&id) else {
+        let Some(place) = self.index.remove(&id) else {
             return Err(Refusal::Unknown);
         };
         let Entry {
             id: _,
-            token: _,
+            token,
             value,
-        } = self.slots.remove(key);
+        } = self.slots.remove(place);
+        self.free.push_reserved(token::key_in(token));
         Ok(value)
     }
 

@@ -8,7 +8,7 @@
 //! The id above, 4,503,599,627,370,495, is never given, so the greatest `u64` is no token.
 
 ghost use Rattle.std.specs.Prelude.{◌≡◌, ◌<◌, ◌≤◌};
-ghost use Rattle.conntable.specs.Token.{token_of, key_of};
+ghost use Rattle.conntable.specs.Token.{token_of, key_of, id_of};
 
 /// How many keys there are, and how many entries a table holds at most.
 pub const KEYS: u64 = 4096;
@@ -23,6 +23,13 @@ pub(crate) fn join(key: u64, id: u64) -> u64
     ensures { result ≡ token_of key id }
 {
     key + KEYS * id
+}
+
+/// The id in a token.
+pub(crate) fn id_in(token: u64) -> u64
+    ensures { result ≡ id_of token }
+{
+    token / KEYS
 }
 
 /// The key in a token.

@@ -9,7 +9,7 @@ pub loop-id-init : goal.loop-id-init
 loop-id-init g c =
     let es = entries_at c.self.inside.slots c.self.inside.index.entries in
     sym (ap (λ t. ids_of t.entries) c.self.view_is)
-    ∙ sym (keys_of-lines es)
+    ∙ sym (keys_of-lines c.self.invariant.1.place es)
     ∙ sym (ap keys_of c.self.invariant.1.indexed)
     ∙ sym (c.into_iter-id-iterator.ensures.into_iter_gives ∙ c.keys-id-items.ensures.rest)
     ∙ sym (ap (λ l. l ++ c.into_iter-id-iterator.result) c.new-ids.ensures.items)
