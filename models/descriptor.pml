@@ -4,7 +4,7 @@
    READERS make READS reads each, WRITERS one write, SHUTTERS one close_write of a connection that is
    being made. A peer makes ARRIVALS bytes for readers and ROOMS rooms for writers, at any time.
    SETTERS set SETTINGS deadlines each, for reads, or for both directions where somebody writes.
-   CLOSERS close. The clock goes on to LAST_MOMENT. */
+   CLOSERS close, DRAINERS drain. The clock goes on to LAST_MOMENT. */
 #include "lock_word.inc"
 #include "waiting_calls.inc"
 #include "cell.inc"
@@ -30,6 +30,9 @@
 #ifndef CLOSERS
 #define CLOSERS 0
 #endif
+#ifndef DRAINERS
+#define DRAINERS 0
+#endif
 #ifndef ARRIVALS
 #define ARRIVALS 0
 #endif
@@ -40,7 +43,8 @@
 #define LAST_MOMENT 2
 #endif
 
-#define THREADS (READERS + WRITERS + SHUTTERS + SETTERS + CLOSERS)
+#define THREADS (READERS + WRITERS + SHUTTERS + SETTERS + CLOSERS + DRAINERS)
+#define BEFORE_SETTERS (READERS + WRITERS + SHUTTERS)
 #define POLLER 6
 
 byte table_lock = FREE;
@@ -81,7 +85,7 @@ proctype Caller(byte id; byte d; byte times; bit shuts) {
      times--;
      lock(d);
      if
-     :: answer == Closed -> over = 1
+     :: answer == Closed || answer == Draining -> over = 1
      :: else ->
         inside[d]++; assert(inside[d] == 1);
         if
@@ -111,14 +115,14 @@ proctype Setter(byte id) {
 #endif
        moment = now               /* the caller's clock */
      };
-#if CLOSERS > 0                   /* without a closer a reference delays nobody */
+#if CLOSERS + DRAINERS > 0        /* without them a reference delays nobody */
      incref();
 #endif
      if
-     :: answer == Closed -> over = 1
+     :: answer == Closed || answer == Draining -> over = 1
      :: else ->
         set_deadline(read, write, at, moment);
-#if CLOSERS > 0
+#if CLOSERS + DRAINERS > 0
         decref()
 #endif
      fi;
@@ -179,6 +183,17 @@ proctype Closer(byte id) {
   running--
 }
 
+/* FdHandle::drain: it evicts nobody, so who is parked in the cell stays there */
+proctype Drainer(byte id) {
+  mtype answer = 0; short found = 0; byte owed[2] = 0;
+#ifdef DRAIN_EVICTS
+  bit was_read = 0, was_write = 0, any = 0;
+  evict();
+#endif
+  drain();
+  running--
+}
+
 #include "poller.inc"
 
 /* The other end and the clock: what comes, comes at any time. */
@@ -211,9 +226,10 @@ init {
     do
     :: id < READERS -> run Caller(id, READ, READS, 0); id++
     :: id >= READERS && id < READERS + WRITERS -> run Caller(id, WRITE, 1, 0); id++
-    :: id >= READERS + WRITERS && id < THREADS - SETTERS - CLOSERS -> run Caller(id, WRITE, 1, 1); id++
-    :: id >= THREADS - SETTERS - CLOSERS && id < THREADS - CLOSERS -> run Setter(id); id++
-    :: id >= THREADS - CLOSERS && id < THREADS -> run Closer(id); id++
+    :: id >= READERS + WRITERS && id < BEFORE_SETTERS -> run Caller(id, WRITE, 1, 1); id++
+    :: id >= BEFORE_SETTERS && id < BEFORE_SETTERS + SETTERS -> run Setter(id); id++
+    :: id >= BEFORE_SETTERS + SETTERS && id < THREADS - DRAINERS -> run Closer(id); id++
+    :: id >= THREADS - DRAINERS && id < THREADS -> run Drainer(id); id++
     :: id == THREADS -> break
     od;
     if :: ARRIVALS > 0 -> run Peer(READ, ARRIVALS) :: else -> skip fi;
@@ -229,9 +245,12 @@ init {
   assert(asleep[WRITE] == 0 || in_cell[WRITE] != 0);
   assert(running == ASLEEP(in_cell[READ]) + ASLEEP(in_cell[WRITE]) + ASLEEP(asleep[READ]) + ASLEEP(asleep[WRITE]));
   assert(signals[READ] == 0 && signals[WRITE] == 0);
+  /* Nobody queues for a half of a drained descriptor, and no drain ends a call. */
+  assert(!(state & DRAIN_BIT) || (asleep[READ] == 0 && asleep[WRITE] == 0));
+  assert(CLOSERS > 0 || !closing);
   if
   :: CLOSERS == 0 -> assert(destroyed == 0 && !done && !(state & CLOSED_BIT))
-  :: else -> assert(running == 0 && destroyed == 1 && done && state == CLOSED_BIT);
+  :: else -> assert(running == 0 && destroyed == 1 && done && UNDRAINED(state) == CLOSED_BIT);
              assert(alarm[READ] == NEVER && alarm[WRITE] == NEVER)
   fi
 }

@@ -5,22 +5,31 @@
    code each ends within a second: what one thread tells another has to arrive without.
 
    LISTENERS accept threads with CONNS connections each, at most PAIRS pairs, one admin thread with
-   CLOSES commands `close ID`, and `stop` at any time, or with STOP_ONCE_QUIET only when nothing else
+   CLOSES commands `close ID`, DRAINS commands `drain ID`, and `stop` at any time, or with STOP_ONCE_QUIET only when nothing else
    can happen. POLLER_FAILS has the main thread end at any turn, LATE_LISTENER sets a deadline on the
    first listener and lifts it, ACCEPT_GIVES_UP ends accept threads as after too many faults. Smaller
    searches leave out: NOTHING_IS_REFUSED in a set-up, PEERS_ONLY_BREAK and neither end nor send. */
 #include "relay_state.inc"
 
-/* accept_worker over RuleGate */
+/* serve_rule: accept_worker over RuleGate, and the close of a drained listener */
 proctype Acceptor(byte l) {
-  bit got = 0;
+  bit got = 0, mine = 0;
   do
 #ifdef ACCEPT_ENDS_AT_THE_FIRST_FAULT
   :: late[l] && !closed[l] -> break
 #else
-  :: late[l] && !closed[l] -> !late[l] || closed[l]     /* a fault, and pauses until it is none */
+  :: late[l] && !closed[l] && !drained[l] ->
+     !late[l] || closed[l] || drained[l]                /* a fault, and pauses until it is none */
 #endif
-  :: atomic { if :: closed[l] -> break :: else -> users[l]++ fi };
+  :: closed[l] -> break
+  :: drained[l] && !closed[l] ->
+#ifdef DRAINED_LISTENER_STAYS_OPEN
+     skip;
+#else
+     close(l);
+#endif
+     break
+  :: atomic { !closed[l] && !drained[l] -> users[l]++ };
      if
      :: atomic { conns[l] > 0 -> conns[l]--; got = 1 }
      :: evicted[l] -> got = 0
@@ -68,7 +77,11 @@ proctype Admin() {
         atomic { close_typed--; select(id : 0 .. IDS - 1) };
         close(id);
         id = 0
-     :: close_typed == 0 && stop_typed ->
+     :: close_typed == 0 && drain_typed > 0 ->
+        atomic { drain_typed--; select(id : 0 .. IDS - 1) };
+        drain(id);
+        id = 0
+     :: close_typed == 0 && drain_typed == 0 && stop_typed ->
         stop_typed = 0;
 #ifdef STOP_WAKES_BEFORE_IT_IS_SAID
         waker = 1;
@@ -234,9 +247,13 @@ inline look_at_what_stands() {
 
 /* Who types commands. */
 proctype Typist() {
-  byte commands = CLOSES, k = 0; bit early = 0;
+  byte commands = CLOSES, drains = DRAINS, k = 0; bit early = 0;
   do
   :: commands > 0 -> commands--; if :: atomic { close_typed++; typed = 1 } :: skip fi
+  :: else -> break
+  od;
+  do
+  :: drains > 0 -> drains--; if :: atomic { drain_typed++; typed = 1 } :: skip fi
   :: else -> break
   od;
 #ifdef LATE_LISTENER

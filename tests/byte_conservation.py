@@ -1,14 +1,16 @@
 #!/usr/bin/env python3
 """Starts the built relay and counts bytes at both ends of its connections.
 
-    python3 tests/byte_conservation.py [--small] [--all] [--seed N] [whole | rough | many | rows | ROW]..
+    python3 tests/byte_conservation.py [--small] [--all] [--seed N] [whole | rough | drained | many | rows | ROW]..
 
 whole   700 connections of 0 to 4 MB both ways at once, half-closed first from either side; targets that refuse, peers
         that stall past the idle time, admin closes and deadlines on quiet connections. The totals are exact.
-rough   300 connections, some of which are reset, stalled with full buffers, closed or given a deadline in mid-stream.
+rough   300 connections, some of which are reset, stalled with full buffers, closed, drained or given a deadline in mid-stream.
         What arrives is a front of what was sent, and the totals lie between what was received and what was sent.
+drained 200 connections, one after the other, one side of which is drained in mid-stream, or before its last words. What
+        arrives is a front of what was sent, last words arrive whole, and the totals are exactly what arrived.
 many    20,000 short connections beside 500 idle ones: no growth of memory, threads or descriptors.
-rows    single rows of `list`, `close`, `deadline`, idle times, listeners and limits (relay_rows.py).
+rows    single rows of `list`, `close`, `drain`, `deadline`, idle times, listeners and limits (relay_rows.py).
 
 POLLRELAY names another program. With --small all is a tenth or less. The gate doesn't run this.
 """
@@ -28,6 +30,15 @@ from relay_process import Checks, Relay, allow_descriptors, wait_until
 
 # What memory may grow by between the first thousand short connections and the last.
 GROWTH_KIB = 256
+
+
+# What a command on an id that may have gone is answered.
+MEDDLED = ("ok", "error 404 no such connection", "error 409 closed", "error 409 draining")
+# How long a worker may take from a write to its next read.
+BEGUN_SECONDS = 0.1
+# What a worker reads at once until a read has filled its first buffer, so that nothing of as many bytes or fewer is left for a
+# second read.
+ONE_READ = 1_024
 
 
 class Meddler(threading.Thread):
@@ -56,7 +67,7 @@ class Meddler(threading.Thread):
         others = [id for id in ids if id > len(LANES)]
         if others and self.commands:
             reply = self.relay.ask(self.rng.choice(self.commands).format(id=self.rng.choice(others)))
-            if reply not in ("ok", "error 404 no such connection", "error 409 closed"):
+            if reply not in MEDDLED:
                 self.faults.append(f"a command was answered {reply!r}")
         self.asked += 1
         return totals
@@ -157,7 +168,7 @@ def rough(checks, size, seed, folder):
             lane.small_buffers()
     with Relay(rules) as relay:
         before = warm_up(relay)
-        meddler = Meddler(relay, random.Random(seed), ["close {id}", "deadline {id} 20", "deadline {id} never"])
+        meddler = Meddler(relay, random.Random(seed), ["close {id}", "drain {id}", "deadline {id} 20", "deadline {id} never"])
         meddler.start()
         outcomes = run_lanes(["rough"], size * 3 // 10, seed)
         meddler.end(checks, "rough")
@@ -169,6 +180,71 @@ def rough(checks, size, seed, folder):
         up, down, sent_up, sent_down = told(checks, "rough", outcomes)
         checks.holds("rough: total up", up <= totals[0] <= sent_up, f"received {up}, total {totals[0]}, sent {sent_up}")
         checks.holds("rough: total down", down <= totals[1] <= sent_down, f"received {down}, total {totals[1]}, sent {sent_down}")
+
+
+def one_way(lane, rng, size):
+    """A connection of which one side sends so many bytes and the other none: the sender, the receiver, and the ends in order."""
+    is_up = rng.random() < 0.5
+    ends = ends_of(lane, rng, size if is_up else 0, 0 if is_up else size)
+    sender, receiver = ends if is_up else ends[::-1]
+    receiver.holds_open = True
+    return sender, receiver, ends
+
+
+def drain_in_mid_stream(relay, lane, rng):
+    """A side is drained while bytes go one way. Whatever the relay wrote arrives, since nobody sends against it."""
+    sender, receiver, (client, target) = one_way(lane, rng, some_size(rng))
+    wait_until(lambda: len(relay.ids()) == len(LANES) + 2, 5)
+    ids, faults, enough = relay.ids()[-2:], [], rng.randint(0, len(sender.sends))
+    pump((client, target), lambda: receiver.received >= enough or receiver.is_over, SECONDS)
+    id = rng.choice(ids)
+    reply = relay.ask(f"drain {id}")
+    if reply not in MEDDLED:
+        faults.append(f"drain was answered {reply!r}")
+    if not pump((client, target), lambda: receiver.is_over and sender.is_shut, SECONDS):
+        faults.append("a drained connection whose sender sends doesn't end")
+    return ids, (client, target), faults
+
+
+def last_words(relay, lane, rng):
+    """A side is drained that is silent for now: what it then says in one piece arrives whole, and then the end."""
+    sender, receiver, (client, target) = one_way(lane, rng, rng.randint(100, ONE_READ))
+    sender.chunk, sender.holds_open, faults = ONE_READ, True, []
+    words, sender.sends = sender.sends, sender.sends[:1]
+    pump((client, target), lambda: receiver.received == 1, SECONDS)
+    # The next read begins: only what was begun before a drain goes on.
+    pump((client, target), lambda: False, BEGUN_SECONDS)
+    ids = relay.ids()[-2:]
+    if relay.ask(f"drain {ids[0] if sender is client else ids[1]}") != "ok":
+        faults.append("a drain isn't ok")
+    if pump((client, target), lambda: receiver.is_over, 0.05):
+        faults.append("a drained connection ends in silence")
+    sender.sends = words
+    if not pump((client, target), lambda: receiver.is_over, SECONDS):
+        faults.append("no end follows the last words")
+    if receiver.received != len(sender.sends):
+        faults.append(f"{receiver.received} of {len(sender.sends)} bytes of the last words arrived")
+    return ids, (client, target), faults
+
+
+def drained(checks, size, seed, folder):
+    rules = make_lanes(folder, [("drained", "never", 1), ("drained", 60_000, 1)])
+    rng, outcome = random.Random(seed), Outcome()
+    with Relay(rules) as relay:
+        before = warm_up(relay)
+        for turn in range(size // 5):
+            drain = last_words if turn % 2 else drain_in_mid_stream
+            ids, ends, faults = drain(relay, LANES[turn // 2 % len(LANES)], rng)
+            outcome.add(*ends, faults)
+            if not wait_until(lambda: not set(ids) & set(relay.ids()), 5):
+                outcome.faults.append("the ids of a drained connection stay")
+            if relay.totals() != (outcome.up, outcome.down):
+                outcome.faults.append(f"totals {relay.totals()}, and {(outcome.up, outcome.down)} arrived")
+            if outcome.faults:
+                break
+        sums = told(checks, "drained", [outcome])
+        expect_nothing_left(checks, "drained", relay, before)
+        checks.expect("drained: totals after stop", tuple(sums[:2]), expect_end(checks, "drained", relay))
 
 
 def open_at_stop(seed, count):
@@ -236,7 +312,7 @@ def rows(checks, size, _seed, _folder):
     relay_rows.run(checks, is_small=size < 1_000)
 
 
-STAGES = {"whole": whole, "rough": rough, "many": many, "rows": rows}
+STAGES = {"whole": whole, "rough": rough, "drained": drained, "many": many, "rows": rows}
 # A single row is a stage too.
 SINGLE = {row.__name__: lambda checks, _size, _seed, _folder, row=row: row(checks, True) for row in relay_rows.ROWS}
 

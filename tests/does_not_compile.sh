@@ -60,10 +60,11 @@ pub fn reference_copied(held: Ref<u64, u64>) -> (Ref<u64, u64>, Ref<u64, u64>) {
 END
 
 refuses 'a value that must be spent, and is let go' << 'END'
-//! A reference, a lock, a place in a queue, a signal owed, the close and the duty to destroy can't be dropped.
+//! A reference, a lock, a place in a queue, a signal owed, the close, the drain that owes signals and the duty to destroy
+//! can't be dropped.
 #![tactic(auto)]
 
-use lockword::{Closing, Last, Owing, ReadLock, ReadWait, Ref, WriteLock, WriteWait};
+use lockword::{Closing, Drains, Last, Owing, ReadLock, ReadWait, Ref, WriteLock, WriteWait};
 
 pub fn reference(held: Ref<u64, u64>) {} // refused: linear-value-let-go
 
@@ -78,6 +79,8 @@ pub fn queued_writer(wait: WriteWait<u64, u64>) {} // refused: linear-value-let-
 pub fn signal_owed(owing: Owing<u64, u64>) {} // refused: linear-value-let-go
 
 pub fn close(closing: Closing<u64, u64>) {} // refused: linear-value-let-go
+
+pub fn drain(drains: Drains<u64, u64>) {} // refused: linear-value-let-go
 
 pub fn duty_to_destroy(last: Last<u64, u64>) {} // refused: linear-value-let-go
 END

@@ -33,7 +33,7 @@ from relay_process import REPLY_SECONDS, ROOT, Checks, wait_until
 
 CORPUS = f"{ROOT}/tests/corpus"
 MOST_BYTES = 4_096
-OPERATIONS = "incref decref rlock wlock runlock wunlock rsignal wsignal rwake wwake close destroy".split()
+OPERATIONS = "incref decref rlock wlock runlock wunlock rsignal wsignal rwake wwake close drain destroy".split()
 NUMBERS = "0 1 2 01 64 65 262143 262144 67108863 67108864 16777217 4294967296 4503599627370494 4503599627370495 86400000 86400001".split()
 TOKENS = {
     "trace": [*(f"{it}\n" for it in OPERATIONS), *NUMBERS, "+", " ", "\n", "\r\n"],
@@ -42,7 +42,7 @@ TOKENS = {
         "#", "\n", "\r\n", " ", ":", ".", "/", "relay a tcp:1.1.1.1:1 unix:/x never\n", "x" * 16, "x" * 17, "/" + "x" * 100, *NUMBERS,
     ],
     "session": [
-        "list\n", "totals\n", "close ", "deadline ", " never\n", "quit\n", "stop\n", "\n", "\r\n", " ", "x" * 64, "x" * 65, *NUMBERS,
+        "list\n", "totals\n", "close ", "drain ", "drain 1\n", "deadline ", " never\n", "quit\n", "stop\n", "\n", "\r\n", " ", "x" * 64, "x" * 65, *NUMBERS,
     ],
 }
 SEEDS = {

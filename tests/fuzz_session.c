@@ -103,7 +103,7 @@ static int begins(const char *line, size_t size, const char *text) {
 
 static int is_fault(const char *reply, size_t size) {
     return is(reply, size, "error 400 bad command") || is(reply, size, "error 404 no such connection") ||
-           is(reply, size, "error 409 closed");
+           is(reply, size, "error 409 closed") || is(reply, size, "error 409 draining");
 }
 
 static int answers(const char *line, size_t length, const char *reply, size_t size) {
@@ -113,7 +113,7 @@ static int answers(const char *line, size_t length, const char *reply, size_t si
         return is(reply, size, "totals up 0 down 0");
     if (is(line, length, "quit") || is(line, length, "stop"))
         return is(reply, size, "ok");
-    if (begins(line, length, "close ") || begins(line, length, "deadline "))
+    if (begins(line, length, "close ") || begins(line, length, "drain ") || begins(line, length, "deadline "))
         return is(reply, size, "ok") || is_fault(reply, size);
     return is(reply, size, "error 400 bad command");
 }

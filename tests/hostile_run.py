@@ -110,7 +110,7 @@ class Run:
             self.wrong.append(f"threads and descriptors {(self.relay.threads(), self.relay.descriptors())}, at rest {rest}")
 
     def serve_and_stop(self, rest, size, may_lose_its_line):
-        """Clients, sessions, the ends of the clients, others after them, and the stop while those stand."""
+        """Clients, sessions, the ends of the clients, others after them, drains, and the stop while those stand."""
         desk = Desk(self.relay, self.misses, self.tries)
         self.open_each()
         self.look(desk)
@@ -122,9 +122,19 @@ class Run:
         if rest is not None:
             self.expect_rest(rest)
         self.open_each()
+        self.drain(desk)
         self.stop(desk, may_lose_its_line)
         for it in self.standing:
             it.close()
+
+    def drain(self, desk):
+        """Drains of the last id and of a listener, which take no memory. Where a reply was lost the drain was made before."""
+        for id in (self.ids(desk)[-1:] or ["2"])[0], "1":
+            reply = desk.ask(f"drain {id}")
+            if reply not in ("ok", "error 409 draining", *GONE):
+                self.wrong.append(f"a drain of {id} was answered {reply!r}")
+        if wanting := [it for it in self.misses.names if it.startswith("'drain ")]:
+            self.wrong.append(f"a drain wanted memory: {wanting}")
 
     def stop(self, desk, may_lose_its_line=False):
         """Says stop, and looks at the relay's end. A last line that can't be written is status 3."""

@@ -19,6 +19,7 @@ from relay_process import PROGRAM, ROOT, Checks, Relay, connect, free_port, list
 
 BAD_COMMAND = b"error 400 bad command\n"
 UNKNOWN = b"error 404 no such connection\n"
+DRAINING = b"error 409 draining\n"
 RULE = "relay {} tcp:127.0.0.1:{} tcp:127.0.0.1:9 never\n"
 MOST_LINES = 65_536
 
@@ -260,6 +261,7 @@ SESSIONS = [
     ("a deadline", b"deadline 3 86400000\ndeadline 3 never\n", b"ok\nok\n"),
     ("ids that are none", b"close 01\nclose 4503599627370495\nclose 0\nclose\nclose x\nclose 3 \n", BAD_COMMAND * 6),
     ("the greatest id", b"close 4503599627370494\ndeadline 4503599627370494 5\n", UNKNOWN * 2),
+    ("drains of ids that are none", b"drain 9\ndrain 01\ndrain 0\ndrain\ndrain x\ndrain 3 \ndrain 3 never\n", UNKNOWN + BAD_COMMAND * 6),
     ("quit, and more", b"quit\nlist\n", b"ok\n"),
     ("65 bytes", b"x" * 65 + b"\nlist\n", BAD_COMMAND),
     ("64 bytes", b"x" * 64 + b"\nlist\n", BAD_COMMAND + b"ids 1 2 3 4\n"),
@@ -287,6 +289,9 @@ def admin_sessions(checks, _):
             checks.holds(f"session: {name}", got == wanted, f"wanted {wanted[:200]!r}, got {short!r}")
         in_pieces(checks, relay)
         gone_without_reading(checks, relay)
+        drained = b"ok\n" + DRAINING * 3 + b"ok\n" + DRAINING + b"ids 1 2 3 4\n"
+        sent = b"drain 4\ndrain 4\ndeadline 4 9\ndeadline 4 never\ndrain 2\ndrain 2\nlist\n"
+        checks.expect("session: drains", drained, session(relay.admin, sent))
         checks.expect("session: a deadline of 0", b"ok\n", session(relay.admin, b"deadline 3 0\n"))
         checks.expect("session: the client sees the end", b"", rest_of(client))
         wait_until(lambda: relay.ids() == [1, 2], 5)

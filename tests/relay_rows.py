@@ -1,4 +1,4 @@
-"""Single rows of the running relay: ids, closes, deadlines, idle times, listeners, limits. byte_conservation.py runs them."""
+"""Single rows of the running relay: ids, closes, drains, deadlines, idle times, listeners, limits. byte_conservation.py runs them."""
 import random
 import socket
 import tempfile
@@ -259,6 +259,117 @@ def listeners(checks, _):
         checks.holds("listener: the other one still accepts", opens(served, 1), "no byte came back")
 
 
+DRAINING = "error 409 draining"
+
+
+def open_and_wait(served, at=0):
+    """A connection through which a byte has gone each way, and both of whose reads wait for more."""
+    pair = served.open(at)
+    passes(*pair)
+    time.sleep(0.2)
+    return pair
+
+
+def is_drained(checks, relay, name, id):
+    """Drains an id that nobody drained before, and sees what is refused from then on."""
+    checks.expect(f"{name}: drain", "ok", relay.ask(f"drain {id}"))
+    checks.expect(f"{name}: drain again", DRAINING, relay.ask(f"drain {id}"))
+    checks.expect(f"{name}: a deadline afterwards", DRAINING, relay.ask(f"deadline {id} 50"))
+    checks.expect(f"{name}: a deadline that is lifted afterwards", DRAINING, relay.ask(f"deadline {id} never"))
+
+
+def last_words(speaker, hearer):
+    """What a side hears of the last that the other says, up to the end that follows; None where no end follows."""
+    hearer.settimeout(WAIT_SECONDS)
+    try:
+        speaker.sendall(b"last words")
+        heard = b""
+        while data := hearer.recv(100):
+            heard += data
+        return heard
+    except TimeoutError:
+        return None
+    except OSError:
+        return heard
+
+
+def has_gone(relay, ids):
+    return wait_until(lambda: not set(ids) & set(relay.ids()), WAIT_SECONDS)
+
+
+def drains(checks, _):
+    """A drained side still gives what it says next, and takes nothing more; the pair then ends. Silent, it stays."""
+    with Served("never") as served:
+        relay = served.relay
+        checks.expect("drain: an id that is none", "error 404 no such connection", relay.ask("drain 9"))
+        client, target = open_and_wait(served)
+        is_drained(checks, relay, "drain of the target", 3)
+        checks.expect("drain: the other side has its deadlines", "ok", relay.ask("deadline 2 86400000"))
+        time.sleep(0.5)
+        checks.expect("drain: a silent connection stays", "ids 1 2 3", relay.ask("list"))
+        checks.expect("drain: what the drained target says last", b"last words", last_words(target, client))
+        checks.holds("drain: the target sees the end", seconds_until_end(target, WAIT_SECONDS) is not None, "no end")
+        checks.holds("drain: both ids go", has_gone(relay, [2, 3]), relay.ask("list"))
+        checks.expect("drain: an id that went", "error 404 no such connection", relay.ask("drain 3"))
+        client, target = open_and_wait(served)
+        is_drained(checks, relay, "drain of the client", 4)
+        checks.expect("drain: what the drained client says last", b"last words", last_words(client, target))
+        client, target = open_and_wait(served)
+        is_drained(checks, relay, "drain of the client", 6)
+        checks.expect("drain: what is said to a drained client", b"", last_words(target, client))
+        checks.holds("drain: the ids of all go", has_gone(relay, [4, 5, 6, 7]), relay.ask("list"))
+        # Three bytes that came and went, and what was said last by the drained target and by the drained client.
+        status, totals, _ = relay.stop()
+        checks.expect("drain: status and totals", (0, (13, 13)), (status, totals))
+
+
+def drained_in_time(checks, _):
+    """A deadline that was set before a drain, an idle time and a close end a drained connection that is silent."""
+    with Served("never", 400) as served:
+        relay = served.relay
+        client, target = open_and_wait(served, 0)
+        asked = time.monotonic()
+        checks.expect("drain: a deadline before it", "ok", relay.ask("deadline 3 300"))
+        checks.expect("drain: after a deadline", "ok", relay.ask("drain 3"))
+        ended = seconds_until_end(client, 3)
+        checks.holds("drain: the deadline ends it", ended is not None and time.monotonic() - asked >= 0.3, f"{ended} s for 0.3 s")
+        client, target = open_and_wait(served, 1)
+        began = time.monotonic()
+        checks.expect("drain: with an idle time", "ok", relay.ask("drain 5"))
+        ended = seconds_until_end(client, 3)
+        took = time.monotonic() - began
+        checks.holds("drain: the idle time ends it", ended is not None and took <= 0.9, f"{took} s, where 0.4 s had begun before")
+        client, target = open_and_wait(served, 0)
+        checks.expect("drain: before a close", "ok", relay.ask("drain 7"))
+        checks.expect("drain: a close works", "ok", relay.ask("close 7"))
+        checks.holds("drain: the close ends it", seconds_until_end(client, 3) is not None, "no end")
+        client, target = open_and_wait(served, 0)
+        relay.ask("drain 9")
+        relay.ask("drain 1")
+        status, _, seconds = relay.stop()
+        checks.expect("drain: stop with drained ids", 0, status)
+        checks.holds("drain: stopped within 2 s", seconds <= 2, f"{seconds:.2f} s")
+
+
+def drained_listeners(checks, _):
+    """A drained listener takes at most the client for which it waited, and is closed; after a deadline it takes none."""
+    with Served("never", "never", "never") as served:
+        relay = served.relay
+        before = open_and_wait(served)
+        is_drained(checks, relay, "drain of a listener", 1)
+        time.sleep(0.2)
+        checks.expect("drain: a listener that waits stays", "ids 1 2 3 4 5", relay.ask("list"))
+        checks.holds("drain: the listener takes who it waited for", opens(served, 0), "no byte came back")
+        checks.holds("drain: the listener goes", has_gone(relay, [1]), relay.ask("list"))
+        checks.holds("drain: the listener refuses", wait_until(lambda: is_refused(served.listens[0]), 1.5), "it still accepts")
+        checks.holds("drain: the listener's connection stays", passes(*before), "no byte came back")
+        relay.ask("deadline 2 0")
+        checks.expect("drain: of a listener whose deadline passed", "ok", relay.ask("drain 2"))
+        checks.holds("drain: the listener goes at once", has_gone(relay, [2]), relay.ask("list"))
+        checks.holds("drain: the listener takes nobody", wait_until(lambda: is_refused(served.listens[1]), 1.5), "it still accepts")
+        checks.holds("drain: another listener goes on", opens(served, 2), "no byte came back")
+
+
 def is_refused(address):
     try:
         connect(address).close()
@@ -336,7 +447,10 @@ def sessions(checks, _):
         second.close()
 
 
-ROWS = [hello, ids, many_ids, deadlines, lifted, idle, listeners, descriptors, sessions, pairs]
+ROWS = [
+    hello, ids, many_ids, deadlines, lifted, idle, listeners, drains, drained_in_time, drained_listeners, descriptors, sessions,
+    pairs,
+]
 
 
 def run(checks, is_small):

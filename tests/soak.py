@@ -6,7 +6,7 @@
 exact   connections of 0 to 4 MB both ways, half-closed first from either side, stalls past the idle time, targets that refuse,
         admin closes and deadlines on quiet connections, and four connections that live from the first minute to the last.
         Nobody resets, so after each round the totals are exactly what arrived.
-rough   the same with resets, full buffers, admin closes and deadlines in mid-stream. What arrives is a front of what was sent,
+rough   the same with resets, full buffers, admin closes, drains and deadlines in mid-stream. What arrives is a front of what was sent,
         and the totals lie between what arrived and what was sent.
 
 Threads, descriptors and memory are taken after each round, when its connections are gone: none is higher in the last tenth
@@ -47,7 +47,7 @@ EXACT = Load(
 )
 ROUGH = Load(
     [("rough", "never", 1), ("rough", 60_000, 1), ("full", STALL_MS, 1)],
-    ["rough"], ["full"], ["close {id}", "deadline {id} 20", "deadline {id} never"],
+    ["rough"], ["full"], ["close {id}", "drain {id}", "deadline {id} 20", "deadline {id} never"],
 )
 
 

@@ -95,6 +95,16 @@ exit
 # fails | lock_word | -DREADERS=1 -DCLOSERS=1 -DAWAITERS=2 -DDONE_IS_NOT_PASSED_ON | who waited for the end doesn't wake the next
 # fails | lock_word | -DREADERS=1 -DCLOSERS=1 -DAWAITERS=2 -DDONE_IS_PASSED_ON_BEFORE_PARKING_ALONE | who waits for the end wakes the next before it parks, and not when it is done
 # endless | lock_word | -DREADERS=3 -DCLOSERS=1 -DCLOSER_COUNTS_NO_SIGNAL_DOWN | a closer doesn't count down what it owes
+# sound | lock_word | -DREADERS=3 -DDRAINERS=1 | three readers and a drain
+# sound | lock_word | -DREADERS=1 -DWRITERS=1 -DREFERRERS=1 -DDRAINERS=1 | both directions, a reference, a drain
+# sound | lock_word | -DREADERS=2 -DDRAINERS=2 | two readers and two drains, of which one drains
+# sound | lock_word | -DREADERS=2 -DCLOSERS=1 -DDRAINERS=1 -DAWAITERS=1 | two readers, a drain, a close, and who waits for the end
+# sound | lock_word | -DREADERS=3 -DDRAINERS=1 -DMAX_SIGNALS=1 | a drain and a semaphore at its limit
+# ends | lock_word | -DREADERS=2 -DCLOSERS=1 -DDRAINERS=1 -DMAX_SIGNALS=1 | no retry of a drain goes on for ever
+# fails | lock_word | -DREADERS=3 -DDRAINERS=1 -DDRAIN_SETS_NO_FLAG | a drain sets no flag
+# fails | lock_word | -DREADERS=3 -DDRAINERS=1 -DDRAIN_KEEPS_THE_WAITERS | a drain leaves the waiters in the count
+# fails | lock_word | -DREADERS=3 -DDRAINERS=1 -DDRAINER_SIGNALS_NOBODY | a drainer signals nobody
+# fails | lock_word | -DWRITERS=3 -DDRAINERS=1 -DDRAINER_SIGNALS_READERS_ALONE | a drainer signals the readers alone
 # harmless | lock_word | -DREADERS=3 -DCLOSERS=1 -DCLOSER_SIGNALS_AFTER_ITS_WAIT | a closer waits for the end before it signals
 #
 # The descriptor: its cell, its deadlines, the poller and the close.
@@ -109,6 +119,9 @@ exit
 # sound | descriptor | -DREADERS=1 -DSETTERS=1 -DSETTINGS=2 | deadlines that are set, replaced and lifted
 # sound | descriptor | -DWRITERS=1 -DSETTERS=1 | a deadline of both directions, and a writer
 # sound | descriptor | -DREADERS=1 -DSETTERS=1 -DCLOSERS=1 -DLAST_MOMENT=1 | a deadline and a close
+# sound | descriptor | -DREADERS=2 -DREADS=2 -DARRIVALS=1 -DDRAINERS=1 | a drain leaves the reader that is parked, and wakes the one that queues
+# sound | descriptor | -DREADERS=1 -DSETTERS=1 -DDRAINERS=1 -DLAST_MOMENT=1 | a deadline and a drain
+# sound | descriptor | -DREADERS=1 -DWRITERS=1 -DCLOSERS=1 -DDRAINERS=1 | both directions, a drain and a close
 # fails | descriptor | -DREADERS=1 -DREADS=2 -DARRIVALS=2 -DFLAG_IS_SET_AFTER_THE_LOOK | the parked flag is set after the look, with the lock given up between
 # fails | descriptor | -DREADERS=1 -DREADS=2 -DARRIVALS=2 -DPARKS_WITH_THE_LOCK_HELD | a caller parks with the cell's lock held
 # fails | descriptor | -DREADERS=1 -DREADS=2 -DARRIVALS=2 -DNOTICE_WAKES_BEFORE_IT_STANDS | a notice wakes before it stands, outside the lock
@@ -131,6 +144,9 @@ exit
 # fails | descriptor | -DWRITERS=1 -DCLOSERS=1 -DEVICT_WAKES_READERS_ALONE | a close wakes the readers alone
 # fails | descriptor | -DREADERS=1 -DCLOSERS=1 -DEVICTS_AFTER_THE_WAIT | a close evicts after it gave its reference back and waited
 # fails | descriptor | -DREADERS=1 -DSETTERS=1 -DCLOSERS=1 -DLAST_MOMENT=1 -DALARMS_GO_BEFORE_THE_CLOSE | a close takes the alarms away before it closes
+# fails | descriptor | -DREADERS=1 -DDRAINERS=1 -DDRAIN_EVICTS | a drain ends the read that is parked
+# fails | descriptor | -DREADERS=2 -DDRAINERS=1 -DDRAINER_SIGNALS_NOBODY | a drainer leaves the reader that queues behind a parked one
+# fails | descriptor | -DREADERS=2 -DDRAINERS=1 -DLOCK_PASSES_OVER_THE_DRAIN | who was woken by a drain queues again
 # harmless | descriptor | -DREADERS=1 -DWRITERS=1 -DCLOSERS=1 -DEVICTS_AFTER_THE_DROP | a close evicts after it gave its reference back, before it waits
 # harmless | descriptor | -DREADERS=1 -DWRITERS=1 -DCLOSERS=1 -DEVICTS_BEFORE_THE_FLAG | a close evicts before it sets the flag
 # harmless | descriptor | -DREADERS=1 -DWRITERS=1 -DARRIVALS=1 -DCLOSERS=1 -DCLOSES_UNDER_THE_TABLES_LOCK | a close waits with the table's lock held
@@ -144,6 +160,10 @@ exit
 # sound | relay | -DSTOP_ONCE_QUIET -DLATE_LISTENER | a listener whose deadline passes and is lifted
 # sound | relay | -DSTOP_ONCE_QUIET -DACCEPT_GIVES_UP | an accept thread that gives up
 # sound | relay | -DSTOP_ONCE_QUIET -DPOLLER_FAILS -DPEERS_ONLY_BREAK | a poller that fails at any turn
+# sound | relay | -DSTOP_ONCE_QUIET -DDRAINS=1 | a connection, and `drain ID` of any id
+# sound | relay | -DSTOP_ONCE_QUIET -DDRAINS=1 -DCONNS=2 -DNOTHING_IS_REFUSED -DPEERS_ONLY_BREAK | two connections, and a drain of any id
+# sound | relay | -DNOTHING_IS_REFUSED -DPEERS_ONLY_BREAK -DDRAINS=1 | a drain, and stop at any time
+# fails | relay | -DSTOP_ONCE_QUIET -DCONNS=2 -DNOTHING_IS_REFUSED -DPEERS_ONLY_BREAK -DDRAINS=1 -DDRAINED_LISTENER_STAYS_OPEN | a drained listener stays open once its accept thread has ended
 # fails | relay | -DSTOP_ONCE_QUIET -DDELIVERY_WAKES_NOBODY | an accept thread delivers and wakes nobody
 # fails | relay | -DSTOP_ONCE_QUIET -DDELIVERY_WAKES_BEFORE_IT_PUSHES | an accept thread wakes before it delivers
 # fails | relay | -DSTOP_ONCE_QUIET -DLATE_LISTENER -DACCEPT_ENDS_AT_THE_FIRST_FAULT | a deadline ends an accept thread for good

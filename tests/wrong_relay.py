@@ -29,7 +29,7 @@ class Side:
 
     def __init__(self, sock, idle=NEVER):
         self.sock, self.idle, self.closed, self.other = sock, idle, False, None
-        self.by_admin = False
+        self.by_admin = self.drained = False
         self.deadline = {"read": NEVER, "write": NEVER}
         self.bell = {way: io.FileIO(os.eventfd(0), "r+") for way in self.deadline}
         sock.setblocking(False)
@@ -72,6 +72,19 @@ class Side:
         if self.closed or self.moment(way) <= time.monotonic():
             raise Ended
 
+    def enter(self):
+        """Nothing begins on a drained socket; what was begun goes on."""
+        if self.drained and FAULT != "drain_is_forgotten":
+            raise Ended
+
+    def drain(self):
+        """Whether nobody drained it before."""
+        was, self.drained = self.drained, True
+        if FAULT == "drain_ends_what_was_begun":
+            self.deadline = {"read": 0, "write": 0}
+            self.ring()
+        return not was or FAULT == "drains_twice"
+
     def moment(self, way):
         """When this way's deadline fires."""
         if FAULT == "listener_ignores_deadlines" and self.other is None:
@@ -100,10 +113,12 @@ class Side:
                 self.wait(way, event)
 
     def read(self):
+        self.enter()
         return self.call("read", select.POLLIN, lambda: self.sock.recv(BUFFER))
 
     def write(self, data):
         """Writes all, telling each count as it comes."""
+        self.enter()
         while data:
             count = self.call("write", select.POLLOUT, lambda: self.sock.send(data))
             yield count
@@ -117,7 +132,7 @@ class Relay:
         self.total = {"up": 0, "down": 0}
         self.missed = {"up": 0, "down": 0}
         self.stopped = False
-        self.closes = 0
+        self.closes = self.drains = 0
         self.paths = []
         for name, listen, target, idle in rules:
             side = Side(self.bound(name, listen), NEVER)
@@ -152,6 +167,13 @@ class Relay:
 
     def accept(self, listening, target, idle):
         while not listening.closed or FAULT == "closed_listener_accepts":
+            if listening.drained and FAULT != "drained_listener_accepts":
+                if FAULT == "drained_listener_ends_its_connections":
+                    for side in [it for it in self.sides.values() if it.other is not None]:
+                        self.close_side(side.id)
+                if FAULT != "drained_listener_stays_open":
+                    self.close_side(listening.id)
+                return
             try:
                 client, _ = listening.call("read", select.POLLIN, listening.sock.accept)
             except Ended:
@@ -166,7 +188,7 @@ class Relay:
                 continue
             while FAULT == "one_listener_stops_all" and self.is_one_stopped():
                 time.sleep(0.05)
-            if FAULT == "dies_after_a_close" and self.closes:
+            if (FAULT == "dies_after_a_close" and self.closes) or (FAULT == "dies_after_a_drain" and self.drains):
                 client.close()
                 continue
             most = MOST_PAIRS + (40 if FAULT == "takes_too_many_pairs" else 0)
@@ -218,6 +240,11 @@ class Relay:
         own = 0
         try:
             while data := source.read():
+                if FAULT == "drain_drops_the_last_read" and source.drained:
+                    raise Ended
+                if FAULT == "drain_drops_bytes_it_counts" and sink.drained:
+                    with self.lock:
+                        self.total[way] += len(data)
                 while FAULT == "stalls_when_full" and self.pairs >= MOST_PAIRS and not self.stopped:
                     time.sleep(0.05)
                 for count in sink.write(spoiled(data)):
@@ -229,6 +256,7 @@ class Relay:
                         own = 0
             if FAULT == "adds_a_byte_at_the_end":
                 sink.sock.send(b"!")
+            sink.enter()
             if FAULT != "keeps_the_other_half_open":
                 sink.sock.shutdown(socket.SHUT_WR)
             if FAULT == "closes_at_the_first_end":
@@ -337,6 +365,15 @@ class Relay:
                 self.close_side(2)
             found = self.close_side(int(words[1]))
             return ("ok" if found else "error 404 no such connection"), False
+        if words[0] == "drain":
+            with self.lock:
+                side = self.sides.get(int(words[1]))
+            if side is None:
+                return "error 404 no such connection", False
+            self.drains += 1
+            if FAULT == "drains_both_sides" and side.other is not None:
+                side.other.drain()
+            return ("ok" if side.drain() else "error 409 draining"), False
         if words[0] == "deadline":
             return self.deadline(int(words[1]), words[2]), False
         self.stopped = words == ["stop"]
@@ -347,6 +384,8 @@ class Relay:
             side = self.sides.get(id)
         if side is None:
             return "error 404 no such connection"
+        if side.drained and FAULT != "drained_takes_deadlines":
+            return "error 409 draining"
         if after == "never" and FAULT == "never_lifts_nothing":
             return "ok"
         side.set_deadline(NEVER if after == "never" else time.monotonic() + int(after) / 1000)

@@ -15,6 +15,7 @@ fn proved(codes: &[u8], first: u64) -> u64 {
 }
 
 const CLOSED: u64 = 1;
+const DRAIN: u64 = 1 << 63;
 const REFERENCE: u64 = 8;
 const REFERENCES: u64 = 0x7ff_fff8;
 const WAITERS: u64 = 0x3_ffff;
@@ -22,11 +23,11 @@ const WAITERS: u64 = 0x3_ffff;
 fn step(word: u64, code: u8) -> Option<u64> {
     let (lock, shift) = if code < 4 { (2, 27) } else { (4, 45) };
     match code {
-        0 if word & CLOSED != 0 || word & REFERENCES == REFERENCES => None,
+        0 | 2 | 4 if word & (CLOSED | DRAIN) != 0 => None,
+        0 if word & REFERENCES == REFERENCES => None,
         0 => Some(word + REFERENCE),
         1 if word & REFERENCES == 0 => None,
         1 => Some(word - REFERENCE),
-        2 | 4 if word & CLOSED != 0 => None,
         2 | 4 if word & lock == 0 && word & REFERENCES == REFERENCES => None,
         2 | 4 if word & lock == 0 => Some(word + REFERENCE + lock),
         2 | 4 if word >> shift & WAITERS == WAITERS => None,
@@ -35,7 +36,7 @@ fn step(word: u64, code: u8) -> Option<u64> {
         3 | 5 if word >> shift & WAITERS == 0 => Some(word - REFERENCE - lock),
         3 | 5 => Some(word - REFERENCE - lock - (1 << shift)),
         _ if word & CLOSED != 0 || word & REFERENCES == REFERENCES => None,
-        _ => Some((word & 0x7ff_ffff) + REFERENCE + CLOSED),
+        _ => Some((word & (DRAIN | 0x7ff_ffff)) + REFERENCE + CLOSED),
     }
 }
 
@@ -43,10 +44,6 @@ fn by_hand(codes: &[u8], first: u64) -> u64 {
     let mut word = first;
     let mut refusals = 0u64;
     for code in codes {
-        if word >> 63 != 0 {
-            refusals += 1;
-            continue;
-        }
         match step(word, *code) {
             Some(next) => word = next,
             None => refusals += 1,

@@ -1,13 +1,26 @@
 //! What no clause says: that a handle hands its half to the loops, that waiting calls end, that the
 //! halves are destroyed once, which alarms are asked for, and refused memory.
 
+/// Ends the test's process where this doesn't hold, and says what should. A call costs the proof
+/// of a test less than a branch does.
+macro_rules! holds {
+    ($rt:expr; $is:expr) => {
+        $crate::tests::holds(&$rt, $is, stringify!($is))
+    };
+    ($rt:expr; $is:expr, $what:literal) => {
+        $crate::tests::holds(&$rt, $is, $what)
+    };
+}
+
 mod alarms;
 mod closing;
 mod deadlines;
 mod destroying;
+mod draining;
 mod eight_threads;
 mod memory;
 mod outcome_lists;
+mod processor_time;
 mod rows;
 mod scripted;
 mod wakes;
@@ -19,6 +32,7 @@ use fd_descriptor::{Alarms, FdHandle, Resource};
 use rwloops::{DevKind, Fault, WriteFault};
 use scripted::{ClockAlone, OwnCell, Played, Script, ScriptedHalf, Told};
 use std::alloc::{Allocator, Global};
+use std::process::Abort;
 use std::sync::atomic::{AtomicU64, Ordering};
 use std::sync::{Arc, Wait};
 use std::test::Fail;
@@ -32,6 +46,10 @@ const TURNS: u32 = 10_000;
 
 /// The key that descriptors are opened with.
 const KEY: u64 = 7;
+
+fn holds<R: Abort>(rt: &R, is: bool, what: &str) {
+    assert!(rt; is, "{what}");
+}
 
 /// Alarms that nobody hears.
 #[derive(Drop)]
@@ -74,6 +92,18 @@ fn open_plain<C: Clock + Copy + Drop>(
     read.fault = fault;
     let write = ScriptedHalf::new(script, told, ClockAlone { clock })?;
     Ok(FdHandle::open(alloc, read, write, KEY)?)
+}
+
+/// What was told of such a descriptor, and the descriptor, over halves that both play this script.
+fn told_plain<C: Clock + Copy + Drop>(
+    clock: C,
+    alloc: Global,
+    script: Script,
+    fault: Option<DevKind>,
+) -> Result<(Arc<Told, Global>, Plain<C>), Fail> {
+    let told = Told::shared(alloc)?;
+    let handle = open_plain(clock, alloc, &told, script, fault)?;
+    Ok((told, handle))
 }
 
 /// A descriptor over scripted halves that tell its cell.

@@ -6,8 +6,9 @@ use Rattle.deadline_core.specs.declared.deadline.Deadline.TheVariants.{Never, At
 use Rattle.rwloops.specs.declared.fault.Fault.{Fault}
 use Rattle.rwloops.specs.declared.fault.Fault.TheVariants.{Closed}
 use Rattle.fd_descriptor.specs.declared.descriptor.FdHandle.{FdHandle}
-use Rattle.fd_descriptor.specs.FdHandle.{KeepsHandle, marks_of, saw_closed, closes_of}
-use Rattle.fd_descriptor.specs.HandleCalls.{MayTell, SetsDeadline}
+use Rattle.fd_descriptor.specs.FdHandle.{KeepsHandle, marks_of, saw_closed, saw_draining}
+use Rattle.fd_descriptor.specs.FdHandle.{closes_of, drains_of}
+use Rattle.fd_descriptor.specs.HandleCalls.{MayTell, SetsDeadline, IsRefusedEntry}
 
 -- the moment of a deadline that is still to come
 abbrev pub alarm_at : Deadline → ℕ → Option ℕ
@@ -21,3 +22,5 @@ pub record IsSetting {X R W A : Type 0} (before after : FdHandle X R W A)
   pub closed : saw_closed before ≡ true → result ≡ Err Closed
   pub allowed : IfErr result (MayTell SetsDeadline (marks_of before) (marks_of after))
   pub no_close : closes_of after ≡ closes_of before
+  pub draining : saw_draining before ≡ true → IsRefusedEntry result
+  pub no_drain : drains_of after ≡ drains_of before

@@ -6,6 +6,7 @@ use Rattle.fd_descriptor.specs.declared.descriptor.FdHandle.{FdHandle}
 use Rattle.fd_descriptor.specs.declared.poll_cell.PollCell.{PollCell}
 use Rattle.fd_descriptor.specs.CellKey.{key_of_cell}
 use Rattle.fd_descriptor.specs.Marks.{Marks, KeepsMarks, marks_in, closes_in, destroys_in}
+use Rattle.fd_descriptor.specs.Marks.{drains_in}
 
 module _ {X R W A : Type 0} where
   -- the descriptor that a handle is on
@@ -32,13 +33,21 @@ module _ {X R W A : Type 0} where
   abbrev pub saw_done : FdHandle X R W A → Bool
   saw_done h = (marks_of h).done
 
-  -- how many times this handle set the descriptor's flag
+  -- the handle saw that the descriptor is draining
+  abbrev pub saw_draining : FdHandle X R W A → Bool
+  saw_draining h = (marks_of h).draining
+
+  -- how many times this handle set the descriptor's closed flag
   abbrev pub closes_of : FdHandle X R W A → ℕ
   closes_of h = closes_in h.seat
 
   -- how many times this handle destroyed the halves
   abbrev pub destroys_of : FdHandle X R W A → ℕ
   destroys_of h = destroys_in h.seat
+
+  -- how many times this handle set the descriptor's drain flag
+  abbrev pub drains_of : FdHandle X R W A → ℕ
+  drains_of h = drains_in h.seat
 
 -- what every call keeps of its handle
 pub record KeepsHandle {X R W A : Type 0} (before after : FdHandle X R W A) : Type 0 where

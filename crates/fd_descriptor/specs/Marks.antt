@@ -1,4 +1,5 @@
--- What has been seen of a descriptor's end, by the seat of its lock word that a handle holds.
+-- What has been seen of a descriptor's drain and end, by the seat of its lock word that a handle
+-- holds.
 use Rattle.std.specs.Prelude.{◌≡◌, ℕ, true, false, Option, Some, None}
 use Rattle.lockword.specs.declared.holders.Seat.{Seat}
 use Rattle.lockword.specs.declared.holders.LockWord.{LockWord}
@@ -7,13 +8,25 @@ use Rattle.lockword.specs.Places.{seat_place, last_place}
 use Rattle.lockword.specs.TransitionOutcomes.{word_id}
 use Rattle.lockword.specs.declared.holders.Freed.{Freed}
 use Rattle.lockword.specs.declared.holders.Freed.TheVariants as left
-use Rattle.fdmutex.specs.Deeds.{closes, destroys}
+use Rattle.fdmutex.specs.Deeds.{closes, destroys, drains}
 pub use Rattle.lockword.specs.declared.local_view.Marks.{Marks}
 
 -- what was seen stays seen
 abbrev pub KeepsMarks : Marks → Marks → Type 0
 KeepsMarks before after =
     (before.closed ≡ true → after.closed ≡ true) × (before.done ≡ true → after.done ≡ true)
+    × (before.draining ≡ true → after.draining ≡ true)
+
+-- the descriptor was seen draining, and nothing else was seen since
+abbrev pub NowDraining : Marks → Marks → Type 0
+NowDraining before after =
+    (after.draining ≡ true) × (after.closed ≡ before.closed) × (after.done ≡ before.done)
+
+-- nothing was seen since, but perhaps that the descriptor is draining
+abbrev pub SameButDraining : Marks → Marks → Type 0
+SameButDraining before after =
+    (before.draining ≡ true → after.draining ≡ true) × (after.closed ≡ before.closed)
+    × (after.done ≡ before.done)
 
 -- the descriptor was seen closed, and its halves destroyed
 abbrev pub SawTheEnd : Marks → Type 0
@@ -22,7 +35,7 @@ SawTheEnd marks = (marks.closed ≡ true) × (marks.done ≡ true)
 module _ {R W : Type 0} where
   -- what the seat that a handle holds has seen
   abbrev pub marks_in : Option (Seat R W) → Marks
-  marks_in None = record { closed = false; done = false }
+  marks_in None = record { closed = false; done = false; draining = false }
   marks_in (Some s) = marks_at (seat_place s)
 
   -- how many closes the seat that a handle holds has made
@@ -34,6 +47,11 @@ module _ {R W : Type 0} where
   abbrev pub destroys_in : Option (Seat R W) → ℕ
   destroys_in None = 0
   destroys_in (Some s) = destroys (seat_place s)
+
+  -- how many drains it has made
+  abbrev pub drains_in : Option (Seat R W) → ℕ
+  drains_in None = 0
+  drains_in (Some s) = drains (seat_place s)
 
   -- the word of the seat, where there is a seat
   abbrev pub word_in : Option (Seat R W) → Option WordId
@@ -58,6 +76,11 @@ module _ {R W : Type 0} where
   abbrev pub destroys_left : Freed R W → ℕ
   destroys_left (left.Kept s) = destroys (seat_place s)
   destroys_left (left.Last l) = destroys (last_place l)
+
+  -- how many drains it has made
+  abbrev pub drains_left : Freed R W → ℕ
+  drains_left (left.Kept s) = drains (seat_place s)
+  drains_left (left.Last l) = drains (last_place l)
 
   -- somebody else has a reference still, and destroys
   abbrev pub IsKept : Freed R W → Type 0

@@ -1,9 +1,10 @@
 //! What handles do on a descriptor, each under the lock of a half or under a reference.
 
 ghost use Rattle.std.specs.Prelude.{◌≡◌, ◌≤◌, ◌<◌, true, length, Err, IfOk, IfErr};
-ghost use Rattle.fd_descriptor.specs.FdHandle.{KeepsHandle, marks_of, saw_closed};
-ghost use Rattle.fd_descriptor.specs.FdHandle.{closes_of, destroys_of};
+ghost use Rattle.fd_descriptor.specs.FdHandle.{KeepsHandle, marks_of, saw_closed, saw_draining};
+ghost use Rattle.fd_descriptor.specs.FdHandle.{closes_of, destroys_of, drains_of};
 ghost use Rattle.fd_descriptor.specs.HandleCalls.{IsLockFault, MayTell, HasEnded};
+ghost use Rattle.fd_descriptor.specs.HandleCalls.{IsRefusedEntry, IsRefusedWrite};
 ghost use Rattle.fd_descriptor.specs.HandleCalls.{TellsWhoClosed, TellsOwnDestroy};
 ghost use Rattle.fd_descriptor.specs.HandleCalls.{Reads, Accepts, Writes, Shuts, Closes};
 ghost use Rattle.fd_descriptor.specs.Deadlines.{IsSetting};
@@ -29,7 +30,9 @@ impl<X: Resource, A: Allocator> FdHandle<X, A> {
         X::R: TryRead,
         ensures keeps { KeepsHandle self.old self.new }
         ensures no_close { closes_of self.new ≡ closes_of self.old }
+        ensures no_drain { drains_of self.new ≡ drains_of self.old }
         ensures closed { saw_closed self.old ≡ true → result ≡ Err Fault.Closed }
+        ensures draining { saw_draining self.old ≡ true → IsRefusedEntry result }
         ensures allowed { IfErr result (MayTell Reads (marks_of self.old) (marks_of self.new)) }
         ensures within { IfOk result (λ count. count ≤ length buf.old) }
         ensures some { 0 < length buf.old → IfOk result (λ count. 0 < count) }
@@ -48,7 +51,9 @@ impl<X: Resource, A: Allocator> FdHandle<X, A> {
         X::R: TryAccept,
         ensures keeps { KeepsHandle self.old self.new }
         ensures no_close { closes_of self.new ≡ closes_of self.old }
+        ensures no_drain { drains_of self.new ≡ drains_of self.old }
         ensures closed { saw_closed self.old ≡ true → result ≡ Err Fault.Closed }
+        ensures draining { saw_draining self.old ≡ true → IsRefusedEntry result }
         ensures allowed { IfErr result (MayTell Accepts (marks_of self.old) (marks_of self.new)) }
     {
         let fd: &Fd<X, A> = &self.fd;
@@ -63,13 +68,17 @@ impl<X: Resource, A: Allocator> FdHandle<X, A> {
         X::W: TryWrite,
         ensures keeps { KeepsHandle self.old self.new }
         ensures no_close { closes_of self.new ≡ closes_of self.old }
+        ensures no_drain { drains_of self.new ≡ drains_of self.old }
         ensures allowed { IfErr result (λ failed.
             MayTell Writes (marks_of self.old) (marks_of self.new) failed.fault) }
         ensures closed { saw_closed self.old ≡ true
             → result ≡ Err (record { fault = Fault.Closed; count = 0 }) }
+        ensures draining { saw_draining self.old ≡ true → IsRefusedWrite result }
         ensures whole { IfOk result (λ count. count ≡ length bytes.now) }
         ensures part { IfErr result (λ failed. failed.count ≤ length bytes.now) }
         ensures nothing { IfErr result (λ failed. failed.fault ≡ Fault.TooMany
+            → failed.count ≡ 0) }
+        ensures nothing_draining { IfErr result (λ failed. failed.fault ≡ Fault.Draining
             → failed.count ≡ 0) }
     {
         let fd: &Fd<X, A> = &self.fd;
@@ -89,7 +98,9 @@ impl<X: Resource, A: Allocator> FdHandle<X, A> {
         X::W: HalfClose,
         ensures keeps { KeepsHandle self.old self.new }
         ensures no_close { closes_of self.new ≡ closes_of self.old }
+        ensures no_drain { drains_of self.new ≡ drains_of self.old }
         ensures closed { saw_closed self.old ≡ true → result ≡ Err Fault.Closed }
+        ensures draining { saw_draining self.old ≡ true → IsRefusedEntry result }
         ensures allowed { IfErr result (MayTell Shuts (marks_of self.old) (marks_of self.new)) }
     {
         let fd: &Fd<X, A> = &self.fd;
@@ -120,7 +131,8 @@ impl<X: Resource, A: Allocator> FdHandle<X, A> {
     }
 
     /// Sets the deadline of both directions, for calls that wait now and for later ones, until it is
-    /// set again. One that is at most `now` has passed at once.
+    /// set again. One that is at most `now` has passed at once. A descriptor that is draining refuses
+    /// it, as all calls that begin, and keeps the deadline that it has.
     pub fn set_deadline<T: Wait, L: Alarms>(
         &mut self,
         rt: &T,
@@ -162,9 +174,11 @@ impl<X: Resource, A: Allocator> FdHandle<X, A> {
 
     /// Closes the descriptor for all handles: calls that wait end as `Closed`, and this one answers
     /// once the halves are destroyed. `Device` is the fault of destroying them, where this call did;
-    /// `Closed` says that somebody closed before, `TooMany` that the descriptor is still open.
+    /// `Closed` says that somebody closed before, `TooMany` that the descriptor is still open. One that
+    /// is draining is closed as any other.
     pub fn close<T: Wait>(&mut self, rt: &T) -> Result<(), Fault>
         ensures keeps { KeepsHandle self.old self.new }
+        ensures no_drain { drains_of self.new ≡ drains_of self.old }
         ensures closed { saw_closed self.old ≡ true → result ≡ Err Fault.Closed }
         ensures allowed { IfErr result (MayTell Closes (marks_of self.old) (marks_of self.new)) }
         ensures ended { HasEnded result (marks_of self.new) }

@@ -4,13 +4,13 @@ ghost use Rattle.std.specs.Prelude.{◌≡◌, ◌+◌, true, Ok, Err, IfErr};
 ghost use Rattle.lockword.specs.Marks.{marks_of as marks_at};
 ghost use Rattle.lockword.specs.Places.{seat_place};
 ghost use Rattle.lockword.specs.TransitionOutcomes.{IsSeatOf};
-ghost use Rattle.fdmutex.specs.Deeds.{closes, destroys};
+ghost use Rattle.fdmutex.specs.Deeds.{closes, destroys, drains};
 ghost use Rattle.fdmutex.specs.Refusal.{IsFreedOf};
 ghost use Rattle.fd_descriptor.specs.HandleCalls.{Closes, MayTell, HasEnded};
 ghost use Rattle.fd_descriptor.specs.HandleCalls.{TellsWhoClosed, TellsOwnDestroy};
 ghost use Rattle.fd_descriptor.specs.Marks.{HoldsSeatOf, KeepsMarks, SawTheEnd, IsKept};
 ghost use Rattle.fd_descriptor.specs.Marks.{marks_in, marks_left, closes_in, closes_left};
-ghost use Rattle.fd_descriptor.specs.Marks.{destroys_in, destroys_left};
+ghost use Rattle.fd_descriptor.specs.Marks.{destroys_in, destroys_left, drains_in, drains_left};
 
 use crate::descriptor::Fd;
 use crate::leave::{finish, lock_fault};
@@ -32,8 +32,10 @@ fn end_close<X: Resource, T: Wait>(
     requires closed { (marks_left freed).closed ≡ true }
     ensures seat { IsSeatOf word.now (seat_place result.0) }
     ensures marks { SawTheEnd (marks_at (seat_place result.0)) }
+    ensures keeps { KeepsMarks (marks_left freed) (marks_at (seat_place result.0)) }
     ensures told { IsKept freed → result.1 ≡ Ok tt }
     ensures no_close { closes (seat_place result.0) ≡ closes_left freed }
+    ensures no_drain { drains (seat_place result.0) ≡ drains_left freed }
     ensures destroyed { IfErr result.1 (λ kind.
         destroys (seat_place result.0) ≡ destroys_left freed + 1) }
 {
@@ -53,6 +55,7 @@ pub(crate) fn close_by<X: Resource, A: Allocator, T: Wait>(
     requires { HoldsSeatOf fd.now.word seat.old }
     ensures seat { HoldsSeatOf fd.now.word seat.new }
     ensures marks { KeepsMarks (marks_in seat.old) (marks_in seat.new) }
+    ensures no_drain { drains_in seat.new ≡ drains_in seat.old }
     ensures closed { (marks_in seat.old).closed ≡ true → result ≡ Err Fault.Closed }
     ensures allowed { IfErr result (MayTell Closes (marks_in seat.old) (marks_in seat.new)) }
     ensures ended { HasEnded result (marks_in seat.new) }

@@ -6,7 +6,8 @@
 ghost use Rattle.std.specs.Prelude.{◌≡◌, ◌≤◌, ◌<◌, true, length, Ok, Err, IfOk, IfErr};
 ghost use Rattle.fd_descriptor.specs.HalfUse.{Did};
 ghost use Rattle.fd_descriptor.specs.HandleCalls.{Reads, Accepts, Writes, IsLockFault, IsOwnFault};
-ghost use Rattle.fd_descriptor.specs.Marks.{HoldsSeatOf, KeepsMarks, marks_in, closes_in};
+ghost use Rattle.fd_descriptor.specs.HandleCalls.{IsRefusedEntry};
+ghost use Rattle.fd_descriptor.specs.Marks.{HoldsSeatOf, KeepsMarks, marks_in, closes_in, drains_in};
 
 use crate::descriptor::Fd;
 use crate::leave::{leave, lock_fault};
@@ -38,7 +39,9 @@ where
     ensures seat { HoldsSeatOf fd.now.word seat.new }
     ensures marks { KeepsMarks (marks_in seat.old) (marks_in seat.new) }
     ensures no_close { closes_in seat.new ≡ closes_in seat.old }
+    ensures no_drain { drains_in seat.new ≡ drains_in seat.old }
     ensures closed { (marks_in seat.old).closed ≡ true → result ≡ Err Fault.Closed }
+    ensures draining { (marks_in seat.old).draining ≡ true → IsRefusedEntry result }
     ensures no_lock { IfErr result (IsLockFault (marks_in seat.old) (marks_in seat.new)) }
     ensures did { IfOk result (λ answer. Did F.FnOnce act answer) }
 {
@@ -95,6 +98,8 @@ pub(crate) fn write_in<H: TryWrite, T: Wait>(
     ensures part { IfErr result (λ failed. failed.count ≤ length bytes.now) }
     ensures faults { IfErr result (λ failed. IsOwnFault Writes failed.fault) }
     ensures nothing { IfErr result (λ failed. failed.fault ≡ Fault.TooMany → failed.count ≡ 0) }
+    ensures nothing_draining { IfErr result (λ failed.
+        failed.fault ≡ Fault.Draining → failed.count ≡ 0) }
 {
     rwloops::write(rt, half, bytes, &mut CellWaits::new(cell, rt))
 }

@@ -4,8 +4,8 @@ ghost use Rattle.std.specs.Prelude.{◌≡◌, true, false, IfOk, IfErr};
 ghost use Rattle.std.specs.Arc.{arc_value};
 ghost use Rattle.lockword.specs.TransitionOutcomes.{IsOnlyClosed};
 ghost use Rattle.fd_descriptor.specs.FdHandle.{descriptor_of, key_of, cell_of};
-ghost use Rattle.fd_descriptor.specs.FdHandle.{marks_of, saw_closed, saw_done};
-ghost use Rattle.fd_descriptor.specs.FdHandle.{closes_of, destroys_of};
+ghost use Rattle.fd_descriptor.specs.FdHandle.{marks_of, saw_closed, saw_draining, saw_done};
+ghost use Rattle.fd_descriptor.specs.FdHandle.{closes_of, destroys_of, drains_of};
 
 use crate::descriptor::{Fd, FdHandle};
 use crate::poll_cell::PollCell;
@@ -28,9 +28,11 @@ impl<X: Resource> FdHandle<X> {
     ) -> Result<FdHandle<X>, OutOfMemory>
         ensures key { IfOk result (λ handle. key_of handle ≡ key) }
         ensures open { IfOk result (λ handle. saw_closed handle ≡ false) }
+        ensures undrained { IfOk result (λ handle. saw_draining handle ≡ false) }
         ensures not_done { IfOk result (λ handle. saw_done handle ≡ false) }
         ensures no_close { IfOk result (λ handle. closes_of handle ≡ 0) }
         ensures no_destroy { IfOk result (λ handle. destroys_of handle ≡ 0) }
+        ensures no_drain { IfOk result (λ handle. drains_of handle ≡ 0) }
     {
         FdHandle::open_in(alloc, alloc, read, write, key)
     }
@@ -49,9 +51,11 @@ impl<X: Resource, A: Allocator> FdHandle<X, A> {
         A: Copy,
         ensures key { IfOk result (λ handle. key_of handle ≡ key) }
         ensures open { IfOk result (λ handle. saw_closed handle ≡ false) }
+        ensures undrained { IfOk result (λ handle. saw_draining handle ≡ false) }
         ensures not_done { IfOk result (λ handle. saw_done handle ≡ false) }
         ensures no_close { IfOk result (λ handle. closes_of handle ≡ 0) }
         ensures no_destroy { IfOk result (λ handle. destroys_of handle ≡ 0) }
+        ensures no_drain { IfOk result (λ handle. drains_of handle ≡ 0) }
     {
         let Ok(cell) = Arc::new(alloc, PollCell::new(key)) else {
             return Err(OutOfMemory);
@@ -77,16 +81,19 @@ impl<X: Resource, A: Allocator> FdHandle<X, A> {
         }
     }
 
-    /// The six fields of the descriptor's lock word, by one load: who has it, who waits for it, and
-    /// whether it is closed.
+    /// The seven fields of the descriptor's lock word, by one load: who has it, who waits for it, and
+    /// whether it is closed and whether it is draining.
     pub fn look(&mut self) -> Word
         ensures same { descriptor_of self.new ≡ descriptor_of self.old }
         ensures closed { saw_closed self.new ≡ result.closed }
         ensures stays { saw_closed self.old ≡ true → result.closed ≡ true }
+        ensures draining { saw_draining self.new ≡ result.drain }
+        ensures drain_stays { saw_draining self.old ≡ true → result.drain ≡ true }
         ensures done { saw_done self.new ≡ saw_done self.old }
         ensures gone { saw_done self.old ≡ true → IsOnlyClosed result }
         ensures no_close { closes_of self.new ≡ closes_of self.old }
         ensures no_destroy { destroys_of self.new ≡ destroys_of self.old }
+        ensures no_drain { drains_of self.new ≡ drains_of self.old }
     {
         let Some(mut seat) = self.seat.take() else {
             unreachable!()
@@ -96,17 +103,19 @@ impl<X: Resource, A: Allocator> FdHandle<X, A> {
         word
     }
 
-    /// Another handle on this descriptor, which has seen the same. It takes no memory; refused is
-    /// only a descriptor that is held too often.
+    /// Another handle on this descriptor, which has seen the same, also where that is a drain. It takes
+    /// no memory; refused is only a descriptor that is held too often.
     pub fn share(&mut self) -> Result<FdHandle<X, A>, Fault>
         ensures same { descriptor_of self.new ≡ descriptor_of self.old }
         ensures kept { marks_of self.new ≡ marks_of self.old }
         ensures no_close { closes_of self.new ≡ closes_of self.old }
         ensures no_destroy { destroys_of self.new ≡ destroys_of self.old }
+        ensures no_drain { drains_of self.new ≡ drains_of self.old }
         ensures shared { IfOk result (λ other. descriptor_of other ≡ descriptor_of self.old) }
         ensures seen { IfOk result (λ other. marks_of other ≡ marks_of self.old) }
         ensures new { IfOk result (λ other. closes_of other ≡ 0) }
         ensures new_too { IfOk result (λ other. destroys_of other ≡ 0) }
+        ensures new_undrained { IfOk result (λ other. drains_of other ≡ 0) }
         ensures refused { IfErr result (λ fault. fault ≡ Fault.OutOfMemory) }
     {
         let Ok(fd) = Arc::try_clone(&self.fd) else {

@@ -7,10 +7,10 @@ ghost use Rattle.std.specs.Prelude.{◌≡◌, ◌+◌};
 ghost use Rattle.lockword.specs.Marks.{marks_of as marks_at};
 ghost use Rattle.lockword.specs.Places.{seat_place, last_place};
 ghost use Rattle.lockword.specs.TransitionOutcomes.{IsSeatOf, HasNotTaken};
-ghost use Rattle.fdmutex.specs.Deeds.{closes, destroys};
+ghost use Rattle.fdmutex.specs.Deeds.{closes, destroys, drains};
 ghost use Rattle.fdmutex.specs.Refusal.{IsFreedOf};
 ghost use Rattle.fd_descriptor.specs.HandleCalls.{lock_fault};
-ghost use Rattle.fd_descriptor.specs.Marks.{KeepsMarks, SawTheEnd, marks_left, closes_left};
+ghost use Rattle.fd_descriptor.specs.Marks.{KeepsMarks, SawTheEnd, marks_left, closes_left, drains_left};
 
 use crate::resource::Resource;
 use fdmutex::{Freed, Refusal};
@@ -26,7 +26,9 @@ pub(crate) fn finish<X: Resource>(
     requires not_taken { HasNotTaken (last_place last) }
     ensures seat { IsSeatOf word.now (seat_place result.0) }
     ensures marks { SawTheEnd (marks_at (seat_place result.0)) }
+    ensures keeps { KeepsMarks (marks_at (last_place last)) (marks_at (seat_place result.0)) }
     ensures no_close { closes (seat_place result.0) ≡ closes (last_place last) }
+    ensures no_drain { drains (seat_place result.0) ≡ drains (last_place last) }
     ensures destroyed { destroys (seat_place result.0) ≡ destroys (last_place last) + 1 }
 {
     let mut last = last;
@@ -44,6 +46,7 @@ pub(crate) fn leave<X: Resource>(
     ensures seat { IsSeatOf word.now (seat_place result) }
     ensures marks { KeepsMarks (marks_left freed) (marks_at (seat_place result)) }
     ensures no_close { closes (seat_place result) ≡ closes_left freed }
+    ensures no_drain { drains (seat_place result) ≡ drains_left freed }
 {
     match freed {
         Freed::Kept(seat) => seat,
@@ -58,5 +61,6 @@ pub(crate) fn lock_fault(refusal: Refusal) -> Fault
     match refusal {
         Refusal::Closed => Fault::Closed,
         Refusal::TooMany(_) => Fault::TooMany,
+        Refusal::Draining => Fault::Draining,
     }
 }

@@ -1,12 +1,13 @@
 //! What a program holds instead of a socket: a descriptor that many handles read, write, time and
 //! close at once, and that is destroyed once, after its last user. Go's `fd_unix.go` over the lock
-//! word, the poll state and the loops below.
+//! word, the poll state and the loops below, with a drain, which is this project's own.
 #![tactic(auto)]
 
 mod calls;
 mod close;
 mod deadlines;
 mod descriptor;
+mod draining;
 mod half_use;
 mod handle;
 mod leave;

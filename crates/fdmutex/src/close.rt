@@ -7,10 +7,10 @@ ghost use Rattle.stream_base.specs.declared.direction.Dir.TheVariants.{Read, Wri
 ghost use Rattle.lockword_core.specs.LockState.{is_same};
 ghost use Rattle.lockword.specs.Marks.{NowClosed, SameDeeds};
 ghost use Rattle.lockword.specs.Places.{seat_place, closing_place, owed_by};
-ghost use Rattle.lockword.specs.TransitionOutcomes.{IsSeatOf, IsAtLimit};
+ghost use Rattle.lockword.specs.TransitionOutcomes.{IsSeatOf};
 ghost use Rattle.lockword.specs.Dropping.{IsDecided, LeavesClosed};
 ghost use Rattle.fdmutex.specs.Deeds.{MadeNoEnd, MadeTheClose, LeavesWithoutEnd};
-ghost use Rattle.fdmutex.specs.Refusal.{IsTakenOrRefused};
+ghost use Rattle.fdmutex.specs.Refusal.{IsClosingOrRefused};
 
 use crate::Refusal;
 use lockword::{Close, Closing, Freed, LockWord, Seat, SignalClosing};
@@ -25,7 +25,7 @@ fn take_over<R: Drop, W: Drop, T: Wait>(
     seat: Seat<R, W>,
 ) -> Result<Closing<R, W>, (Seat<R, W>, Refusal)>
     requires seat { IsSeatOf word.now (seat_place seat) }
-    ensures answer { IsTakenOrRefused NowClosed closing_place IsAtLimit seat result }
+    ensures answer { IsClosingOrRefused seat result }
     ensures made { IfOk result (λ closing. MadeTheClose (seat_place seat) (closing_place closing)) }
     ensures refused { IfErr result (λ back. SameDeeds (seat_place seat) (seat_place back.0)) }
 {
@@ -69,14 +69,15 @@ fn signal_all<R: Drop, W: Drop, T: Wait>(
     unreachable!()
 }
 
-/// Closes the word, takes a reference, and gives the signals of all waiters.
+/// Closes the word, takes a reference, and gives the signals of all waiters. A word that is draining
+/// is closed as any other.
 pub fn close_mark<R: Drop, W: Drop, T: Wait>(
     rt: &T,
     word: &LockWord<R, W>,
     seat: Seat<R, W>,
 ) -> Result<Closing<R, W>, (Seat<R, W>, Refusal)>
     requires seat { IsSeatOf word.now (seat_place seat) }
-    ensures answer { IsTakenOrRefused NowClosed closing_place IsAtLimit seat result }
+    ensures answer { IsClosingOrRefused seat result }
     ensures no_reader_owed { IfOk result (λ closing. owed_by closing Read ≡ 0) }
     ensures no_writer_owed { IfOk result (λ closing. owed_by closing Write ≡ 0) }
     ensures made { IfOk result (λ closing. MadeTheClose (seat_place seat) (closing_place closing)) }

@@ -78,6 +78,7 @@ pub fn lock<D: Guards<R, W>, R: Drop, W: Drop, T: Wait>(
             Lock::Queued(wait) => seat = await_signal(rt, word, wait),
             Lock::Closed(back) => return Err((back, Refusal::Closed)),
             Lock::TooMany(back, found) => return Err((back, Refusal::TooMany(found))),
+            Lock::Draining(back) => return Err((back, Refusal::Draining)),
             Lock::Lost(back) => seat = back,
         }
     }

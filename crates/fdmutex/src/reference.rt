@@ -2,10 +2,10 @@
 
 ghost use Rattle.lockword.specs.Marks.{SameMarks};
 ghost use Rattle.lockword.specs.Places.{seat_place, ref_place};
-ghost use Rattle.lockword.specs.TransitionOutcomes.{IsSeatOf, IsAtLimit};
+ghost use Rattle.lockword.specs.TransitionOutcomes.{IsSeatOf};
 ghost use Rattle.lockword.specs.Dropping.{IsDecided, Leaves};
 ghost use Rattle.fdmutex.specs.Deeds.{TakesWithoutEnd, LeavesWithoutEnd};
-ghost use Rattle.fdmutex.specs.Refusal.{IsTakenOrRefused};
+ghost use Rattle.fdmutex.specs.Refusal.{IsReferenceFull, IsTakenOrRefused};
 
 use crate::Refusal;
 use lockword::{Freed, Incref, LockWord, Ref, Seat};
@@ -18,7 +18,7 @@ pub fn incref<R: Drop, W: Drop, T: Wait>(
     seat: Seat<R, W>,
 ) -> Result<Ref<R, W>, (Seat<R, W>, Refusal)>
     requires seat { IsSeatOf word.now (seat_place seat) }
-    ensures answer { IsTakenOrRefused SameMarks ref_place IsAtLimit seat result }
+    ensures answer { IsTakenOrRefused SameMarks ref_place IsReferenceFull seat result }
     ensures no_end { TakesWithoutEnd ref_place seat result }
 {
     let mut seat = seat;
@@ -27,6 +27,7 @@ pub fn incref<R: Drop, W: Drop, T: Wait>(
             Incref::Held(held) => return Ok(held),
             Incref::Closed(back) => return Err((back, Refusal::Closed)),
             Incref::TooMany(back, found) => return Err((back, Refusal::TooMany(found))),
+            Incref::Draining(back) => return Err((back, Refusal::Draining)),
             Incref::Lost(back) => seat = back,
         }
     }

@@ -100,7 +100,7 @@ module _ (R W : Type 0) where
       (length-set (set s.homes 0 none) 1 none ∙ long)
       (subst (λ (ys : List Stake). IsBalanced (record c { stakes = ys }) state) (sym same) f.balance)
       (both _ (omega arith) (omega arith))
-      (λ e. e) record { closed = saw.closed; done = saw.done } in (
+      (λ e. e) record { closed = saw.closed; draining = saw.draining; done = saw.done } in (
         w,
         chain (takes 0 (half.Read a.0)) (takes 1 (half.Write b.0)),
         (a.1, set_else s.homes 0 1 none (omega arith) ∙ b.1),
@@ -155,7 +155,8 @@ module _ (R W : Type 0) where
       let next = on_done s.words s.homes homes s.views c true state id w f (length-set (set s.homes 1 x) 0 x ∙ long)
       (destroy_keeps c (stakes_of views) state f.balance from_last)
       (both _ (omega arith) (omega arith))
-      (λ e. refl) record { closed = (f.seen id me.0 at).closed; done = λ e. refl } in (
+      (λ e. refl)
+      record { closed = (f.seen id me.0 at).closed; draining = (f.seen id me.0 at).draining; done = λ e. refl } in (
         w,
         chain gives gives,
         (tt, tt),

@@ -164,12 +164,14 @@ more_deeds h views id v w o l at e =
 pub own_view : (h : List Event) (words : List ℕ) (views : List LocalView) (id : ℕ) (v : LocalView)
     → Matches (state_after empty h) words views → Interleaves h views → get_elem? views id ≡ some v
     → (v.saw.closed ≡ true → (state_after empty h).closed ≡ true)
+    → (v.saw.draining ≡ true → (state_after empty h).draining ≡ true)
     → (v.saw.done ≡ true → is_some (state_after empty h).destroyed_by ≡ true) → IsView h id v
-own_view h words views id v l i at closed done =
+own_view h words views id v l i at closed draining done =
     record {
       did = own_deeds h views id v i at;
       stake = own_stake (state_after empty h) words views id v l at;
       saw_closed = closed;
+      saw_draining = draining;
       saw_done = done;
     }
 
@@ -197,6 +199,7 @@ keeps_signals st id new kind.Decref = refl
 keeps_signals st id new (kind.Lock d) = refl
 keeps_signals st id new (kind.Unlock d) = refl
 keeps_signals st id new kind.Close = refl
+keeps_signals st id new kind.Drain = refl
 
 keeps_mark : (st : LockState) (id : ℕ) (new : Stake) (k : Kind)
     → (with_change (with_stake st id new) id (change_of k)).destroyed_by ≡ st.destroyed_by
@@ -205,6 +208,7 @@ keeps_mark st id new kind.Decref = refl
 keeps_mark st id new (kind.Lock d) = refl
 keeps_mark st id new (kind.Unlock d) = refl
 keeps_mark st id new kind.Close = refl
+keeps_mark st id new kind.Drain = refl
 
 -- a step of this kind is the operation, with its answer and its stake
 pub step_moves : (h : List Event) (id : ℕ) (k : Kind) (a : After) (n m : ℕ) → n ≡ encoded (census (state_after empty h))

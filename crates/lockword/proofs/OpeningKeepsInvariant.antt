@@ -5,7 +5,7 @@ use Rattle.lockword.proofs.Words.{references, locks, lasts, IsBalanced, LocalVie
 use mathlib.Core.Option.{some-injective, some-ne-none}
 use Rattle.atomic_table.specs.Table.{opening}
 use Rattle.lockword_core.specs.declared.stake.Stake.TheVariants as stake
-use Rattle.lockword_core.specs.LockState.{queued, owed, closers, count}
+use Rattle.lockword_core.specs.LockState.{queued, owed, closers, drainers, count}
 use Rattle.lockword_core.proofs.CountLemmas.{count-nil, count-push}
 use Rattle.lockword.specs.declared.shared_rule.Half.TheVariants as half
 use Rattle.lockword.specs.LocalView.{takers}
@@ -29,7 +29,13 @@ saw_nothing (suc i) v at = absurd (some-ne-none v (sym at))
 -- the abstract state of one seat that has nothing
 abbrev first_census : Census
 first_census =
-    record { stakes = stake.Free ∷ []; closed = false; signals = record { read = 0; write = 0 }; destroyed = false }
+    record {
+      stakes = stake.Free ∷ [];
+      closed = false;
+      draining = false;
+      signals = record { read = 0; write = 0 };
+      destroyed = false;
+    }
 
 starts : IsBalanced first_census 0
 starts =
@@ -43,6 +49,7 @@ starts =
       none_counted (owed Read),
       none_counted (owed Write),
       none_counted closers,
+      none_counted drainers,
       none_counted lasts,
     )
 
@@ -63,7 +70,7 @@ module _ (R W : Type 0) where
               halves = both _ (omega (arith, none_counted (locks Read), none_took))
                   (omega (arith, none_counted (locks Write), none_took));
               seen = λ i v at. subst (λ (y : LocalView). SawRightly first_census y)
-                  (saw_nothing i v at) record { closed = λ e. e; done = λ e. e };
+                  (saw_nothing i v at) record { closed = λ e. e; draining = λ e. e; done = λ e. e };
             };
         history = [];
         interleaves = first_deeds;

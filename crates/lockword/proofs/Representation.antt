@@ -54,12 +54,17 @@ recounted d homes c ys k j locked took was = omega arith
 -- what all seats saw is so, once one of them has another view
 pub saw_rightly : (views : List LocalView) (id : ℕ) (w : LocalView) (b c : Census)
     → ((i : ℕ) (v : LocalView) → get_elem? views i ≡ some v → SawRightly b v)
-    → (b.closed ≡ true → c.closed ≡ true) → (b.destroyed ≡ true → c.destroyed ≡ true) → SawRightly c w
+    → (b.closed ≡ true → c.closed ≡ true) → (b.draining ≡ true → c.draining ≡ true)
+    → (b.destroyed ≡ true → c.destroyed ≡ true) → SawRightly c w
     → (i : ℕ) (v : LocalView) → get_elem? (set views id w) i ≡ some v → SawRightly c v
-saw_rightly views id w b c saw closes ends so i v at =
+saw_rightly views id w b c saw closes drains ends so i v at =
     ⊎_elim (λ here. subst (λ (x : LocalView). SawRightly c x) here.1 so)
     (λ there. let was = saw i v there.1 in
-    record { closed = λ e. closes (was.closed e); done = λ e. ends (was.done e) })
+    record {
+      closed = λ e. closes (was.closed e);
+      draining = λ e. drains (was.draining e);
+      done = λ e. ends (was.done e);
+    })
     (at_set views id i w v at)
 
 module _ {R W : Type 0} where
@@ -113,19 +118,19 @@ module _ {R W : Type 0} where
         halves = λ d. subst
             (λ (ys : List Stake). IsInOnePlace d s.homes (record c { stakes = ys }) (takers s.views)) r.stakes
             (r.halves d);
-        seen = λ i v at. let saw = r.seen i v at in record { closed = saw.closed; done = saw.done };
+        seen = λ i v at. let saw = r.seen i v at in record { closed = saw.closed; draining = saw.draining; done = saw.done };
       }
 
   -- a new state word, and a new view of one seat
   pub on_state : (words : List ℕ) (homes homes' : List (Option (Half R W))) (views : List LocalView) (c : Census)
-      (closed : Bool) (n m id : ℕ) (w : LocalView)
+      (closed draining : Bool) (n m id : ℕ) (w : LocalView)
       → Fits words homes views c n → length homes' ≡ 2
-      → let next = record (seated (set views id w) c) { closed = closed } in
+      → let next = record (seated (set views id w) c) { closed = closed; draining = draining } in
       IsBalanced next m
       → ((d : Dir) → IsInOnePlace d homes' next (takers (set views id w)))
-      → (c.closed ≡ true → closed ≡ true) → SawRightly next w
+      → (c.closed ≡ true → closed ≡ true) → (c.draining ≡ true → draining ≡ true) → SawRightly next w
       → Fits (set words 0 m) homes' (set views id w) next m
-  on_state words homes homes' views c closed n m id w f deep balance halves grows saw =
+  on_state words homes homes' views c closed draining n m id w f deep balance halves grows drains saw =
       let wide = f.wide in
       record {
         wide = length-set words 0 m ∙ f.wide;
@@ -136,7 +141,8 @@ module _ {R W : Type 0} where
         stakes = refl;
         balance = balance;
         halves = halves;
-        seen = saw_rightly views id w c (record (seated (set views id w) c) { closed = closed }) f.seen grows
+        seen = saw_rightly views id w c
+            (record (seated (set views id w) c) { closed = closed; draining = draining }) f.seen grows drains
             (λ e. e) saw;
       }
 
@@ -161,7 +167,7 @@ module _ {R W : Type 0} where
         balance = balance;
         halves = halves;
         seen = saw_rightly views id w c (record (seated (set views id w) c) { destroyed = destroyed }) f.seen
-            (λ e. e) grows saw;
+            (λ e. e) (λ e. e) grows saw;
       }
 
   -- a new semaphore word, and a new view of one seat
@@ -184,5 +190,6 @@ module _ {R W : Type 0} where
         balance = balance;
         halves = halves;
         seen = saw_rightly views id w c
-            (record (seated (set views id w) c) { signals = with_signals d m c.signals }) f.seen (λ e. e) (λ e. e) saw;
+            (record (seated (set views id w) c) { signals = with_signals d m c.signals }) f.seen (λ e. e) (λ e. e)
+            (λ e. e) saw;
       }

@@ -4,13 +4,13 @@ use Rattle.std.specs.Prelude.{◌==◌, ◌&&◌, sum_by, count_by}
 use Rattle.std.proofs.lemmas.List.Sums.{sum_by-cons, sum_by-set}
 use Rattle.lockword.proofs.Words.{ℕ, zero, suc, Bool, true, false, List, length, set, refl, sym, ap, subst, arith}
 use Rattle.lockword.proofs.Words.{get_or, get_or-set_same, get_or-set_other, dite, ℕ_discrete, some, get_elem?, Dir}
-use Rattle.lockword.proofs.Words.{Read, Write, Op, Event, Word, CLOSED, bit, signals_in, empty, census, references}
+use Rattle.lockword.proofs.Words.{Read, Write, Op, Event, Word, bit, signals_in, empty, census, references}
 use Rattle.lockword.proofs.Words.{locks, lasts, number, state_after, count-within, always_consistent, LocalView}
 use Rattle.lockword.proofs.Words.{stakes_of, deeds_of, IsReached}
-use Rattle.lockword_core.specs.LockState.{queued, count}
+use Rattle.lockword_core.specs.LockState.{queued, drainers, count}
 use Rattle.lockword_core.specs.Laws.{ReturnedTheLast}
-use Rattle.lockword_core.specs.OperationCounts.{is_taking, is_returning, is_signal, is_wake, is_close, is_destroy}
-use Rattle.lockword_core.specs.OperationCounts.{made_in, operations_of, AddsUp}
+use Rattle.lockword_core.specs.OperationCounts.{is_taking, is_returning, is_signal, is_wake, is_close, is_drain}
+use Rattle.lockword_core.specs.OperationCounts.{is_destroy, made_in, operations_of, AddsUp}
 use Rattle.lockword_core.proofs.BalanceLemmas.{reads_as}
 use Rattle.lockword_core.proofs.InvariantPreserved.{bit-le, bit-true}
 use Rattle.lockword_core.proofs.WordFields.{reads_fields, bit-same}
@@ -20,6 +20,7 @@ use Rattle.lockword_core.proofs.WordRefines.{pick_then, pick_else}
 use Rattle.lockword_core.proofs.OperationLemmas.{count_by-cons, adds_up, destroyer}
 use Rattle.lockword.specs.LocalView.{made_by_seats}
 use Rattle.lockword.specs.TransitionOutcomes.{IsOnlyClosed}
+use Rattle.lockword.specs.Steps.{IsJustClosed}
 use Rattle.lockword.specs.Moment.{Moment, IsRead}
 use Rattle.lockword.specs.Laws.{seats_census, over_seats, IsInOnePlace, CountsSeats, ComesOfDeeds}
 use Rattle.lockword.proofs.Representation.{both, present, fits}
@@ -91,6 +92,35 @@ module _ {R W : Type 0} where
         write_waiters = let one = told.wwait in let other = have.waiters Write in omega arith;
       }
 
+  -- at most one seat owes the signals of a drain, and only of a word that is draining
+  pub one_drainer : (s : Moment R W) (fields : Word) → IsRead s fields → over_seats drainers s ≤ bit fields.drain
+  one_drainer s fields read =
+      let f = fits s read.rule.represents in
+      let n : ℕ = get_or s.words 0 0 in
+      let told = (reads_fields fields n read.is_word read.same).drain in
+      let have = (reads_as (present s read.rule.represents) n f.balance).drain in
+      let one = f.balance.one_drainer in
+      omega arith
+
+  -- nobody is left to be signalled in a word that is draining
+  pub none_waits : (s : Moment R W) (fields : Word) → IsRead s fields → fields.drain ≡ true
+      → (fields.rwait ≡ 0) × (fields.wwait ≡ 0)
+  none_waits s fields read drained =
+      let f = fits s read.rule.represents in
+      let n : ℕ = get_or s.words 0 0 in
+      let told = reads_fields fields n read.is_word read.same in
+      let have = reads_as (present s read.rule.represents) n f.balance in
+      let set_bit : bit fields.drain ≡ 1 = ap bit drained in
+      let flag = told.drain in
+      let is = have.drain in
+      let readers = told.rwait in
+      let writers = told.wwait in
+      let pending_readers = have.waiters Read in
+      let pending_writers = have.waiters Write in
+      let no_reader = f.balance.reading.none_drained (omega arith) in
+      let no_writer = f.balance.writing.none_drained (omega arith) in
+      (omega arith, omega arith)
+
   pub comes_of_deeds : (s : Moment R W) (fields : Word) → IsRead s fields → ComesOfDeeds s fields
   comes_of_deeds s fields read =
       let reached = read.rule in
@@ -150,11 +180,12 @@ module _ {R W : Type 0} where
   pub only_closed : (s : Moment R W) (fields : Word) → IsRead s fields → get_or s.words 3 0 ≡ 1 → IsOnlyClosed fields
   only_closed s fields read done =
       let n : ℕ = get_or s.words 0 0 in
-      let is : n ≡ CLOSED = (over s read.rule done).word in
+      let is : IsJustClosed n = (over s read.rule done).word in
       let same = read.same in
       let a = bit-le fields.closed in
       let b = bit-le fields.rlock in
-      let c = bit-le fields.wlock in (
+      let c = bit-le fields.wlock in
+      let d = bit-le fields.drain in (
         bit-true fields.closed (omega arith),
         no_bit fields.rlock (omega arith),
         no_bit fields.wlock (omega arith),
@@ -171,6 +202,15 @@ module _ {R W : Type 0} where
       let told = reads_fields fields n read.is_word read.same in
       let have = reads_as (present s read.rule.represents) n f.balance in
       bit-same _ _ (sym told.flag ∙ have.flag) ∙ (f.seen seat v at).closed saw
+
+  pub saw_draining : (s : Moment R W) (fields : Word) (seat : ℕ) (v : LocalView) → IsRead s fields
+      → get_elem? s.views seat ≡ some v → v.saw.draining ≡ true → fields.drain ≡ true
+  saw_draining s fields seat v read at saw =
+      let f = fits s read.rule.represents in
+      let n : ℕ = get_or s.words 0 0 in
+      let told = reads_fields fields n read.is_word read.same in
+      let have = reads_as (present s read.rule.represents) n f.balance in
+      bit-same _ _ (sym told.drain ∙ have.drain) ∙ (f.seen seat v at).draining saw
 
   pub saw_done : (s : Moment R W) (seat : ℕ) (v : LocalView) → IsReached s → get_elem? s.views seat ≡ some v
       → v.saw.done ≡ true → get_or s.words 3 0 ≡ 1
@@ -199,6 +239,7 @@ module _ {R W : Type 0} where
         taken = let a = all.taken in let b = is is_taking in let c = is is_returning in omega arith;
         signalled = λ d. let a = all.signalled d in let b = is (is_signal d) in let c = is (is_wake d) in omega arith;
         closed = is is_close ∙ all.closed;
+        drained = is is_drain ∙ all.drained;
         destroyed = is is_destroy ∙ all.destroyed;
       }
 
@@ -209,6 +250,14 @@ module _ {R W : Type 0} where
       let counts = counts_stakes fields (state_after empty reached.history)
       (always_consistent reached.history) read.is_word (read.same ∙ reached.leads.state_word) in
       (history_adds_up s reached).closed ∙ sym (ap bit counts.flag)
+
+  pub drains_are : (s : Moment R W) (fields : Word) → IsRead s fields → made_by_seats s.views is_drain
+      ≡ bit fields.drain
+  drains_are s fields read =
+      let reached = read.rule in
+      let counts = counts_stakes fields (state_after empty reached.history)
+      (always_consistent reached.history) read.is_word (read.same ∙ reached.leads.state_word) in
+      (history_adds_up s reached).drained ∙ sym (ap bit counts.drain)
 
   pub destroys_are : (s : Moment R W) → IsReached s → made_by_seats s.views is_destroy ≡ get_or s.words 3 0
   destroys_are s reached = (history_adds_up s reached).destroyed ∙ sym reached.leads.done_word
@@ -236,5 +285,6 @@ module _ {R W : Type 0} where
             + made_by_seats s.views (is_wake d)) (let a = all.signalled Read in let b = leads.semaphores Read in
             omega arith) (let a = all.signalled Write in let b = leads.semaphores Write in omega arith);
         closed = closes_are s fields read;
+        drained = drains_are s fields read;
         destroyed = destroys_are s reached ∙ done_bit (get_or s.words 3 0) _ leads.done_word;
       }

@@ -1,17 +1,69 @@
 -- A split keeps the rule: the new seat has no stake, and counts nothing.
 use Rattle.std.proofs.Common.{◌≡◌, ◌+◌, ◌∙◌, ⊎_elim, [], ◌∷◌, ◌++◌}
 use Rattle.lockword.proofs.Words.{ℕ, List, get_or, refl, sym, ap, subst, arith, set_again, Census, empty}
-use Rattle.lockword.proofs.Words.{Counted, locks, state_after, LocalView, Half, stakes_of, SawRightly}
+use Rattle.lockword.proofs.Words.{Dir, Read, Write, Stake, Counted, references, locks, lasts, number, IsBalanced, state_after, LocalView, Half, stakes_of, SawRightly}
 use Rattle.lockword.proofs.Words.{IsReached}
 use Rattle.atomic_table.specs.Table.{Splits}
 use Rattle.atomic_table.proofs.Lists.{at_snoc}
 use Rattle.lockword_core.specs.declared.stake.Stake.TheVariants as stake
-use Rattle.lockword_core.specs.LockState.{count}
+use Rattle.lockword_core.specs.LockState.{closers, drainers, queued, owed, count}
+use Rattle.lockword_core.proofs.BalanceLemmas.{IsBalancedWay}
 use Rattle.lockword_core.proofs.CountLemmas.{count-push}
 use Rattle.lockword.specs.LocalView.{takers, without_stake}
 use Rattle.lockword.proofs.ViewLemmas.{stakes_push, takers-push}
 use Rattle.lockword.proofs.Representation.{seated, present, Fits, fits, recounted, represents}
 use Rattle.lockword.proofs.HistoryEnds.{split_history, split_deeds}
+
+-- stakes that count as much keep the balance
+same_way : (d : Dir) (c : Census) (ys : List Stake) → ((what : Counted) → count what ys ≡ number what c)
+    → IsBalancedWay d c → IsBalancedWay d (record c { stakes = ys })
+same_way d c ys same b =
+    let holders = same (locks d) in
+    let waiters = same (queued d) in
+    let owing = same (owed d) in
+    let one = b.one_holder in
+    let have = b.signals_have_waiters in
+    let fit = b.waiters_fit in
+    record {
+      one_holder = omega arith;
+      signals_have_waiters = omega arith;
+      waiters_fit = omega arith;
+      signals_fit = b.signals_fit;
+      none_pending = λ e. let none = b.none_pending e in omega arith;
+      none_drained = λ e. let none = b.none_drained e in omega arith;
+    }
+
+same_balance : (c : Census) (ys : List Stake) (n : ℕ) → ((what : Counted) → count what ys ≡ number what c)
+    → IsBalanced c n → IsBalanced (record c { stakes = ys }) n
+same_balance c ys n same b =
+    let refs = same references in
+    let ends = same lasts in
+    let few = b.references_fit in
+    let closing = same closers in
+    let one_closer = b.one_closer in
+    let draining = same drainers in
+    let one_drainer = b.one_drainer in
+    let readers = same (locks Read) in
+    let writers = same (locks Write) in
+    let read_waiters = same (queued Read) in
+    let write_waiters = same (queued Write) in
+    let read_owed = same (owed Read) in
+    let write_owed = same (owed Write) in
+    let word = b.word_is in
+    record {
+      closed_bit = b.closed_bit;
+      destroyed_bit = b.destroyed_bit;
+      draining_bit = b.draining_bit;
+      reading = same_way Read c ys same b.reading;
+      writing = same_way Write c ys same b.writing;
+      references_fit = omega arith;
+      one_closer = omega arith;
+      one_drainer = omega arith;
+      ended = λ e none. let over = b.ended e (omega arith) in omega arith;
+      unclosed = λ e. let none = b.unclosed e in omega arith;
+      in_use = λ some. let none = b.in_use (omega arith) in omega arith;
+      word_is = omega arith;
+    }
 
 module _ (R W : Type 0) where
   pub splits : (id : ℕ) (v : LocalView) → Splits {S = Half R W} IsReached id v v (without_stake v)
@@ -34,12 +86,14 @@ module _ (R W : Type 0) where
         semaphores = f.semaphores;
         done = f.done;
         stakes = refl;
-        balance = let b = f.balance in omega (arith, same);
+        balance = same_balance c (stakes_of views) n same f.balance;
         halves = λ d. recounted d s.homes c (stakes_of views) _ _ (same (locks d)) took_none (f.halves d);
-        seen = λ i x at'. ⊎_elim (λ here. let saw = f.seen i x here in record { closed = saw.closed; done = saw.done })
+        seen = λ i x at'. ⊎_elim (λ here. let saw = f.seen i x here in
+            record { closed = saw.closed; draining = saw.draining; done = saw.done })
             (λ new. let saw = f.seen id v at in
             subst (λ (y : LocalView). SawRightly (seated views c) y) new record {
               closed = saw.closed;
+              draining = saw.draining;
               done = saw.done;
             }) (at_snoc s.views w x i at');
       } in

@@ -7,7 +7,7 @@ use Rattle.lockword.proofs.Words.{Stake, Kind, After, bit, Event, state_after, C
 use Rattle.lockword.proofs.Words.{number, ChangesOneStake, lock_stake, allows, op_of, gained, stepped_word, IsBalanced}
 use Rattle.lockword.proofs.Words.{change_of, same_pair, LocalView, Half, set_here, stakes_of, taken_by, slot_of}
 use Rattle.lockword.proofs.Words.{Guarded, half_of, half_home, Represents, IsReached, IsMade, STATE, saw_after}
-use Rattle.lockword.proofs.Words.{moved_view, Carries}
+use Rattle.lockword.proofs.Words.{saw_drain_after, moved_view, Carries}
 use Rattle.atomic_table.specs.Table.{Act, takes, gives, Valid, carried_after}
 use Rattle.lockword_core.specs.declared.stake.Stake.TheVariants as stake
 use Rattle.lockword_core.specs.declared.transition.Kind.TheVariants as kind
@@ -29,9 +29,9 @@ use Rattle.lockword.proofs.LookSteps.{view_of}
 use Rattle.lockword.proofs.HistorySteps.{event, IsMove, own_stake, step_moves, stepped_history, more_deeds}
 use Rattle.lockword.proofs.HistorySteps.{none_refused_more, is_made}
 use Rattle.lockword.proofs.Exchanges.{H, St, M, swaps}
-use Rattle.lockword.proofs.StepParts.{MovesNoHalf, flag_after, flag_grows, holder_may, is_free, is_holder}
+use Rattle.lockword.proofs.StepParts.{MovesNoHalf, drain_grows, flag_after, flag_grows, holder_may, is_free, is_holder}
 use Rattle.lockword.proofs.StepParts.{lock_not_last, lock_part, locks_alone, new_lockless, not_last, one_less, one_more}
-use Rattle.lockword.proofs.StepParts.{own_lockless, saw_so, unlocked}
+use Rattle.lockword.proofs.StepParts.{own_lockless, saw_drain_so, saw_so, unlocked}
 
 module _ {R W : Type 0} where
   -- a slot once another content is in it, or in the other slot
@@ -96,11 +96,21 @@ module _ (R W : Type 0) where
       let takers_same : takers views ≡ takers s.views = omega arith in
       let saw = f.seen id me.0 at in
       represents (set s.words STATE m) s.homes views
-      (record c { stakes = stakes_of views; closed = saw_after k c.closed }) m
-      (on_state s.words s.homes s.homes s.views c (saw_after k c.closed) (get_or s.words STATE 0) m id w f f.deep
+      (record c {
+        stakes = stakes_of views;
+        closed = saw_after k c.closed;
+        draining = saw_drain_after k c.draining;
+      }) m
+      (on_state s.words s.homes s.homes s.views c (saw_after k c.closed) (saw_drain_after k c.draining)
+      (get_or s.words STATE 0) m id w f f.deep
       (flag_after k c (stakes_of views) m next)
       (λ d. recounted d s.homes c (stakes_of views) _ _ (locked d) takers_same (f.halves d))
-      (flag_grows k c.closed) record { closed = saw_so k me.0.saw.closed c.closed saw.closed; done = saw.done })
+      (flag_grows k c.closed) (drain_grows k c.draining)
+      record {
+        closed = saw_so k me.0.saw.closed c.closed saw.closed;
+        draining = saw_drain_so k me.0.saw.draining c.draining saw.draining;
+        done = saw.done;
+      })
 
   abbrev Kept : Kind → After → ℕ → ℕ → M R W → St R W → Type 0
   Kept k a m id me s =
@@ -140,10 +150,12 @@ module _ (R W : Type 0) where
         takes (slot_of d) (half_of d there.0),
         there.1,
         represents (set s.words STATE m) (set s.homes (slot_of d) none) views (seated views c) m
-            (on_state s.words s.homes (set s.homes (slot_of d) none) s.views c c.closed
+            (on_state s.words s.homes (set s.homes (slot_of d) none) s.views c c.closed c.draining
             (get_or s.words STATE 0) m id w f (length-set s.homes (slot_of d) none ∙ f.deep) next
             (λ e. taken_half e d s.homes c (stakes_of views) _ _ f.deep home (locked e) takers_same (f.halves e))
-            (λ e. e) (let saw = f.seen id me.0 at in record { closed = saw.closed; done = saw.done })),
+            (λ e. e) (λ e. e)
+            (let saw = f.seen id me.0 at in
+            record { closed = saw.closed; draining = saw.draining; done = saw.done })),
         (there.0, refl),
       )
 
@@ -176,10 +188,13 @@ module _ (R W : Type 0) where
         gives,
         tt,
         represents (set s.words STATE m) (set s.homes (slot_of d) x) views (seated views c) m
-            (on_state s.words s.homes (set s.homes (slot_of d) x) s.views c c.closed (get_or s.words STATE 0) m id w f
+            (on_state s.words s.homes (set s.homes (slot_of d) x) s.views c c.closed c.draining
+            (get_or s.words STATE 0) m id w f
             (length-set s.homes (slot_of d) x ∙ f.deep) next
             (λ e. given_half e d h s.homes c (stakes_of views) _ _ f.deep (locked e) takers_same (f.halves e))
-            (λ e. e) (let saw = f.seen id v at in record { closed = saw.closed; done = saw.done })),
+            (λ e. e) (λ e. e)
+            (let saw = f.seen id v at in
+            record { closed = saw.closed; draining = saw.draining; done = saw.done })),
         refl,
       )
 
@@ -193,6 +208,8 @@ module _ (R W : Type 0) where
       (keeps, tt, no_half_fits kind.Decref a n m id me s is may tt r at found, refl)
   kept kind.Close a n m id me s is may slots r at found =
       (keeps, tt, no_half_fits kind.Close a n m id me s is may tt r at found, refl)
+  kept kind.Drain a n m id me s is may slots r at found =
+      (keeps, tt, no_half_fits kind.Drain a n m id me s is may tt r at found, refl)
   kept (kind.Lock d) after.Queued n m id me s is may slots r at found =
       (keeps, tt, no_half_fits (kind.Lock d) after.Queued n m id me s is may tt r at found, refl)
   kept (kind.Lock d) after.Held n m id me s is may slots r at found =

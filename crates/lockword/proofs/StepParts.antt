@@ -1,25 +1,28 @@
 -- What a step on the state word changes of the counts and of the halves.
 use Rattle.std.proofs.Common.{◌≡◌, ◌+◌, ◌≤◌}
-use Rattle.lockword.proofs.Words.{ℕ, Bool, true, List, refl, arith, Dir, Read, Write, Stake, Kind, After, bit, Census}
+use Rattle.std.specs.Prelude.{◌==◌, ◌&&◌, if◌then◌else◌}
+use Rattle.lockword.proofs.Words.{ℕ, Bool, true, false, List, refl, arith, Dir, Read, Write, Stake, Kind, After, bit, Census}
 use Rattle.lockword.proofs.Words.{locks, lasts, part, number, lock_stake, allows, op_of, gained, count-within}
-use Rattle.lockword.proofs.Words.{IsBalanced, change_of, Half, saw_after, Carries}
+use Rattle.lockword.proofs.Words.{IsBalanced, change_of, Half, saw_after, saw_drain_after, Carries}
 use Rattle.lockword_core.specs.declared.stake.Stake.TheVariants as stake
 use Rattle.lockword_core.specs.declared.transition.Kind.TheVariants as kind
 use Rattle.lockword_core.specs.declared.transition.After.TheVariants as after
 use Rattle.lockword_core.specs.declared.stake.Op.TheVariants as op
 use Rattle.lockword_core.specs.LockState.{is_same}
-use Rattle.lockword_core.specs.Transition.{changed}
+use Rattle.lockword_core.specs.Transition.{changed, drains_stake}
 
 -- ---- The balance after a step
 
--- the flag after a step is set by a close alone
+-- the closed flag after a step is set by a close alone, the drain flag by a drain alone
 pub flag_after : (k : Kind) (c : Census) (ys : List Stake) (m : ℕ) → IsBalanced (changed c ys (change_of k)) m
-    → IsBalanced (record c { stakes = ys; closed = saw_after k c.closed }) m
+    → IsBalanced
+    (record c { stakes = ys; closed = saw_after k c.closed; draining = saw_drain_after k c.draining }) m
 flag_after kind.Incref c ys m b = b
 flag_after kind.Decref c ys m b = b
 flag_after (kind.Lock d) c ys m b = b
 flag_after (kind.Unlock d) c ys m b = b
 flag_after kind.Close c ys m b = b
+flag_after kind.Drain c ys m b = b
 
 pub flag_grows : (k : Kind) (c : Bool) → c ≡ true → saw_after k c ≡ true
 flag_grows kind.Incref c e = e
@@ -27,6 +30,15 @@ flag_grows kind.Decref c e = e
 flag_grows (kind.Lock d) c e = e
 flag_grows (kind.Unlock d) c e = e
 flag_grows kind.Close c e = refl
+flag_grows kind.Drain c e = e
+
+pub drain_grows : (k : Kind) (d : Bool) → d ≡ true → saw_drain_after k d ≡ true
+drain_grows kind.Incref d e = e
+drain_grows kind.Decref d e = e
+drain_grows (kind.Lock way) d e = e
+drain_grows (kind.Unlock way) d e = e
+drain_grows kind.Close d e = e
+drain_grows kind.Drain d e = refl
 
 pub saw_so : (k : Kind) (v c : Bool) → (v ≡ true → c ≡ true) → saw_after k v ≡ true → saw_after k c ≡ true
 saw_so kind.Incref v c f e = f e
@@ -34,6 +46,16 @@ saw_so kind.Decref v c f e = f e
 saw_so (kind.Lock d) v c f e = f e
 saw_so (kind.Unlock d) v c f e = f e
 saw_so kind.Close v c f e = refl
+saw_so kind.Drain v c f e = f e
+
+pub saw_drain_so : (k : Kind) (v c : Bool) → (v ≡ true → c ≡ true) → saw_drain_after k v ≡ true
+    → saw_drain_after k c ≡ true
+saw_drain_so kind.Incref v c f e = f e
+saw_drain_so kind.Decref v c f e = f e
+saw_drain_so (kind.Lock d) v c f e = f e
+saw_drain_so (kind.Unlock d) v c f e = f e
+saw_drain_so kind.Close v c f e = f e
+saw_drain_so kind.Drain v c f e = refl
 
 pub not_last : (own : Stake) (k : Kind) → allows own (op_of k) ≡ true → part lasts own ≡ 0
 not_last stake.Last kind.Incref may = absurd (cc)
@@ -41,6 +63,7 @@ not_last stake.Last kind.Decref may = absurd (cc)
 not_last stake.Last (kind.Lock d) may = absurd (cc)
 not_last stake.Last (kind.Unlock d) may = absurd (cc)
 not_last stake.Last kind.Close may = absurd (cc)
+not_last stake.Last kind.Drain may = absurd (cc)
 not_last _ k may = refl
 
 -- ---- Steps that move no half
@@ -50,6 +73,7 @@ abbrev pub MovesNoHalf : Kind → After → Type 0
 MovesNoHalf kind.Incref a = Unit {0}
 MovesNoHalf kind.Decref a = Unit {0}
 MovesNoHalf kind.Close a = Unit {0}
+MovesNoHalf kind.Drain a = Unit {0}
 MovesNoHalf (kind.Lock d) after.Queued = Unit {0}
 MovesNoHalf _ _ = ⊥
 
@@ -58,14 +82,24 @@ pub own_lockless : (own : Stake) (k : Kind) (a : After) (d : Dir) → MovesNoHal
 own_lockless stake.Read kind.Incref a d still may = absurd (cc)
 own_lockless stake.Read kind.Decref a d still may = absurd (cc)
 own_lockless stake.Read kind.Close a d still may = absurd (cc)
+own_lockless stake.Read kind.Drain a d still may = absurd (cc)
 own_lockless stake.Read (kind.Lock e) a d still may = absurd (cc)
 own_lockless stake.Read (kind.Unlock e) a d still may = absurd still
 own_lockless stake.Write kind.Incref a d still may = absurd (cc)
 own_lockless stake.Write kind.Decref a d still may = absurd (cc)
 own_lockless stake.Write kind.Close a d still may = absurd (cc)
+own_lockless stake.Write kind.Drain a d still may = absurd (cc)
 own_lockless stake.Write (kind.Lock e) a d still may = absurd (cc)
 own_lockless stake.Write (kind.Unlock e) a d still may = absurd still
 own_lockless _ k a d still may = refl
+
+-- a drainer has no lock, whether it owes signals or nothing
+pub drainer_lockless : (d : Dir) (r w : ℕ) → part (locks d) (drains_stake r w) ≡ 0
+drainer_lockless d r w = by (r == 0 && w == 0)
+  where
+    by : (t : Bool) → part (locks d) (if t then stake.Free else stake.Drains r w) ≡ 0
+    by true = refl
+    by false = refl
 
 pub new_lockless : (k : Kind) (a : After) (d : Dir) → MovesNoHalf k a → part (locks d) (gained k a).1 ≡ 0
 new_lockless kind.Incref after.Held d still = refl
@@ -75,6 +109,8 @@ new_lockless kind.Decref after.Last d still = refl
 new_lockless kind.Decref _ d still = refl
 new_lockless kind.Close (after.Closing r w) d still = refl
 new_lockless kind.Close _ d still = refl
+new_lockless kind.Drain (after.Drained r w) d still = drainer_lockless d r w
+new_lockless kind.Drain _ d still = refl
 new_lockless (kind.Lock e) after.Queued d still = refl
 new_lockless (kind.Lock e) _ d still = absurd still
 new_lockless (kind.Unlock e) _ d still = absurd still
@@ -84,6 +120,7 @@ carries_same : {R W : Type 0} (k : Kind) (a : After) (slots : List (ℕ × Half 
 carries_same kind.Incref a slots still = refl
 carries_same kind.Decref a slots still = refl
 carries_same kind.Close a slots still = refl
+carries_same kind.Drain a slots still = refl
 carries_same (kind.Lock d) after.Queued slots still = refl
 carries_same (kind.Lock d) _ slots still = absurd still
 carries_same (kind.Unlock d) _ slots still = absurd still

@@ -1,25 +1,25 @@
 -- The subtraction of a reference is a load and a step at once, so it keeps the rule as they do.
 use Rattle.std.proofs.Common.{◌≡◌, ◌+◌, ◌-◌, ◌<◌, ◌≤◌, ◌%◌, ◌^◌, ◌∙◌, [], ◌∷◌, ◌++◌, Some, None}
-use Rattle.std.specs.Prelude.{◌==◌, if◌then◌else◌}
+use Rattle.std.specs.Prelude.{◌==◌, not, if◌then◌else◌}
 use Rattle.std.proofs.lemmas.List.{set-set}
 use Rattle.lockword.proofs.Words.{ℕ, true, false, List, length, get_or, set, get_or-set_same, refl, sym, ap, subst}
-use Rattle.lockword.proofs.Words.{arith, Ok, nat_tests, none, some, get_elem?, step, keeps, stepped, Allows}
+use Rattle.lockword.proofs.Words.{arith, Ok, nat_tests, Read, Write, none, some, get_elem?, step, keeps, stepped, Allows}
 use Rattle.lockword.proofs.Words.{set_here, Stake, Event, Word, CLOSED, After, allows, empty, state_after, stepped_word}
 use Rattle.lockword.proofs.Words.{gained, same_pair, LocalView, STATE, Represents, IsReached, IsMade, Shows, Told}
 use Rattle.lockword.proofs.Words.{seen_in, moved_view}
 use Rattle.lockword_core.specs.declared.stake.Stake.TheVariants as stake
 use Rattle.lockword_core.specs.declared.stake.Op.TheVariants as op
-use Rattle.lockword_core.specs.declared.word.TheConstants.{NO_WORD, REFERENCE}
+use Rattle.lockword_core.specs.declared.word.TheConstants.{READ_LOCK, REFERENCE}
 use Rattle.lockword_core.specs.declared.transition.Kind.TheVariants as kind
 use Rattle.lockword_core.specs.declared.transition.After.TheVariants as after
 use Rattle.lockword_core.specs.declared.transition.Refused.TheVariants as why
 use Rattle.lockword_core.specs.Transition.{nothing}
-use Rattle.lockword_core.specs.Word.{packed, references_in}
+use Rattle.lockword_core.specs.Word.{packed, lock_in, references_in, waiters_in}
 use Rattle.lockword_core.specs.FieldStep.{left, packed_result, unless_refused, fields_in}
 use Rattle.lockword_core.proofs.WordFields.{packs_back, fields_fit}
 use Rattle.lockword.specs.Dropping.{IsLastReference, MakesLast, Decides}
 use Rattle.lockword.specs.Marks.{Place}
-use Rattle.lockword.specs.Steps.{subtracted}
+use Rattle.lockword.specs.Steps.{IsJustClosed, subtracted}
 use Rattle.lockword.proofs.ViewLemmas.{at_there}
 use Rattle.lockword.proofs.Representation.{fits}
 use Rattle.lockword.proofs.Exchanges.{St, M}
@@ -39,16 +39,16 @@ at_least : (n : ℕ) → 0 < references_in n → REFERENCE ≤ n
 at_least n counts = omega arith
 
 -- a word less a reference is no less than 0, so that the subtraction doesn't wrap
-pub no_wrap : (n : ℕ) → n < NO_WORD → REFERENCE ≤ n → (n + (2 ^ 64 - REFERENCE)) % 2 ^ 64 ≡ n - REFERENCE
+pub no_wrap : (n : ℕ) → n < 2 ^ 64 → REFERENCE ≤ n → (n + (2 ^ 64 - REFERENCE)) % 2 ^ 64 ≡ n - REFERENCE
 no_wrap n small counts = omega arith
 
 -- a word that counts a reference less
-less_one : (n : ℕ) → n < NO_WORD → 0 < references_in n
+less_one : (n : ℕ) → n < 2 ^ 64 → 0 < references_in n
     → packed (record (fields_in n) { refs = references_in n - 1 }) ≡ n - REFERENCE
 less_one n small counts = let same : packed (fields_in n) ≡ n = packs_back n small in omega arith
 
 -- the step on a word that counts a reference
-pub dropped : (n : ℕ) → n < NO_WORD → 0 < references_in n
+pub dropped : (n : ℕ) → n < 2 ^ 64 → 0 < references_in n
     → stepped_word n kind.Decref ≡ Ok (n - REFERENCE, left (fields_in n))
 dropped n small counts =
     let not_zero : (references_in n == 0) ≡ false = grind (arith, nat_tests) in
@@ -129,8 +129,31 @@ module _ (R W : Type 0) where
 
 -- ---- What the seat has, and has seen
 
-flag_and_one : (n : ℕ) → REFERENCE ≤ n → n - REFERENCE ≡ CLOSED → CLOSED + REFERENCE ≡ n
+-- the closed flag and one reference, perhaps with the drain flag, on the packed word
+pub record IsFlagAndOne (n : ℕ) : Type 0 where
+  pub flag : n % READ_LOCK ≡ CLOSED
+  pub rlock : lock_in Read n ≡ 0
+  pub wlock : lock_in Write n ≡ 0
+  pub refs : references_in n ≡ 1
+  pub rwait : waiters_in Read n ≡ 0
+  pub wwait : waiters_in Write n ≡ 0
+
+flag_and_one : (n : ℕ) → 0 < references_in n → IsJustClosed (n - REFERENCE) → IsFlagAndOne n
 flag_and_one n counts rest = omega arith
+
+is_zero : (x : ℕ) → x ≡ 0 → not (x == 0) ≡ false
+is_zero x e = rw e refl
+
+-- its fields
+last_reference : (n : ℕ) → IsFlagAndOne n → IsLastReference (fields_in n)
+last_reference n is = (
+  ap (λ (x : ℕ). x == CLOSED) is.flag,
+  is_zero _ is.rlock,
+  is_zero _ is.wlock,
+  is.refs,
+  is.rwait,
+  is.wwait,
+)
 
 module _ {R W : Type 0} where
   -- what a seat has and has seen once it made a subtraction
@@ -157,6 +180,8 @@ module _ {R W : Type 0} where
       same_word = same;
       sees_flag = ap (λ v. v.saw.closed) view;
       flag_stays = told.saw_closed;
+      sees_drain = ap (λ v. v.saw.draining) view;
+      drain_stays = told.saw_draining;
       same_done = ap (λ v. v.saw.done) view;
     },
     makes a (possible n (n - REFERENCE) kind.Decref a is) (subst (λ v. Shows v.stake (n - REFERENCE)) view shows),
@@ -167,8 +192,6 @@ module _ {R W : Type 0} where
 
       makes : (a : After) → Shown n kind.Decref a → Shows (gained kind.Decref a).1 (n - REFERENCE)
           → MakesLast (fields_in n) a
-      makes after.Last made shut =
-          subst (λ (k : ℕ). IsLastReference (fields_in k)) (flag_and_one n (at_least n counts) shut)
-          (refl, refl, refl, refl, refl, refl)
+      makes after.Last made shut = last_reference n (flag_and_one n counts shut)
       makes after.Kept (g, made) shows = λ last. made.shows.1 last.0 last.3
       makes _ (g, made) shows = absurd made.shows.1

@@ -18,6 +18,7 @@ use Rattle.lockword.specs.declared.transitions.SignalMove.TheVariants as move
 use Rattle.lockword.specs.Steps.{way_of, op_at, answer_at, Changes, signalled_view, counted, signalled}
 use Rattle.lockword.proofs.ViewLemmas.{one_changes, takers-set, taken-le}
 use Rattle.lockword.proofs.Representation.{present, fits, recounted, represents, on_signals}
+use Rattle.lockword.proofs.StepParts.{drainer_lockless}
 use Rattle.lockword.proofs.StateSteps.{same_count}
 use Rattle.lockword.proofs.LookSteps.{view_of}
 use Rattle.lockword.proofs.HistorySteps.{event, IsMove, own_stake, more_deeds, none_refused_more, is_made}
@@ -56,6 +57,10 @@ wait_is_over : (d e : Dir) → stake_after_signal d (stake.Waits e) ≡ stake.Fr
 wait_is_over Read e = refl
 wait_is_over Write e = refl
 
+drainer_owes : (d : Dir) (r w : ℕ) → allows (stake.Drains r w) (op.Signal d) ≡ true → 0 < owed_part d r w
+drainer_owes Read r w may = some_owed r may
+drainer_owes Write r w may = some_owed w may
+
 closer_owes : (d : Dir) (r w : ℕ) → allows (stake.Closing r w) (op.Signal d) ≡ true → 0 < owed_part d r w
 closer_owes Read r w may = some_owed r may
 closer_owes Write r w may = some_owed w may
@@ -64,6 +69,11 @@ closer_owes Write r w may = some_owed w may
 closer_lockless : (d e : Dir) (r w : ℕ) → part (locks e) (stake_after_signal d (stake.Closing r w)) ≡ 0
 closer_lockless Read e r w = refl
 closer_lockless Write e r w = refl
+
+-- a drainer that gave a signal has no lock
+drainer_still_lockless : (d e : Dir) (r w : ℕ) → part (locks e) (stake_after_signal d (stake.Drains r w)) ≡ 0
+drainer_still_lockless Read e r w = drainer_lockless e (r - 1) w
+drainer_still_lockless Write e r w = drainer_lockless e r (w - 1)
 
 with_count : (d : Dir) (c : Census) (ys : List Stake) (word n : ℕ) (change : ℕ → ℕ) → signals_in d c.signals ≡ n
     → IsBalanced (record c { stakes = ys; signals = with_signals d (change (signals_in d c.signals)) c.signals }) word
@@ -93,6 +103,14 @@ gives_signal d n (stake.Closing r w) may room =
       not_last = refl;
       balances = λ c ys word b one e. with_count d c ys word n (λ x. x + 1) e
           (laws.pay_keeps c ys word b d r w one (closer_owes d r w may) (λ full. room (sym e ∙ full)));
+    }
+gives_signal d n (stake.Drains r w) may room =
+    record {
+      own_lockless = λ e. refl;
+      new_lockless = λ e. drainer_still_lockless d e r w;
+      not_last = refl;
+      balances = λ c ys word b one e. with_count d c ys word n (λ x. x + 1) e
+          (laws.repay_keeps c ys word b d r w one (drainer_owes d r w may) (λ full. room (sym e ∙ full)));
     }
 gives_signal d n _ may room = absurd (cc)
 
@@ -192,7 +210,8 @@ module _ (R W : Type 0) where
               (on_signals d s.words s.homes s.views c (get_or s.words STATE 0) m id w f
               (keeps_counts.balances c (stakes_of views) _ f.balance one here)
               (λ e. recounted e s.homes c (stakes_of views) _ _ (locked e) takers_same (f.halves e))
-              (let saw = f.seen id me.0 at in record { closed = saw.closed; done = saw.done }));
+              (let saw = f.seen id me.0 at in
+              record { closed = saw.closed; draining = saw.draining; done = saw.done }));
           history = h ++ event id (o d) ∷ [];
           interleaves = more_deeds h s.views id me.0 w (o d) reached.interleaves at refl;
           none_refused = none_refused_more h id (o d) a _ _ made reached.none_refused;

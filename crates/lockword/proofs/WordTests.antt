@@ -1,18 +1,19 @@
 -- What a step on the state word may come to, from the tests that it makes, and what a seat then knows.
-use Rattle.std.proofs.Common.{◌≡◌, ◌≢◌, ◌<◌, ◌∙◌, inl, inr, Result, Err, Some}
+use Rattle.std.proofs.Common.{◌≡◌, ◌≢◌, ◌<◌, ◌^◌, ◌∙◌, inl, inr, Result, Err, Some, None}
 use Rattle.std.specs.Prelude.{◌==◌, ◌||◌, not, if◌then◌else◌}
 use Rattle.lockword.proofs.Words.{ℕ, Bool, true, false, List, refl, sym, ap, subst, arith, Ok, Dir, Read, Write}
 use Rattle.lockword.proofs.Words.{Stake, Op, Answer, Word, Kind, After, allows, stepped_word, op_of}
 use Rattle.lockword.proofs.Words.{gained, same_pair, LocalView, Half, IsMade, IsFound, Shows, Told, seen_in, saw_after}
-use Rattle.lockword.proofs.Words.{moved_view, Carries}
+use Rattle.lockword.proofs.Words.{saw_drain_after, moved_view, Carries}
 use Rattle.lockword_core.specs.declared.stake.Stake.TheVariants as stake
-use Rattle.lockword_core.specs.declared.word.TheConstants.{MAX_REFERENCES, MAX_WAITERS, NO_WORD}
+use Rattle.lockword_core.specs.declared.word.TheConstants.{MAX_REFERENCES, MAX_WAITERS}
 use Rattle.lockword_core.specs.declared.transition.Kind.TheVariants as kind
 use Rattle.lockword_core.specs.declared.transition.After.TheVariants as after
 use Rattle.lockword_core.specs.declared.transition.Refused.{Refused}
 use Rattle.lockword_core.specs.declared.transition.Refused.TheVariants as why
-use Rattle.lockword_core.specs.Word.{IsWord, packed, closed_in, lock_in, references_in, waiters_in}
+use Rattle.lockword_core.specs.Word.{IsWord, packed, closed_in, drain_in, lock_in, references_in, waiters_in}
 use Rattle.lockword_core.specs.FieldStep.{lock_of, waiters_of, guards, first_refusal, field_step, packed_result}
+use Rattle.lockword_core.specs.FieldStep.{is_full as is_full_test}
 use Rattle.lockword_core.specs.FieldStep.{fields_in}
 use Rattle.lockword_core.proofs.FieldSteps.{same_numbers, not_false, holds, IsMade as IsTableMade, Stepped, stepped}
 use Rattle.lockword_core.proofs.FieldSteps.{refused_holds, full_is_open}
@@ -20,14 +21,14 @@ use Rattle.lockword_core.proofs.WordFields.{fields_fit, packs_back, unpacks}
 use Rattle.lockword.specs.declared.local_view.Marks.{Marks}
 use Rattle.lockword.specs.Moment.{IsShown}
 use Rattle.lockword.specs.declared.transitions.Advance.TheVariants as advance
-use Rattle.lockword.specs.Marks.{Place, SameMarks, Later, NowClosed, IsOpen, HasNotTaken, IsFullWay, IsFull, Marked}
-use Rattle.lockword.specs.Marks.{LostMarks, SameDeeds}
-use Rattle.lockword.specs.Steps.{Keeps, Came, Advanced}
+use Rattle.lockword.specs.Marks.{Place, SameMarks, SameButDraining, Later, NowClosed, IsOpen, IsUndrained, HasNotTaken}
+use Rattle.lockword.specs.Marks.{IsFullWay, IsFull, Marked, LostMarks, FullMarks, SameDeeds, FoundClosed, FoundDraining}
+use Rattle.lockword.specs.Steps.{Keeps, Came, IsEntering, Advanced}
 
 -- ---- The tests
 
 -- what a step on the word answers is what the table says
-pub is_stepped : (n : ℕ) (k : Kind) (r : Result (ℕ × After) Refused) → n < NO_WORD
+pub is_stepped : (n : ℕ) (k : Kind) (r : Result (ℕ × After) Refused) → n < 2 ^ 64
     → ((f : Word) → IsWord f → packed f ≡ n → r ≡ packed_result (field_step f k)) → r ≡ stepped_word n k
 is_stepped n k r small told = told (fields_in n) (fields_fit n) (packs_back n small)
 
@@ -72,7 +73,58 @@ is_full w (kind.Lock d) full = by (lock_of d w) refl full
     by true e h = inr (e, same_numbers _ _ h)
     by false e h = inl (e, same_numbers _ _ h)
 is_full w kind.Decref none = absurd (cc)
+is_full w kind.Drain none = absurd (cc)
 is_full w (kind.Unlock d) none = absurd (cc)
+
+-- a word that refuses at a limit is not draining, but for a close
+abbrev pub MayDrain : Kind → Word → Type 0
+MayDrain kind.Close w = Unit {0}
+MayDrain _ w = w.drain ≡ false
+
+not_draining : (b c t : Bool)
+    → (if b then Some why.Closed else if c then Some why.Draining else if t then Some why.TooMany else None)
+    ≡ Some why.TooMany → c ≡ false
+not_draining true c t e = absurd (cc)
+not_draining false true t e = absurd (cc)
+not_draining false false t e = refl
+
+full_undrained : (w : Word) (k : Kind) → first_refusal (guards w k) ≡ Some why.TooMany → MayDrain k w
+full_undrained w kind.Incref e = not_draining w.closed w.drain (w.refs == MAX_REFERENCES) e
+full_undrained w (kind.Lock d) e = not_draining w.closed w.drain (is_full_test d w) e
+full_undrained w kind.Close e = tt
+full_undrained w kind.Drain e = not_draining w.closed w.drain false e
+full_undrained w kind.Decref e = absurd (no_limit (w.refs == 0) false e)
+  where
+    no_limit : (b c : Bool) → (if b then Some why.Misuse else if c then Some why.Misuse else None) ≡ Some why.TooMany
+        → ⊥
+    no_limit true c e = absurd (cc)
+    no_limit false true e = absurd (cc)
+    no_limit false false e = absurd (cc)
+full_undrained w (kind.Unlock d) e = absurd (no_limit (not (lock_of d w)) (w.refs == 0) e)
+  where
+    no_limit : (b c : Bool) → (if b then Some why.Misuse else if c then Some why.Misuse else None) ≡ Some why.TooMany
+        → ⊥
+    no_limit true c e = absurd (cc)
+    no_limit false true e = absurd (cc)
+    no_limit false false e = absurd (cc)
+
+-- a word that refuses as draining is not closed
+draining_first : (b c t : Bool)
+    → (if b then Some why.Closed else if c then Some why.Draining else if t then Some why.TooMany else None)
+    ≡ Some why.Draining → (b ≡ false) × (c ≡ true)
+draining_first true c t e = absurd (cc)
+draining_first false true t e = (refl, refl)
+draining_first false false true e = absurd (cc)
+draining_first false false false e = absurd (cc)
+
+-- no other step is refused as draining, or at a limit
+none_drains : (f : Word) (k : Kind) → holds why.Draining (guards f k) ≡ true → IsEntering k
+none_drains f kind.Incref e = tt
+none_drains f (kind.Lock d) e = tt
+none_drains f kind.Drain e = tt
+none_drains f kind.Decref e = absurd (cc)
+none_drains f (kind.Unlock d) e = absurd (cc)
+none_drains f kind.Close e = absurd (cc)
 
 -- ---- Marks
 
@@ -84,8 +136,8 @@ open_by : (t : Bool) (x : ℕ) → (t ≡ true → x ≡ 0) → x ≢ 0 → t �
 open_by true x none ne = absurd (ne (none refl))
 open_by false x none ne = refl
 
-both_marks : (m n : Marks) → m.closed ≡ n.closed → m.done ≡ n.done → m ≡ n
-both_marks m n closed done i = record { closed = closed i; done = done i }
+all_marks : (m n : Marks) → m.closed ≡ n.closed → m.draining ≡ n.draining → m.done ≡ n.done → m ≡ n
+all_marks m n closed draining done i = record { closed = closed i; draining = draining i; done = done i }
 
 -- the fields of the word that was found
 pub shown : (R W : Type 0) (n : ℕ) (w : Word) (v : LocalView) → IsFound R W n v → IsWord w → packed w ≡ n
@@ -110,6 +162,7 @@ made_before n v w o a told made =
         did = made.own.did;
         stake = made.own.stake;
         saw_closed = λ e. made.own.saw_closed (told.saw_closed e);
+        saw_draining = λ e. made.own.saw_draining (told.saw_draining e);
         saw_done = made.own.saw_done;
       };
       answered = made.answered;
@@ -117,17 +170,42 @@ made_before n v w o a told made =
       did = made.did;
     }
 
-module _ {R W : Type 0} where
-  -- the marks of a seat that looked and saw no flag
-  marks_open : (n : ℕ) (p q : Place R W) → Told R W n p.me.0 → closed_in n ≡ false → q.me.0.saw.closed ≡ closed_in n
-      → q.me.0.saw.done ≡ p.me.0.saw.done → q.table_id ≡ p.table_id → SameMarks p q × IsOpen p
-  marks_open n p q told unshut flag done same =
-      let unseen = was_open p.me.0.saw.closed (closed_in n) told.saw_closed unshut in
-      ((same, both_marks _ _ (flag ∙ unshut ∙ sym unseen) done), unseen)
+-- neither flag is set
+abbrev pub IsOpenWord : ℕ → Type 0
+IsOpenWord n = (closed_in n ≡ false) × (drain_in n ≡ false)
 
-  marks_later : (n : ℕ) (p q : Place R W) → Told R W n p.me.0 → q.me.0.saw.closed ≡ closed_in n
-      → q.me.0.saw.done ≡ p.me.0.saw.done → q.table_id ≡ p.table_id → Later p q
-  marks_later n p q told flag done same = (same, (λ e. flag ∙ told.saw_closed e), done)
+module _ {R W : Type 0} where
+  -- what the marks of a seat are after a load of this word, beside those that the load tells
+  pub record Saw (n : ℕ) (p q : Place R W) : Type 0 where
+    told : Told R W n p.me.0
+    flag : q.me.0.saw.closed ≡ closed_in n
+    drain : q.me.0.saw.draining ≡ drain_in n
+    done : q.me.0.saw.done ≡ p.me.0.saw.done
+    same : q.table_id ≡ p.table_id
+
+  -- the marks of a seat that looked and saw no flag
+  marks_open : (n : ℕ) (p q : Place R W) → Saw n p q → IsOpenWord n → SameMarks p q × IsOpen p × IsUndrained p
+  marks_open n p q saw (unshut, undrained) =
+      let unseen = was_open p.me.0.saw.closed (closed_in n) saw.told.saw_closed unshut in
+      let drain_unseen = was_open p.me.0.saw.draining (drain_in n) saw.told.saw_draining undrained in (
+        (saw.same, all_marks _ _ (saw.flag ∙ unshut ∙ sym unseen) (saw.drain ∙ undrained ∙ sym drain_unseen) saw.done),
+        unseen,
+        drain_unseen,
+      )
+
+  -- the marks of a seat that looked and saw no closed flag
+  marks_unshut : (n : ℕ) (p q : Place R W) → Saw n p q → closed_in n ≡ false → SameButDraining p q × IsOpen p
+  marks_unshut n p q saw unshut =
+      let unseen = was_open p.me.0.saw.closed (closed_in n) saw.told.saw_closed unshut in
+      ((saw.same, saw.flag ∙ unshut ∙ sym unseen, saw.done, λ e. saw.drain ∙ saw.told.saw_draining e), unseen)
+
+  marks_later : (n : ℕ) (p q : Place R W) → Saw n p q → Later p q
+  marks_later n p q saw =
+      (saw.same, (λ e. saw.flag ∙ saw.told.saw_closed e), saw.done, λ e. saw.drain ∙ saw.told.saw_draining e)
+
+  marks_closed : (n : ℕ) (p q : Place R W) → Saw n p q → closed_in n ≡ true → NowClosed p q
+  marks_closed n p q saw shut =
+      (saw.same, saw.flag ∙ shut, saw.done, λ e. saw.drain ∙ saw.told.saw_draining e)
 
   pub came : (k : Kind) (a : After) (n m : ℕ) (p q : Place R W) → Told R W n p.me.0 → stepped_word n k ≡ Ok (m, a)
       → q.me.0 ≡ moved_view k a (seen_in n p.me.0) → Carries k a p.me.1 q.me.1 → q.table_id ≡ p.table_id
@@ -135,7 +213,11 @@ module _ {R W : Type 0} where
   came k a n m p q told is view slots same made = (
     ap (λ (v : LocalView). v.stake) view,
     slots,
-    (by k a (possible n m k a is) (ap (λ (v : LocalView). v.saw.closed) view), made),
+    (
+      by k a (possible n m k a is) (ap (λ (v : LocalView). v.saw.closed) view)
+          (ap (λ (v : LocalView). v.saw.draining) view),
+      made,
+    ),
   )
     where
       done : q.me.0.saw.done ≡ p.me.0.saw.done
@@ -144,25 +226,42 @@ module _ {R W : Type 0} where
       not_taken : HasNotTaken q
       not_taken = ap (λ (v : LocalView). v.took) view
 
-      opens : closed_in n ≡ false → q.me.0.saw.closed ≡ closed_in n → SameMarks p q × IsOpen p
-      opens unshut flag = marks_open n p q told unshut flag done same
+      saw : q.me.0.saw.closed ≡ closed_in n → q.me.0.saw.draining ≡ drain_in n → Saw n p q
+      saw flag drain = record { told = told; flag = flag; drain = drain; done = done; same = same }
 
-      by : (k : Kind) (a : After) → Shown n k a → q.me.0.saw.closed ≡ saw_after k (closed_in n) → Marked k a p q
-      by kind.Incref after.Held (g, made) flag = opens (made.passes why.Closed) flag
-      by kind.Decref after.Kept (g, made) flag = marks_later n p q told flag done same
-      by kind.Decref after.Last (g, made) flag = ((same, flag ∙ made.shows.1.0, done), not_taken)
-      by kind.Close (after.Closing r w) (g, made) flag =
-          ((same, flag, done), was_open p.me.0.saw.closed (closed_in n) told.saw_closed (made.passes why.Closed))
-      by (kind.Lock d) after.Held (g, made) flag = opens (made.passes why.Closed) flag
-      by (kind.Lock d) after.Queued (g, made) flag = opens (made.passes why.Closed) flag
-      by (kind.Unlock d) after.Owes (g, made) flag =
-          opens (open_by (closed_in n) (waiters_in d n) (told.none_waits d)
-          (λ e. made.shows.1 (waiters_show d n ∙ e))) flag
-      by (kind.Unlock d) after.Kept (g, made) flag = marks_later n p q told flag done same
-      by (kind.Unlock d) after.Last (g, made) flag = ((same, flag ∙ made.shows.1.0, done), not_taken)
-      by kind.Decref _ (g, made) flag = absurd made.shows.1
-      by (kind.Unlock d) _ (g, made) flag = absurd made.shows.1
-      by _ _ (g, made) flag = absurd made.shows
+      by : (k : Kind) (a : After) → Shown n k a → q.me.0.saw.closed ≡ saw_after k (closed_in n)
+          → q.me.0.saw.draining ≡ saw_drain_after k (drain_in n) → Marked k a p q
+      by kind.Incref after.Held (g, made) flag drain =
+          marks_open n p q (saw flag drain) (made.passes why.Closed, made.passes why.Draining)
+      by kind.Decref after.Kept (g, made) flag drain = marks_later n p q (saw flag drain)
+      by kind.Decref after.Last (g, made) flag drain =
+          (marks_closed n p q (saw flag drain) made.shows.1.0, not_taken)
+      by kind.Close (after.Closing r w) (g, made) flag drain = (
+        (same, flag, done, λ e. drain ∙ told.saw_draining e),
+        was_open p.me.0.saw.closed (closed_in n) told.saw_closed (made.passes why.Closed),
+      )
+      by kind.Drain (after.Drained r w) (g, made) flag drain =
+          let unseen = was_open p.me.0.saw.closed (closed_in n) told.saw_closed (made.passes why.Closed) in (
+            (same, flag ∙ made.passes why.Closed ∙ sym unseen, done, drain),
+            unseen,
+            was_open p.me.0.saw.draining (drain_in n) told.saw_draining (made.passes why.Draining),
+          )
+      by (kind.Lock d) after.Held (g, made) flag drain =
+          marks_open n p q (saw flag drain) (made.passes why.Closed, made.passes why.Draining)
+      by (kind.Lock d) after.Queued (g, made) flag drain =
+          marks_open n p q (saw flag drain) (made.passes why.Closed, made.passes why.Draining)
+      by (kind.Unlock d) after.Owes (g, made) flag drain =
+          let waits : waiters_in d n ≢ 0 = λ e. made.shows.1 (waiters_show d n ∙ e) in
+          marks_open n p q (saw flag drain) (
+            open_by (closed_in n) (waiters_in d n) (told.none_waits d) waits,
+            open_by (drain_in n) (waiters_in d n) (told.none_waits_drained d) waits,
+          )
+      by (kind.Unlock d) after.Kept (g, made) flag drain = marks_later n p q (saw flag drain)
+      by (kind.Unlock d) after.Last (g, made) flag drain =
+          (marks_closed n p q (saw flag drain) made.shows.1.0, not_taken)
+      by kind.Decref _ (g, made) flag drain = absurd made.shows.1
+      by (kind.Unlock d) _ (g, made) flag drain = absurd made.shows.1
+      by _ _ (g, made) flag drain = absurd made.shows
 
   -- the seat after a load
   pub kept : (n : ℕ) (p q : Place R W) → q.me ≡ (seen_in n p.me.0, p.me.1) → Keeps p q
@@ -171,36 +270,80 @@ module _ {R W : Type 0} where
   pub deeds_kept : (n : ℕ) (p q : Place R W) → q.me ≡ (seen_in n p.me.0, p.me.1) → SameDeeds p q
   deeds_kept n p q e = ap (λ m. m.0.did) e
 
+  saw_by : (n : ℕ) (p q : Place R W) → Told R W n p.me.0 → q.me ≡ (seen_in n p.me.0, p.me.1)
+      → q.table_id ≡ p.table_id → Saw n p q
+  saw_by n p q told me same =
+      record {
+        told = told;
+        flag = ap (λ m. m.0.saw.closed) me;
+        drain = ap (λ m. m.0.saw.draining) me;
+        done = ap (λ m. m.0.saw.done) me;
+        same = same;
+      }
+
   pub lost : (k : Kind) (a : After) (n m : ℕ) (p q : Place R W) → Told R W n p.me.0 → stepped_word n k ≡ Ok (m, a)
       → q.me ≡ (seen_in n p.me.0, p.me.1) → q.table_id ≡ p.table_id → Advanced k p q advance.Lost
   lost k a n m p q told is me same = (kept n p q me, (by k a (possible n m k a is), deeds_kept n p q me))
     where
-      flag : q.me.0.saw.closed ≡ closed_in n
-      flag = ap (λ m. m.0.saw.closed) me
-
-      done : q.me.0.saw.done ≡ p.me.0.saw.done
-      done = ap (λ m. m.0.saw.done) me
+      saw : Saw n p q
+      saw = saw_by n p q told me same
 
       by : (k : Kind) (a : After) → Shown n k a → LostMarks k p q
-      by kind.Incref a (g, made) = marks_open n p q told (made.passes why.Closed) flag done same
-      by kind.Close a (g, made) = marks_open n p q told (made.passes why.Closed) flag done same
-      by (kind.Lock d) a (g, made) = marks_open n p q told (made.passes why.Closed) flag done same
-      by kind.Decref a made = marks_later n p q told flag done same
-      by (kind.Unlock d) a made = marks_later n p q told flag done same
+      by kind.Incref a (g, made) = marks_open n p q saw (made.passes why.Closed, made.passes why.Draining)
+      by kind.Close a (g, made) = marks_unshut n p q saw (made.passes why.Closed)
+      by kind.Drain a (g, made) = marks_open n p q saw (made.passes why.Closed, made.passes why.Draining)
+      by (kind.Lock d) a (g, made) = marks_open n p q saw (made.passes why.Closed, made.passes why.Draining)
+      by kind.Decref a made = marks_later n p q saw
+      by (kind.Unlock d) a made = marks_later n p q saw
 
-  pub refused_closed : (k : Kind) (n : ℕ) (p q : Place R W) → stepped_word n k ≡ Err why.Closed
+  pub refused_closed : (k : Kind) (n : ℕ) (p q : Place R W) → Told R W n p.me.0 → stepped_word n k ≡ Err why.Closed
       → q.me ≡ (seen_in n p.me.0, p.me.1) → q.table_id ≡ p.table_id → Advanced k p q advance.Closed
-  refused_closed k n p q is me same = by k (refused_holds (fields_in n) k why.Closed (refusing n k why.Closed is))
+  refused_closed k n p q told is me same =
+      by k (refused_holds (fields_in n) k why.Closed (refusing n k why.Closed is))
     where
-      now : closed_in n ≡ true → NowClosed p q
-      now shut = (same, ap (λ m. m.0.saw.closed) me ∙ shut, ap (λ m. m.0.saw.done) me)
+      found : closed_in n ≡ true → Keeps p q × FoundClosed p q
+      found shut = (kept n p q me, (marks_closed n p q (saw_by n p q told me same) shut, deeds_kept n p q me))
 
       by : (k : Kind) → holds why.Closed (guards (fields_in n) k) ≡ true → Advanced k p q advance.Closed
-      by kind.Incref shut = (tt, kept n p q me, (now shut, deeds_kept n p q me))
-      by kind.Close shut = (tt, kept n p q me, (now shut, deeds_kept n p q me))
-      by (kind.Lock d) shut = (tt, kept n p q me, (now shut, deeds_kept n p q me))
+      by kind.Incref shut = (tt, (found shut).0, (found shut).1)
+      by kind.Close shut = (tt, (found shut).0, (found shut).1)
+      by kind.Drain shut = (tt, (found shut).0, (found shut).1)
+      by (kind.Lock d) shut = (tt, (found shut).0, (found shut).1)
       by kind.Decref none = absurd (cc)
       by (kind.Unlock d) none = absurd (cc)
+
+  pub refused_draining : (k : Kind) (n : ℕ) (p q : Place R W) → Told R W n p.me.0
+      → stepped_word n k ≡ Err why.Draining → q.me ≡ (seen_in n p.me.0, p.me.1) → q.table_id ≡ p.table_id
+      → Advanced k p q advance.Draining
+  refused_draining k n p q told is me same = by k (refusing n k why.Draining is)
+    where
+      f : Word
+      f = fields_in n
+
+      found : (closed_in n ≡ false) × (drain_in n ≡ true) → Keeps p q × FoundDraining p q
+      found (unshut, drained) =
+          let unseen = was_open p.me.0.saw.closed (closed_in n) told.saw_closed unshut in (
+            kept n p q me,
+            (
+              (
+                same,
+                ap (λ m. m.0.saw.closed) me ∙ unshut ∙ sym unseen,
+                ap (λ m. m.0.saw.done) me,
+                ap (λ m. m.0.saw.draining) me ∙ drained,
+              ),
+              unseen,
+              deeds_kept n p q me,
+            ),
+          )
+
+      by : (k : Kind) → first_refusal (guards f k) ≡ Some why.Draining → Advanced k p q advance.Draining
+      by kind.Incref e =
+          let t = found (draining_first f.closed f.drain (f.refs == MAX_REFERENCES) e) in (tt, t.0, t.1)
+      by kind.Drain e = let t = found (draining_first f.closed f.drain false e) in (tt, t.0, t.1)
+      by (kind.Lock d) e = let t = found (draining_first f.closed f.drain (is_full_test d f) e) in (tt, t.0, t.1)
+      by kind.Decref e = absurd (none_drains f kind.Decref (refused_holds f kind.Decref why.Draining e))
+      by (kind.Unlock d) e = absurd (none_drains f (kind.Unlock d) (refused_holds f (kind.Unlock d) why.Draining e))
+      by kind.Close e = absurd (none_drains f kind.Close (refused_holds f kind.Close why.Draining e))
 
   pub refused_full : (k : Kind) (n : ℕ) (w : Word) (p q : Place R W) → Told R W n p.me.0
       → stepped_word n k ≡ Err why.TooMany → IsWord w → packed w ≡ n → q.me ≡ (seen_in n p.me.0, p.me.1)
@@ -208,7 +351,7 @@ module _ {R W : Type 0} where
   refused_full k n w p q told is fits same_word me same = (
     kept n p q me,
     (
-      (marks.0, marks.1, full_is_open w k first, is_full w k (refused_holds w k why.TooMany first)),
+      by k (full_undrained w k first) (is_full w k (refused_holds w k why.TooMany first)),
       shown R W n w q.me.0 found fits same_word,
       deeds_kept n p q me,
     ),
@@ -222,10 +365,32 @@ module _ {R W : Type 0} where
       found : IsFound R W n q.me.0
       found = subst (λ (v : LocalView). IsFound R W n v) (sym (ap (λ m. m.0) me)) told.found
 
-      marks : SameMarks p q × IsOpen p
-      marks =
-          marks_open n p q told (full_is_open (fields_in n) k (refusing n k why.TooMany is))
-          (ap (λ m. m.0.saw.closed) me) (ap (λ m. m.0.saw.done) me) same
+      fields : fields_in n ≡ w
+      fields = unpacks w n fits same_word
+
+      saw : Saw n p q
+      saw = saw_by n p q told me same
+
+      unshut : w.closed ≡ false
+      unshut = full_is_open w k first
+
+      open_word : closed_in n ≡ false
+      open_word = ap (λ (f : Word). f.closed) fields ∙ unshut
+
+      entering : w.drain ≡ false → SameMarks p q × IsOpen p × IsUndrained p
+      entering undrained = marks_open n p q saw (open_word, ap (λ (f : Word). f.drain) fields ∙ undrained)
+
+      by : (k : Kind) → MayDrain k w → IsFull k w → FullMarks k p q w
+      by kind.Close _ full =
+          let marks = marks_unshut n p q saw open_word in
+          (marks.0, marks.1, ap (λ m. m.0.saw.draining) me ∙ ap (λ (f : Word). f.drain) fields, unshut, full)
+      by kind.Incref undrained full =
+          let marks = entering undrained in (marks.0, marks.1, marks.2, undrained, unshut, full)
+      by (kind.Lock d) undrained full =
+          let marks = entering undrained in (marks.0, marks.1, marks.2, undrained, unshut, full)
+      by kind.Decref undrained full = absurd full
+      by (kind.Unlock d) undrained full = absurd full
+      by kind.Drain undrained full = absurd full
 
   -- the same, where the step was told of an equal kind, and was made after a load
   pub came_after : (k j : Kind) (a : After) (n m : ℕ) (p x q : Place R W) → k ≡ j → Told R W n p.me.0
@@ -271,4 +436,5 @@ no_misuse k own n shows may is =
     by (kind.Unlock d) _ shows may wrong = absurd (cc)
     by kind.Incref own shows may wrong = absurd (cc)
     by kind.Close own shows may wrong = absurd (cc)
+    by kind.Drain own shows may wrong = absurd (cc)
     by (kind.Lock d) own shows may wrong = absurd (cc)

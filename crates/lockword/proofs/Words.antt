@@ -6,7 +6,7 @@ pub use Rattle.lockword.specs.History.{IsMade, Matches}
 pub use Rattle.lockword.specs.LocalView.{deeds_of, newcomer, stakes_of, taken_by}
 pub use Rattle.lockword.specs.Moment.{IsFound}
 pub use Rattle.lockword.specs.SharedInvariant.{IsReached, Represents, SawRightly}
-pub use Rattle.lockword.specs.Steps.{Carries, Shows, Told, moved_view, saw_after, seen_in}
+pub use Rattle.lockword.specs.Steps.{Carries, Shows, Told, asked_view, moved_view, saw_after, saw_drain_after, seen_in}
 pub use Rattle.lockword.specs.declared.local_view.LocalView.{LocalView}
 pub use Rattle.lockword.specs.declared.shared_rule.Half.{Half}
 pub use Rattle.lockword.specs.declared.shared_rule.TheConstants.{DONE, STATE}

@@ -6,11 +6,11 @@ use Rattle.lockword_core.specs.declared.stake.Answer.TheVariants as answer
 use Rattle.lockword_core.specs.declared.transition.After.TheVariants as after
 use Rattle.lockword.specs.declared.holders.Freed.{Freed}
 use Rattle.lockword.specs.declared.holders.Freed.TheVariants as freed
-use Rattle.lockword.specs.Marks.{Place, HasNotTaken, Later, NowClosed, Did, saw_closed, saw_done}
-use Rattle.lockword.specs.Marks.{word_of}
+use Rattle.lockword.specs.Marks.{Place, HasNotTaken, Later, NowClosed, Did, saw_closed}
+use Rattle.lockword.specs.Marks.{saw_draining, saw_done, word_of}
 use Rattle.lockword.specs.Places.{seat_place, last_place}
 
--- the flag and one reference, and nothing else
+-- the closed flag and one reference, perhaps the drain flag, and nothing else
 abbrev pub IsLastReference : Word → Type 0
 IsLastReference w =
     (w.closed ≡ true) × (w.rlock ≡ false) × (w.wlock ≡ false) × (w.refs ≡ 1) × (w.rwait ≡ 0)
@@ -24,9 +24,12 @@ pub record Finds {R W : Type 0} (p q : Place R W) (w : Word) : Type 0 where
   pub same_word : word_of q ≡ word_of p
   pub sees_flag : saw_closed q ≡ w.closed
   pub flag_stays : saw_closed p ≡ true → w.closed ≡ true
+  pub sees_drain : saw_draining q ≡ w.drain
+  pub drain_stays : saw_draining p ≡ true → w.drain ≡ true
   pub same_done : saw_done q ≡ saw_done p
 
--- the last one is who finds the flag and one reference alone, and nobody else
+-- the last one is who finds the closed flag and one reference alone, perhaps with the drain flag,
+-- and nobody else
 abbrev pub MakesLast : Word → After → Type 0
 MakesLast w after.Last = IsLastReference w
 MakesLast w _ = ¬ IsLastReference w

@@ -29,6 +29,7 @@ pub record IsView (history : List Event) (seat : ℕ) (v : LocalView) : Type 0 w
   pub did : v.did ≡ operations_of seat history
   pub stake : stake_of (state_after empty history) seat ≡ v.stake
   pub saw_closed : v.saw.closed ≡ true → (state_after empty history).closed ≡ true
+  pub saw_draining : v.saw.draining ≡ true → (state_after empty history).draining ≡ true
   pub saw_done : v.saw.done ≡ true → is_some (state_after empty history).destroyed_by ≡ true
 
 -- after some list of operations by the word's seats, one that has the first view makes this

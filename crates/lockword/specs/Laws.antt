@@ -12,7 +12,7 @@ use Rattle.lockword.specs.History.{Matches, Interleaves}
 use Rattle.lockword.specs.Moment.{Moment}
 
 -- one list of operations, in which each seat's own are those that it made and of which none is
--- refused, leads to the words and the stakes of this moment, and the fields are the flag and the
+-- refused, leads to the words and the stakes of this moment, and the fields are the flags and the
 -- counts that it leaves
 pub record ComesOfDeeds {R W : Type 0} (s : Moment R W) (fields : Word) : Type 0 where
   pub history : List Event
@@ -22,12 +22,13 @@ pub record ComesOfDeeds {R W : Type 0} (s : Moment R W) (fields : Word) : Type 0
   pub counts : CountsStakes fields (state_after empty history)
 
 module _ {R W : Type 0} where
-  -- the state of this moment, by its seats: their stakes, the flag, the signals and the mark
+  -- the state of this moment, by its seats: their stakes, the flags, the signals and the mark
   abbrev pub seats_census : Moment R W → Word → Census
   seats_census s fields =
       record {
         stakes = stakes_of s.views;
         closed = fields.closed;
+        draining = fields.drain;
         signals = record {
           read = slice_index s.words READ_SIGNALS;
           write = slice_index s.words WRITE_SIGNALS;

@@ -11,7 +11,7 @@ newcomer =
     record {
       stake = stake.Free;
       took = false;
-      saw = record { closed = false; done = false };
+      saw = record { closed = false; draining = false; done = false };
       did = [];
     }
 

@@ -36,6 +36,10 @@ module _ {R W : Type 0} where
   abbrev pub saw_closed : Place R W → Bool
   saw_closed p = (marks_of p).closed
 
+  -- whether the seat saw the drain flag
+  abbrev pub saw_draining : Place R W → Bool
+  saw_draining p = (marks_of p).draining
+
   -- whether the seat saw the mark
   abbrev pub saw_done : Place R W → Bool
   saw_done p = (marks_of p).done
@@ -48,15 +52,33 @@ module _ {R W : Type 0} where
   abbrev pub SameMarks : Place R W → Place R W → Type 0
   SameMarks p q = (word_of q ≡ word_of p) × (marks_of q ≡ marks_of p)
 
-  -- the same word, and saw closed is not taken back
+  -- saw draining is not taken back
+  abbrev pub KeepsDraining : Place R W → Place R W → Type 0
+  KeepsDraining p q = saw_draining p ≡ true → saw_draining q ≡ true
+
+  -- the same word, and neither saw closed nor saw draining is taken back
   abbrev pub Later : Place R W → Place R W → Type 0
   Later p q =
       (word_of q ≡ word_of p) × (saw_closed p ≡ true → saw_closed q ≡ true)
-      × (saw_done q ≡ saw_done p)
+      × (saw_done q ≡ saw_done p) × KeepsDraining p q
 
-  -- the same word, and now the seat has seen it closed
+  -- the same word, now the seat has seen it closed, and saw draining is not taken back
   abbrev pub NowClosed : Place R W → Place R W → Type 0
-  NowClosed p q = (word_of q ≡ word_of p) × (saw_closed q ≡ true) × (saw_done q ≡ saw_done p)
+  NowClosed p q =
+      (word_of q ≡ word_of p) × (saw_closed q ≡ true) × (saw_done q ≡ saw_done p)
+      × KeepsDraining p q
+
+  -- the same word, now the seat has seen it draining, and the other marks are as before
+  abbrev pub NowDraining : Place R W → Place R W → Type 0
+  NowDraining p q =
+      (word_of q ≡ word_of p) × (saw_closed q ≡ saw_closed p) × (saw_done q ≡ saw_done p)
+      × (saw_draining q ≡ true)
+
+  -- the same word and the same marks, but that the seat may now have seen it draining
+  abbrev pub SameButDraining : Place R W → Place R W → Type 0
+  SameButDraining p q =
+      (word_of q ≡ word_of p) × (saw_closed q ≡ saw_closed p) × (saw_done q ≡ saw_done p)
+      × KeepsDraining p q
 
   -- after some list of operations by the word's seats, this seat made this operation, was answered
   -- so, and has what it has now
@@ -67,7 +89,7 @@ module _ {R W : Type 0} where
   abbrev pub SameDeeds : Place R W → Place R W → Type 0
   SameDeeds p q = deeds q ≡ deeds p
 
-  -- these were the six fields at some moment, at which the rule held and this seat had this view
+  -- these were the seven fields at some moment, at which the rule held and this seat had this view
   abbrev pub Showed : Word → Place R W → Type 0
   Showed w q = IsShown R W w q.me.0
 
@@ -83,6 +105,10 @@ module _ {R W : Type 0} where
   abbrev pub IsOpen : Place R W → Type 0
   IsOpen p = saw_closed p ≡ false
 
+  -- the seat has not seen the word draining
+  abbrev pub IsUndrained : Place R W → Type 0
+  IsUndrained p = saw_draining p ≡ false
+
 -- nobody has the lock and the references are at their limit, or somebody has it and its waiters are
 abbrev pub IsFullWay : Dir → Word → Type 0
 IsFullWay d w =
@@ -97,15 +123,16 @@ IsFull (kind.Lock d) w = IsFullWay d w
 IsFull _ w = ⊥
 
 module _ {R W : Type 0} where
-  -- the marks once a step of this kind came to this: what takes was found open, and the last return
-  -- was found closed
+  -- the marks once a step of this kind came to this: what takes was found open and not drained, a
+  -- close was found open, and the last return was found closed
   abbrev pub Marked : Kind → After → Place R W → Place R W → Type 0
-  Marked kind.Incref after.Held p q = SameMarks p q × IsOpen p
+  Marked kind.Incref after.Held p q = SameMarks p q × IsOpen p × IsUndrained p
   Marked kind.Decref after.Kept p q = Later p q
   Marked kind.Close (after.Closing r w) p q = NowClosed p q × IsOpen p
-  Marked (kind.Lock d) after.Held p q = SameMarks p q × IsOpen p
-  Marked (kind.Lock d) after.Queued p q = SameMarks p q × IsOpen p
-  Marked (kind.Unlock d) after.Owes p q = SameMarks p q × IsOpen p
+  Marked kind.Drain (after.Drained r w) p q = NowDraining p q × IsOpen p × IsUndrained p
+  Marked (kind.Lock d) after.Held p q = SameMarks p q × IsOpen p × IsUndrained p
+  Marked (kind.Lock d) after.Queued p q = SameMarks p q × IsOpen p × IsUndrained p
+  Marked (kind.Unlock d) after.Owes p q = SameMarks p q × IsOpen p × IsUndrained p
   Marked (kind.Unlock d) after.Kept p q = Later p q
   Marked kind.Decref after.Last p q = NowClosed p q × HasNotTaken q
   Marked (kind.Unlock d) after.Last p q = NowClosed p q × HasNotTaken q
@@ -115,11 +142,18 @@ module _ {R W : Type 0} where
   abbrev pub LostMarks : Kind → Place R W → Place R W → Type 0
   LostMarks kind.Decref p q = Later p q
   LostMarks (kind.Unlock d) p q = Later p q
-  LostMarks _ p q = SameMarks p q × IsOpen p
+  LostMarks kind.Close p q = SameButDraining p q × IsOpen p
+  LostMarks _ p q = SameMarks p q × IsOpen p × IsUndrained p
 
-  -- the marks once a step was refused by this word, which is not closed and is at a limit
+  -- the marks once a step was refused by this word, which is not closed and is at a limit; it has
+  -- the drain flag at most where a close was refused, and the seat has then seen it
   abbrev pub FullMarks : Kind → Place R W → Place R W → Word → Type 0
-  FullMarks k p q w = SameMarks p q × IsOpen p × (w.closed ≡ false) × IsFull k w
+  FullMarks kind.Close p q w =
+      SameButDraining p q × IsOpen p × (saw_draining q ≡ w.drain) × (w.closed ≡ false)
+      × IsFull kind.Close w
+  FullMarks k p q w =
+      SameMarks p q × IsOpen p × IsUndrained p × (w.drain ≡ false) × (w.closed ≡ false)
+      × IsFull k w
 
   -- a step of this kind was made and came to this: the seat's marks, and what it did
   abbrev pub Made : Kind → After → Place R W → Place R W → Type 0
@@ -132,6 +166,10 @@ module _ {R W : Type 0} where
   -- a step found the word closed, and the seat did nothing
   abbrev pub FoundClosed : Place R W → Place R W → Type 0
   FoundClosed p q = NowClosed p q × SameDeeds p q
+
+  -- a step found the word draining and not closed, and the seat did nothing
+  abbrev pub FoundDraining : Place R W → Place R W → Type 0
+  FoundDraining p q = NowDraining p q × IsOpen p × SameDeeds p q
 
   -- a step was refused by this word, which was the word at some moment, and the seat did nothing
   abbrev pub FoundFull : Kind → Place R W → Place R W → Word → Type 0

@@ -12,7 +12,7 @@ use Rattle.lockword.specs.SharedInvariant.{IsReached}
 abbrev pub Moment : Type 0 → Type 0 → Type 0
 Moment R W = State (Half R W) LocalView
 
--- the rule holds at this moment, and these are the six fields of the state word
+-- the rule holds at this moment, and these are the seven fields of the state word
 pub record IsRead {R W : Type 0} (s : Moment R W) (fields : Word) : Type 0 where
   pub rule : IsReached s
   pub is_word : IsWord fields
@@ -26,7 +26,7 @@ pub record IsFound (R W : Type 0) (n : ℕ) (v : LocalView) : Type 0 where
   pub own : get_elem? moment.views seat ≡ some v
   pub word : slice_index moment.words STATE ≡ n
 
--- at some moment, at which the rule held, a seat had this view and these were the six fields
+-- at some moment, at which the rule held, a seat had this view and these were the seven fields
 pub record IsShown (R W : Type 0) (fields : Word) (v : LocalView) : Type 0 where
   pub moment : Moment R W
   pub read : IsRead moment fields

@@ -3,9 +3,11 @@ use Rattle.std.specs.Prelude.{ℕ}
 use Rattle.stream_base.specs.declared.direction.Dir.{Dir}
 use Rattle.lockword_core.specs.LockState.{owed_part}
 use Rattle.lockword.specs.declared.directions.Direction.{Ghosts}
+use Rattle.lockword.specs.declared.directions.Guards as guards
 use Rattle.lockword.specs.declared.holders.Seat.{Seat}
 use Rattle.lockword.specs.declared.holders.Ref.{Ref}
 use Rattle.lockword.specs.declared.holders.Closing.{Closing}
+use Rattle.lockword.specs.declared.holders.Drains.{Drains}
 use Rattle.lockword.specs.declared.holders.Last.{Last}
 use Rattle.lockword.specs.declared.holders.Held.{Held}
 use Rattle.lockword.specs.declared.holders.Waiting.{Waiting}
@@ -29,12 +31,21 @@ module _ {R W : Type 0} where
   abbrev pub owed_by : Closing R W → Dir → ℕ
   owed_by c d = owed_part d c.owed_read c.owed_write
 
+  -- a drainer's place
+  abbrev pub drains_place : Drains R W → Place R W
+  drains_place o = o.place
+
+  -- the signals that a drainer still owes in a direction
+  abbrev pub drains_owed : Drains R W → Dir → ℕ
+  drains_owed o d = owed_part d o.owed_read o.owed_write
+
   -- a last holder's place
   abbrev pub last_place : Last R W → Place R W
   last_place l = l.place
 
   -- a lock's place
-  abbrev pub lock_place : {D G : Type 0} {way : Ghosts D} → Held D R W G way → Place R W
+  abbrev pub lock_place : {D G : Type 0} {kept : guards.Ghosts D R W G} {way : Ghosts D}
+      → Held D R W G kept way → Place R W
   lock_place l = l.place
 
   -- the place of one that waits for a lock

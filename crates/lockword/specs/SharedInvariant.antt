@@ -17,6 +17,7 @@ use Rattle.lockword.specs.History.{Matches, Interleaves}
 -- what a seat saw is so
 pub record SawRightly (c : Census) (v : LocalView) : Type 0 where
   pub closed : v.saw.closed ≡ true → c.closed ≡ true
+  pub draining : v.saw.draining ≡ true → c.draining ≡ true
   pub done : v.saw.done ≡ true → c.destroyed ≡ true
 
 module _ {R W : Type 0} where
@@ -36,7 +37,7 @@ module _ {R W : Type 0} where
     pub halves : (d : Dir)
         → half_home d (get_elem? s.homes (slot_of d)) + number (locks d) census + takers s.views
         + bit census.destroyed ≡ 1
-    -- whoever saw the closed flag or the done word set, saw what is so
+    -- whoever saw the closed flag, the drain flag or the done word set, saw what is so
     pub seen : (i : ℕ) (v : LocalView) → get_elem? s.views i ≡ some v → SawRightly census v
 
   -- the rule of the table: besides, what all seats have ever done leads here from the empty state,

@@ -1,17 +1,18 @@
 -- What the atomic steps tell the seat that makes them. No public clause cites this module.
-use Rattle.std.specs.Prelude.{◌≡◌, ◌≢◌, ◌==◌, ◌<◌, ◌≤◌, ◌+◌, ◌-◌, [], ◌∷◌, ◌++◌, Ok, if◌then◌else◌}
+use Rattle.std.specs.Prelude.{◌≡◌, ◌≢◌, ◌==◌, ◌<◌, ◌≤◌, ◌+◌, ◌-◌, ◌%◌, ◌^◌, [], ◌∷◌, ◌++◌, Ok}
+use Rattle.std.specs.Prelude.{if◌then◌else◌}
 use Rattle.lockword.specs.Words.{ℕ, List, Bool, true, false, Dir, Read, Write, Stake, Op, Answer}
 use Rattle.lockword.specs.Words.{After}
 use Rattle.atomic_table.specs.Table.{Me, Step, rest}
 use Rattle.lockword_core.specs.declared.stake.Stake.TheVariants as stake
 use Rattle.lockword_core.specs.declared.stake.Op.TheVariants as op
 use Rattle.lockword_core.specs.declared.stake.Answer.TheVariants as answer
-use Rattle.lockword_core.specs.declared.word.TheConstants.{CLOSED, NO_WORD, REFERENCE}
+use Rattle.lockword_core.specs.declared.word.TheConstants.{CLOSED, DRAIN, REFERENCE}
 use Rattle.lockword_core.specs.declared.signals.TheConstants.{MAX_SIGNALS}
 use Rattle.lockword_core.specs.declared.transition.Kind.{Kind}
 use Rattle.lockword_core.specs.declared.transition.Kind.TheVariants as kind
 use Rattle.lockword_core.specs.declared.transition.After.TheVariants as after
-use Rattle.lockword_core.specs.Word.{closed_in, lock_in, references_in, waiters_in}
+use Rattle.lockword_core.specs.Word.{closed_in, drain_in, lock_in, references_in, waiters_in}
 use Rattle.lockword_core.specs.WordStep.{op_of, gained}
 use Rattle.lockword_core.specs.FieldStep.{stepped_word}
 use Rattle.lockword.specs.declared.local_view.LocalView.{LocalView}
@@ -26,10 +27,14 @@ use Rattle.lockword.specs.Directions.{slot_of, Guarded, half_of}
 use Rattle.lockword.specs.History.{IsMade}
 use Rattle.lockword.specs.Moment.{IsFound}
 use Rattle.lockword.specs.Marks.{Place, SameMarks, Did, SameDeeds, Made, LostStep, FoundClosed}
-use Rattle.lockword.specs.Marks.{FoundFull}
+use Rattle.lockword.specs.Marks.{FoundDraining, FoundFull}
 use Rattle.lockword.specs.declared.shared_rule.Half.{Half}
 use Rattle.lockword.specs.declared.shared_rule.Half.TheVariants as half
 use Rattle.lockword.specs.declared.shared_rule.TheConstants.{READ_HALF, WRITE_HALF, READ_SIGNALS}
+
+-- the closed flag, perhaps the drain flag, and nothing else
+abbrev pub IsJustClosed : ℕ → Type 0
+IsJustClosed n = n % DRAIN ≡ CLOSED
 
 -- what the state word shows to the holder of a stake
 abbrev pub Shows : Stake → ℕ → Type 0
@@ -37,27 +42,37 @@ Shows stake.Ref n = 0 < references_in n
 Shows stake.Read n = (0 < references_in n) × (lock_in Read n ≡ 1)
 Shows stake.Write n = (0 < references_in n) × (lock_in Write n ≡ 1)
 Shows (stake.Closing r w) n = 0 < references_in n
-Shows stake.Last n = n ≡ CLOSED
+Shows stake.Last n = IsJustClosed n
 Shows _ n = Unit {0}
 
 -- the view once the state word was seen
 abbrev pub seen_in : ℕ → LocalView → LocalView
-seen_in n v = record v { saw = record { closed = closed_in n; done = v.saw.done } }
+seen_in n v =
+    record v {
+      saw = record { closed = closed_in n; draining = drain_in n; done = v.saw.done };
+    }
 
 -- what a load of the state tells a seat with this view
 pub record Told (R W : Type 0) (n : ℕ) (v : LocalView) : Type 0 where
   pub found : IsFound R W n (seen_in n v)
-  pub is_word : n < NO_WORD
+  pub is_word : n < 2 ^ 64
   pub saw_closed : v.saw.closed ≡ true → closed_in n ≡ true
-  pub saw_done : v.saw.done ≡ true → n ≡ CLOSED
+  pub saw_draining : v.saw.draining ≡ true → drain_in n ≡ true
+  pub saw_done : v.saw.done ≡ true → IsJustClosed n
   pub shows : Shows v.stake n
-  -- nobody waits for a signal once the word is closed
+  -- nobody waits for a signal once the word is closed or draining
   pub none_waits : (d : Dir) → closed_in n ≡ true → waiters_in d n ≡ 0
+  pub none_waits_drained : (d : Dir) → drain_in n ≡ true → waiters_in d n ≡ 0
 
--- whether a seat saw the flag once it made a step
+-- whether a seat saw the closed flag once it made a step
 abbrev pub saw_after : Kind → Bool → Bool
 saw_after kind.Close c = true
 saw_after _ c = c
+
+-- whether a seat saw the drain flag once it made a step
+abbrev pub saw_drain_after : Kind → Bool → Bool
+saw_drain_after kind.Drain d = true
+saw_drain_after _ d = d
 
 -- the view once the seat made a step
 abbrev pub moved_view : Kind → After → LocalView → LocalView
@@ -65,8 +80,19 @@ moved_view k a v =
     record {
       stake = (gained k a).1;
       took = false;
-      saw = record { closed = saw_after k v.saw.closed; done = v.saw.done };
+      saw = record {
+        closed = saw_after k v.saw.closed;
+        draining = saw_drain_after k v.saw.draining;
+        done = v.saw.done;
+      };
       did = v.did ++ op_of k ∷ [];
+    }
+
+-- the view once the done word was seen
+abbrev pub asked_view : ℕ → LocalView → LocalView
+asked_view n v =
+    record v {
+      saw = record { closed = v.saw.closed; draining = v.saw.draining; done = n == 1 };
     }
 
 -- the view once the seat marked that it destroyed
@@ -75,7 +101,7 @@ destroyed_view v =
     record {
       stake = stake.Free;
       took = false;
-      saw = record { closed = v.saw.closed; done = true };
+      saw = record { closed = v.saw.closed; draining = v.saw.draining; done = true };
       did = v.did ++ op.Destroy ∷ [];
     }
 
@@ -84,7 +110,7 @@ module _ {S : Type 0} where
   abbrev pub asked : Step S → Me S LocalView → ℕ → Me S LocalView → Type 0
   asked st me n me' =
       (n ≤ 1) × (me.0.saw.done ≡ true → n ≡ 1)
-      × (me' ≡ (record me.0 { saw = record { closed = me.0.saw.closed; done = n == 1 } }, me.1))
+      × (me' ≡ (asked_view n me.0, me.1))
 
 module _ {R W : Type 0} where
   -- a load of the state
@@ -110,7 +136,7 @@ module _ {R W : Type 0} where
       × IsMade (op_of k) (gained k a).0 me.0 me'.0)
       × (n ≢ st.first → me' ≡ me)
 
-  -- a subtraction of a reference: the word that was found decides, and shows the flag
+  -- a subtraction of a reference: the word that was found decides, and shows the flags
   abbrev pub subtracted : Step (Half R W) → Me (Half R W) LocalView → ℕ → Me (Half R W) LocalView
       → Type 0
   subtracted st me n me' =
@@ -137,12 +163,20 @@ module _ {R W : Type 0} where
 
 -- ---- A try at a step on the state word
 
--- the steps that a closed or full word refuses
+-- the steps that a closed word refuses
 abbrev pub IsTaking : Kind → Type 0
 IsTaking kind.Incref = Unit {0}
 IsTaking kind.Close = Unit {0}
+IsTaking kind.Drain = Unit {0}
 IsTaking (kind.Lock d) = Unit {0}
 IsTaking _ = ⊥
+
+-- the steps that a draining word refuses
+abbrev pub IsEntering : Kind → Type 0
+IsEntering kind.Incref = Unit {0}
+IsEntering kind.Drain = Unit {0}
+IsEntering (kind.Lock d) = Unit {0}
+IsEntering _ = ⊥
 
 module _ {R W : Type 0} where
   -- the stake and the slots are as before
@@ -157,6 +191,7 @@ module _ {R W : Type 0} where
   abbrev pub Advanced : Kind → Place R W → Place R W → Advance → Type 0
   Advanced k p q (advance.Done a) = Came k a p q
   Advanced k p q advance.Closed = IsTaking k × Keeps p q × FoundClosed p q
+  Advanced k p q advance.Draining = IsEntering k × Keeps p q × FoundDraining p q
   Advanced k p q (advance.TooMany w) = Keeps p q × FoundFull k p q w
   Advanced k p q advance.Lost = Keeps p q × LostStep k p q
 

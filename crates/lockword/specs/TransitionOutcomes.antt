@@ -10,9 +10,12 @@ use Rattle.lockword_core.specs.declared.word.TheConstants.{MAX_REFERENCES}
 use Rattle.lockword.specs.declared.holders.LockWord.{LockWord}
 use Rattle.lockword.specs.declared.holders.Incref.{Incref}
 use Rattle.lockword.specs.declared.holders.Incref.TheVariants as incref
+use Rattle.lockword.specs.declared.holders.Drain.{Drain}
+use Rattle.lockword.specs.declared.holders.Drain.TheVariants as drain
 use Rattle.lockword.specs.declared.holders.Close.{Close}
 use Rattle.lockword.specs.declared.holders.Close.TheVariants as close
 use Rattle.lockword.specs.declared.directions.Direction.{Ghosts}
+use Rattle.lockword.specs.declared.directions.Guards as guards
 use Rattle.lockword.specs.declared.holders.Lock.{Lock}
 use Rattle.lockword.specs.declared.holders.Lock.TheVariants as lock
 use Rattle.lockword.specs.declared.holders.Unlock.{Unlock}
@@ -21,15 +24,20 @@ use Rattle.lockword.specs.declared.holders.Signal.{Signal}
 use Rattle.lockword.specs.declared.holders.Signal.TheVariants as signal
 use Rattle.lockword.specs.declared.holders.SignalClosing.{SignalClosing}
 use Rattle.lockword.specs.declared.holders.SignalClosing.TheVariants as signal_closing
+use Rattle.lockword.specs.declared.holders.SignalDrains.{SignalDrains}
+use Rattle.lockword.specs.declared.holders.SignalDrains.TheVariants as signal_drains
 use Rattle.lockword.specs.declared.holders.Wake.{Wake}
 use Rattle.lockword.specs.declared.holders.Wake.TheVariants as wake
 use Rattle.lockword.specs.declared.holders.Owing.{Owing}
 use Rattle.lockword.specs.declared.holders.Closing.{Closing}
+use Rattle.lockword.specs.declared.holders.Drains.{Drains}
 use Rattle.lockword.specs.declared.holders.Waiting.{Waiting}
 use Rattle.lockword_core.specs.LockState.{is_same}
-use Rattle.lockword.specs.Marks.{WordId, Place, word_of, saw_closed, saw_done, SameMarks, NowClosed}
-use Rattle.lockword.specs.Marks.{Did, SameDeeds, Showed, Made, LostStep, FoundClosed, FoundFull}
+use Rattle.lockword.specs.Marks.{WordId, Place, word_of, saw_closed, saw_draining, saw_done}
+use Rattle.lockword.specs.Marks.{SameMarks, NowClosed, Did, SameDeeds, Showed, Made, LostStep}
+use Rattle.lockword.specs.Marks.{FoundClosed, FoundDraining, FoundFull}
 use Rattle.lockword.specs.Places.{seat_place, ref_place, closing_place, owed_by, last_place}
+use Rattle.lockword.specs.Places.{drains_place, drains_owed}
 use Rattle.lockword.specs.Places.{lock_place, wait_place, owing_place, owing_way}
 pub use Rattle.lockword.specs.Marks.{HasTaken, HasNotTaken}
 
@@ -50,12 +58,23 @@ module _ {R W : Type 0} where
   abbrev pub SameStake : Place R W → Place R W → Type 0
   SameStake p q = (q.me.0.stake ≡ p.me.0.stake) × (q.me.0.took ≡ p.me.0.took)
 
-  -- a reference is held by a seat that has not seen the word closed
+  -- a reference is held by a seat that has seen the word neither closed nor draining
   abbrev pub AnswersIncref : Place R W → Incref R W → Type 0
   AnswersIncref p (incref.Held r) = Made kind.Incref after.Held p (ref_place r)
   AnswersIncref p (incref.Closed s) = FoundClosed p (seat_place s)
   AnswersIncref p (incref.TooMany s w) = FoundFull kind.Incref p (seat_place s) w
   AnswersIncref p (incref.Lost s) = LostStep kind.Incref p (seat_place s)
+  AnswersIncref p (incref.Draining s) = FoundDraining p (seat_place s)
+
+  -- only a seat that has seen the word neither closed nor draining drains it, and then it has seen
+  -- it; it owes the signals that were counted, or nothing where nobody waited
+  abbrev pub AnswersDrain : Place R W → Drain R W → Type 0
+  AnswersDrain p (drain.Drained s) = Made kind.Drain (after.Drained 0 0) p (seat_place s)
+  AnswersDrain p (drain.Owes o) =
+      Made kind.Drain (after.Drained o.owed_read o.owed_write) p (drains_place o)
+  AnswersDrain p (drain.Closed s) = FoundClosed p (seat_place s)
+  AnswersDrain p (drain.Draining s) = FoundDraining p (seat_place s)
+  AnswersDrain p (drain.Lost s) = LostStep kind.Drain p (seat_place s)
 
   -- only a seat that has not seen the word closed closes it, and then it has
   abbrev pub AnswersClose : Place R W → Close R W → Type 0
@@ -65,22 +84,27 @@ module _ {R W : Type 0} where
   AnswersClose p (close.TooMany s w) = FoundFull kind.Close p (seat_place s) w
   AnswersClose p (close.Lost s) = LostStep kind.Close p (seat_place s)
 
-  -- a lock, or a place in its queue, is had by a seat that has not seen the word closed
-  abbrev pub AnswersLock : {D G : Type 0} {way : Ghosts D} → Place R W → Lock D R W G way → Type 0
-  AnswersLock {way} p (lock.Held l) = Made (kind.Lock way.dir) after.Held p (lock_place l)
-  AnswersLock {way} p (lock.Queued q) = Made (kind.Lock way.dir) after.Queued p (wait_place q)
-  AnswersLock p (lock.Closed s) = FoundClosed p (seat_place s)
-  AnswersLock {way} p (lock.TooMany s w) = FoundFull (kind.Lock way.dir) p (seat_place s) w
-  AnswersLock {way} p (lock.Lost s) = LostStep (kind.Lock way.dir) p (seat_place s)
-
-  -- a signal is owed by a seat that has not seen the word closed alone
-  abbrev pub AnswersUnlock : {D G : Type 0} {way : Ghosts D} → Place R W → Unlock D R W G way
+  -- a lock, or a place in its queue, is had by a seat that has seen the word neither closed nor
+  -- draining
+  abbrev pub AnswersLock : {D G : Type 0} {kept : guards.Ghosts D R W G} {way : Ghosts D} → Place R W
+      → Lock D R W G kept way
       → Type 0
-  AnswersUnlock {way} p (unlock.Free s) = Made (kind.Unlock way.dir) after.Kept p (seat_place s)
-  AnswersUnlock {way} p (unlock.Owes o) =
+  AnswersLock {way = way} p (lock.Held l) = Made (kind.Lock way.dir) after.Held p (lock_place l)
+  AnswersLock {way = way} p (lock.Queued q) = Made (kind.Lock way.dir) after.Queued p (wait_place q)
+  AnswersLock p (lock.Closed s) = FoundClosed p (seat_place s)
+  AnswersLock {way = way} p (lock.TooMany s w) = FoundFull (kind.Lock way.dir) p (seat_place s) w
+  AnswersLock {way = way} p (lock.Lost s) = LostStep (kind.Lock way.dir) p (seat_place s)
+  AnswersLock p (lock.Draining s) = FoundDraining p (seat_place s)
+
+  -- a signal is owed by a seat that has seen the word neither closed nor draining alone
+  abbrev pub AnswersUnlock : {D G : Type 0} {kept : guards.Ghosts D R W G} {way : Ghosts D} → Place R W
+      → Unlock D R W G kept way
+      → Type 0
+  AnswersUnlock {way = way} p (unlock.Free s) = Made (kind.Unlock way.dir) after.Kept p (seat_place s)
+  AnswersUnlock {way = way} p (unlock.Owes o) =
       Made (kind.Unlock way.dir) after.Owes p (owing_place o) × (owing_way o ≡ way.dir)
-  AnswersUnlock {way} p (unlock.Last l) = Made (kind.Unlock way.dir) after.Last p (last_place l)
-  AnswersUnlock {way} p (unlock.Lost l) = LostStep (kind.Unlock way.dir) p (lock_place l)
+  AnswersUnlock {way = way} p (unlock.Last l) = Made (kind.Unlock way.dir) after.Last p (last_place l)
+  AnswersUnlock {way = way} p (unlock.Lost l) = LostStep (kind.Unlock way.dir) p (lock_place l)
 
   -- a signal was not given: marks, direction and deeds are as before
   abbrev pub StillOwes : Owing R W → Owing R W → Type 0
@@ -110,6 +134,26 @@ module _ {R W : Type 0} where
   AnswersSignalClosing c d (signal_closing.Full n) = StillOwesAll c n
   AnswersSignalClosing c d (signal_closing.Lost n) = StillOwesAll c n
 
+  -- a drainer gave no signal: marks and deeds are as before, and it owes what it owed
+  abbrev pub StillDrains : Drains R W → Drains R W → Type 0
+  StillDrains o n =
+      SameMarks (drains_place o) (drains_place n) × SameDeeds (drains_place o) (drains_place n)
+      × ((e : Dir) → drains_owed n e ≡ drains_owed o e)
+
+  -- a signal that a drainer gives is owed no more; in the other direction as many are owed as
+  -- before; once it was the only one that was owed, nothing is
+  abbrev pub AnswersSignalDrains : Drains R W → Dir → SignalDrains R W → Type 0
+  AnswersSignalDrains o d (signal_drains.Signalled s) =
+      SameMarks (drains_place o) (seat_place s)
+      × ((e : Dir) → drains_owed o e ≡ bit (is_same d e))
+      × Did (op.Signal d) answer.Signalled (drains_place o) (seat_place s)
+  AnswersSignalDrains o d (signal_drains.More n) =
+      SameMarks (drains_place o) (drains_place n)
+      × ((e : Dir) → drains_owed n e ≡ drains_owed o e - bit (is_same d e))
+      × Did (op.Signal d) answer.Signalled (drains_place o) (drains_place n)
+  AnswersSignalDrains o d (signal_drains.Full n) = StillDrains o n
+  AnswersSignalDrains o d (signal_drains.Lost n) = StillDrains o n
+
   -- no signal was taken: marks and deeds are as before
   abbrev pub StillWaits : {D : Type 0} {way : Ghosts D} → Waiting D R W way → Waiting D R W way
       → Type 0
@@ -124,7 +168,7 @@ module _ {R W : Type 0} where
   AnswersWake o (wake.NotYet n) = StillWaits o n
   AnswersWake o (wake.Lost n) = StillWaits o n
 
--- the flag, and nothing else
+-- the closed flag, perhaps the drain flag, and nothing else
 abbrev pub IsOnlyClosed : Word → Type 0
 IsOnlyClosed w =
     (w.closed ≡ true) × (w.rlock ≡ false) × (w.wlock ≡ false) × (w.refs ≡ 0) × (w.rwait ≡ 0)
@@ -148,5 +192,7 @@ pub record Looks {R W : Type 0} (p q : Place R W) (w : Word) : Type 0 where
   pub sees_flag : saw_closed q ≡ w.closed
   pub same_done : saw_done q ≡ saw_done p
   pub flag_stays : saw_closed p ≡ true → w.closed ≡ true
+  pub sees_drain : saw_draining q ≡ w.drain
+  pub drain_stays : saw_draining p ≡ true → w.drain ≡ true
   pub nothing_after_done : saw_done p ≡ true → IsOnlyClosed w
   pub shows_stake : ShowsStake p.me.0.stake w

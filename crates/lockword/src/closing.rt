@@ -11,7 +11,8 @@ use stream_base::Dir;
 
 impl<R: Drop, W: Drop> LockWord<R, W> {
     /// Closes the word, takes a reference, and takes over the signals of all waiters, as
-    /// `increfAndClose` of Go's `fd_mutex.go`; where Go panics this answers `TooMany`.
+    /// `increfAndClose` of Go's `fd_mutex.go`; where Go panics this answers `TooMany`. A draining word is
+    /// closed as any other, and stays draining.
     pub fn try_close(&self, seat: Seat<R, W>) -> Close<R, W>
         requires { IsSeatOf self.now (seat_place seat) }
         ensures { AnswersClose (seat_place seat) result }
@@ -23,7 +24,7 @@ impl<R: Drop, W: Drop> LockWord<R, W> {
                 owed_read: read,
                 owed_write: write,
             }),
-            Advance::Done(_) => unreachable!(),
+            Advance::Done(_) | Advance::Draining => unreachable!(),
             Advance::Closed => Close::Closed(Seat { place }),
             Advance::TooMany(word) => Close::TooMany(Seat { place }, word),
             Advance::Lost => Close::Lost(Seat { place }),

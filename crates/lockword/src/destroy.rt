@@ -3,7 +3,8 @@
 ghost use Rattle.std.specs.Prelude.{◌≡◌, true, false, [], IfOk};
 ghost use Rattle.lockword_core.specs.declared.stake.Op.TheVariants as op;
 ghost use Rattle.lockword_core.specs.declared.stake.Answer.TheVariants as answer;
-ghost use Rattle.lockword.specs.Marks.{saw_closed, saw_done, deeds, SameMarks, Did, SameDeeds};
+ghost use Rattle.lockword.specs.Marks.{saw_closed, saw_draining, saw_done, deeds};
+ghost use Rattle.lockword.specs.Marks.{SameMarks, Did, SameDeeds};
 ghost use Rattle.lockword.specs.Places.{seat_place, last_place};
 ghost use Rattle.lockword.specs.TransitionOutcomes.{IsSeatOf, HasTaken, HasNotTaken};
 
@@ -24,6 +25,7 @@ impl<R: Drop, W: Drop> LockWord<R, W> {
     ) -> Result<(LockWord<R, W>, Seat<R, W>), OutOfMemory>
         ensures word { IfOk result (λ made. IsSeatOf made.0 (seat_place made.1)) }
         ensures open { IfOk result (λ made. saw_closed (seat_place made.1) ≡ false) }
+        ensures undrained { IfOk result (λ made. saw_draining (seat_place made.1) ≡ false) }
         ensures not_done { IfOk result (λ made. saw_done (seat_place made.1) ≡ false) }
         ensures no_deeds { IfOk result (λ made. deeds (seat_place made.1) ≡ []) }
     {
@@ -58,6 +60,7 @@ impl<R: Drop, W: Drop> LockWord<R, W> {
         requires { IsSeatOf self.now (seat_place seat.old) }
         ensures word { IsSeatOf self.now (seat_place seat.new) }
         ensures same_closed { saw_closed (seat_place seat.new) ≡ saw_closed (seat_place seat.old) }
+        ensures same_draining { saw_draining (seat_place seat.new) ≡ saw_draining (seat_place seat.old) }
         ensures sees { saw_done (seat_place seat.new) ≡ result }
         ensures stays { saw_done (seat_place seat.old) ≡ true → result ≡ true }
         ensures same_deeds { SameDeeds (seat_place seat.old) (seat_place seat.new) }
@@ -84,6 +87,7 @@ impl<R: Drop, W: Drop> LockWord<R, W> {
         requires taken { HasTaken (last_place last) }
         ensures word { IsSeatOf self.now (seat_place result) }
         ensures closed { saw_closed (seat_place result) ≡ true }
+        ensures draining { saw_draining (seat_place result) ≡ saw_draining (last_place last) }
         ensures done { saw_done (seat_place result) ≡ true }
         ensures made { Did op.Destroy answer.Done (last_place last) (seat_place result) }
     {

@@ -4,7 +4,8 @@
 ghost use Rattle.std.specs.Prelude.{◌≡◌};
 ghost use Rattle.stream_base.specs.declared.direction.Dir.{Dir};
 ghost use Rattle.stream_base.specs.declared.direction.Dir.TheVariants.{Read, Write};
-ghost use Rattle.lockword.specs.Directions.{IsHalf};
+ghost use Rattle.lockword.specs.declared.shared_rule.Half.{Half};
+ghost use Rattle.lockword.specs.Directions.{IsHalf, half_of};
 
 use crate::shared_rule::Half;
 use stream_base::Dir;
@@ -23,13 +24,18 @@ pub trait Guards<R, W>: Direction {
     /// What the lock of this direction guards.
     type Guarded;
 
+    /// The half, as its slot holds it.
+    ghost stored: { Self.Guarded → Half R W };
+
     /// The half, for its slot.
     fn to_slot(half: Self::Guarded) -> Half<R, W>
-        ensures { IsHalf Self.dir result };
+        ensures half { IsHalf Self.dir result }
+        ensures same { result ≡ Self.stored half };
 
     /// The half, out of its slot.
     fn from_slot(found: Half<R, W>) -> Self::Guarded
-        requires { IsHalf Self.dir found };
+        requires { IsHalf Self.dir found }
+        ensures { (half : Self.Guarded) → found ≡ Self.stored half → result ≡ half };
 }
 
 /// The direction of reading.
@@ -46,12 +52,15 @@ impl Direction for Reading {
 impl<R, W> Guards<R, W> for Reading {
     type Guarded = R;
 
+    ghost stored = { half_of Read };
+
     fn to_slot(half: R) -> Half<R, W> {
         Half::Read(half)
     }
 
     fn from_slot(found: Half<R, W>) -> R
         requires { IsHalf Read found }
+        ensures { (half : R) → found ≡ half_of Read half → result ≡ half }
     {
         let Half::Read(half) = found else {
             unreachable!()
@@ -74,12 +83,15 @@ impl Direction for Writing {
 impl<R, W> Guards<R, W> for Writing {
     type Guarded = W;
 
+    ghost stored = { half_of Write };
+
     fn to_slot(half: W) -> Half<R, W> {
         Half::Write(half)
     }
 
     fn from_slot(found: Half<R, W>) -> W
         requires { IsHalf Write found }
+        ensures { (half : W) → found ≡ half_of Write half → result ≡ half }
     {
         let Half::Write(half) = found else {
             unreachable!()

@@ -1,7 +1,7 @@
 //! The word, its seats, and the values that must be spent: they have no `Drop`, can't be copied, and
 //! their fields are private, so that each goes into exactly one call that ends its stake.
 
-ghost use Rattle.std.specs.Prelude.{◌≡◌, [], ◌∷◌, true};
+ghost use Rattle.std.specs.Prelude.{◌≡◌, ◌<◌, ◌+◌, [], ◌∷◌, true};
 ghost use Rattle.lockword.specs.declared.shared_rule.Half.TheVariants as content;
 ghost use Rattle.lockword_core.specs.declared.stake.Stake.TheVariants as stake;
 ghost use Rattle.lockword_core.specs.Transition.{lock_stake};
@@ -55,6 +55,18 @@ pub struct Closing<R, W> {
     ghost slots: { place.me.1 ≡ [] },
 }
 
+/// The drain: the signals that are still owed to the waiters of each direction, of which there is at
+/// least one. It goes into `try_signal_drains` until nothing is owed, which may be after the end.
+pub struct Drains<R, W> {
+    pub(crate) place: Place<R, W>,
+    pub(crate) owed_read: u32,
+    pub(crate) owed_write: u32,
+    ghost stake: { place.me.0.stake ≡ stake.Drains owed_read owed_write },
+    ghost saw: { place.me.0.saw.draining ≡ true },
+    ghost owes: { 0 < owed_read + owed_write },
+    ghost slots: { place.me.1 ≡ [] },
+}
+
 /// The right and the duty to destroy: nobody else uses the resource any more. It goes into
 /// `mark_done`, after `halves`.
 pub struct Last<R, W> {
@@ -70,8 +82,25 @@ pub enum Incref<R, W> {
     Held(Ref<R, W>),
     /// The word is closed, and the seat has seen it.
     Closed(Seat<R, W>),
-    /// The references of the word that was found, which is not closed, are at their limit.
+    /// The references of the word that was found, which is neither closed nor draining, are at their
+    /// limit.
     TooMany(Seat<R, W>, Word),
+    /// Another step came between; nothing changed.
+    Lost(Seat<R, W>),
+    /// The word is draining and was not closed, and the seat has seen it.
+    Draining(Seat<R, W>),
+}
+
+/// What `try_drain` answers.
+pub enum Drain<R, W> {
+    /// This call set the drain flag, and nobody waited for a signal.
+    Drained(Seat<R, W>),
+    /// This call set the drain flag, and owes a signal to each who waited for one.
+    Owes(Drains<R, W>),
+    /// The word is closed, and the seat has seen it.
+    Closed(Seat<R, W>),
+    /// The word was draining before and was not closed, and the seat has seen it.
+    Draining(Seat<R, W>),
     /// Another step came between; nothing changed.
     Lost(Seat<R, W>),
 }
@@ -138,10 +167,13 @@ pub enum Lock<D: Guards<R, W>, R, W> {
     Queued(Waiting<D, R, W>),
     /// The word is closed, and the seat has seen it.
     Closed(Seat<R, W>),
-    /// The references, or where somebody has the lock its waiters, are at their limit.
+    /// The references, or where somebody has the lock its waiters, are at their limit; the word that was
+    /// found is neither closed nor draining.
     TooMany(Seat<R, W>, Word),
     /// Another step came between; nothing changed.
     Lost(Seat<R, W>),
+    /// The word is draining and was not closed, and the seat has seen it.
+    Draining(Seat<R, W>),
 }
 
 /// What `try_lock_read` answers.
@@ -184,6 +216,18 @@ pub enum SignalClosing<R, W> {
     Full(Closing<R, W>),
     /// Another step came between; nothing changed.
     Lost(Closing<R, W>),
+}
+
+/// What `try_signal_drains` answers.
+pub enum SignalDrains<R, W> {
+    /// The last signal that was owed is given.
+    Signalled(Seat<R, W>),
+    /// One signal is given, and one less is owed, but not none.
+    More(Drains<R, W>),
+    /// The semaphore is at its limit; nothing changed.
+    Full(Drains<R, W>),
+    /// Another step came between; nothing changed.
+    Lost(Drains<R, W>),
 }
 
 /// What `try_wake` answers.

@@ -7,8 +7,8 @@ ghost use lib.ListN.{get_elem?};
 ghost use Rattle.stream_base.specs.declared.direction.Dir.{Dir};
 ghost use Rattle.lockword_core.specs.declared.word.Word.{Word};
 ghost use Rattle.lockword_core.specs.Word.{bit};
-ghost use Rattle.lockword_core.specs.LockState.{references, locks, lasts};
-ghost use Rattle.lockword_core.specs.OperationCounts.{is_close, is_destroy, AddsUp};
+ghost use Rattle.lockword_core.specs.LockState.{references, locks, drainers, lasts};
+ghost use Rattle.lockword_core.specs.OperationCounts.{is_close, is_drain, is_destroy, AddsUp};
 ghost use Rattle.lockword_core.specs.Laws.{ReturnedTheLast};
 ghost use Rattle.lockword.specs.declared.local_view.LocalView.{LocalView};
 ghost use Rattle.lockword.specs.declared.shared_rule.TheConstants.{DONE};
@@ -26,15 +26,23 @@ pub fn the_word_comes_of_what_its_seats_did<R, W>()
 {}
 
 /// At every moment the lock bits and counts of the word are those of the stakes of all seats, at most
-/// one seat reads and at most one writes, and each half is in one place.
+/// one seat reads and at most one writes, each half is in one place, at most one seat owes the signals of
+/// a drain, and nobody is left to be signalled in a word that is draining.
 pub fn the_word_counts_the_seats<R, W>()
     ensures counts { (s : Moment R W) (fields : Word) → IsRead s fields → CountsSeats s fields }
     ensures one_lock { (s : Moment R W) (d : Dir) → IsReached s → over_seats (locks d) s ≤ 1 }
     ensures one_place { (s : Moment R W) (d : Dir) → IsReached s → IsInOnePlace d s }
+    ensures one_drainer { (s : Moment R W) (fields : Word) → IsRead s fields
+        → over_seats drainers s ≤ bit fields.drain }
+    ensures no_reader_waits { (s : Moment R W) (fields : Word) → IsRead s fields
+        → fields.drain ≡ true → fields.rwait ≡ 0 }
+    ensures no_writer_waits { (s : Moment R W) (fields : Word) → IsRead s fields
+        → fields.drain ≡ true → fields.wwait ≡ 0 }
 {}
 
 /// A closed word without references has one `Last` or was destroyed, and no other has either; once it
-/// was destroyed nobody has a reference, a lock or `Last`, and the word is the flag alone.
+/// was destroyed nobody has a reference, a lock or `Last`, and the word is the closed flag, perhaps with
+/// the drain flag, alone.
 pub fn the_last_seat_destroys<R, W>()
     ensures one_last { (s : Moment R W) (fields : Word) → IsRead s fields
         → over_seats lasts s + slice_index s.words DONE ≡ bit (fields.closed && (fields.refs == 0)) }
@@ -53,20 +61,24 @@ pub fn the_last_seat_destroys<R, W>()
 pub fn what_a_seat_saw_is_so<R, W>()
     ensures closed { (s : Moment R W) (fields : Word) (seat : ℕ) (v : LocalView) → IsRead s fields
         → get_elem? s.views seat ≡ some v → v.saw.closed ≡ true → fields.closed ≡ true }
+    ensures draining { (s : Moment R W) (fields : Word) (seat : ℕ) (v : LocalView) → IsRead s fields
+        → get_elem? s.views seat ≡ some v → v.saw.draining ≡ true → fields.drain ≡ true }
     ensures done { (s : Moment R W) (seat : ℕ) (v : LocalView) → IsReached s
         → get_elem? s.views seat ≡ some v → v.saw.done ≡ true → slice_index s.words DONE ≡ 1 }
 {}
 
 /// What all seats of a word together have ever done adds up to what they have now: what was taken is
 /// held or queued for, or was given back; a signal that was given lies ready, or was taken; the close
-/// was made once if the word is closed, and the destroy at most once, by the seat that gave back the
-/// last reference after the close. No call takes back what its seat has made, and no seat leaves the
-/// count.
+/// was made once if the word is closed, the drain once if it is draining, and the destroy at most once,
+/// by the seat that gave back the last reference after the close. No call takes back what its seat has
+/// made, and no seat leaves the count.
 pub fn what_all_seats_did_adds_up<R, W>()
     ensures adds_up { (s : Moment R W) (fields : Word) → IsRead s fields
         → AddsUp (made_by_seats s.views) (seats_census s fields) }
     ensures closes { (s : Moment R W) (fields : Word) → IsRead s fields
         → made_by_seats s.views is_close ≡ bit fields.closed }
+    ensures drains { (s : Moment R W) (fields : Word) → IsRead s fields
+        → made_by_seats s.views is_drain ≡ bit fields.drain }
     ensures destroys { (s : Moment R W) → IsReached s
         → made_by_seats s.views is_destroy ≡ slice_index s.words DONE }
     ensures one_destroy { (s : Moment R W) → IsReached s → made_by_seats s.views is_destroy ≤ 1 }

@@ -5,6 +5,7 @@
 mod closing;
 mod destroy;
 mod directions;
+mod draining;
 mod dropping;
 mod holders;
 pub mod laws;
@@ -18,9 +19,9 @@ mod transitions;
 
 pub use directions::{Direction, Guards, Reading, Writing};
 pub use holders::{
-    Close, Closing, Freed, Held, Incref, Last, Lock, LockRead, LockWord, LockWrite, Owing, Place,
-    ReadLock, ReadWait, Ref, Seat, Signal, SignalClosing, Unlock, UnlockRead, UnlockWrite, Waiting,
-    Wake, WakeRead, WakeWrite, WriteLock, WriteWait,
+    Close, Closing, Drain, Drains, Freed, Held, Incref, Last, Lock, LockRead, LockWord, LockWrite,
+    Owing, Place, ReadLock, ReadWait, Ref, Seat, Signal, SignalClosing, SignalDrains, Unlock,
+    UnlockRead, UnlockWrite, Waiting, Wake, WakeRead, WakeWrite, WriteLock, WriteWait,
 };
 pub use local_view::{LocalView, Marks};
 pub use look::Holder;

@@ -13,6 +13,8 @@ use std::marker::Model;
 pub struct Marks {
     /// Whether a load has shown the closed flag.
     pub closed: bool,
+    /// Whether a load has shown the drain flag.
+    pub draining: bool,
     /// Whether a load has shown the done word at 1.
     pub done: bool,
 }

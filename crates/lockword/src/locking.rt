@@ -3,7 +3,7 @@
 ghost use Rattle.std.specs.Prelude.{◌≡◌};
 ghost use Rattle.std.specs.Borrow.{sem, Lends};
 ghost use Rattle.lockword.specs.contracts.holders.Held as held;
-ghost use Rattle.lockword.specs.Lent.{half_in, with_half};
+ghost use Rattle.lockword.specs.Lent.{half_in, with_half, BringsHalfBack};
 ghost use Rattle.lockword.specs.TransitionOutcomes.{IsSeatOf, AnswersLock, AnswersUnlock};
 ghost use Rattle.lockword.specs.Places.{seat_place, lock_place};
 
@@ -19,7 +19,8 @@ use std::marker::PhantomData;
 
 impl<R: Drop, W: Drop> LockWord<R, W> {
     /// Takes the lock of a direction, or a place in its queue, as `rwlock` of Go's `fd_mutex.go`; where
-    /// Go panics this answers `TooMany`.
+    /// Go panics this answers `TooMany`. That a draining word is refused, after the test of the closed
+    /// flag and before the limits, is this project's own.
     pub fn try_lock<D: Guards<R, W>>(&self, seat: Seat<R, W>) -> Lock<D, R, W>
         requires { IsSeatOf self.now (seat_place seat) }
         ensures { AnswersLock (seat_place seat) result }
@@ -45,13 +46,15 @@ impl<R: Drop, W: Drop> LockWord<R, W> {
             Advance::Closed => Lock::Closed(Seat { place }),
             Advance::TooMany(word) => Lock::TooMany(Seat { place }, word),
             Advance::Lost => Lock::Lost(Seat { place }),
+            Advance::Draining => Lock::Draining(Seat { place }),
         }
     }
 
     /// Gives the lock of a direction back, as `rwunlock` of Go's `fd_mutex.go`.
     pub fn try_unlock<D: Guards<R, W>>(&self, lock: Held<D, R, W>) -> Unlock<D, R, W>
         requires { IsSeatOf self.now (lock_place lock) }
-        ensures { AnswersUnlock (lock_place lock) result }
+        ensures answer { AnswersUnlock (lock_place lock) result }
+        ensures half { BringsHalfBack lock result }
     {
         let Held { mut place, half } = lock;
         let dir = D::dir();
@@ -76,7 +79,7 @@ impl<R: Drop, W: Drop> LockWord<R, W> {
                     half: D::from_slot(found),
                 })
             }
-            Advance::Closed | Advance::TooMany(_) => unreachable!(),
+            Advance::Closed | Advance::Draining | Advance::TooMany(_) => unreachable!(),
         }
     }
 
@@ -99,7 +102,8 @@ impl<R: Drop, W: Drop> LockWord<R, W> {
     /// Gives the read lock back.
     pub fn try_unlock_read(&self, lock: ReadLock<R, W>) -> UnlockRead<R, W>
         requires { IsSeatOf self.now (lock_place lock) }
-        ensures { AnswersUnlock (lock_place lock) result }
+        ensures answer { AnswersUnlock (lock_place lock) result }
+        ensures half { BringsHalfBack lock result }
     {
         self.try_unlock(lock)
     }
@@ -107,7 +111,8 @@ impl<R: Drop, W: Drop> LockWord<R, W> {
     /// Gives the write lock back.
     pub fn try_unlock_write(&self, lock: WriteLock<R, W>) -> UnlockWrite<R, W>
         requires { IsSeatOf self.now (lock_place lock) }
-        ensures { AnswersUnlock (lock_place lock) result }
+        ensures answer { AnswersUnlock (lock_place lock) result }
+        ensures half { BringsHalfBack lock result }
     {
         self.try_unlock(lock)
     }
@@ -117,7 +122,7 @@ impl<D: Guards<R, W>, R: Drop, W: Drop> Held<D, R, W> {
     /// The half, for as long as the lock is borrowed.
     pub fn half<'a>(&'a mut self, word: &LockWord<R, W>) -> &'a mut D::Guarded
         requires { IsSeatOf word.now (lock_place self.old) }
-        ensures* writes_back { sem 𝓛 (Lends (held.the_row D.row R.row W.row D.Guarded.row D.Direction) D.Guarded.row self.entry result (with_half self.old)) }
+        ensures* writes_back { sem 𝓛 (Lends (held.the_row D.row R.row W.row D.Guarded.row (record { stored = D.stored }) D.Direction) D.Guarded.row self.entry result (with_half self.old)) }
         ensures value { result.now ≡ half_in self.old }
     {
         &mut self.half

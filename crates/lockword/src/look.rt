@@ -1,7 +1,7 @@
 //! Loads of the state, through any value that holds a seat.
 
 use crate::directions::{Direction, Guards};
-use crate::holders::{Closing, Held, Last, LockWord, Owing, Ref, Seat, Waiting};
+use crate::holders::{Closing, Drains, Held, Last, LockWord, Owing, Ref, Seat, Waiting};
 use lockword_core::Word;
 
 /// A value that holds a seat, and can look through it.
@@ -11,21 +11,26 @@ pub trait Holder<R: Drop, W: Drop> {
 
     ghost place: { Self → Place R W };
 
+    /// What a look leaves as it is, beside the stake.
+    ghost keeps: { Self → Self → Type 0 };
+
     /// One load of the state word.
     fn look_in(&mut self, word: &LockWord<R, W>) -> Word
         requires { IsSeatOf word.now (place self.old) }
         ensures looks { Looks (place self.old) (place self.new) result }
-        ensures stake { SameStake (place self.old) (place self.new) };
+        ensures stake { SameStake (place self.old) (place self.new) }
+        ensures rest { keeps self.old self.new };
 }
 
 impl<R: Drop, W: Drop> LockWord<R, W> {
     ghost use Rattle.lockword.specs.TransitionOutcomes.{IsSeatOf, SameStake, Looks};
 
-    /// The six fields of the state word, by one load.
+    /// The seven fields of the state word, by one load.
     pub fn look<S: Holder<R, W>>(&self, holder: &mut S) -> Word
         requires { IsSeatOf self.now (S.place holder.old) }
         ensures looks { Looks (S.place holder.old) (S.place holder.new) result }
         ensures stake { SameStake (S.place holder.old) (S.place holder.new) }
+        ensures rest { S.keeps holder.old holder.new }
     {
         holder.look_in(self)
     }
@@ -35,6 +40,8 @@ impl<R: Drop, W: Drop> Holder<R, W> for Seat<R, W> {
     ghost use Rattle.lockword.specs.Places.{seat_place};
 
     ghost place = { seat_place };
+
+    ghost keeps = { λ _ _. Unit {0} };
 
     fn look_in(&mut self, word: &LockWord<R, W>) -> Word {
         word.look_at(&mut self.place)
@@ -46,6 +53,8 @@ impl<R: Drop, W: Drop> Holder<R, W> for Ref<R, W> {
 
     ghost place = { ref_place };
 
+    ghost keeps = { λ _ _. Unit {0} };
+
     fn look_in(&mut self, word: &LockWord<R, W>) -> Word {
         word.look_at(&mut self.place)
     }
@@ -55,6 +64,8 @@ impl<R: Drop, W: Drop> Holder<R, W> for Closing<R, W> {
     ghost use Rattle.lockword.specs.Places.{closing_place};
 
     ghost place = { closing_place };
+
+    ghost keeps = { λ _ _. Unit {0} };
 
     fn look_in(&mut self, word: &LockWord<R, W>) -> Word {
         word.look_at(&mut self.place)
@@ -66,15 +77,20 @@ impl<R: Drop, W: Drop> Holder<R, W> for Last<R, W> {
 
     ghost place = { last_place };
 
+    ghost keeps = { λ _ _. Unit {0} };
+
     fn look_in(&mut self, word: &LockWord<R, W>) -> Word {
         word.look_at(&mut self.place)
     }
 }
 
 impl<D: Guards<R, W>, R: Drop, W: Drop> Holder<R, W> for Held<D, R, W> {
+    ghost use Rattle.lockword.specs.Lent.{SameHalf};
     ghost use Rattle.lockword.specs.Places.{lock_place};
 
     ghost place = { lock_place };
+
+    ghost keeps = { SameHalf };
 
     fn look_in(&mut self, word: &LockWord<R, W>) -> Word {
         word.look_at(&mut self.place)
@@ -86,6 +102,8 @@ impl<D: Direction, R: Drop, W: Drop> Holder<R, W> for Waiting<D, R, W> {
 
     ghost place = { wait_place };
 
+    ghost keeps = { λ _ _. Unit {0} };
+
     fn look_in(&mut self, word: &LockWord<R, W>) -> Word {
         word.look_at(&mut self.place)
     }
@@ -95,6 +113,20 @@ impl<R: Drop, W: Drop> Holder<R, W> for Owing<R, W> {
     ghost use Rattle.lockword.specs.Places.{owing_place};
 
     ghost place = { owing_place };
+
+    ghost keeps = { λ _ _. Unit {0} };
+
+    fn look_in(&mut self, word: &LockWord<R, W>) -> Word {
+        word.look_at(&mut self.place)
+    }
+}
+
+impl<R: Drop, W: Drop> Holder<R, W> for Drains<R, W> {
+    ghost use Rattle.lockword.specs.Places.{drains_place};
+
+    ghost place = { drains_place };
+
+    ghost keeps = { λ _ _. Unit {0} };
 
     fn look_in(&mut self, word: &LockWord<R, W>) -> Word {
         word.look_at(&mut self.place)

@@ -2,7 +2,7 @@
 //!
 //! | Word | Holds | Greatest |
 //! |---|---|---|
-//! | `STATE` | the packed word of `lockword_core` | below 2^63 |
+//! | `STATE` | the packed word of `lockword_core` | any word |
 //! | `READ_SIGNALS`, `WRITE_SIGNALS` | signals given and not yet taken | `MAX_SIGNALS` |
 //! | `DONE` | 1 once the resource was destroyed; never cleared | 1 |
 //!
@@ -18,7 +18,7 @@ use crate::local_view::LocalView;
 use atomic_table::TableRule;
 use stream_base::Dir;
 
-/// The word with the flag, the locks and the counts.
+/// The word with the flags, the locks and the counts.
 pub const STATE: usize = 0;
 /// The semaphore of the read waiters.
 pub const READ_SIGNALS: usize = 1;

@@ -1,6 +1,9 @@
 //! Signals and wakes: one load and at most one exchange of a semaphore a call.
 
-ghost use Rattle.std.specs.Prelude.{◌≡◌, ◌<◌, true};
+ghost use Rattle.std.specs.Prelude.{◌≡◌, ◌<◌, ◌-◌, true};
+ghost use Rattle.stream_base.specs.declared.direction.Dir.TheVariants.{Read, Write};
+ghost use Rattle.lockword_core.specs.Word.{bit};
+ghost use Rattle.lockword_core.specs.LockState.{is_same, owed_part};
 ghost use Rattle.lockword_core.specs.Transition.{allows};
 ghost use Rattle.lockword.specs.Steps.{op_at, answer_at, Signalled};
 ghost use Rattle.lockword.specs.TransitionOutcomes.{IsSeatOf, AnswersSignal, AnswersSignalClosing, AnswersWake};
@@ -23,10 +26,22 @@ pub(crate) enum SignalTry {
     Lost,
 }
 
+/// The signals that are owed to readers and to writers, once one of a direction was given.
+pub(crate) fn one_less(dir: Dir, owed_read: u32, owed_write: u32) -> (u32, u32)
+    requires { 0 < owed_part dir owed_read owed_write }
+    ensures read { result.0 ≡ owed_read - bit (is_same dir Read) }
+    ensures write { result.1 ≡ owed_write - bit (is_same dir Write) }
+{
+    match dir {
+        Dir::Read => (owed_read - 1, owed_write),
+        Dir::Write => (owed_read, owed_write - 1),
+    }
+}
+
 impl<R: Drop, W: Drop> LockWord<R, W> {
     /// One load of a semaphore, and at most one exchange, by which a signal is given or taken; one
     /// that is given wakes one thread that is parked on the semaphore.
-    fn try_change<M: SignalStep>(&self, place: &mut Place<R, W>, dir: Dir) -> SignalTry
+    pub(crate) fn try_change<M: SignalStep>(&self, place: &mut Place<R, W>, dir: Dir) -> SignalTry
         requires word { place.old.table_id ≡ self.now.table.shared.table_id }
         requires allowed { allows place.old.me.0.stake (op_at M.way dir) ≡ true }
         ensures word { place.new.table_id ≡ place.old.table_id }
@@ -75,10 +90,7 @@ impl<R: Drop, W: Drop> LockWord<R, W> {
         } = closing;
         match self.try_change::<GiveSignal>(&mut place, dir) {
             SignalTry::Done => {
-                let (owed_read, owed_write) = match dir {
-                    Dir::Read => (owed_read - 1, owed_write),
-                    Dir::Write => (owed_read, owed_write - 1),
-                };
+                let (owed_read, owed_write) = one_less(dir, owed_read, owed_write);
                 SignalClosing::Signalled(Closing {
                     place,
                     owed_read,

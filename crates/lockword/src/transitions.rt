@@ -1,7 +1,6 @@
 //! The atomic steps: what each tells the seat that makes it.
 
-ghost use Rattle.std.specs.Prelude.{◌≡◌, ◌<◌, true, IfSome};
-ghost use Rattle.lockword_core.specs.declared.word.TheConstants.{NO_WORD};
+ghost use Rattle.std.specs.Prelude.{◌≡◌, true, IfSome};
 ghost use Rattle.lockword_core.specs.Word.{IsWord, packed};
 ghost use Rattle.lockword_core.specs.Transition.{allows};
 ghost use Rattle.lockword_core.specs.WordStep.{op_of};
@@ -53,6 +52,12 @@ pub(crate) struct SetClosed;
 
 impl StateStep for SetClosed {
     ghost kind = { kind.Close };
+}
+
+pub(crate) struct SetDraining;
+
+impl StateStep for SetDraining {
+    ghost kind = { kind.Drain };
 }
 
 /// The lock of the direction `D`.
@@ -181,11 +186,11 @@ pub(crate) enum Advance {
     Closed,
     TooMany(Word),
     Lost,
+    Draining,
 }
 
 /// The fields of a word.
 fn fields_of(word: u64) -> Word
-    requires { word < NO_WORD }
     ensures fits { IsWord result }
     ensures same { packed result ≡ word }
 {
@@ -218,6 +223,7 @@ impl<R: Drop, W: Drop> LockWord<R, W> {
             Err(Refused::Closed) => Advance::Closed,
             Err(Refused::TooMany) => Advance::TooMany(fields_of(found)),
             Err(Refused::Misuse) => unreachable!(),
+            Err(Refused::Draining) => Advance::Draining,
         }
     }
 

@@ -7,7 +7,8 @@ use Rattle.std.proofs.lemmas.List.Sums.{sum_by-set, sum_by_push, sum_by-cons, ge
 use Rattle.std.proofs.lemmas.Map.Entries.{sum_by-insert_entry}
 use Rattle.lockword_core.proofs.Words.{ℕ, List, refl, sym, arith, get_or, None, Some, Option, unwrap_or, nat_cmp}
 use Rattle.lockword_core.proofs.Words.{lookup, keys_of, values_of, insert_entry, is_at, IsStrictlySortedBy, Read, Write}
-use Rattle.lockword_core.proofs.Words.{Stake, references, locks, queued, owed, closers, lasts, part, ChangesOneStake}
+use Rattle.lockword_core.proofs.Words.{Stake, references, locks, queued, owed, closers, drainers, lasts, part}
+use Rattle.lockword_core.proofs.Words.{ChangesOneStake}
 use Rattle.lockword_core.specs.declared.stake.Stake.TheVariants as stake
 use Rattle.lockword_core.specs.LockState.{Counted, count}
 
@@ -21,6 +22,7 @@ part-free (locks d) = refl
 part-free (queued d) = refl
 part-free (owed d) = refl
 part-free closers = refl
+part-free drainers = refl
 part-free lasts = refl
 
 -- a list of stakes of which one is set
@@ -100,6 +102,7 @@ part-within stake.Write = omega arith
 part-within (stake.Waits d) = omega arith
 part-within (stake.Owes d) = omega arith
 part-within (stake.Closing r w) = omega arith
+part-within (stake.Drains r w) = omega arith
 part-within stake.Last = omega arith
 
 -- the holders of locks and the closer hold references

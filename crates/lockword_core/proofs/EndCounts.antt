@@ -1,14 +1,16 @@
 -- Who returned the last reference and who destroyed, and how often.
-use Rattle.std.proofs.Common.{◌≡◌, ◌+◌, ◌≤◌, ◌∙◌, [], ◌∷◌}
+use Rattle.std.proofs.Common.{◌≡◌, ◌+◌, ◌-◌, ◌≤◌, ◌∙◌, [], ◌∷◌}
 use Rattle.std.specs.Prelude.{◌==◌, ◌&&◌, ◌⊎◌, if◌then◌else◌, count_by}
 use Rattle.std.proofs.lemmas.List.Recursion.{is_count_by}
 use Rattle.lockword_core.proofs.Words.{ℕ, Bool, true, false, List, refl, sym, ap, arith, inl, inr, is_some, cond}
 use Rattle.lockword_core.proofs.Words.{nat_cmp, values_of, insert_entry, Dir, Read, Write, Stake, Op, Answer, Event}
 use Rattle.lockword_core.proofs.Words.{MAX_REFERENCES, MAX_WAITERS, MAX_SIGNALS, signals_in, bit, LockState, empty}
 use Rattle.lockword_core.proofs.Words.{Census, census, stake_of, references, locks, lasts, part, number, pending}
-use Rattle.lockword_core.proofs.Words.{IsConsistent, Change, nothing, closes, adds_signal, takes_signal, destroys}
+use Rattle.lockword_core.proofs.Words.{IsConsistent, Change, nothing, closes, drains, adds_signal, takes_signal}
+use Rattle.lockword_core.proofs.Words.{destroys}
 use Rattle.lockword_core.proofs.Words.{Outcome, refused, moved, allows, outcome, allowed_outcome, drop_outcome}
 use Rattle.lockword_core.proofs.Words.{with_stake, with_change, carried_out, transition, stake_after_signal, lock_stake}
+use Rattle.lockword_core.proofs.Words.{drains_stake}
 use Rattle.lockword_core.proofs.Words.{state_after, answers_of}
 use Rattle.lockword_core.specs.declared.stake.Stake.TheVariants as stake
 use Rattle.lockword_core.specs.declared.stake.Op.TheVariants as op
@@ -52,6 +54,7 @@ not_last stake.Last (op.Unlock d) other may = absurd (cc)
 not_last stake.Last (op.Signal d) other may = absurd (cc)
 not_last stake.Last (op.Wake d) other may = absurd (cc)
 not_last stake.Last op.Close other may = absurd (cc)
+not_last stake.Last op.Drain other may = absurd (cc)
 not_last stake.Last op.Destroy other may = absurd other
 not_last _ o other may = refl
 
@@ -64,14 +67,24 @@ is_the_last stake.Write may = absurd (cc)
 is_the_last (stake.Waits d) may = absurd (cc)
 is_the_last (stake.Owes d) may = absurd (cc)
 is_the_last (stake.Closing r w) may = absurd (cc)
+is_the_last (stake.Drains r w) may = absurd (cc)
 
 lock_is_not_last : (d : Dir) → is_last_stake (lock_stake d) ≡ false
 lock_is_not_last Read = refl
 lock_is_not_last Write = refl
 
+drains_is_not_last : (r w : ℕ) → is_last_stake (drains_stake r w) ≡ false
+drains_is_not_last r w = by (r == 0 && w == 0)
+  where
+    by : (t : Bool) → is_last_stake (if t then stake.Free else stake.Drains r w) ≡ false
+    by true = refl
+    by false = refl
+
 signal_is_not_last : (d : Dir) (own : Stake) → is_last_stake (stake_after_signal d own) ≡ false
 signal_is_not_last Read (stake.Closing r w) = refl
 signal_is_not_last Write (stake.Closing r w) = refl
+signal_is_not_last Read (stake.Drains r w) = drains_is_not_last (r - 1) w
+signal_is_not_last Write (stake.Drains r w) = drains_is_not_last r (w - 1)
 signal_is_not_last Read _ = refl
 signal_is_not_last Write _ = refl
 
@@ -82,15 +95,17 @@ drop_tells c own other =
 allowed_tells : (c : Census) (own : Stake) (o : Op) → allows own o ≡ true → TellsEnds own (allowed_outcome c own o)
 allowed_tells c own op.Incref may =
     by_test c.closed own _ _ (refl, refl)
+    (by_test c.draining own _ _ (refl, refl)
     (by_test (number references c == MAX_REFERENCES) own _ _ (refl, refl)
-    (refl, refl, not_last own op.Incref tt may))
+    (refl, refl, not_last own op.Incref tt may)))
 allowed_tells c own op.Decref may = drop_tells c own (not_last own op.Decref tt may)
 allowed_tells c own (op.Lock d) may =
     let other = not_last own (op.Lock d) tt may in
     by_test c.closed own _ _ (refl, refl)
+    (by_test c.draining own _ _ (refl, refl)
     (by_test (number (locks d) c == 0) own _ _
     (by_test (number references c == MAX_REFERENCES) own _ _ (refl, refl) (refl, sym (lock_is_not_last d), other))
-    (by_test (pending d c == MAX_WAITERS) own _ _ (refl, refl) (refl, refl, other)))
+    (by_test (pending d c == MAX_WAITERS) own _ _ (refl, refl) (refl, refl, other))))
 allowed_tells c own (op.Unlock d) may =
     let other = not_last own (op.Unlock d) tt may in
     by_test (pending d c == 0) own _ _ (drop_tells c own other) (refl, refl, other)
@@ -103,6 +118,10 @@ allowed_tells c own op.Close may =
     by_test c.closed own _ _ (refl, refl)
     (by_test (number references c == MAX_REFERENCES) own _ _ (refl, refl)
     (refl, refl, not_last own op.Close tt may))
+allowed_tells c own op.Drain may =
+    by_test c.closed own _ _ (refl, refl)
+    (by_test c.draining own _ _ (refl, refl)
+    (refl, sym (drains_is_not_last (pending Read c) (pending Write c)), not_last own op.Drain tt may))
 allowed_tells c own op.Destroy may = (refl, refl, is_the_last own may)
 
 pub tells_ends : (c : Census) (own : Stake) (o : Op) → TellsEnds own (outcome c own o)
@@ -135,6 +154,7 @@ pub mark-change : (s : LockState) (holder : ℕ) (change : Change)
     + bit (is_destroying change)
 mark-change s holder nothing may = omega arith
 mark-change s holder closes may = omega arith
+mark-change s holder drains may = omega arith
 mark-change s holder (adds_signal d) may = omega arith
 mark-change s holder (takes_signal d) may = omega arith
 mark-change s holder destroys (inl none) = omega arith

@@ -6,7 +6,7 @@ use Rattle.std.specs.Ordering.{match_ordering, is_eq}
 use Rattle.lockword_core.proofs.Words.{ℕ, Bool, true, false, List, refl, sym, ap, arith, subst, Option, Some, inl, inr}
 use Rattle.lockword_core.proofs.Words.{is_some, unwrap_or, cond, Less, nat_cmp, lookup, insert_entry, is_at, nat_tests}
 use Rattle.lockword_core.proofs.Words.{Stake, Op, Answer, Event, bit, LockState, empty, census, stake_of}
-use Rattle.lockword_core.proofs.Words.{references, lasts, part, number, IsConsistent, Change, nothing, closes}
+use Rattle.lockword_core.proofs.Words.{references, lasts, part, number, IsConsistent, Change, nothing, closes, drains}
 use Rattle.lockword_core.proofs.Words.{adds_signal, takes_signal, destroys, Outcome, refused, moved, outcome}
 use Rattle.lockword_core.proofs.Words.{with_stake, with_change, carried_out, transition, state_after}
 use Rattle.lockword_core.specs.declared.stake.Stake.TheVariants as stake
@@ -115,6 +115,7 @@ last_stake stake.Write e = absurd (cc)
 last_stake (stake.Waits d) e = absurd (cc)
 last_stake (stake.Owes d) e = absurd (cc)
 last_stake (stake.Closing r w) e = absurd (cc)
+last_stake (stake.Drains r w) e = absurd (cc)
 
 last_answer : (a : Answer) → is_last a ≡ true → a ≡ answer.Last
 last_answer answer.Last e = refl
@@ -125,17 +126,20 @@ last_answer answer.Owes e = absurd (cc)
 last_answer answer.Signalled e = absurd (cc)
 last_answer answer.Woken e = absurd (cc)
 last_answer answer.Closing e = absurd (cc)
+last_answer answer.Drained e = absurd (cc)
 last_answer answer.Done e = absurd (cc)
 last_answer answer.Misuse e = absurd (cc)
 last_answer answer.Closed e = absurd (cc)
 last_answer answer.TooMany e = absurd (cc)
 last_answer answer.Full e = absurd (cc)
 last_answer answer.NotYet e = absurd (cc)
+last_answer answer.Draining e = absurd (cc)
 
 marked_by : (s : LockState) (holder : ℕ) (change : Change) (q : ℕ) → (with_change s holder change).destroyed_by ≡ Some q
     → (s.destroyed_by ≡ Some q) ⊎ ((is_destroying change ≡ true) × (holder ≡ q))
 marked_by s holder nothing q e = inl e
 marked_by s holder closes q e = inl e
+marked_by s holder drains q e = inl e
 marked_by s holder (adds_signal d) q e = inl e
 marked_by s holder (takes_signal d) q e = inl e
 marked_by s holder destroys q e = inr (refl, cc)

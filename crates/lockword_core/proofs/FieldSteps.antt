@@ -31,6 +31,7 @@ abbrev is_refusal : Refused → Refused → Bool
 is_refusal why.Closed why.Closed = true
 is_refusal why.TooMany why.TooMany = true
 is_refusal why.Misuse why.Misuse = true
+is_refusal why.Draining why.Draining = true
 is_refusal _ _ = false
 
 -- some test with this refusal holds
@@ -47,6 +48,7 @@ is_itself : (e : Refused) → is_refusal e e ≡ true
 is_itself why.Closed = refl
 is_itself why.TooMany = refl
 is_itself why.Misuse = refl
+is_itself why.Draining = refl
 
 or_true : (b : Bool) → (b || true) ≡ true
 or_true true = refl
@@ -95,6 +97,7 @@ Shows f (kind.Lock d) after.Queued = (lock_of d f ≡ true) × (waiters_of d f �
 Shows f (kind.Unlock d) after.Owes = IsHeld d f × (waiters_of d f ≢ 0)
 Shows f (kind.Unlock d) a = IsHeld d f × IsLeft f a
 Shows f kind.Close (after.Closing r w) = (f.refs ≢ MAX_REFERENCES) × (r ≡ f.rwait) × (w ≡ f.wwait)
+Shows f kind.Drain (after.Drained r w) = (r ≡ f.rwait) × (w ≡ f.wwait)
 Shows f _ _ = ⊥
 
 -- a step of this kind comes to this and leaves these fields
@@ -144,6 +147,7 @@ shows f (kind.Unlock d) passes =
     gone held after.Kept l = (held, l)
     gone held _ l = absurd l
 shows f kind.Close passes = (other_numbers _ _ (passes why.TooMany), refl, refl)
+shows f kind.Drain passes = (refl, refl)
 
 -- a step is made, or is refused by the first test that holds
 abbrev pub Stepped : Word → Kind → Result (Word × After) Refused → Type 0
@@ -168,10 +172,12 @@ refused_holds f k e is = subst (Judged (guards f k)) is (judged (guards f k))
 pub full_is_open : (f : Word) (k : Kind) → first_refusal (guards f k) ≡ Some why.TooMany → f.closed ≡ false
 full_is_open f k is = by k is
   where
-    open_first : (b t : Bool) → (if b then Some why.Closed else if t then Some why.TooMany else None) ≡ Some why.TooMany
+    open_first : (b c t : Bool)
+        → (if b then Some why.Closed else if c then Some why.Draining else if t then Some why.TooMany else None)
+        ≡ Some why.TooMany
         → b ≡ false
-    open_first true t e = absurd (cc)
-    open_first false t e = refl
+    open_first true c t e = absurd (cc)
+    open_first false c t e = refl
 
     misuse : (b t : Bool) → (if b then Some why.Misuse else if t then Some why.Misuse else None) ≡ Some why.TooMany → ⊥
     misuse true t e = absurd (cc)
@@ -179,8 +185,9 @@ full_is_open f k is = by k is
     misuse false false e = absurd (cc)
 
     by : (k : Kind) → first_refusal (guards f k) ≡ Some why.TooMany → f.closed ≡ false
-    by kind.Incref e = open_first f.closed (f.refs == MAX_REFERENCES) e
-    by kind.Close e = open_first f.closed (f.refs == MAX_REFERENCES) e
-    by (kind.Lock d) e = open_first f.closed (is_full d f) e
+    by kind.Incref e = open_first f.closed f.drain (f.refs == MAX_REFERENCES) e
+    by kind.Close e = open_first f.closed false (f.refs == MAX_REFERENCES) e
+    by kind.Drain e = open_first f.closed f.drain false e
+    by (kind.Lock d) e = open_first f.closed f.drain (is_full d f) e
     by kind.Decref e = absurd (misuse false (f.refs == 0) e)
     by (kind.Unlock d) e = absurd (misuse (not (lock_of d f)) (f.refs == 0) e)

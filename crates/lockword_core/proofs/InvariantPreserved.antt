@@ -1,7 +1,7 @@
 -- A consistent census is one that balances.
-use Rattle.std.proofs.Common.{◌≡◌, ◌≢◌, ◌+◌, ◌≤◌, ◌<◌}
+use Rattle.std.proofs.Common.{◌≡◌, ◌≢◌, ◌+◌, ◌^◌, ◌≤◌, ◌<◌}
 use Rattle.std.specs.Prelude.{◌==◌, ◌&&◌}
-use Rattle.lockword_core.proofs.Words.{ℕ, Bool, true, false, refl, ap, arith, nat_tests, Dir, Read, Write, NO_WORD, bit}
+use Rattle.lockword_core.proofs.Words.{ℕ, Bool, true, false, refl, ap, arith, nat_tests, Dir, Read, Write, bit}
 use Rattle.lockword_core.proofs.Words.{Census, references, lasts, number, encoded, IsConsistentCensus}
 use Rattle.lockword_core.specs.LockInvariant.{IsConsistentWay}
 use Rattle.lockword_core.proofs.BalanceLemmas.{IsBalancedWay, IsBalanced, reads_as}
@@ -50,6 +50,8 @@ way_balances d c good =
       signals_fit = good.signals_fit;
       none_pending = λ e. let none = good.none_pending_when_closed (bit-true c.closed e) in
           let have = good.signals_have_waiters in omega arith;
+      none_drained = λ e. let none = good.none_pending_when_draining (bit-true c.draining e) in
+          let have = good.signals_have_waiters in omega arith;
     }
 
 pub balance_of : (c : Census) → IsConsistentCensus c → IsBalanced c (encoded c)
@@ -57,11 +59,13 @@ balance_of c good =
     let end = end-arith c.closed (number references c) (number lasts c + bit c.destroyed) good.one_last in
     record {
       closed_bit = bit-le c.closed;
+      draining_bit = bit-le c.draining;
       destroyed_bit = bit-le c.destroyed;
       reading = way_balances Read c good.reading;
       writing = way_balances Write c good.writing;
       references_fit = good.references_fit;
       one_closer = good.one_closer;
+      one_drainer = good.one_drainer;
       ended = end.ended;
       unclosed = end.unclosed;
       in_use = end.in_use;
@@ -77,6 +81,7 @@ way_consistent d c b =
       waiters_fit = let fit = b.waiters_fit in omega arith;
       signals_fit = b.signals_fit;
       none_pending_when_closed = λ e. let told = b.none_pending (ap bit e) in omega arith;
+      none_pending_when_draining = λ e. let told = b.none_drained (ap bit e) in omega arith;
     }
 
 pub consistent_of : (c : Census) (n : ℕ) → IsBalanced c n → IsConsistentCensus c
@@ -86,6 +91,7 @@ consistent_of c n b =
       writing = way_consistent Write c b.writing;
       references_fit = b.references_fit;
       one_closer = b.one_closer;
+      one_drainer = b.one_drainer;
       one_last = arith-end c.closed (number references c)
           (number lasts c + bit c.destroyed) b.ended b.unclosed b.in_use;
     }
@@ -93,5 +99,5 @@ consistent_of c n b =
 pub encoded_of : (c : Census) (n : ℕ) → IsBalanced c n → n ≡ encoded c
 encoded_of c n b = omega arith
 
-pub encoded-small : (c : Census) → IsConsistentCensus c → encoded c < NO_WORD
+pub encoded-small : (c : Census) → IsConsistentCensus c → encoded c < 2 ^ 64
 encoded-small c good = (reads_as c (encoded c) (balance_of c good)).is_word

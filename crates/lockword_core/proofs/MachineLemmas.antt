@@ -5,7 +5,7 @@ use Rattle.lockword_core.proofs.Words.{ℕ, Bool, true, false, refl, sym, ap, ar
 use Rattle.lockword_core.proofs.Words.{values_of, insert_entry, nat_tests, Dir, Read, Write, Stake, Op, Answer}
 use Rattle.lockword_core.proofs.Words.{MAX_SIGNALS, MAX_REFERENCES, MAX_WAITERS, Kind, After, signals_in, LockState}
 use Rattle.lockword_core.proofs.Words.{empty, Census, census, stake_of, references, locks, number, pending, encoded}
-use Rattle.lockword_core.proofs.Words.{IsConsistent, IsConsistentCensus, Change, nothing, closes, adds_signal}
+use Rattle.lockword_core.proofs.Words.{IsConsistent, IsConsistentCensus, Change, nothing, closes, drains, adds_signal}
 use Rattle.lockword_core.proofs.Words.{takes_signal, destroys, Outcome, refused, moved, allows, outcome}
 use Rattle.lockword_core.proofs.Words.{allowed_outcome, drop_outcome, stake_after_signal, changed, with_stake}
 use Rattle.lockword_core.proofs.Words.{with_change, carried_out, transition, op_of, gained, Tells}
@@ -15,7 +15,7 @@ use Rattle.lockword_core.specs.declared.stake.Answer.TheVariants as answer
 use Rattle.lockword_core.specs.declared.transition.Kind.TheVariants as kind
 use Rattle.lockword_core.specs.declared.machine.Machine.TheInside.{Inside}
 use Rattle.lockword_core.specs.Signals.{with_signals}
-use Rattle.lockword_core.specs.Word.{closed_in}
+use Rattle.lockword_core.specs.Word.{closed_in, drain_in}
 use Rattle.lockword_core.specs.Machine.{state_in, IsSound}
 use Rattle.lockword_core.proofs.CountLemmas.{changes-insert}
 use Rattle.lockword_core.proofs.InvariantPreserved.{balance_of, encoded_of}
@@ -31,11 +31,16 @@ closed-encoded : (s : LockState) → IsConsistent s → closed_in (encoded (cens
 closed-encoded s good =
     sym (flag_is s.closed _ (reads_as (census s) (encoded (census s)) (balance_of (census s) good.counts)).flag)
 
+drain-encoded : (s : LockState) → IsConsistent s → drain_in (encoded (census s)) ≡ s.draining
+drain-encoded s good =
+    sym (flag_is s.draining _ (reads_as (census s) (encoded (census s)) (balance_of (census s) good.counts)).drain)
+
 same_state : (m : Inside) (s : LockState) → IsConsistent s → m.holders.entries ≡ s.holders → m.word ≡ encoded (census s)
     → m.signals ≡ s.signals → m.destroyed_by ≡ s.destroyed_by → state_in m ≡ s
 same_state m s good holders word signals mark =
     let flag : closed_in m.word ≡ s.closed = ap closed_in word ∙ closed-encoded s good in
-    rw (holders, flag, signals, mark) refl
+    let drained : drain_in m.word ≡ s.draining = ap drain_in word ∙ drain-encoded s good in
+    rw (holders, flag, drained, signals, mark) refl
 
 pub sound_new : (m : Inside) → m.holders.entries ≡ empty.holders → m.word ≡ 0 → m.signals ≡ empty.signals
     → m.destroyed_by ≡ None → IsSound m
@@ -84,6 +89,7 @@ abbrev pub IsOfWord : Outcome → Type 0
 IsOfWord (refused a) = Unit {0}
 IsOfWord (moved a new nothing) = Unit {0}
 IsOfWord (moved a new closes) = Unit {0}
+IsOfWord (moved a new drains) = Unit {0}
 IsOfWord (moved a new _) = ⊥
 
 by_test : (b : Bool) (x y : Outcome) → IsOfWord x → IsOfWord y → IsOfWord (if b then x else y)
@@ -94,14 +100,18 @@ drop_of_word : (c : Census) → IsOfWord (drop_outcome c)
 drop_of_word c = by_test (c.closed && (number references c == 1)) _ _ tt tt
 
 allowed_of_word : (c : Census) (own : Stake) (k : Kind) → IsOfWord (allowed_outcome c own (op_of k))
-allowed_of_word c own kind.Incref = by_test c.closed _ _ tt (by_test (number references c == MAX_REFERENCES) _ _ tt tt)
+allowed_of_word c own kind.Incref =
+    by_test c.closed _ _ tt
+    (by_test c.draining _ _ tt (by_test (number references c == MAX_REFERENCES) _ _ tt tt))
 allowed_of_word c own kind.Decref = drop_of_word c
 allowed_of_word c own (kind.Lock d) =
     by_test c.closed _ _ tt
+    (by_test c.draining _ _ tt
     (by_test (number (locks d) c == 0) _ _ (by_test (number references c == MAX_REFERENCES) _ _ tt tt)
-    (by_test (pending d c == MAX_WAITERS) _ _ tt tt))
+    (by_test (pending d c == MAX_WAITERS) _ _ tt tt)))
 allowed_of_word c own (kind.Unlock d) = by_test (pending d c == 0) _ _ (drop_of_word c) tt
 allowed_of_word c own kind.Close = by_test c.closed _ _ tt (by_test (number references c == MAX_REFERENCES) _ _ tt tt)
+allowed_of_word c own kind.Drain = by_test c.closed _ _ tt (by_test c.draining _ _ tt tt)
 
 outcome_of_word : (c : Census) (own : Stake) (k : Kind) → IsOfWord (outcome c own (op_of k))
 outcome_of_word c own k = by_test (allows own (op_of k)) _ _ (allowed_of_word c own k) tt
@@ -110,6 +120,7 @@ keeps-signals : (s : LockState) (holder : ℕ) (a : Answer) (new : Stake) (chang
     → IsOfWord (moved a new change) → (with_change s holder change).signals ≡ s.signals
 keeps-signals s holder a new nothing of_word = refl
 keeps-signals s holder a new closes of_word = refl
+keeps-signals s holder a new drains of_word = refl
 keeps-signals s holder a new (adds_signal d) of_word = absurd of_word
 keeps-signals s holder a new (takes_signal d) of_word = absurd of_word
 keeps-signals s holder a new destroys of_word = absurd of_word
@@ -118,6 +129,7 @@ keeps-mark : (s : LockState) (holder : ℕ) (a : Answer) (new : Stake) (change :
     → (with_change s holder change).destroyed_by ≡ s.destroyed_by
 keeps-mark s holder a new nothing of_word = refl
 keeps-mark s holder a new closes of_word = refl
+keeps-mark s holder a new drains of_word = refl
 keeps-mark s holder a new (adds_signal d) of_word = absurd of_word
 keeps-mark s holder a new (takes_signal d) of_word = absurd of_word
 keeps-mark s holder a new destroys of_word = absurd of_word

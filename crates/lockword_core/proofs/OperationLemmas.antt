@@ -5,14 +5,15 @@ use Rattle.std.proofs.lemmas.List.Sums.{sum_by-cons, sum_by_push}
 use Rattle.lockword_core.proofs.Words.{ℕ, Bool, true, false, List, refl, sym, ap, subst, arith, Some, cond, values_of}
 use Rattle.lockword_core.proofs.Words.{nat_cmp, insert_entry, Dir, Read, Write, Event, Stake, Op, bit, signals_in}
 use Rattle.lockword_core.proofs.Words.{LockState, empty, Census, census, stake_of, references, queued, number}
-use Rattle.lockword_core.proofs.Words.{IsConsistent, Change, nothing, closes, adds_signal, takes_signal, destroys}
+use Rattle.lockword_core.proofs.Words.{IsConsistent, Change, nothing, closes, drains, adds_signal, takes_signal}
+use Rattle.lockword_core.proofs.Words.{destroys}
 use Rattle.lockword_core.proofs.Words.{Outcome, refused, moved, outcome, changed, with_stake, with_change, carried_out}
 use Rattle.lockword_core.proofs.Words.{transition, state_after, answers_of}
 use Rattle.lockword_core.specs.declared.stake.Stake.TheVariants as stake
 use Rattle.lockword_core.specs.declared.stake.Op.TheVariants as op
 use Rattle.lockword_core.specs.LockState.{count}
-use Rattle.lockword_core.specs.OperationCounts.{is_taking, is_returning, is_signal, is_wake, is_close, is_destroy}
-use Rattle.lockword_core.specs.OperationCounts.{is_refusal, NoneRefused, made_in, operations_of, AddsUp}
+use Rattle.lockword_core.specs.OperationCounts.{is_taking, is_returning, is_signal, is_wake, is_close, is_drain}
+use Rattle.lockword_core.specs.OperationCounts.{is_destroy, is_refusal, NoneRefused, made_in, operations_of, AddsUp}
 use Rattle.lockword_core.specs.Laws.{ReturnedTheLast}
 use Rattle.lockword_core.proofs.CountLemmas.{count-nil, changes-insert, moves}
 use Rattle.lockword_core.proofs.FieldSteps.{same_numbers}
@@ -21,7 +22,7 @@ use Rattle.lockword_core.proofs.ReplayLemmas.{answers_of-push}
 use Rattle.lockword_core.proofs.EndCounts.{TellsEnds, tells_ends, no_mark_yet, mark-change}
 use Rattle.lockword_core.proofs.EndHolders.{destroyer_returned}
 use Rattle.lockword_core.proofs.ForGood.{destroyed_for_good}
-use Rattle.lockword_core.proofs.OperationAdds.{Adding, adds, closed_after, signals_after}
+use Rattle.lockword_core.proofs.OperationAdds.{Adding, adds, closed_after, draining_after, signals_after}
 
 -- ---- What a list of operations adds
 
@@ -32,12 +33,14 @@ record AddsOn (made : (Op → Bool) → ℕ) (b c : Census) : Type 0 where
   taken : made is_taking + had_in b ≡ had_in c + made is_returning
   signalled : (d : Dir) → made (is_signal d) + signals_in d b.signals ≡ signals_in d c.signals + made (is_wake d)
   closed : made is_close + bit b.closed ≡ bit c.closed
+  drained : made is_drain + bit b.draining ≡ bit c.draining
   destroyed : made is_destroy + bit b.destroyed ≡ bit c.destroyed
 
 changed_signals : (c : Census) (ys : List Stake) (change : Change)
     → (changed c ys change).signals ≡ signals_after c.signals change
 changed_signals c ys nothing = refl
 changed_signals c ys closes = refl
+changed_signals c ys drains = refl
 changed_signals c ys (adds_signal d) = refl
 changed_signals c ys (takes_signal d) = refl
 changed_signals c ys destroys = refl
@@ -46,13 +49,24 @@ changed_flag : (c : Census) (ys : List Stake) (change : Change)
     → (changed c ys change).closed ≡ closed_after c.closed change
 changed_flag c ys nothing = refl
 changed_flag c ys closes = refl
+changed_flag c ys drains = refl
 changed_flag c ys (adds_signal d) = refl
 changed_flag c ys (takes_signal d) = refl
 changed_flag c ys destroys = refl
 
+changed_drain : (c : Census) (ys : List Stake) (change : Change)
+    → (changed c ys change).draining ≡ draining_after c.draining change
+changed_drain c ys nothing = refl
+changed_drain c ys closes = refl
+changed_drain c ys drains = refl
+changed_drain c ys (adds_signal d) = refl
+changed_drain c ys (takes_signal d) = refl
+changed_drain c ys destroys = refl
+
 changed_stakes : (c : Census) (ys : List Stake) (change : Change) → (changed c ys change).stakes ≡ ys
 changed_stakes c ys nothing = refl
 changed_stakes c ys closes = refl
+changed_stakes c ys drains = refl
 changed_stakes c ys (adds_signal d) = refl
 changed_stakes c ys (takes_signal d) = refl
 changed_stakes c ys destroys = refl
@@ -81,6 +95,7 @@ carried_adds s holder o (moved a new change) good ends (passes, one) not_refused
       signalled = λ d. one.signalled d ∙ ap (λ (x : ℕ). x + bit (is_wake d o))
           (sym (ap (λ (x : Census). signals_in d x.signals) same ∙ ap (signals_in d) (changed_signals c ys change)));
       closed = one.closed ∙ sym (ap (λ (x : Census). bit x.closed) same ∙ ap bit (changed_flag c ys change));
+      drained = one.drained ∙ sym (ap (λ (x : Census). bit x.draining) same ∙ ap bit (changed_drain c ys change));
       destroyed = let sorted = ap bit one.destroyed in omega arith;
     }
 
@@ -119,7 +134,13 @@ none_refused-cons s e events none =
 along : (s : LockState) (events : List Event) → IsConsistent s → count_by is_refusal (answers_of s events) ≡ 0
     → AddsOn (made_in events) (census s) (census (state_after s events))
 along s [] good none =
-    record { taken = omega arith; signalled = λ d. omega arith; closed = omega arith; destroyed = omega arith }
+    record {
+      taken = omega arith;
+      signalled = λ d. omega arith;
+      closed = omega arith;
+      drained = omega arith;
+      destroyed = omega arith;
+    }
 along s (e ∷ events) good none =
     let parts = none_refused-cons s e events none in
     let one = transition_adds s e.holder e.op good parts.0 in
@@ -132,6 +153,7 @@ along s (e ∷ events) good none =
       signalled = λ way. let a = one.signalled way in let b = rest.signalled way in let c = more (is_signal way) in
           let d = more (is_wake way) in omega arith;
       closed = let a = one.closed in let b = rest.closed in let c = more is_close in omega arith;
+      drained = let a = one.drained in let b = rest.drained in let c = more is_drain in omega arith;
       destroyed = let a = one.destroyed in let b = rest.destroyed in let c = more is_destroy in omega arith;
     }
 
@@ -143,6 +165,7 @@ adds_up events none =
           omega (arith, count-nil references, count-nil (queued Read), count-nil (queued Write));
       signalled = λ d. let a = all.signalled d in let b = no_signals d in omega arith;
       closed = let a = all.closed in omega arith;
+      drained = let a = all.drained in omega arith;
       destroyed = let a = all.destroyed in omega arith;
     }
   where
@@ -175,6 +198,7 @@ is_the_destroy (op.Unlock d) e = absurd (cc)
 is_the_destroy (op.Signal d) e = absurd (cc)
 is_the_destroy (op.Wake d) e = absurd (cc)
 is_the_destroy op.Close e = absurd (cc)
+is_the_destroy op.Drain e = absurd (cc)
 
 -- a destroy that is not refused marks its holder
 destroy_marks : (s : LockState) (holder : ℕ) → is_refusal (transition s holder op.Destroy).1 ≡ false
@@ -196,6 +220,7 @@ destroy_marks s holder not_refused = by (stake_of s holder) refl
     by (stake.Waits d) e = absurd (refuses (stake.Waits d) e refl)
     by (stake.Owes d) e = absurd (refuses (stake.Owes d) e refl)
     by (stake.Closing r w) e = absurd (refuses (stake.Closing r w) e refl)
+    by (stake.Drains r w) e = absurd (refuses (stake.Drains r w) e refl)
 
 destroyer_along : (s : LockState) (events : List Event) (q : ℕ) → IsConsistent s
     → count_by is_refusal (answers_of s events) ≡ 0 → 0 < count_by is_destroy (operations_of q events)

@@ -7,9 +7,11 @@ use Rattle.std.specs.List.{AllByRecursion}
 use Rattle.lockword_core.proofs.Words.{ℕ, Bool, true, false, List, refl, sym, ap, arith, subst, Result, Ok, Less}
 use Rattle.lockword_core.proofs.Words.{nat_cmp, keys_of, values_of, insert_entry, IsStrictlySortedBy, nat_tests, Dir}
 use Rattle.lockword_core.proofs.Words.{Read, Write, Stake, Op, MAX_SIGNALS, Kind, After, Refused, signals_in, LockState}
-use Rattle.lockword_core.proofs.Words.{empty, Census, census, stake_of, references, locks, queued, owed, closers, lasts}
-use Rattle.lockword_core.proofs.Words.{encoded, IsConsistent, IsConsistentCensus, IsCounted, ChangesOneStake, Change}
-use Rattle.lockword_core.proofs.Words.{nothing, closes, adds_signal, takes_signal, destroys, Outcome, refused, moved}
+use Rattle.lockword_core.proofs.Words.{empty, Census, census, stake_of, references, locks, queued, owed, closers}
+use Rattle.lockword_core.proofs.Words.{drainers, lasts, encoded, IsConsistent, IsConsistentCensus, IsCounted}
+use Rattle.lockword_core.proofs.Words.{ChangesOneStake, Change}
+use Rattle.lockword_core.proofs.Words.{nothing, closes, drains, adds_signal, takes_signal, destroys, Outcome, refused}
+use Rattle.lockword_core.proofs.Words.{moved}
 use Rattle.lockword_core.proofs.Words.{allows, outcome, allowed_outcome, stake_after_signal, changed, with_stake}
 use Rattle.lockword_core.proofs.Words.{with_change, carried_out, transition, op_of, gained, Tells, stepped_word}
 use Rattle.lockword_core.specs.declared.stake.Stake.TheVariants as stake
@@ -45,15 +47,22 @@ signal_keeps d c n b =
     by_test (signals_in d c.signals == MAX_SIGNALS) (Keeps c (stake.Owes d) n) _ _ (λ _. tt)
     (λ room stakes one. laws.signal_keeps c stakes n b d one (other_numbers _ _ room))
 
+some_owed : (k : ℕ) → nat_lt 0 k ≡ true → 0 < k
+some_owed k e = grind (arith, nat_tests)
+
 pay_keeps : (d : Dir) (r w : ℕ) (c : Census) (n : ℕ) → IsBalanced c n → nat_lt 0 (owed_part d r w) ≡ true
     → Keeps c (stake.Closing r w) n (signal_outcome d c (stake_after_signal d (stake.Closing r w)))
 pay_keeps d r w c n b owes =
     by_test (signals_in d c.signals == MAX_SIGNALS) (Keeps c (stake.Closing r w) n) _ _ (λ _. tt)
     (λ room stakes one. laws.pay_keeps c stakes n b d r w one (some_owed (owed_part d r w) owes)
     (other_numbers _ _ room))
-  where
-    some_owed : (k : ℕ) → nat_lt 0 k ≡ true → 0 < k
-    some_owed k e = grind (arith, nat_tests)
+
+repay_keeps : (d : Dir) (r w : ℕ) (c : Census) (n : ℕ) → IsBalanced c n → nat_lt 0 (owed_part d r w) ≡ true
+    → Keeps c (stake.Drains r w) n (signal_outcome d c (stake_after_signal d (stake.Drains r w)))
+repay_keeps d r w c n b owes =
+    by_test (signals_in d c.signals == MAX_SIGNALS) (Keeps c (stake.Drains r w) n) _ _ (λ _. tt)
+    (λ room stakes one. laws.repay_keeps c stakes n b d r w one (some_owed (owed_part d r w) owes)
+    (other_numbers _ _ room))
 
 wake_keeps : (d : Dir) (c : Census) (n : ℕ) → IsBalanced c n → Keeps c (stake.Waits d) n (wake_outcome d c)
 wake_keeps d c n b =
@@ -75,6 +84,8 @@ beside_keeps c (stake.Owes Read) (op.Signal Write) n beside b may = absurd (cc)
 beside_keeps c (stake.Owes Write) (op.Signal Read) n beside b may = absurd (cc)
 beside_keeps c (stake.Closing r w) (op.Signal d) n beside b may =
     subst (λ (o : Outcome). Keeps c (stake.Closing r w) n o) (sym (pick_then _ _ _ may)) (pay_keeps d r w c n b may)
+beside_keeps c (stake.Drains r w) (op.Signal d) n beside b may =
+    subst (λ (o : Outcome). Keeps c (stake.Drains r w) n o) (sym (pick_then _ _ _ may)) (repay_keeps d r w c n b may)
 beside_keeps c (stake.Waits Read) (op.Wake Read) n beside b may = wake_keeps Read c n b
 beside_keeps c (stake.Waits Write) (op.Wake Write) n beside b may = wake_keeps Write c n b
 beside_keeps c (stake.Waits Read) (op.Wake Write) n beside b may = absurd (cc)
@@ -83,6 +94,7 @@ beside_keeps c stake.Last op.Destroy n beside b may = λ stakes one. laws.destro
 beside_keeps c _ op.Incref n beside b may = absurd beside
 beside_keeps c _ op.Decref n beside b may = absurd beside
 beside_keeps c _ op.Close n beside b may = absurd beside
+beside_keeps c _ op.Drain n beside b may = absurd beside
 beside_keeps c _ (op.Lock d) n beside b may = absurd beside
 beside_keeps c _ (op.Unlock d) n beside b may = absurd beside
 beside_keeps c _ (op.Signal d) n beside b may = absurd (cc)
@@ -121,6 +133,8 @@ by_op c own (op.Unlock d) good counted may =
     (step_is c own (kind.Unlock d) (encoded c) (balance_of c good) counted may)
 by_op c own op.Close good counted may =
     word_consistent c own kind.Close _ _ (step_is c own kind.Close (encoded c) (balance_of c good) counted may)
+by_op c own op.Drain good counted may =
+    word_consistent c own kind.Drain _ _ (step_is c own kind.Drain (encoded c) (balance_of c good) counted may)
 by_op c own (op.Signal d) good counted may =
     beside_consistent c own (encoded c) _ (beside_keeps c own (op.Signal d) (encoded c) tt (balance_of c good) may)
 by_op c own (op.Wake d) good counted may =
@@ -196,6 +210,7 @@ pub census-change : (state : LockState) (holder : ℕ) (own : Stake) (change : C
     ≡ changed (census state) (values_of (insert_entry nat_cmp state.holders holder own)) change
 census-change state holder own nothing = refl
 census-change state holder own closes = refl
+census-change state holder own drains = refl
 census-change state holder own (adds_signal d) = refl
 census-change state holder own (takes_signal d) = refl
 census-change state holder own destroys = refl
@@ -204,6 +219,7 @@ pub names-change : (state : LockState) (holder : ℕ) (change : Change)
     → (with_change state holder change).holders ≡ state.holders
 names-change state holder nothing = refl
 names-change state holder closes = refl
+names-change state holder drains = refl
 names-change state holder (adds_signal d) = refl
 names-change state holder (takes_signal d) = refl
 names-change state holder destroys = refl
@@ -239,6 +255,7 @@ empty-balance =
       count-nil (owed Read),
       count-nil (owed Write),
       count-nil closers,
+      count-nil drainers,
       count-nil lasts,
     )
 

@@ -1,8 +1,8 @@
--- The packed word by its six fields: it has one reading.
-use Rattle.std.proofs.Common.{◌≡◌, ◌≢◌, ◌+◌, ◌-◌, ◌%◌, ◌≤◌, ◌<◌, ◌∙◌}
+-- The packed word by its seven fields: it has one reading.
+use Rattle.std.proofs.Common.{◌≡◌, ◌≢◌, ◌+◌, ◌-◌, ◌*◌, ◌/◌, ◌%◌, ◌^◌, ◌≤◌, ◌<◌, ◌∙◌}
 use Rattle.std.specs.Prelude.{◌==◌}
 use Rattle.lockword_core.proofs.Words.{ℕ, Bool, true, false, refl, sym, ap, arith, not, Dir, Read, Write, Word, CLOSED}
-use Rattle.lockword_core.proofs.Words.{NO_WORD, bit, IsWord, packed, waiters_in, lock_of, waiters_of, fields_in}
+use Rattle.lockword_core.proofs.Words.{DRAIN, bit, IsWord, packed, waiters_in, lock_of, waiters_of, fields_in}
 use Rattle.lockword_core.specs.declared.word.TheConstants.{READ_LOCK, REFERENCE, READ_WAITER}
 use Rattle.lockword_core.specs.Word.{lock_unit, waiter_unit, lock_in, references_in}
 use Rattle.lockword_core.specs.FieldStep.{with_lock, with_waiters}
@@ -19,10 +19,12 @@ pub record ReadsFields (f : Word) (n : ℕ) : Type 0 where
   pub wlock : lock_in Write n ≡ bit f.wlock
   pub rwait : waiters_in Read n ≡ f.rwait
   pub wwait : waiters_in Write n ≡ f.wwait
-  pub is_word : n < NO_WORD
+  pub drain : n / DRAIN ≡ bit f.drain
+  pub is_word : n < 2 ^ 64
 
 pub reads_fields : (f : Word) (n : ℕ) → IsWord f → packed f ≡ n → ReadsFields f n
-reads_fields f n fits e = let a = bit-le f.closed in let b = bit-le f.rlock in let c = bit-le f.wlock in omega arith
+reads_fields f n fits e =
+    let a = bit-le f.closed in let b = bit-le f.rlock in let c = bit-le f.wlock in let d = bit-le f.drain in omega arith
 
 pub bit-same : (a b : Bool) → bit a ≡ bit b → a ≡ b
 bit-same true true e = refl
@@ -41,7 +43,8 @@ packed-injective f g f_fits g_fits e =
     let refs : f.refs ≡ g.refs = sym of_f.refs ∙ of_g.refs in
     let rwait : f.rwait ≡ g.rwait = sym of_f.rwait ∙ of_g.rwait in
     let wwait : f.wwait ≡ g.wwait = sym of_f.wwait ∙ of_g.wwait in
-    rw (closed, rlock, wlock, refs, rwait, wwait) refl
+    let drain : f.drain ≡ g.drain = bit-same _ _ (sym of_f.drain ∙ of_g.drain) in
+    rw (closed, rlock, wlock, refs, rwait, wwait, drain) refl
 
 pub bit_of : (x : ℕ) → x ≤ 1 → bit (not (x == 0)) ≡ x
 bit_of x h = by (x == 0) refl
@@ -60,11 +63,12 @@ flag_of x h = by (x == CLOSED) refl
 pub fields_fit : (n : ℕ) → IsWord (fields_in n)
 fields_fit n = omega arith
 
-pub packs_back : (n : ℕ) → n < NO_WORD → packed (fields_in n) ≡ n
+pub packs_back : (n : ℕ) → n < 2 ^ 64 → packed (fields_in n) ≡ n
 packs_back n small =
     let a : bit (n % READ_LOCK == CLOSED) ≡ n % READ_LOCK = flag_of (n % READ_LOCK) (omega arith) in
     let b : bit (not (lock_in Read n == 0)) ≡ lock_in Read n = bit_of (lock_in Read n) (omega arith) in
     let c : bit (not (lock_in Write n == 0)) ≡ lock_in Write n = bit_of (lock_in Write n) (omega arith) in
+    let d : bit (n / DRAIN == 1) ≡ n / DRAIN = flag_of (n / DRAIN) (omega arith) in
     omega arith
 
 -- the fields of a packed word are what was packed
@@ -97,6 +101,12 @@ owing_sum Write f n e locked some waits = let one : bit f.wlock ≡ 1 = ap bit l
 
 pub close_sum : (f : Word) (n : ℕ) → IsWord f → packed f ≡ n → bit f.closed ≡ 0 → waiters_in Read n ≡ f.rwait
     → waiters_in Write n ≡ f.wwait
-    → n % READ_WAITER + REFERENCE + CLOSED
+    → n % READ_WAITER + n / DRAIN * DRAIN + REFERENCE + CLOSED
     ≡ packed (record f { closed = true; refs = f.refs + 1; rwait = 0; wwait = 0 })
-close_sum f n fits e flag readers writers = let b = bit-le f.rlock in let c = bit-le f.wlock in omega arith
+close_sum f n fits e flag readers writers =
+    let b = bit-le f.rlock in let c = bit-le f.wlock in let d = bit-le f.drain in omega arith
+
+pub drain_sum : (f : Word) (n : ℕ) → IsWord f → packed f ≡ n
+    → n % READ_WAITER + DRAIN ≡ packed (record f { drain = true; rwait = 0; wwait = 0 })
+drain_sum f n fits e =
+    let a = bit-le f.closed in let b = bit-le f.rlock in let c = bit-le f.wlock in let d = bit-le f.drain in omega arith

@@ -29,6 +29,7 @@ counts_stakes f s good fits e =
       references = sym r.refs ∙ c.refs;
       read_waiters = sym r.rwait ∙ c.waiters Read;
       write_waiters = sym r.wwait ∙ c.waiters Write;
+      drain = bit-same _ _ (sym r.drain ∙ c.drain);
     }
 
 pub one_lock : (s : LockState) (d : Dir) → IsConsistent s → number (locks d) (census s) ≤ 1
@@ -40,6 +41,7 @@ one_lock s Write good = good.counts.writing.one_lock
 -- both censuses have the counts that the word's fields are
 record IsAlike (b c : Census) : Type 0 where
   flag : b.closed ≡ c.closed
+  drain : b.draining ≡ c.draining
   refs : number references b ≡ number references c
   lock : (d : Dir) → number (locks d) b ≡ number (locks d) c
   waiters : (d : Dir) → pending d b ≡ pending d c
@@ -48,6 +50,7 @@ alike : (b c : Census) (n : ℕ) → ReadsAs b n → ReadsAs c n → IsAlike b c
 alike b c n r s =
     record {
       flag = bit-same _ _ (sym r.flag ∙ s.flag);
+      drain = bit-same _ _ (sym r.drain ∙ s.drain);
       refs = sym r.refs ∙ s.refs;
       lock = λ d. sym (r.lock d) ∙ s.lock d;
       waiters = λ d. sym (r.waiters d) ∙ s.waiters d;
@@ -55,11 +58,12 @@ alike b c n r s =
 
 same_allowed : (b c : Census) (own : Stake) (k : Kind) → IsAlike b c
     → allowed_outcome b own (op_of k) ≡ allowed_outcome c own (op_of k)
-same_allowed b c own kind.Incref a = cc (a.flag, a.refs)
+same_allowed b c own kind.Incref a = cc (a.flag, a.drain, a.refs)
 same_allowed b c own kind.Decref a = cc (a.flag, a.refs)
-same_allowed b c own (kind.Lock d) a = cc (a.flag, a.refs, a.lock d, a.waiters d)
+same_allowed b c own (kind.Lock d) a = cc (a.flag, a.drain, a.refs, a.lock d, a.waiters d)
 same_allowed b c own (kind.Unlock d) a = cc (a.flag, a.refs, a.waiters d)
 same_allowed b c own kind.Close a = cc (a.flag, a.refs, a.waiters Read, a.waiters Write)
+same_allowed b c own kind.Drain a = cc (a.flag, a.drain, a.waiters Read, a.waiters Write)
 
 balance_at : (c : Census) (n : ℕ) → IsConsistentCensus c → encoded c ≡ n → IsBalanced c n
 balance_at c n good e = subst (λ (m : ℕ). IsBalanced c m) e (balance_of c good)

@@ -1,11 +1,12 @@
 -- A step on the packed word is the operation on the census whose word it is.
 use Rattle.std.proofs.Common.{◌≡◌, ◌≢◌, ◌<◌, ◌∙◌}
 use Rattle.std.specs.Prelude.{◌==◌, ◌&&◌, if◌then◌else◌, Result, Ok}
-use Rattle.lockword_core.proofs.Words.{ℕ, Bool, true, false, List, refl, sym, ap, arith, subst, Err, nat_tests, Dir}
+use Rattle.lockword_core.proofs.Words.{ℕ, Bool, true, false, List, refl, sym, ap, arith, subst, Err, Dir}
 use Rattle.lockword_core.proofs.Words.{Read, Write, Stake, Answer, Word, Kind, After, Refused, bit, IsWord, packed}
 use Rattle.lockword_core.proofs.Words.{waiters_in, Census, locks, number, pending, encoded, IsConsistentCensus}
 use Rattle.lockword_core.proofs.Words.{IsCounted, ChangesOneStake, lock_of, waiters_of, fields_after, field_step}
 use Rattle.lockword_core.proofs.Words.{stepped_word, nothing, Outcome, refused, moved, allows, outcome, lock_stake}
+use Rattle.lockword_core.proofs.Words.{drains_stake}
 use Rattle.lockword_core.proofs.Words.{changed, op_of, gained, Tells}
 use Rattle.lockword_core.specs.declared.stake.Stake.TheVariants as stake
 use Rattle.lockword_core.specs.declared.transition.Kind.TheVariants as kind
@@ -15,15 +16,13 @@ use Rattle.lockword_core.specs.FieldStep.{packed_result}
 use Rattle.lockword_core.specs.WordStep.{refusal_of}
 use Rattle.lockword_core.proofs.FieldSteps.{same_numbers, not_false, IsMade, Shows, Stepped, stepped}
 use Rattle.lockword_core.proofs.WordFields.{fields_fit, locked_sum, queued_sum, unlocked_sum, owing_sum, close_sum}
+use Rattle.lockword_core.proofs.WordFields.{drain_sum}
 use Rattle.lockword_core.proofs.BalanceLemmas as laws
-use Rattle.lockword_core.proofs.BalanceLemmas.{IsBalanced, reads_as}
+use Rattle.lockword_core.proofs.BalanceLemmas.{IsBalanced, reads_as, zeros}
 use Rattle.lockword_core.proofs.InvariantPreserved.{balance_of, encoded_of, bit-true}
 use Rattle.lockword_core.proofs.WordTable.{allowed_is, change_of, fields_of, outcome_of, packs_fields, same_fields}
 
 -- ---- A step that is made keeps the balance
-
-zeros : (r w : ℕ) → (r == 0 && w == 0) ≡ true → (r ≡ 0) × (w ≡ 0)
-zeros r w e = (grind (arith, nat_tests), grind (arith, nat_tests))
 
 -- the closer that gives its reference back owes nothing
 no_debt : {before after : List Stake} (r w : ℕ) (new : Stake) → (r == 0 && w == 0) ≡ true
@@ -77,28 +76,38 @@ keeps c own k n g a b is may made ys one =
         (laws.last_unlock_keeps c ys n b d one (ap bit l.0) l.1)
     unlocks d _ (held, l) one = absurd l
 
-    closed_is : (x y : ℕ) → x ≡ f.rwait → y ≡ f.wwait → ChangesOneStake c.stakes stake.Free ys (stake.Closing x y)
-        → ChangesOneStake c.stakes stake.Free ys (stake.Closing (waiters_in Read n) (waiters_in Write n))
-    closed_is x y e h one =
+    owing_all : (owing : ℕ → ℕ → Stake) (x y : ℕ) → x ≡ f.rwait → y ≡ f.wwait
+        → ChangesOneStake c.stakes stake.Free ys (owing x y)
+        → ChangesOneStake c.stakes stake.Free ys (owing (waiters_in Read n) (waiters_in Write n))
+    owing_all owing x y e h one =
         let r = reads_as c n b in
-        subst (λ (p : ℕ × ℕ). ChangesOneStake c.stakes stake.Free ys (stake.Closing p.0 p.1))
+        subst (λ (p : ℕ × ℕ). ChangesOneStake c.stakes stake.Free ys (owing p.0 p.1))
         (λ i. ((e ∙ sym (r.waiters Read)) i, (h ∙ sym (r.waiters Write)) i)) one
 
     by : (own : Stake) (k : Kind) (a : After) → allows own (op_of k) ≡ true → IsMade f k a g
         → ChangesOneStake c.stakes own ys (gained k a).1
         → IsBalanced (changed c ys (change_of k)) (packed (fields_after f k a))
     by stake.Free kind.Incref after.Held may made one =
-        at _ _ _ (omega arith) (laws.incref_keeps c ys n b one (ap bit (made.passes why.Closed)) made.shows)
+        at _ _ _ (omega arith)
+        (laws.incref_keeps c ys n b one (ap bit (made.passes why.Closed)) (ap bit (made.passes why.Draining))
+        made.shows)
     by stake.Free kind.Close (after.Closing x y) may made one =
         let unshut : bit c.closed ≡ 0 = ap bit (made.passes why.Closed) in
         at _ _ _ (close_sum f n fits is unshut ((reads_as c n b).waiters Read) ((reads_as c n b).waiters Write))
-        (laws.close_keeps c ys n b (closed_is x y made.shows.1 made.shows.2 one) unshut made.shows.0)
+        (laws.close_keeps c ys n b (owing_all (λ r w. stake.Closing r w) x y made.shows.1 made.shows.2 one) unshut
+        made.shows.0)
+    by stake.Free kind.Drain (after.Drained x y) may made one =
+        at _ _ _ (drain_sum f n fits is)
+        (laws.drain_keeps c ys n b (owing_all drains_stake x y made.shows.0 made.shows.1 one)
+        (ap bit (made.passes why.Closed)) (ap bit (made.passes why.Draining)))
     by stake.Free (kind.Lock d) after.Held may made one =
         at _ _ _ (locked_sum d f n is made.shows.0)
-        (laws.lock_keeps c ys n b d one (ap bit (made.passes why.Closed)) (none_held d c made.shows.0) made.shows.1)
+        (laws.lock_keeps c ys n b d one (ap bit (made.passes why.Closed)) (ap bit (made.passes why.Draining))
+        (none_held d c made.shows.0) made.shows.1)
     by stake.Free (kind.Lock d) after.Queued may made one =
         at _ _ _ (queued_sum d f n is)
-        (laws.queue_keeps c ys n b d one (ap bit (made.passes why.Closed)) (unlike d _ made.shows.1))
+        (laws.queue_keeps c ys n b d one (ap bit (made.passes why.Closed)) (ap bit (made.passes why.Draining))
+        (unlike d _ made.shows.1))
     by stake.Ref kind.Decref after.Kept may made one =
         let some = made.shows.0 in at _ _ _ (omega arith) (laws.drop_ref_keeps c ys n b one (more some made.shows.1))
     by stake.Ref kind.Decref after.Last may made one =
@@ -116,6 +125,7 @@ keeps c own k n g a b is may made ys one =
     by stake.Write (kind.Unlock Write) a may made one = unlocks Write a made.shows one
     by stake.Free kind.Incref _ may made one = absurd made.shows
     by stake.Free kind.Close _ may made one = absurd made.shows
+    by stake.Free kind.Drain _ may made one = absurd made.shows
     by stake.Free (kind.Lock d) _ may made one = absurd made.shows
     by stake.Ref kind.Decref _ may made one = absurd made.shows.1
     by (stake.Closing x y) kind.Decref _ may made one = absurd made.shows.1
@@ -126,6 +136,7 @@ keeps c own k n g a b is may made ys one =
     by _ (kind.Lock d) _ may made one = absurd (cc)
     by _ (kind.Unlock d) _ may made one = absurd (cc)
     by _ kind.Close _ may made one = absurd (cc)
+    by _ kind.Drain _ may made one = absurd (cc)
 
 abbrev ok_of : ℕ × After → Result (ℕ × After) Refused
 ok_of x = Ok x

@@ -4,8 +4,8 @@ use Rattle.std.specs.Prelude.{◌==◌, ◌&&◌, if◌then◌else◌, Result, O
 use Rattle.lockword_core.proofs.Words.{ℕ, Bool, true, false, refl, sym, ap, arith, None, Some, not, Err, nat_tests, Dir}
 use Rattle.lockword_core.proofs.Words.{Read, Write, Stake, Word, CLOSED, MAX_REFERENCES, MAX_WAITERS, Kind, After}
 use Rattle.lockword_core.proofs.Words.{Refused, bit, packed, Census, references, locks, number, pending, IsCounted}
-use Rattle.lockword_core.proofs.Words.{field_step, fields_in, Change, nothing, closes, Outcome, refused, moved, allows}
-use Rattle.lockword_core.proofs.Words.{allowed_outcome, lock_stake, op_of, gained}
+use Rattle.lockword_core.proofs.Words.{field_step, fields_in, Change, nothing, closes, drains, Outcome, refused, moved}
+use Rattle.lockword_core.proofs.Words.{allows, allowed_outcome, lock_stake, op_of, gained}
 use Rattle.lockword_core.specs.declared.stake.Stake.TheVariants as stake
 use Rattle.lockword_core.specs.declared.stake.Answer.TheVariants as answer
 use Rattle.lockword_core.specs.declared.transition.Kind.TheVariants as kind
@@ -28,11 +28,13 @@ fields_of c =
       refs = number references c;
       rwait = pending Read c;
       wwait = pending Write c;
+      drain = c.draining;
     }
 
 -- what a step changes beside the stake
 abbrev pub change_of : Kind → Change
 change_of kind.Close = closes
+change_of kind.Drain = drains
 change_of _ = nothing
 
 -- a result on the fields, as an outcome
@@ -55,6 +57,7 @@ same_fields c n b i =
       refs = r.refs i;
       rwait = r.waiters Read i;
       wwait = r.waiters Write i;
+      drain = sym (flag_is c.draining _ r.drain) i;
     }
 
 pub packs_fields : (c : Census) (n : ℕ) → IsBalanced c n → packed (fields_of c) ≡ n
@@ -64,26 +67,39 @@ some_is : (n : ℕ) → 1 ≤ n → (n == 0) ≡ false
 some_is n some = grind (arith, nat_tests)
 
 -- where something is taken
-takes_is : (k : Kind) (b t : Bool) (x : Word × After)
-    → (if b then refused answer.Closed else if t then refused answer.TooMany else outcome_of k (Ok x))
-    ≡ outcome_of k (unless_refused (if b then Some why.Closed else if t then Some why.TooMany else None) x)
-takes_is k true t x = refl
-takes_is k false true x = refl
-takes_is k false false x = refl
+takes_is : (k : Kind) (b e t : Bool) (x : Word × After)
+    → (if b then refused answer.Closed
+    else if e then refused answer.Draining
+    else if t then refused answer.TooMany
+    else outcome_of k (Ok x))
+    ≡ outcome_of k
+    (unless_refused (if b then Some why.Closed
+    else if e then Some why.Draining
+    else if t then Some why.TooMany
+    else None) x)
+takes_is k true e t x = refl
+takes_is k false true t x = refl
+takes_is k false false true x = refl
+takes_is k false false false x = refl
 
 -- where a lock is taken, or a place in its queue
-lock_is : (d : Dir) (b l t u : Bool) (g : Word)
+lock_is : (d : Dir) (b e l t u : Bool) (g : Word)
     → (if b then refused answer.Closed
+    else if e then refused answer.Draining
     else if l then (if t then refused answer.TooMany else moved answer.Held (lock_stake d) nothing)
     else if u then refused answer.TooMany else moved answer.Queued (stake.Waits d) nothing)
     ≡ outcome_of (kind.Lock d)
-    (unless_refused (if b then Some why.Closed else if (if not l then u else t) then Some why.TooMany else None)
+    (unless_refused (if b then Some why.Closed
+    else if e then Some why.Draining
+    else if (if not l then u else t) then Some why.TooMany
+    else None)
     (g, if not l then after.Queued else after.Held))
-lock_is d true l t u g = refl
-lock_is d false true true u g = refl
-lock_is d false true false u g = refl
-lock_is d false false t true g = refl
-lock_is d false false t false g = refl
+lock_is d true e l t u g = refl
+lock_is d false true l t u g = refl
+lock_is d false false true true u g = refl
+lock_is d false false true false u g = refl
+lock_is d false false false t true g = refl
+lock_is d false false false t false g = refl
 
 -- where a reference is given back, which the holder has
 drop_is : (z b : Bool) (g : Word) → z ≡ false
@@ -110,13 +126,15 @@ unlock_is d false false false b g e f = refl
 -- the operation that the stake allows comes to what the table says of the fields that the counts give
 pub allowed_is : (c : Census) (own : Stake) (k : Kind) → IsCounted c own → allows own (op_of k) ≡ true
     → allowed_outcome c own (op_of k) ≡ outcome_of k (field_step (fields_of c) k)
-allowed_is c own kind.Incref counted may = takes_is kind.Incref c.closed (number references c == MAX_REFERENCES) _
-allowed_is c own kind.Close counted may = takes_is kind.Close c.closed (number references c == MAX_REFERENCES) _
+allowed_is c own kind.Incref counted may =
+    takes_is kind.Incref c.closed c.draining (number references c == MAX_REFERENCES) _
+allowed_is c own kind.Close counted may = takes_is kind.Close c.closed false (number references c == MAX_REFERENCES) _
+allowed_is c own kind.Drain counted may = takes_is kind.Drain c.closed c.draining false _
 allowed_is c own (kind.Lock Read) counted may =
-    lock_is Read c.closed (number (locks Read) c == 0) (number references c == MAX_REFERENCES)
+    lock_is Read c.closed c.draining (number (locks Read) c == 0) (number references c == MAX_REFERENCES)
     (pending Read c == MAX_WAITERS) _
 allowed_is c own (kind.Lock Write) counted may =
-    lock_is Write c.closed (number (locks Write) c == 0) (number references c == MAX_REFERENCES)
+    lock_is Write c.closed c.draining (number (locks Write) c == 0) (number references c == MAX_REFERENCES)
     (pending Write c == MAX_WAITERS) _
 allowed_is c stake.Ref kind.Decref counted may =
     drop_is _ (c.closed && (number references c == 1)) _ (some_is _ (counted.at_least references))

@@ -1,13 +1,15 @@
 -- The words and lemmas that several proofs cite, from one place.
 pub use Rattle.lockword_core.specs.FieldStep.{field_step, fields_after, fields_in, lock_of, stepped_word, waiters_of}
 pub use Rattle.lockword_core.specs.LockInvariant.{ChangesOneStake, IsConsistent, IsConsistentCensus, IsCounted}
-pub use Rattle.lockword_core.specs.LockState.{Census, LockState, census, closers, empty, encoded, lasts, locks, number}
-pub use Rattle.lockword_core.specs.LockState.{owed, part, pending, queued, references, stake_of}
+pub use Rattle.lockword_core.specs.LockState.{Census, LockState, census, closers, drainers, empty, encoded, lasts}
+pub use Rattle.lockword_core.specs.LockState.{locks}
+pub use Rattle.lockword_core.specs.LockState.{number, owed, part, pending, queued, references, stake_of}
 pub use Rattle.lockword_core.specs.Replay.{answers_of, state_after}
 pub use Rattle.lockword_core.specs.Signals.{signals_in}
 pub use Rattle.lockword_core.specs.Transition.{Change, Outcome, adds_signal, allowed_outcome, allows, carried_out}
-pub use Rattle.lockword_core.specs.Transition.{changed, closes, destroys, drop_outcome, lock_stake, moved, nothing}
-pub use Rattle.lockword_core.specs.Transition.{outcome, refused, stake_after_signal, takes_signal, transition}
+pub use Rattle.lockword_core.specs.Transition.{changed, closes, destroys, drains, drains_stake, drop_outcome}
+pub use Rattle.lockword_core.specs.Transition.{lock_stake, moved}
+pub use Rattle.lockword_core.specs.Transition.{nothing, outcome, refused, stake_after_signal, takes_signal, transition}
 pub use Rattle.lockword_core.specs.Transition.{with_change, with_stake}
 pub use Rattle.lockword_core.specs.Word.{IsWord, bit, packed, waiters_in}
 pub use Rattle.lockword_core.specs.WordStep.{Tells, gained, op_of}
@@ -19,7 +21,7 @@ pub use Rattle.lockword_core.specs.declared.stake.Stake.{Stake}
 pub use Rattle.lockword_core.specs.declared.transition.After.{After}
 pub use Rattle.lockword_core.specs.declared.transition.Kind.{Kind}
 pub use Rattle.lockword_core.specs.declared.transition.Refused.{Refused}
-pub use Rattle.lockword_core.specs.declared.word.TheConstants.{CLOSED, MAX_REFERENCES, MAX_WAITERS, NO_WORD}
+pub use Rattle.lockword_core.specs.declared.word.TheConstants.{CLOSED, DRAIN, MAX_REFERENCES, MAX_WAITERS}
 pub use Rattle.lockword_core.specs.declared.word.Word.{Word}
 pub use Rattle.std.proofs.Common.{Bool, List, None, Ok, Option, Result, Some, ap, arith, false, get_or, inl, inr, refl}
 pub use Rattle.std.proofs.Common.{subst, sym, take, true, ℕ}

@@ -12,9 +12,10 @@ use Rattle.lockword_core.specs.declared.transition.After.{After}
 use Rattle.lockword_core.specs.declared.transition.After.TheVariants as after
 use Rattle.lockword_core.specs.declared.transition.Refused.{Refused}
 use Rattle.lockword_core.specs.declared.transition.Refused.TheVariants as why
-use Rattle.lockword_core.specs.Word.{packed, closed_in, lock_in, references_in, waiters_in}
+use Rattle.lockword_core.specs.Word.{packed, closed_in, drain_in, lock_in, references_in}
+use Rattle.lockword_core.specs.Word.{waiters_in}
 
--- ---- The six fields
+-- ---- The seven fields
 
 -- the lock bit of a direction
 abbrev pub lock_of : Dir → Word → Bool
@@ -48,11 +49,14 @@ is_full d f = if lock_of d f then (waiters_of d f == MAX_WAITERS) else (f.refs =
 
 -- the tests of a step, in their order
 abbrev pub guards : Word → Kind → List Guard
-guards f kind.Incref = (why.Closed, f.closed) ∷ (why.TooMany, f.refs == MAX_REFERENCES) ∷ []
+guards f kind.Incref =
+    (why.Closed, f.closed) ∷ (why.Draining, f.drain) ∷ (why.TooMany, f.refs == MAX_REFERENCES) ∷ []
 guards f kind.Decref = (why.Misuse, f.refs == 0) ∷ []
-guards f (kind.Lock d) = (why.Closed, f.closed) ∷ (why.TooMany, is_full d f) ∷ []
+guards f (kind.Lock d) =
+    (why.Closed, f.closed) ∷ (why.Draining, f.drain) ∷ (why.TooMany, is_full d f) ∷ []
 guards f (kind.Unlock d) = (why.Misuse, not (lock_of d f)) ∷ (why.Misuse, f.refs == 0) ∷ []
 guards f kind.Close = (why.Closed, f.closed) ∷ (why.TooMany, f.refs == MAX_REFERENCES) ∷ []
+guards f kind.Drain = (why.Closed, f.closed) ∷ (why.Draining, f.drain) ∷ []
 
 -- what a reference that is given back comes to
 abbrev pub left : Word → After
@@ -65,6 +69,7 @@ comes_to f kind.Decref = left f
 comes_to f (kind.Lock d) = if lock_of d f then after.Queued else after.Held
 comes_to f (kind.Unlock d) = if waiters_of d f == 0 then left f else after.Owes
 comes_to f kind.Close = after.Closing f.rwait f.wwait
+comes_to f kind.Drain = after.Drained f.rwait f.wwait
 
 -- the fields once a step came to this
 abbrev pub fields_after : Word → Kind → After → Word
@@ -76,6 +81,7 @@ fields_after f (kind.Unlock d) after.Owes =
     with_lock d false (f.refs - 1) (with_waiters d (waiters_of d f - 1) f)
 fields_after f (kind.Unlock d) _ = with_lock d false (f.refs - 1) f
 fields_after f kind.Close _ = record f { closed = true; refs = f.refs + 1; rwait = 0; wwait = 0 }
+fields_after f kind.Drain _ = record f { drain = true; rwait = 0; wwait = 0 }
 
 -- ---- The step
 
@@ -109,6 +115,7 @@ fields_in n =
       refs = references_in n;
       rwait = waiters_in Read n;
       wwait = waiters_in Write n;
+      drain = drain_in n;
     }
 
 -- the step on the packed word

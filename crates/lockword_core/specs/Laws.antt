@@ -12,7 +12,7 @@ use Rattle.lockword_core.specs.LockState.{pending}
 use Rattle.lockword_core.specs.Transition.{transition}
 use Rattle.lockword_core.specs.Replay.{state_after}
 
--- the six fields are the flag and the counts over the stakes that the holders have
+-- the seven fields are the flags and the counts over the stakes that the holders have
 pub record CountsStakes (fields : Word) (s : LockState) : Type 0 where
   pub flag : fields.closed ≡ s.closed
   pub read_lock : bit fields.rlock ≡ number (locks Read) (census s)
@@ -20,6 +20,7 @@ pub record CountsStakes (fields : Word) (s : LockState) : Type 0 where
   pub references : fields.refs ≡ number references (census s)
   pub read_waiters : fields.rwait ≡ pending Read (census s)
   pub write_waiters : fields.wwait ≡ pending Write (census s)
+  pub drain : fields.drain ≡ s.draining
 
 -- the answer is `done`
 abbrev pub is_done : Answer → Bool

@@ -1,9 +1,9 @@
 -- The word's first layout, which differs from the present one in the widths of its counts.
-use Rattle.std.specs.Prelude.{◌≡◌, ◌≤◌, ◌+◌, ◌*◌, ℕ, Bool}
+use Rattle.std.specs.Prelude.{◌≡◌, ◌≤◌, ◌+◌, ◌*◌, ℕ}
 use Rattle.stream_base.specs.declared.direction.Dir.TheVariants.{Read, Write}
 use Rattle.lockword_core.specs.declared.word.Word.{Word}
 use Rattle.lockword_core.specs.declared.word.TheConstants.{CLOSED, READ_LOCK, WRITE_LOCK}
-use Rattle.lockword_core.specs.declared.word.TheConstants.{REFERENCE, NO_WORD}
+use Rattle.lockword_core.specs.declared.word.TheConstants.{REFERENCE, DRAIN}
 use Rattle.lockword_core.specs.declared.layout_one.TheConstants.{READ_WAITER, WRITE_WAITER}
 use Rattle.lockword_core.specs.declared.layout_one.TheConstants.{MAX_REFERENCES, MAX_WAITERS}
 use Rattle.lockword_core.specs.Word.{bit}
@@ -20,15 +20,16 @@ abbrev pub first_packed : Word → ℕ
 first_packed fields =
     CLOSED * bit fields.closed + READ_LOCK * bit fields.rlock + WRITE_LOCK * bit fields.wlock
     + REFERENCE * fields.refs + READ_WAITER * fields.rwait + WRITE_WAITER * fields.wwait
+    + DRAIN * bit fields.drain
 
--- the number has these fields, and this bit 63, which is set in no word
-pub record HasFirstFields (word : ℕ) (fields : Word) (top : Bool) : Type 0 where
+-- the word has these fields
+pub record HasFirstFields (word : ℕ) (fields : Word) : Type 0 where
   pub fit : IsFirstWord fields
-  pub sum : word ≡ first_packed fields + NO_WORD * bit top
+  pub sum : word ≡ first_packed fields
 
 -- the word that the counts give
 abbrev pub first_encoded : Census → ℕ
 first_encoded c =
     CLOSED * bit c.closed + READ_LOCK * number (locks Read) c + WRITE_LOCK * number (locks Write) c
     + REFERENCE * number references c + READ_WAITER * pending Read c
-    + WRITE_WAITER * pending Write c
+    + WRITE_WAITER * pending Write c + DRAIN * bit c.draining

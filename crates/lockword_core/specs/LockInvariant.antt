@@ -11,8 +11,8 @@ use Rattle.lockword_core.specs.declared.signals.TheConstants.{MAX_SIGNALS}
 use Rattle.lockword_core.specs.Signals.{signals_in}
 use Rattle.lockword_core.specs.Word.{bit}
 use Rattle.lockword_core.specs.LockState.{LockState, Census, census, Counted, references, locks}
-use Rattle.lockword_core.specs.LockState.{queued, owed, closers, lasts, part, count, number}
-use Rattle.lockword_core.specs.LockState.{pending}
+use Rattle.lockword_core.specs.LockState.{queued, owed, closers, drainers, lasts, part, count}
+use Rattle.lockword_core.specs.LockState.{number, pending}
 
 -- what holds of one direction
 pub record IsConsistentWay (c : Census) (d : Dir) : Type 0 where
@@ -24,6 +24,8 @@ pub record IsConsistentWay (c : Census) (d : Dir) : Type 0 where
   pub signals_fit : signals_in d c.signals ≤ MAX_SIGNALS
   -- once closed, each waiter's signal is owed or given
   pub none_pending_when_closed : c.closed ≡ true → pending d c ≡ 0
+  -- once drained, each waiter's signal is owed or given
+  pub none_pending_when_draining : c.draining ≡ true → pending d c ≡ 0
 
 -- what holds of a state without its names
 pub record IsConsistentCensus (c : Census) : Type 0 where
@@ -32,6 +34,8 @@ pub record IsConsistentCensus (c : Census) : Type 0 where
   pub references_fit : number references c ≤ MAX_REFERENCES
   -- at most one holder closes, and only a closed descriptor has one
   pub one_closer : number closers c ≤ bit c.closed
+  -- at most one holder drains, and only a drained descriptor has one
+  pub one_drainer : number drainers c ≤ bit c.draining
   -- a closed descriptor without references has one `Last` or was destroyed, and no other has either
   pub one_last : number lasts c + bit c.destroyed ≡ bit (c.closed && (number references c == 0))
 

@@ -11,15 +11,17 @@ use Rattle.lockword_core.specs.declared.stake.Stake.{Stake}
 use Rattle.lockword_core.specs.declared.stake.Stake.TheVariants as stake
 use Rattle.lockword_core.specs.declared.signals.Signals.{Signals}
 use Rattle.lockword_core.specs.declared.word.TheConstants.{CLOSED, READ_LOCK, WRITE_LOCK, REFERENCE}
-use Rattle.lockword_core.specs.declared.word.TheConstants.{READ_WAITER, WRITE_WAITER}
+use Rattle.lockword_core.specs.declared.word.TheConstants.{READ_WAITER, WRITE_WAITER, DRAIN}
 use Rattle.lockword_core.specs.Signals.{signals_in}
 use Rattle.lockword_core.specs.Word.{bit}
 
 -- holders by rising names, of whom one that isn't there is `Free`; whether the descriptor is
--- closed; the signals that nobody took yet; and who destroyed, if somebody did
+-- closed, and whether it is drained; the signals that nobody took yet; and who destroyed, if
+-- somebody did
 pub record LockState : Type 0 where
   pub holders : List (ℕ × Stake)
   pub closed : Bool
+  pub draining : Bool
   pub signals : Signals
   pub destroyed_by : Option ℕ
 
@@ -29,6 +31,7 @@ empty =
     record {
       holders = [];
       closed = false;
+      draining = false;
       signals = record { read = 0; write = 0 };
       destroyed_by = None;
     }
@@ -41,6 +44,7 @@ stake_of state holder = unwrap_or (lookup (is_at (nat_cmp holder)) state.holders
 pub record Census : Type 0 where
   pub stakes : List Stake
   pub closed : Bool
+  pub draining : Bool
   pub signals : Signals
   pub destroyed : Bool
 
@@ -50,6 +54,7 @@ census state =
     record {
       stakes = values_of state.holders;
       closed = state.closed;
+      draining = state.draining;
       signals = state.signals;
       destroyed = is_some state.destroyed_by;
     }
@@ -61,6 +66,7 @@ pub data Counted : Type 0 where
   queued : Dir → Counted
   owed : Dir → Counted
   closers : Counted
+  drainers : Counted
   lasts : Counted
 
 -- two directions are the same
@@ -69,7 +75,7 @@ is_same Read Read = true
 is_same Write Write = true
 is_same _ _ = false
 
--- the signals that a closer still owes in a direction, of both parts
+-- the signals that a closer or a drainer still owes in a direction, of both parts
 abbrev pub owed_part : Dir → ℕ → ℕ → ℕ
 owed_part Read r w = r
 owed_part Write r w = w
@@ -85,7 +91,9 @@ part (locks d) stake.Write = bit (is_same d Write)
 part (queued d) (stake.Waits e) = bit (is_same d e)
 part (owed d) (stake.Owes e) = bit (is_same d e)
 part (owed d) (stake.Closing r w) = owed_part d r w
+part (owed d) (stake.Drains r w) = owed_part d r w
 part closers (stake.Closing r w) = 1
+part drainers (stake.Drains r w) = 1
 part lasts stake.Last = 1
 part _ _ = 0
 
@@ -106,4 +114,4 @@ abbrev pub encoded : Census → ℕ
 encoded c =
     CLOSED * bit c.closed + READ_LOCK * number (locks Read) c + WRITE_LOCK * number (locks Write) c
     + REFERENCE * number references c + READ_WAITER * pending Read c
-    + WRITE_WAITER * pending Write c
+    + WRITE_WAITER * pending Write c + DRAIN * bit c.draining

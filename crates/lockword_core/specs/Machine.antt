@@ -1,16 +1,17 @@
 -- What a machine's fields stand for. No public clause cites this module.
-use Rattle.lockword_core.specs.Word.{closed_in}
+use Rattle.lockword_core.specs.Word.{closed_in, drain_in}
 use Rattle.lockword_core.specs.LockState.{LockState, census, encoded}
 use Rattle.lockword_core.specs.LockInvariant.{IsConsistent}
 use Rattle.lockword_core.specs.declared.machine.Machine.TheInside.{Inside}
 use Rattle.std.specs.Prelude.{◌≡◌}
 
--- the state whose stakes, signals and mark the machine has, and whose flag is the word's
+-- the state whose stakes, signals and mark the machine has, and whose flags are the word's
 abbrev pub state_in : Inside → LockState
 state_in m =
     record {
       holders = m.holders.entries;
       closed = closed_in m.word;
+      draining = drain_in m.word;
       signals = m.signals;
       destroyed_by = m.destroyed_by;
     }

@@ -42,6 +42,11 @@ abbrev pub is_close : Op → Bool
 is_close op.Close = true
 is_close _ = false
 
+-- the operation is the drain
+abbrev pub is_drain : Op → Bool
+is_drain op.Drain = true
+is_drain _ = false
+
 -- the operation is the destroy
 abbrev pub is_destroy : Op → Bool
 is_destroy op.Destroy = true
@@ -54,6 +59,7 @@ is_refusal answer.Closed = true
 is_refusal answer.TooMany = true
 is_refusal answer.Full = true
 is_refusal answer.NotYet = true
+is_refusal answer.Draining = true
 is_refusal _ = false
 
 -- no event of the list is refused
@@ -80,5 +86,7 @@ pub record AddsUp (made : (Op → Bool) → ℕ) (c : Census) : Type 0 where
   pub signalled : (d : Dir) → made (is_signal d) ≡ signals_in d c.signals + made (is_wake d)
   -- the close was made once if the descriptor is closed, and else never
   pub closed : made is_close ≡ bit c.closed
+  -- the drain was made once if it is drained, and else never
+  pub drained : made is_drain ≡ bit c.draining
   -- the destroy was made once if it is destroyed, and else never
   pub destroyed : made is_destroy ≡ bit c.destroyed

@@ -22,12 +22,14 @@ abbrev pub allows : Stake → Op → Bool
 allows stake.Free op.Incref = true
 allows stake.Free (op.Lock d) = true
 allows stake.Free op.Close = true
+allows stake.Free op.Drain = true
 allows stake.Ref op.Decref = true
 allows (stake.Closing r w) op.Decref = r == 0 && w == 0
 allows stake.Read (op.Unlock d) = is_same d Read
 allows stake.Write (op.Unlock d) = is_same d Write
 allows (stake.Owes e) (op.Signal d) = is_same d e
 allows (stake.Closing r w) (op.Signal d) = nat_lt 0 (owed_part d r w)
+allows (stake.Drains r w) (op.Signal d) = nat_lt 0 (owed_part d r w)
 allows (stake.Waits e) (op.Wake d) = is_same d e
 allows stake.Last op.Destroy = true
 allows _ _ = false
@@ -36,6 +38,7 @@ allows _ _ = false
 pub data Change : Type 0 where
   nothing : Change
   closes : Change
+  drains : Change
   adds_signal : Dir → Change
   takes_signal : Dir → Change
   destroys : Change
@@ -50,10 +53,16 @@ abbrev pub lock_stake : Dir → Stake
 lock_stake Read = stake.Read
 lock_stake Write = stake.Write
 
+-- the stake of the holder that drained and owes these signals: nothing where it owes none
+abbrev pub drains_stake : ℕ → ℕ → Stake
+drains_stake r w = if r == 0 && w == 0 then stake.Free else stake.Drains r w
+
 -- the stake that is left once one signal of a direction was given
 abbrev pub stake_after_signal : Dir → Stake → Stake
 stake_after_signal Read (stake.Closing r w) = stake.Closing (r - 1) w
 stake_after_signal Write (stake.Closing r w) = stake.Closing r (w - 1)
+stake_after_signal Read (stake.Drains r w) = drains_stake (r - 1) w
+stake_after_signal Write (stake.Drains r w) = drains_stake r (w - 1)
 stake_after_signal _ _ = stake.Free
 
 -- a reference is given back: the last one after a close leaves `Last`; the holder that acts is
@@ -67,6 +76,7 @@ drop_outcome c =
 abbrev pub incref_outcome : Census → Outcome
 incref_outcome c =
     if c.closed then refused answer.Closed
+    else if c.draining then refused answer.Draining
     else if number references c == MAX_REFERENCES then refused answer.TooMany
     else moved answer.Held stake.Ref nothing
 
@@ -74,6 +84,7 @@ incref_outcome c =
 abbrev pub lock_outcome : Dir → Census → Outcome
 lock_outcome d c =
     if c.closed then refused answer.Closed
+    else if c.draining then refused answer.Draining
     else if number (locks d) c == 0 then (
     if number references c == MAX_REFERENCES then refused answer.TooMany
     else moved answer.Held (lock_stake d) nothing)
@@ -92,6 +103,13 @@ close_outcome c =
     if c.closed then refused answer.Closed
     else if number references c == MAX_REFERENCES then refused answer.TooMany
     else moved answer.Closing (stake.Closing (pending Read c) (pending Write c)) closes
+
+-- the descriptor is drained, and all signals that waiters wait for are owed
+abbrev pub drain_outcome : Census → Outcome
+drain_outcome c =
+    if c.closed then refused answer.Closed
+    else if c.draining then refused answer.Draining
+    else moved answer.Drained (drains_stake (pending Read c) (pending Write c)) drains
 
 -- a signal is given, after which the holder has this stake
 abbrev pub signal_outcome : Dir → Census → Stake → Outcome
@@ -114,6 +132,7 @@ allowed_outcome c own (op.Unlock d) = unlock_outcome d c
 allowed_outcome c own (op.Signal d) = signal_outcome d c (stake_after_signal d own)
 allowed_outcome c own (op.Wake d) = wake_outcome d c
 allowed_outcome c own op.Close = close_outcome c
+allowed_outcome c own op.Drain = drain_outcome c
 allowed_outcome c own op.Destroy = moved answer.Done stake.Free destroys
 
 -- what an operation of a holder with this stake comes to
@@ -124,6 +143,7 @@ outcome c own o = if allows own o then allowed_outcome c own o else refused answ
 abbrev pub changed : Census → List Stake → Change → Census
 changed c stakes nothing = record c { stakes = stakes }
 changed c stakes closes = record c { stakes = stakes; closed = true }
+changed c stakes drains = record c { stakes = stakes; draining = true }
 changed c stakes (adds_signal d) =
     record c { stakes = stakes; signals = with_signals d (signals_in d c.signals + 1) c.signals }
 changed c stakes (takes_signal d) =
@@ -139,6 +159,7 @@ with_stake state holder own =
 abbrev pub with_change : LockState → ℕ → Change → LockState
 with_change state holder nothing = state
 with_change state holder closes = record state { closed = true }
+with_change state holder drains = record state { draining = true }
 with_change state holder (adds_signal d) =
     record state { signals = with_signals d (signals_in d state.signals + 1) state.signals }
 with_change state holder (takes_signal d) =

@@ -1,10 +1,10 @@
--- The packed word and its six fields.
+-- The packed word and its seven fields.
 use Rattle.std.specs.Prelude.{◌==◌, ◌≤◌, ◌+◌, ◌*◌, ◌/◌, ◌%◌, ℕ, Bool, true, false}
 use Rattle.stream_base.specs.declared.direction.Dir.{Dir}
 use Rattle.stream_base.specs.declared.direction.Dir.TheVariants.{Read, Write}
 use Rattle.lockword_core.specs.declared.word.Word.{Word}
 use Rattle.lockword_core.specs.declared.word.TheConstants.{CLOSED, READ_LOCK, WRITE_LOCK, REFERENCE}
-use Rattle.lockword_core.specs.declared.word.TheConstants.{READ_WAITER, WRITE_WAITER}
+use Rattle.lockword_core.specs.declared.word.TheConstants.{READ_WAITER, WRITE_WAITER, DRAIN}
 use Rattle.lockword_core.specs.declared.word.TheConstants.{MAX_REFERENCES, MAX_WAITERS}
 
 -- a bit as a number
@@ -23,6 +23,7 @@ abbrev pub packed : Word → ℕ
 packed fields =
     CLOSED * bit fields.closed + READ_LOCK * bit fields.rlock + WRITE_LOCK * bit fields.wlock
     + REFERENCE * fields.refs + READ_WAITER * fields.rwait + WRITE_WAITER * fields.wwait
+    + DRAIN * bit fields.drain
 
 -- what the lock of a direction adds to a word
 abbrev pub lock_unit : Dir → ℕ
@@ -34,9 +35,13 @@ abbrev pub waiter_unit : Dir → ℕ
 waiter_unit Read = READ_WAITER
 waiter_unit Write = WRITE_WAITER
 
--- the flag of a word
+-- the closed flag of a word
 abbrev pub closed_in : ℕ → Bool
 closed_in word = word % READ_LOCK == CLOSED
+
+-- the drain flag of a word
+abbrev pub drain_in : ℕ → Bool
+drain_in word = word / DRAIN == 1
 
 -- the lock bit of a direction
 abbrev pub lock_in : Dir → ℕ → ℕ

@@ -14,7 +14,8 @@ use Rattle.lockword_core.specs.declared.transition.Refused.{Refused}
 use Rattle.lockword_core.specs.declared.transition.Refused.TheVariants as why
 use Rattle.lockword_core.specs.LockState.{LockState, Census, census, encoded}
 use Rattle.lockword_core.specs.LockInvariant.{ChangesOneStake}
-use Rattle.lockword_core.specs.Transition.{Change, Outcome, moved, refused, lock_stake, changed}
+use Rattle.lockword_core.specs.Transition.{Change, Outcome, moved, refused, lock_stake}
+use Rattle.lockword_core.specs.Transition.{drains_stake, changed}
 
 -- the operation that a step of this kind is
 abbrev pub op_of : Kind → Op
@@ -23,12 +24,14 @@ op_of kind.Decref = op.Decref
 op_of (kind.Lock d) = op.Lock d
 op_of (kind.Unlock d) = op.Unlock d
 op_of kind.Close = op.Close
+op_of kind.Drain = op.Drain
 
 -- the answer that a refusal is
 abbrev pub refusal_of : Refused → Answer
 refusal_of why.Closed = answer.Closed
 refusal_of why.TooMany = answer.TooMany
 refusal_of why.Misuse = answer.Misuse
+refusal_of why.Draining = answer.Draining
 
 -- what a holder is answered, and has, where a step of this kind came to this; what no step comes to
 -- is a misuse
@@ -42,6 +45,7 @@ gained (kind.Unlock d) after.Last = (answer.Last, stake.Last)
 gained kind.Decref after.Kept = (answer.Kept, stake.Free)
 gained kind.Decref after.Last = (answer.Last, stake.Last)
 gained kind.Close (after.Closing r w) = (answer.Closing, stake.Closing r w)
+gained kind.Drain (after.Drained r w) = (answer.Drained, drains_stake r w)
 gained _ _ = (answer.Misuse, stake.Free)
 
 -- the result is this outcome: its refusal, or its answer and stake with the word of the counts

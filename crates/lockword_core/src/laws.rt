@@ -11,7 +11,7 @@ ghost use Rattle.lockword_core.specs.declared.stake.Stake.{Stake};
 ghost use Rattle.lockword_core.specs.declared.stake.Op.{Op};
 ghost use Rattle.lockword_core.specs.declared.stake.Answer.{Answer};
 ghost use Rattle.lockword_core.specs.declared.word.Word.{Word};
-ghost use Rattle.lockword_core.specs.declared.word.TheConstants.{CLOSED, READ_LOCK, WRITE_LOCK, REFERENCE, READ_WAITER, WRITE_WAITER, NO_WORD, MAX_REFERENCES, MAX_WAITERS};
+ghost use Rattle.lockword_core.specs.declared.word.TheConstants.{CLOSED, READ_LOCK, WRITE_LOCK, REFERENCE, READ_WAITER, WRITE_WAITER, DRAIN, MAX_REFERENCES, MAX_WAITERS};
 ghost use Rattle.lockword_core.specs.declared.layout_one.TheConstants as one;
 ghost use Rattle.lockword_core.specs.declared.signals.TheConstants.{MAX_SIGNALS};
 ghost use Rattle.lockword_core.specs.declared.transition.Kind.{Kind};
@@ -34,10 +34,10 @@ pub fn states_are_consistent()
     ensures replay { (events : List Event) → IsConsistent (state_after empty events) }
 {}
 
-/// After every list of events, by any number of holders, the word's flag, lock bits and counts are
+/// After every list of events, by any number of holders, the word's flags, lock bits and counts are
 /// exactly those of the stakes outstanding; at most one holder reads, and at most one writes.
 pub fn the_word_counts_the_stakes()
-    ensures is_word { (events : List Event) → encoded (census (state_after empty events)) < NO_WORD }
+    ensures is_word { (events : List Event) → encoded (census (state_after empty events)) < 2 ^ 64 }
     ensures fields { (events : List Event) (fields : Word) → IsWord fields
         → packed fields ≡ encoded (census (state_after empty events))
         → CountsStakes fields (state_after empty events) }
@@ -54,18 +54,21 @@ pub fn the_last_return_destroys_once()
         → (state_after empty events).destroyed_by ≡ Some holder → ReturnedTheLast events holder }
 {}
 
-/// What is for good: no further list of events takes back the closed flag, or who destroyed.
+/// What is for good: no further list of events takes back the closed flag, the drain flag, or who
+/// destroyed.
 pub fn what_is_done_stays_done()
     ensures closed { (s : LockState) (events : List Event) → s.closed ≡ true
         → (state_after s events).closed ≡ true }
+    ensures draining { (s : LockState) (events : List Event) → s.draining ≡ true
+        → (state_after s events).draining ≡ true }
     ensures destroyed { (s : LockState) (events : List Event) (holder : ℕ) → IsConsistent s
         → s.destroyed_by ≡ Some holder → (state_after s events).destroyed_by ≡ Some holder }
 {}
 
 /// Operations of which none was refused add up to what they lead to: what was taken is held or queued
 /// for, or was given back; a signal that was given lies ready, or was taken; there was one close if the
-/// descriptor is closed and one destroy if it is destroyed; and who made the destroy is the holder that
-/// gave back the last reference after the close.
+/// descriptor is closed, one drain if it is drained and one destroy if it is destroyed; and who made the
+/// destroy is the holder that gave back the last reference after the close.
 pub fn operations_add_up()
     ensures adds_up { (events : List Event) → NoneRefused events
         → AddsUp (made_in events) (census (state_after empty events)) }
@@ -77,21 +80,21 @@ pub fn operations_add_up()
 pub fn the_layout_in_figures()
     ensures bits { (CLOSED ≡ 1) × (READ_LOCK ≡ 2) × (WRITE_LOCK ≡ 4) }
     ensures units { (REFERENCE ≡ 8) × (READ_WAITER ≡ 134217728) × (WRITE_WAITER ≡ 35184372088832) }
-    ensures no_word { NO_WORD ≡ 9223372036854775808 }
+    ensures drain { DRAIN ≡ 9223372036854775808 }
     ensures limits { (MAX_REFERENCES ≡ 16777215) × (MAX_WAITERS ≡ 262143) }
     ensures signals { MAX_SIGNALS ≡ 4294967295 }
 {}
 
-/// The layout before this one, in figures; what the flag, a lock and a reference add is the same in both.
+/// The layout before this one, in figures; what a flag, a lock and a reference add is the same in both.
 pub fn the_first_layout_in_figures()
     ensures units { (one.READ_WAITER ≡ 8388608) × (one.WRITE_WAITER ≡ 8796093022208) }
     ensures limits { (one.MAX_REFERENCES ≡ 1048575) × (one.MAX_WAITERS ≡ 1048575) }
 {}
 
-/// Each number of 64 bits has fields in the layout before this one, and a bit 63.
+/// Each number of 64 bits has fields in the layout before this one.
 pub fn each_number_has_a_first_reading()
     ensures { (word : ℕ) → word < 2 ^ 64
-        → (fields : Word) × (top : Bool) × HasFirstFields word fields top }
+        → (fields : Word) × HasFirstFields word fields }
 {}
 
 /// A word has one reading: fields that pack to the same word are the same.

@@ -8,20 +8,21 @@
 //! | 3 to 22 | references | 1,048,575 |
 //! | 23 to 42 | read waiters | 1,048,575 |
 //! | 43 to 62 | write waiters | 1,048,575 |
-//! | 63 | unused, always 0 | |
+//! | 63 | draining | 1 |
 //!
-//! It is that of Go's `fd_mutex.go`. What the flag, a lock and a reference add is the same in both.
+//! Below bit 63 it is that of Go's `fd_mutex.go`. What a flag, a lock and a reference add is the same in
+//! both.
 
-ghost use Rattle.std.specs.Prelude.{◌≡◌, ◌≤◌, ◌<◌, ◌+◌, ◌*◌, ◌⊎◌, Bool, IfNone, IfSome, Some};
+ghost use Rattle.std.specs.Prelude.{◌≡◌, ◌≤◌, ◌<◌, ◌+◌, ◌*◌, ◌⊎◌, IfNone, IfSome, Some};
 ghost use Rattle.lockword_core.specs.declared.word.Word.{Word};
 ghost use Rattle.lockword_core.specs.declared.word.TheConstants as now;
-ghost use Rattle.lockword_core.specs.Word.{bit, IsWord, packed};
+ghost use Rattle.lockword_core.specs.Word.{IsWord, packed};
 ghost use Rattle.lockword_core.specs.LayoutOne.{HasFirstFields, first_encoded};
 ghost use Rattle.lockword_core.specs.LockState.{Census, references, number, encoded};
 ghost use Rattle.lockword_core.specs.LockInvariant.{IsConsistentCensus};
 
 use crate::word;
-pub use crate::word::{CLOSED, READ_LOCK, REFERENCE, WRITE_LOCK};
+pub use crate::word::{CLOSED, DRAIN, READ_LOCK, REFERENCE, WRITE_LOCK};
 
 /// Bits of each count.
 const COUNT_WIDTH: u32 = 20;
@@ -37,13 +38,12 @@ pub const MAX_REFERENCES: u32 = (1 << COUNT_WIDTH) - 1;
 pub const MAX_WAITERS: u32 = MAX_REFERENCES;
 
 /// The word of the present layout with the same fields, or `None` where it has no room for so many
-/// waiters. Bit 63 stays as it is, so a number that is no word stays none.
+/// waiters.
 pub fn to_two(word: u64) -> Option<u64>
-    ensures none { IfNone result ((f : Word) (top : Bool) → HasFirstFields word f top
+    ensures none { IfNone result ((f : Word) → HasFirstFields word f
         → (now.MAX_WAITERS < f.rwait) ⊎ (now.MAX_WAITERS < f.wwait)) }
-    ensures fits { IfSome result (λ new. (f : Word) (top : Bool) → HasFirstFields word f top → IsWord f) }
-    ensures same { IfSome result (λ new. (f : Word) (top : Bool) → HasFirstFields word f top
-        → new ≡ packed f + now.NO_WORD * bit top) }
+    ensures fits { IfSome result (λ new. (f : Word) → HasFirstFields word f → IsWord f) }
+    ensures same { IfSome result (λ new. (f : Word) → HasFirstFields word f → new ≡ packed f) }
     // Where both layouts have room for the counts of a world, its word becomes its word.
     ensures census { (c : Census) → IsConsistentCensus c → number references c ≤ MAX_REFERENCES
         → word ≡ first_encoded c → result ≡ Some (encoded c) }
@@ -57,6 +57,6 @@ pub fn to_two(word: u64) -> Option<u64>
         word % READ_WAITER
             + word::READ_WAITER * read
             + word::WRITE_WAITER * write
-            + word / word::NO_WORD * word::NO_WORD,
+            + word / DRAIN * DRAIN,
     )
 }

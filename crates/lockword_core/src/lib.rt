@@ -13,4 +13,4 @@ pub use machine::{Machine, Stopped};
 pub use signals::{MAX_SIGNALS, Signals, signal_add, signal_take};
 pub use stake::{Answer, Event, Op, Stake};
 pub use transition::{After, Kind, Refused, word_step};
-pub use word::{MAX_REFERENCES, MAX_WAITERS, REFERENCE, Word, pack, unpack};
+pub use word::{DRAIN, MAX_REFERENCES, MAX_WAITERS, REFERENCE, Word, pack, unpack};

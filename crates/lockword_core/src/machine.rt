@@ -9,7 +9,7 @@ ghost use Rattle.lockword_core.specs.declared.stake.Op.TheVariants as op;
 ghost use Rattle.lockword_core.specs.Signals.{signals_in};
 ghost use Rattle.lockword_core.specs.LockState.{empty, census, stake_of, encoded, is_same, owed_part};
 ghost use Rattle.lockword_core.specs.LockInvariant.{IsConsistent};
-ghost use Rattle.lockword_core.specs.Transition.{allows, lock_stake, stake_after_signal, transition};
+ghost use Rattle.lockword_core.specs.Transition.{allows, lock_stake, drains_stake, stake_after_signal, transition};
 ghost use Rattle.lockword_core.specs.WordStep.{op_of, gained, refusal_of};
 ghost use Rattle.lockword_core.specs.Replay.{state_after, answers_of};
 
@@ -79,15 +79,28 @@ fn allows(own: Stake, op: Op) -> bool
         (Stake::Free, Op::Incref) => true,
         (Stake::Free, Op::Lock(_)) => true,
         (Stake::Free, Op::Close) => true,
+        (Stake::Free, Op::Drain) => true,
         (Stake::Ref, Op::Decref) => true,
         (Stake::Closing { read, write }, Op::Decref) => read == 0 && write == 0,
         (Stake::Read, Op::Unlock(dir)) => is_same(dir, Dir::Read),
         (Stake::Write, Op::Unlock(dir)) => is_same(dir, Dir::Write),
         (Stake::Owes(owed), Op::Signal(dir)) => is_same(dir, owed),
         (Stake::Closing { read, write }, Op::Signal(dir)) => owed_part(dir, read, write) > 0,
+        (Stake::Drains { read, write }, Op::Signal(dir)) => owed_part(dir, read, write) > 0,
         (Stake::Waits(waited), Op::Wake(dir)) => is_same(dir, waited),
         (Stake::Last, Op::Destroy) => true,
         _ => false,
+    }
+}
+
+/// What a holder has that drained and owes these signals: nothing where it owes none.
+fn drains_stake(read: u32, write: u32) -> Stake
+    ensures { result ≡ drains_stake read write }
+{
+    if read == 0 && write == 0 {
+        Stake::Free
+    } else {
+        Stake::Drains { read, write }
     }
 }
 
@@ -105,6 +118,8 @@ fn stake_after_signal(dir: Dir, own: Stake) -> Stake
             read,
             write: write - 1,
         },
+        (Dir::Read, Stake::Drains { read, write }) => drains_stake(read - 1, write),
+        (Dir::Write, Stake::Drains { read, write }) => drains_stake(read, write - 1),
         _ => Stake::Free,
     }
 }
@@ -134,6 +149,9 @@ fn gained(kind: Kind, after: After) -> (Answer, Stake)
         (Kind::Close, After::Closing { read, write }) => {
             (Answer::Closing, Stake::Closing { read, write })
         }
+        (Kind::Drain, After::Drained { read, write }) => {
+            (Answer::Drained, drains_stake(read, write))
+        }
         _ => (Answer::Misuse, Stake::Free),
     }
 }
@@ -145,6 +163,7 @@ fn refusal_of(refused: Refused) -> Answer
         Refused::Closed => Answer::Closed,
         Refused::TooMany => Answer::TooMany,
         Refused::Misuse => Answer::Misuse,
+        Refused::Draining => Answer::Draining,
     }
 }
 
@@ -219,6 +238,7 @@ impl Machine {
             Op::Signal(dir) => self.signal(holder, dir),
             Op::Wake(dir) => self.wake(holder, dir),
             Op::Close => self.step_word(holder, Kind::Close),
+            Op::Drain => self.step_word(holder, Kind::Drain),
             Op::Destroy => self.destroy(holder),
         }
     }

@@ -19,6 +19,9 @@ pub enum Stake {
     Owes(Dir),
     /// The close: a reference, and the signals still to give in each direction.
     Closing { read: u32, write: u32 },
+    /// The signals still to give in each direction after a drain, of which there is one at least. It is
+    /// no reference.
+    Drains { read: u32, write: u32 },
     /// The last return: nobody uses the descriptor any more, and this holder destroys it.
     Last,
 }
@@ -40,6 +43,8 @@ pub enum Op {
     Wake(Dir),
     /// Close the descriptor.
     Close,
+    /// Drain the descriptor: from then on nobody takes a reference or a lock any more.
+    Drain,
     /// Destroy the descriptor.
     Destroy,
 }
@@ -63,6 +68,8 @@ pub enum Answer {
     Woken,
     /// It closed, and owes the signals of all waiters.
     Closing,
+    /// It drained, and owes the signals of all waiters.
+    Drained,
     /// It destroyed.
     Done,
     /// Its stake doesn't allow what it asked.
@@ -75,6 +82,8 @@ pub enum Answer {
     Full,
     /// No signal is there yet.
     NotYet,
+    /// The descriptor is drained, and not closed.
+    Draining,
 }
 
 /// One operation of one holder.

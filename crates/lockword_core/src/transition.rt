@@ -2,10 +2,10 @@
 //! with no unpacking, since the running word makes one between its load and its exchange. All units
 //! are powers of two, so that the divisions and remainders below are shifts and masks.
 
-ghost use Rattle.std.specs.Prelude.{◌≡◌, ◌≢◌, ◌<◌, ◌≤◌, ℕ, true, Result, Ok, Err, IfOk};
+ghost use Rattle.std.specs.Prelude.{◌≡◌, ◌≢◌, ◌≤◌, ℕ, true};
 ghost use Rattle.stream_base.specs.declared.direction.Dir.{Dir};
 ghost use Rattle.lockword_core.specs.declared.stake.Stake.{Stake};
-ghost use Rattle.lockword_core.specs.Word.{IsWord, packed, lock_unit, waiter_unit, closed_in, lock_in, references_in, waiters_in};
+ghost use Rattle.lockword_core.specs.Word.{IsWord, packed, lock_unit, waiter_unit, closed_in, drain_in, lock_in, references_in, waiters_in};
 ghost use Rattle.lockword_core.specs.LockState.{LockState, Census, census, stake_of, encoded};
 ghost use Rattle.lockword_core.specs.LockInvariant.{IsConsistent, IsConsistentCensus, IsCounted};
 ghost use Rattle.lockword_core.specs.Transition.{allows, outcome, transition};
@@ -13,7 +13,7 @@ ghost use Rattle.lockword_core.specs.FieldStep.{guards, first_refusal, left, fie
 ghost use Rattle.lockword_core.specs.WordStep.{op_of, Tells, TellsTransition};
 
 use crate::word::{
-    CLOSED, MAX_REFERENCES, MAX_WAITERS, NO_WORD, READ_LOCK, READ_WAITER, REFERENCE, WRITE_LOCK,
+    CLOSED, DRAIN, MAX_REFERENCES, MAX_WAITERS, READ_LOCK, READ_WAITER, REFERENCE, WRITE_LOCK,
     WRITE_WAITER, Word,
 };
 use stream_base::Dir;
@@ -31,6 +31,8 @@ pub enum Kind {
     Unlock(Dir),
     /// Close.
     Close,
+    /// Drain: let nobody in any more.
+    Drain,
 }
 
 /// What a step came to.
@@ -48,6 +50,8 @@ pub enum After {
     Last,
     /// The word is closed and counts no waiters; these many have to be signalled.
     Closing { read: u32, write: u32 },
+    /// The word is drained and counts no waiters; these many have to be signalled.
+    Drained { read: u32, write: u32 },
 }
 
 /// Why a step was refused. A refused step leaves the word as it is.
@@ -57,8 +61,10 @@ pub enum Refused {
     Closed,
     /// The references, or the waiters where the lock is taken, are at their limit.
     TooMany,
-    /// The number is no word, or there is no reference or lock to give back.
+    /// There is no reference or lock to give back.
     Misuse,
+    /// The word is drained, and not closed.
+    Draining,
 }
 
 fn lock_unit(dir: Dir) -> u64
@@ -83,6 +89,12 @@ fn is_closed(word: u64) -> bool
     ensures { result ≡ closed_in word }
 {
     word % READ_LOCK == CLOSED
+}
+
+fn is_draining(word: u64) -> bool
+    ensures { result ≡ drain_in word }
+{
+    word >= DRAIN
 }
 
 fn lock_bit(word: u64, dir: Dir) -> u64
@@ -116,6 +128,8 @@ fn reference_refusal(word: u64) -> Option<Refused>
 {
     if is_closed(word) {
         Some(Refused::Closed)
+    } else if is_draining(word) {
+        Some(Refused::Draining)
     } else if references(word) == MAX_REFERENCES as u64 {
         Some(Refused::TooMany)
     } else {
@@ -124,7 +138,6 @@ fn reference_refusal(word: u64) -> Option<Refused>
 }
 
 fn incref(word: u64) -> Result<(u64, After), Refused>
-    requires { word < NO_WORD }
     ensures { result ≡ stepped_word word Kind.Incref }
 {
     match reference_refusal(word) {
@@ -145,7 +158,6 @@ fn left(word: u64) -> After
 }
 
 fn decref(word: u64) -> Result<(u64, After), Refused>
-    requires { word < NO_WORD }
     ensures { result ≡ stepped_word word Kind.Decref }
 {
     if references(word) == 0 {
@@ -156,8 +168,7 @@ fn decref(word: u64) -> Result<(u64, After), Refused>
 
 /// The lock is free, and is taken with its reference.
 fn grant(word: u64, dir: Dir) -> Result<(u64, After), Refused>
-    requires word { word < NO_WORD }
-    requires free { lock_in dir word ≡ 0 }
+    requires { lock_in dir word ≡ 0 }
     ensures { result ≡ stepped_word word (Kind.Lock dir) }
 {
     match reference_refusal(word) {
@@ -168,12 +179,13 @@ fn grant(word: u64, dir: Dir) -> Result<(u64, After), Refused>
 
 /// Somebody has the lock, and a place in its queue is taken.
 fn queue(word: u64, dir: Dir) -> Result<(u64, After), Refused>
-    requires word { word < NO_WORD }
-    requires held { lock_in dir word ≢ 0 }
+    requires { lock_in dir word ≢ 0 }
     ensures { result ≡ stepped_word word (Kind.Lock dir) }
 {
     if is_closed(word) {
         Err(Refused::Closed)
+    } else if is_draining(word) {
+        Err(Refused::Draining)
     } else if waiters(word, dir) == MAX_WAITERS as u64 {
         Err(Refused::TooMany)
     } else {
@@ -182,7 +194,6 @@ fn queue(word: u64, dir: Dir) -> Result<(u64, After), Refused>
 }
 
 fn lock(word: u64, dir: Dir) -> Result<(u64, After), Refused>
-    requires { word < NO_WORD }
     ensures { result ≡ stepped_word word (Kind.Lock dir) }
 {
     if lock_bit(word, dir) == 0 {
@@ -193,7 +204,6 @@ fn lock(word: u64, dir: Dir) -> Result<(u64, After), Refused>
 }
 
 fn unlock(word: u64, dir: Dir) -> Result<(u64, After), Refused>
-    requires { word < NO_WORD }
     ensures { result ≡ stepped_word word (Kind.Unlock dir) }
 {
     if lock_bit(word, dir) == 0 || references(word) == 0 {
@@ -206,24 +216,44 @@ fn unlock(word: u64, dir: Dir) -> Result<(u64, After), Refused>
     Ok((rest - waiter_unit(dir), After::Owes))
 }
 
+/// A drained word may still be closed, and stays drained.
 fn close(word: u64) -> Result<(u64, After), Refused>
-    requires { word < NO_WORD }
     ensures { result ≡ stepped_word word Kind.Close }
 {
-    match reference_refusal(word) {
-        Some(refused) => Err(refused),
-        None => Ok((
-            word % READ_WAITER + REFERENCE + CLOSED,
-            After::Closing {
-                read: waiters(word, Dir::Read) as u32,
-                write: waiters(word, Dir::Write) as u32,
-            },
-        )),
+    if is_closed(word) {
+        return Err(Refused::Closed);
     }
+    if references(word) == MAX_REFERENCES as u64 {
+        return Err(Refused::TooMany);
+    }
+    Ok((
+        word % READ_WAITER + word / DRAIN * DRAIN + REFERENCE + CLOSED,
+        After::Closing {
+            read: waiters(word, Dir::Read) as u32,
+            write: waiters(word, Dir::Write) as u32,
+        },
+    ))
+}
+
+fn drain(word: u64) -> Result<(u64, After), Refused>
+    ensures { result ≡ stepped_word word Kind.Drain }
+{
+    if is_closed(word) {
+        return Err(Refused::Closed);
+    }
+    if is_draining(word) {
+        return Err(Refused::Draining);
+    }
+    Ok((
+        word % READ_WAITER + DRAIN,
+        After::Drained {
+            read: waiters(word, Dir::Read) as u32,
+            write: waiters(word, Dir::Write) as u32,
+        },
+    ))
 }
 
 fn step(word: u64, kind: Kind) -> Result<(u64, After), Refused>
-    requires { word < NO_WORD }
     ensures { result ≡ stepped_word word kind }
 {
     match kind {
@@ -232,14 +262,13 @@ fn step(word: u64, kind: Kind) -> Result<(u64, After), Refused>
         Kind::Lock(dir) => lock(word, dir),
         Kind::Unlock(dir) => unlock(word, dir),
         Kind::Close => close(word),
+        Kind::Drain => drain(word),
     }
 }
 
-/// One step on the packed word, as Go's `fd_mutex.go` makes it; where Go panics this answers
-/// [`Refused::TooMany`] or [`Refused::Misuse`]. A number from `2^63` on is no word.
+/// One step on the packed word, as Go's `fd_mutex.go` makes it, to which the drain is added; where Go
+/// panics this answers [`Refused::TooMany`] or [`Refused::Misuse`].
 pub fn word_step(word: u64, kind: Kind) -> Result<(u64, After), Refused>
-    ensures no_word { NO_WORD ≤ word → result ≡ Err Refused.Misuse }
-    ensures is_word { IfOk result (λ next. next.0 < NO_WORD) }
     // A step changes the fields that it names, and no other.
     ensures fields { (f : Word) → IsWord f → packed f ≡ word → result ≡ packed_result (field_step f kind) }
     // It is the operation of a holder, whoever the others are.
@@ -250,8 +279,5 @@ pub fn word_step(word: u64, kind: Kind) -> Result<(u64, After), Refused>
         → allows (stake_of s holder) (op_of kind) ≡ true
         → TellsTransition s kind (transition s holder (op_of kind)) result }
 {
-    if word >= NO_WORD {
-        return Err(Refused::Misuse);
-    }
     step(word, kind)
 }

@@ -97,6 +97,7 @@ operation_of name =
     else if bytes_eq name (codes "rwake") then op.Wake Read
     else if bytes_eq name (codes "wwake") then op.Wake Write
     else if bytes_eq name (codes "close") then op.Close
+    else if bytes_eq name (codes "drain") then op.Drain
     else op.Destroy
 
 operation_of-operation_name : (asked : Op) → operation_of (operation_name asked) ≡ asked
@@ -112,6 +113,7 @@ operation_of-operation_name (op.Signal Write) = refl
 operation_of-operation_name (op.Wake Read) = refl
 operation_of-operation_name (op.Wake Write) = refl
 operation_of-operation_name op.Close = refl
+operation_of-operation_name op.Drain = refl
 operation_of-operation_name op.Destroy = refl
 
 operation_name_injective : (asked asked' : Op) → operation_name asked ≡ operation_name asked' → asked ≡ asked'
@@ -146,6 +148,7 @@ length-operation_name (op.Signal Write) = omega arith
 length-operation_name (op.Wake Read) = omega arith
 length-operation_name (op.Wake Write) = omega arith
 length-operation_name op.Close = omega arith
+length-operation_name op.Drain = omega arith
 length-operation_name op.Destroy = omega arith
 
 -- names of holders of so many digits are short

@@ -88,7 +88,7 @@ name_or_none_of name (asked ∷ others) =
 abbrev all_operations : List Op
 all_operations =
     op.Incref ∷ op.Decref ∷ op.Lock Read ∷ op.Lock Write ∷ op.Unlock Read ∷ op.Unlock Write ∷ op.Signal Read ∷ op.Signal
-    Write ∷ op.Wake Read ∷ op.Wake Write ∷ op.Close ∷ op.Destroy ∷ []
+    Write ∷ op.Wake Read ∷ op.Wake Write ∷ op.Close ∷ op.Drain ∷ op.Destroy ∷ []
 
 is_no_name : (name : List ℕ) → IsNoneOf name all_operations → (asked : Op) → name ≢ operation_name asked
 is_no_name name n op.Incref = n.0
@@ -102,7 +102,8 @@ is_no_name name n (op.Signal Write) = n.1.1.1.1.1.1.1.0
 is_no_name name n (op.Wake Read) = n.1.1.1.1.1.1.1.1.0
 is_no_name name n (op.Wake Write) = n.1.1.1.1.1.1.1.1.1.0
 is_no_name name n op.Close = n.1.1.1.1.1.1.1.1.1.1.0
-is_no_name name n op.Destroy = n.1.1.1.1.1.1.1.1.1.1.1.0
+is_no_name name n op.Drain = n.1.1.1.1.1.1.1.1.1.1.1.0
+is_no_name name n op.Destroy = n.1.1.1.1.1.1.1.1.1.1.1.1.0
 
 -- the text names holders
 record NamesSome (text : List ℕ) : Type 0 where

@@ -20,6 +20,7 @@ operation_name (op.Signal Write) = codes "wsignal"
 operation_name (op.Wake Read) = codes "rwake"
 operation_name (op.Wake Write) = codes "wwake"
 operation_name op.Close = codes "close"
+operation_name op.Drain = codes "drain"
 operation_name op.Destroy = codes "destroy"
 
 -- the text names so many holders from the first on: a holder alone, or `first+count`

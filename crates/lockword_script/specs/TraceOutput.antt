@@ -20,12 +20,14 @@ answer_name answer.Last = codes "last"
 answer_name answer.Signalled = codes "signalled"
 answer_name answer.Woken = codes "woken"
 answer_name answer.Closing = codes "closing"
+answer_name answer.Drained = codes "drained"
 answer_name answer.Done = codes "done"
 answer_name answer.Misuse = codes "misuse"
 answer_name answer.Closed = codes "closed"
 answer_name answer.TooMany = codes "toomany"
 answer_name answer.Full = codes "full"
 answer_name answer.NotYet = codes "notyet"
+answer_name answer.Draining = codes "draining"
 
 -- a word in sixteen hexadecimal digits, two for each of its eight bytes, the highest byte first
 abbrev pub word_text : ℕ → List ℕ

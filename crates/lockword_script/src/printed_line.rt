@@ -32,12 +32,14 @@ fn name_of(answer: Answer) -> &'static str
         Answer::Signalled => "signalled",
         Answer::Woken => "woken",
         Answer::Closing => "closing",
+        Answer::Drained => "drained",
         Answer::Done => "done",
         Answer::Misuse => "misuse",
         Answer::Closed => "closed",
         Answer::TooMany => "toomany",
         Answer::Full => "full",
         Answer::NotYet => "notyet",
+        Answer::Draining => "draining",
     }
 }
 

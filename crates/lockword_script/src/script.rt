@@ -55,6 +55,7 @@ fn operation_named(name: &[u8]) -> Option<Op>
         b"rwake" => Some(Op::Wake(Dir::Read)),
         b"wwake" => Some(Op::Wake(Dir::Write)),
         b"close" => Some(Op::Close),
+        b"drain" => Some(Op::Drain),
         b"destroy" => Some(Op::Destroy),
         _ => None,
     }

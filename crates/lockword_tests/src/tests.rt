@@ -12,6 +12,7 @@ macro_rules! want {
 
 mod answers;
 mod close_under_load;
+mod drain_rows;
 mod halves;
 mod lock_rows;
 mod queued;
@@ -25,12 +26,12 @@ mod workers;
 
 ghost use Rattle.std.specs.Prelude.{◌≡◌};
 ghost use Rattle.stream_base.specs.declared.direction.Dir.TheVariants.{Read, Write};
-ghost use Rattle.lockword.specs.Marks.{SameMarks, NowClosed};
+ghost use Rattle.lockword.specs.Marks.{SameMarks, NowClosed, NowDraining};
 ghost use Rattle.lockword.specs.Places.{seat_place, ref_place, lock_place, closing_place, last_place, owed_by};
 ghost use Rattle.lockword.specs.TransitionOutcomes.{IsSeatOf, SameStake, HasNotTaken};
 ghost use Rattle.fdmutex.specs.Refusal.{IsFreedOf};
 
-use fdmutex::{Freed, Refusal, close_mark, incref, read_lock, write_lock};
+use fdmutex::{Freed, Refusal, close_mark, drain, incref, read_lock, write_lock};
 use lockword::{Closing, Holder, Last, LockWord, ReadLock, Ref, Seat, WriteLock};
 use lockword_core::pack;
 use std::process::Abort;
@@ -171,5 +172,16 @@ fn closed<R: Wait + Abort>(rt: &R, word: &Counters, seat: CounterSeat) -> Closin
     match close_mark(rt, word, seat) {
         Ok(closing) => closing,
         Err((_, why)) => denied(rt, "the close", &why),
+    }
+}
+
+/// The drain, or the test ends.
+fn drained<R: Wait + Abort>(rt: &R, word: &Counters, seat: CounterSeat) -> CounterSeat
+    requires seat { IsSeatOf word.now (seat_place seat) }
+    ensures draining { NowDraining (seat_place seat) (seat_place result) }
+{
+    match drain(rt, word, seat) {
+        Ok(seat) => seat,
+        Err((_, why)) => denied(rt, "the drain", &why),
     }
 }

@@ -1,11 +1,11 @@
 #!/bin/sh
 # Refuses each allocation of each test in turn. `LockWord::new` makes three, the room for as many as may
-# wait is a fourth, and only the two tests of many words make more. Where one is refused, the test
+# wait is a fourth, and only the three tests of many words make more. Where one is refused, the test
 # `a_word_drops_its_halves_once` holds, and each test that can't have its memory gives up with the allocator's
 # error: none faults, panics or hangs. It takes three minutes.
 cd "$(dirname "$0")/.." || exit 1
 allocations=4
-many='a_close_under_load_ends_every_waiter_in_a_hundred_rounds\|nobody_misses_an_end_that_comes_as_he_parks'
+many='a_close_under_load_ends_every_waiter_in_a_hundred_rounds\|a_drain_under_load_ends_every_waiter_in_a_hundred_rounds\|nobody_misses_an_end_that_comes_as_he_parks'
 report=$(mktemp)
 trap 'rm -f "$report"' EXIT
 wrong() {

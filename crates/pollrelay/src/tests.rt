@@ -5,10 +5,10 @@ use crate::job::{Job, job_of};
 use crate::status::trace_status;
 use arrayvec::ArrayString;
 use relay::ServeFault;
+use std::alloc::Global;
 use std::io::{Cursor, ErrorKind, Read, Result, Write};
 use std::prelude::HostRuntime;
 use std::process::Abort;
-use std::test::Fail;
 
 /// A script, what it prints, and its status.
 #[derive(Drop)]
@@ -34,19 +34,23 @@ fn bad_row(script: &'static str, prints: &'static str) -> Row {
     }
 }
 
+/// The status of a script's run, and whether its text is this one and there are no errors.
+fn run_of(alloc: Global, row: &Row) -> (u8, bool, bool) {
+    let mut reader = Cursor::new(row.script.as_bytes());
+    let mut written: Vec<u8> = Vec::new(alloc);
+    let mut errors: Vec<u8> = Vec::new(alloc);
+    let status = trace_status(alloc, &mut reader, &mut written, &mut errors);
+    let prints = written.as_slice() == row.prints.as_bytes();
+    (status, prints, errors.is_empty())
+}
+
 fn runs_as_it_must<R: Abort + AllocGlobal>(rt: &R, rows: &[Row]) {
     for row in rows {
-        let mut reader = Cursor::new(row.script.as_bytes());
-        let mut written: Vec<u8> = Vec::new(rt.alloc());
-        let mut errors: Vec<u8> = Vec::new(rt.alloc());
-        let status = trace_status(rt.alloc(), &mut reader, &mut written, &mut errors);
+        let (status, prints, is_silent) = run_of(rt.alloc(), row);
         let script = row.script;
         assert!(rt; status == row.status, "the status of {script}");
-        assert!(rt;
-            written.as_slice() == row.prints.as_bytes(),
-            "the text of {script}"
-        );
-        assert!(rt; errors.is_empty(), "the errors of {script}");
+        assert!(rt; prints, "the text of {script}");
+        assert!(rt; is_silent, "the errors of {script}");
     }
 }
 
@@ -131,6 +135,11 @@ fn counts_stop_at_their_limits(rt: HostRuntime) {
             "held 000000000000000c 0 0 -\nqueued 7fffe0000000000c 0 0 -\n\
              toomany 7fffe0000000000c 0 0 -\nclosing 0000000000000015 0 0 -\n",
         ),
+        good_row(
+            "1+1048575 incref\n0 drain\n2000000 incref\n2000000 close\n",
+            "held 00000000007ffff8 0 0 -\ndrained 80000000007ffff8 0 0 -\n\
+             draining 80000000007ffff8 0 0 -\nclosing 8000000000800001 0 0 -\n",
+        ),
         good_row("4194304 incref\n", "held 0000000000000008 0 0 -\n"),
         good_row("67108863 incref\n", "held 0000000000000008 0 0 -\n"),
         good_row(
@@ -205,61 +214,79 @@ fn a_fault_that_cannot_be_said_is_still_a_status(rt: HostRuntime) {
     assert!(&rt; status == 3);
 }
 
-/// A text of fixed size.
-fn name(text: &str) -> std::result::Result<ArrayString<16>, Fail> {
-    match ArrayString::from(text) {
-        Ok(name) => Ok(name),
-        Err(_) => Err(Fail::new("a short name")),
+/// Whether a fault has this line and this status.
+fn is_told(alloc: Global, fault: Fault, line: &str, status: u8) -> bool {
+    let text = format!(in alloc; "{fault}");
+    text.is_ok_and(|text| text.as_str() == line) && fault.status() == status
+}
+
+fn is_listening_told(alloc: Global, name: &str, line: &str, status: u8) -> bool {
+    match ArrayString::from(name) {
+        Ok(name) => is_told(alloc, Fault::Relay(ServeFault::Listen(name)), line, status),
+        Err(_) => false,
     }
 }
 
 #[test]
-fn each_fault_has_its_line_and_status(rt: HostRuntime) -> std::result::Result<(), Fail> {
-    let rows = [
+fn each_fault_has_its_line_and_status(rt: HostRuntime) {
+    for (fault, line, status) in [
         (Fault::BadCommandLine, "bad command line", 2),
         (Fault::TraceRead, "trace fault: read", 3),
         (Fault::TraceWrite, "trace fault: write", 3),
         (Fault::TraceMemory, "trace fault: memory", 3),
         (Fault::Relay(ServeFault::RulesFile), "cannot read rules", 3),
-        (
-            Fault::Relay(ServeFault::Listen(name("web-1")?)),
-            "cannot listen web-1",
-            3,
-        ),
         (Fault::Relay(ServeFault::Admin), "cannot listen admin", 3),
         (Fault::Relay(ServeFault::Device), "relay fault: device", 3),
         (NO_MEMORY, "relay fault: memory", 3),
-    ];
-    for (fault, line, status) in rows {
-        let text = format!(in rt.alloc(); "{fault}")?;
-        assert!(&rt; text.as_str() == line, "{line}");
-        assert!(&rt; fault.status() == status, "the status of {line}");
+    ] {
+        assert!(&rt; is_told(rt.alloc(), fault, line, status), "{line}");
     }
-    Ok(())
+    let is_told = is_listening_told(rt.alloc(), "web-1", "cannot listen web-1", 3);
+    assert!(&rt; is_told, "cannot listen web-1");
+}
+
+/// Whether these words ask for this job, or for none.
+fn is_job(alloc: Global, words: &[&str], job: &Option<Job>) -> bool {
+    match job_of(alloc, words) {
+        Ok(found) => found == *job,
+        Err(_) => false,
+    }
+}
+
+fn checked(alloc: Global, rules: &str) -> Option<Job> {
+    let rules = String::from_str(alloc, rules).ok()?;
+    Some(Job::Check { rules })
+}
+
+fn served(alloc: Global, rules: &str, admin: &str) -> Option<Job> {
+    let rules = String::from_str(alloc, rules).ok()?;
+    let admin = String::from_str(alloc, admin).ok()?;
+    Some(Job::Serve { rules, admin })
 }
 
 #[test]
-fn a_command_is_taken_with_its_options(rt: HostRuntime) -> std::result::Result<(), Fail> {
+fn a_command_is_taken_with_its_options(rt: HostRuntime) {
     let alloc = rt.alloc();
-    let text = |words: &str| String::from_str(alloc, words);
-    assert!(&rt; job_of(alloc, &[])? == Some(Job::Trace));
-    assert!(&rt; job_of(alloc, &["trace"])? == Some(Job::Trace));
-    let checked = Some(Job::Check { rules: text("F")? });
-    assert!(&rt; job_of(alloc, &["check", "--rules", "F"])? == checked);
-    assert!(&rt; job_of(alloc, &["check", "--rules=F"])? == checked);
-    let served = Some(Job::Serve {
-        rules: text("F")?,
-        admin: text("/a b")?,
-    });
-    assert!(&rt; job_of(alloc, &["serve", "--rules", "F", "--admin", "/a b"])? == served);
-    assert!(&rt; job_of(alloc, &["serve", "--admin=/a b", "--rules", "F"])? == served);
-    let empty = Some(Job::Check { rules: text("")? });
-    assert!(&rt; job_of(alloc, &["check", "--rules", ""])? == empty);
-    Ok(())
+    let check = checked(alloc, "F");
+    let serve = served(alloc, "F", "/a b");
+    let check_none = checked(alloc, "");
+    let rows: [(&[&str], &Option<Job>); 7] = [
+        (&[], &Some(Job::Trace)),
+        (&["trace"], &Some(Job::Trace)),
+        (&["check", "--rules", "F"], &check),
+        (&["check", "--rules=F"], &check),
+        (&["serve", "--rules", "F", "--admin", "/a b"], &serve),
+        (&["serve", "--admin=/a b", "--rules", "F"], &serve),
+        (&["check", "--rules", ""], &check_none),
+    ];
+    for (words, job) in rows {
+        let is_taken = job.is_some() && is_job(alloc, words, job);
+        assert!(&rt; is_taken, "{words:?}");
+    }
 }
 
 #[test]
-fn no_other_words_are_taken(rt: HostRuntime) -> std::result::Result<(), Fail> {
+fn no_other_words_are_taken(rt: HostRuntime) {
     let refused: [&[&str]; 23] = [
         &["check"],
         &["check", "F"],
@@ -286,7 +313,6 @@ fn no_other_words_are_taken(rt: HostRuntime) -> std::result::Result<(), Fail> {
         &["trace", "--rules", "F"],
     ];
     for words in refused {
-        assert!(&rt; job_of(rt.alloc(), words)?.is_none(), "{words:?}");
+        assert!(&rt; is_job(rt.alloc(), words, &None), "{words:?}");
     }
-    Ok(())
 }

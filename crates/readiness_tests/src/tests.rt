@@ -4,6 +4,17 @@
 ghost use Rattle.std.specs.Prelude.{◌≡◌};
 ghost use Rattle.std.specs.Arc.{arc_value};
 
+/// Ends the test's process where this doesn't hold, and says what should. A call costs the proof
+/// of a test less than a branch does.
+macro_rules! holds {
+    ($rt:expr; $is:expr) => {
+        $crate::tests::holds(&$rt, $is, stringify!($is))
+    };
+    ($rt:expr; $is:expr, $what:literal) => {
+        $crate::tests::holds(&$rt, $is, $what)
+    };
+}
+
 mod alarms;
 mod batch_rows;
 mod bulk;
@@ -13,6 +24,7 @@ mod memory;
 mod open_files;
 mod paths;
 mod waiting;
+mod watch;
 
 use fd_descriptor::{AcceptOutcome, Fault, FdHandle, PollCell, Resource, TryAccept};
 use readiness::{
@@ -33,6 +45,10 @@ use std::time::{Clock, Duration, Instant};
 const TURNS: u32 = 10_000;
 
 const LOOPBACK: [u8; 4] = [127, 0, 0, 1];
+
+fn holds<R: Abort>(rt: &R, is: bool, what: &str) {
+    assert!(rt; is, "{what}");
+}
 
 /// What a table holds of a descriptor, of a connection or of a listener. The test alone has handles.
 #[derive(Drop)]
@@ -65,6 +81,13 @@ struct Shared {
     turns: AtomicU64,
 }
 
+impl Shared {
+    /// Takes the entry of this id out, and says whether there was one.
+    fn removes<R: Wait>(&self, rt: &R, id: u64) -> bool {
+        self.table.lock(rt).remove(id).is_ok()
+    }
+}
+
 /// A poller with its table, and a clock that starts with it.
 #[derive(Drop)]
 struct World<R: Clock + Copy + Drop> {
@@ -92,6 +115,14 @@ impl<R: Wait + Threads + Net + Files + Clock + Abort + Copy + Drop> World<R> {
         }
     }
 
+    /// Both ends of a connection that was accepted at this address.
+    fn pair(&self, addr: &Addr) -> (FdHandle<SockRes>, FdHandle<SockRes>) {
+        let (near, far) = socks(&self.rt, addr);
+        (self.add(near), self.add(far))
+    }
+}
+
+impl<R: Wait + Clock + Abort + Copy + Drop> World<R> {
     /// A descriptor on this socket, whose key is the id of its entry.
     fn add(&self, sock: Sock) -> FdHandle<SockRes> {
         let rt = self.rt;
@@ -110,12 +141,6 @@ impl<R: Wait + Threads + Net + Files + Clock + Abort + Copy + Drop> World<R> {
         handle
     }
 
-    /// Both ends of a connection that was accepted at this address.
-    fn pair(&self, addr: &Addr) -> (FdHandle<SockRes>, FdHandle<SockRes>) {
-        let (near, far) = socks(&self.rt, addr);
-        (self.add(near), self.add(far))
-    }
-
     fn alarms(&self) -> TimerAlarms<R> {
         let rt = self.rt;
         let timers = Arc::try_clone(&self.shared.timers).expect(&rt, "timers");
@@ -129,6 +154,11 @@ impl<R: Wait + Threads + Net + Files + Clock + Abort + Copy + Drop> World<R> {
     /// What a test keeps where the world goes to a thread.
     fn keep(&self) -> Arc<Shared> {
         Arc::try_clone(&self.shared).expect(&self.rt, "world")
+    }
+
+    /// The moment of the first timer.
+    fn next_due(&self) -> Option<u64> {
+        self.shared.timers.lock(&self.rt).next()
     }
 
     /// One turn at this moment. It says whether the system let it.
@@ -202,7 +232,7 @@ impl Turning {
     fn stop<R: Wait + Threads + Abort>(self, rt: &R) {
         self.shared.stop.store(1, Ordering::SeqCst);
         let _ = self.waker.wake();
-        assert!(rt; self.thread.join(rt), "every turn was made");
+        holds!(*rt; self.thread.join(rt), "every turn was made");
     }
 }
 

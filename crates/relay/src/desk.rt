@@ -22,8 +22,8 @@ pub(crate) struct RelayDesk<'a, U: Ledger, D: Ledger, R: Wait + Copy, C: Moments
     shared: &'a Shared<U, D>,
 }
 
-// What a close or a deadline that ended so is to the session. A device's fault while the descriptor
-// was destroyed doesn't change that it is closed.
+// What a close, a drain or a deadline that ended so is to the session. A device's fault while the
+// descriptor was destroyed doesn't change that it is closed.
 fn answer_of(done: Result<(), Fault>) -> DeskAnswer
     ensures { result ≡ desk_answer done }
 {
@@ -31,6 +31,7 @@ fn answer_of(done: Result<(), Fault>) -> DeskAnswer
         Ok(()) | Err(Fault::Device(_)) => DeskAnswer::Fine,
         Err(Fault::TooMany) => DeskAnswer::Busy,
         Err(Fault::OutOfMemory) => DeskAnswer::NoMemory,
+        Err(Fault::Draining) => DeskAnswer::Draining,
         Err(_) => DeskAnswer::Closed,
     }
 }
@@ -41,7 +42,7 @@ impl<'a, U: Ledger, D: Ledger, R: Wait + Copy, C: Moments> RelayDesk<'a, U, D, R
     }
 
     // A handle of its own on the connection or listener with this id, so that the table's lock is
-    // given back before a deadline is set.
+    // given back before a deadline is set or it is drained.
     fn handle(&self, id: u64) -> Result<Handle, DeskAnswer> {
         let table = self.shared.table.lock(&self.rt);
         let Some(entry) = table.by_id(id) else {
@@ -87,6 +88,13 @@ impl<'a, U: Ledger, D: Ledger, R: Wait + Copy, C: Moments> Desk for RelayDesk<'a
         match self.shared.close(&self.rt, id) {
             Some(done) => answer_of(done),
             None => DeskAnswer::Unknown,
+        }
+    }
+
+    fn drain(&mut self, id: u64) -> DeskAnswer {
+        match self.handle(id) {
+            Ok(mut handle) => answer_of(handle.drain(&self.rt)),
+            Err(answer) => answer,
         }
     }
 

@@ -33,6 +33,13 @@ impl Handle {
         }
     }
 
+    pub(crate) fn drain<R: Wait>(&mut self, rt: &R) -> Result<(), Fault> {
+        match self {
+            Handle::Conn(handle) => handle.drain(rt),
+            Handle::Listener(handle) => handle.drain(rt),
+        }
+    }
+
     pub(crate) fn set_deadline<R: Wait, A: Alarms>(
         &mut self,
         rt: &R,

@@ -3,6 +3,7 @@
 ghost use Rattle.std.specs.Prelude.{◌≡◌};
 ghost use Rattle.relay.specs.Addr.{socket_address};
 
+use crate::accepting::RuleListener;
 use crate::admin::Door;
 use crate::bound_paths::BoundPaths;
 use crate::entry::Entry;
@@ -10,8 +11,7 @@ use crate::fault::ServeFault;
 use crate::threads::Unstarted;
 use arrayvec::ArrayString;
 use conntable::ConnTable;
-use fd_descriptor::FdHandle;
-use readiness::{Addr, HoldFault, ListenRes, Poller, Waker, listen};
+use readiness::{Addr, HoldFault, Poller, Waker, listen};
 use relay_admin::Rule;
 use std::alloc::Global;
 use std::fs::Files;
@@ -59,13 +59,13 @@ fn open_listener<R: Net + Files>(
     table: &mut ConnTable<Entry>,
     rule: &Rule,
     bound: &mut BoundPaths<'_>,
-) -> Result<FdHandle<ListenRes>, ServeFault> {
+) -> Result<RuleListener, ServeFault> {
     let Ok(socket) = listen(rt, &address_of(&rule.listen)) else {
         return Err(ServeFault::Listen(rule.name));
     };
     bound.note_listener();
     match poller.hold_listener(alloc, table, socket) {
-        Ok((_, listener)) => Ok(listener),
+        Ok((id, handle)) => Ok(RuleListener { id, handle }),
         Err(HoldFault::Device(_)) => Err(ServeFault::Device),
         Err(HoldFault::Table(_) | HoldFault::OutOfMemory) => Err(ServeFault::Memory),
     }

@@ -3,14 +3,14 @@
 ghost use Rattle.std.specs.Prelude.{◌≡◌, IfOk, IfErr, IfSome};
 ghost use Rattle.relay.specs.Worker.{IsLeftBy};
 
-use relay_core::{BUFFER_BYTES, CopyGate, Ended, copy_worker};
+use relay_core::{CopyGate, Ended, copy_by_need};
 use relay_ledger::{Book, CarriedShare, Full};
 use std::snapshot::Snapshot;
 use std::sync::ledger::Ledger;
 use std::sync::{Arc, Mutex, Wait};
 use std::thread::{Builder, Promise, PromisedHandle, Threads};
 
-/// The stack of a worker's thread, in bytes: the least that the system gives, with the buffer on it.
+/// The stack of a worker's thread, in bytes: the least that the system gives, with its buffers on it.
 pub(crate) const STACK_BYTES: usize = 131_072;
 
 /// What a worker leaves: how it ended, and its share. There is none only where the book opened none,
@@ -49,15 +49,14 @@ pub trait AtEnd {
     fn ended(&self, ended: Ended);
 }
 
-// A worker from its first read to its end. Its buffer lies on the stack of its thread.
+// A worker from its first read to its end. Its buffers lie on the stack of its thread.
 fn work<G: CopyGate, L: Ledger, R: Wait>(rt: &R, gate: &mut G, book: &Mutex<Book<L>>) -> Done<L>
     ensures { IsLeftBy (G.tells gate.old) (G.tells gate.new) result.ended result.share }
 {
     let opened = book.lock(rt).open_share();
     match opened {
         Ok(mut share) => {
-            let mut buf = [0u8; BUFFER_BYTES];
-            let ended = copy_worker(rt, gate, book, &mut share, &mut buf);
+            let ended = copy_by_need(rt, gate, book, &mut share);
             let share = Some(CarriedShare::new(share));
             Done { ended, share }
         }

@@ -1,11 +1,12 @@
 //! Reading a rules file.
 
-ghost use Rattle.std.specs.Prelude.{◌≡◌, ◌<◌, ◌≤◌, length, IfOk, IfErr};
+ghost use Rattle.std.specs.Prelude.{◌≡◌, ◌<◌, ◌≤◌, ◌+◌, length, IfOk, IfErr};
 ghost use Rattle.std.specs.Io.KnownBytes.{Consumes, IsAtEnd};
+ghost use Rattle.relay_admin.specs.declared.rules.file.TheConstants.{MAX_BYTES};
 ghost use Rattle.relay.specs.ServeFault.{IsReadFault};
 
 use crate::fault::ServeFault;
-use relay_admin::Rules;
+use relay_admin::{MAX_BYTES, Rules};
 use std::alloc::Global;
 use std::fs;
 use std::fs::Files;
@@ -13,19 +14,19 @@ use stream_base::reader_source::ReaderSource;
 use stream_base::source::{Source, read_from};
 
 /// One byte more than a rules file may have.
-const MOST_BYTES: usize = 65_537;
+const MOST_BYTES: usize = MAX_BYTES + 1;
 
 /// The most bytes of one read.
 const READ_BYTES: usize = 4_096;
 
-// The bytes of a source up to its end, or its first 65,537 where it has more.
+// The bytes of a source up to its end, or one byte more than a rules file may have, where it has more.
 fn text_on<S: Source>(alloc: Global, source: &mut S) -> Result<Vec<u8>, ServeFault>
     requires uninterrupted { S.interruptions source.old ≡ 0 }
-    ensures most { IfOk result (λ text. length text.items ≤ 65537) }
+    ensures most { IfOk result (λ text. length text.items ≤ MAX_BYTES + 1) }
     ensures bytes { IfOk result (λ text.
         Consumes (S.remaining source.old) (S.remaining source.new) text.items) }
     ensures whole { IfOk result (λ text.
-        length text.items < 65537 → IsAtEnd (S.remaining source.new)) }
+        length text.items < MAX_BYTES + 1 → IsAtEnd (S.remaining source.new)) }
     ensures faults { IfErr result (λ fault. IsReadFault fault) }
 {
     let mut text = Vec::new(alloc);
@@ -45,10 +46,10 @@ fn text_on<S: Source>(alloc: Global, source: &mut S) -> Result<Vec<u8>, ServeFau
     Ok(text)
 }
 
-/// The bytes of a file, or its first 65,537 where it has more, which are enough to see that it is too
+/// The bytes of a file, or one byte more than a rules file may have, where it has more, which are enough to see that it is too
 /// long. The faults are `RulesFile`, where it can't be opened or read, and `Memory`.
 pub fn text_of<R: Files>(rt: &R, alloc: Global, path: &str) -> Result<Vec<u8>, ServeFault>
-    ensures most { IfOk result (λ text. length text.items ≤ 65537) }
+    ensures most { IfOk result (λ text. length text.items ≤ MAX_BYTES + 1) }
     ensures faults { IfErr result (λ fault. IsReadFault fault) }
 {
     let Ok(mut file) = fs::open(rt, path) else {

@@ -5,6 +5,7 @@ ghost use Rattle.relay_ledger.specs.declared.book.TheConstants.{PARTS};
 ghost use Rattle.relay.specs.Output.{WritesBothLines, SaysItListens};
 ghost use Rattle.relay.specs.ServeFault.{IsRunFault};
 
+use crate::accepting::RuleListener;
 use crate::admin::Door;
 use crate::bound_paths::BoundPaths;
 use crate::entry::Entry;
@@ -17,8 +18,7 @@ use crate::shared::Shared;
 use crate::threads::{Helpers, Unstarted};
 use conntable::ConnTable;
 use deadline_core::Timers;
-use fd_descriptor::FdHandle;
-use readiness::{ListenRes, Waker};
+use readiness::Waker;
 use relay_admin::Rule;
 use relay_ledger::Book;
 use std::alloc::{AllocError, Global};
@@ -111,7 +111,7 @@ fn start_and_run<U, D, R, W: Write>(
     rt: R,
     relay: &mut Relay<'_, U, D>,
     helpers: &mut Helpers,
-    listeners: Vec<FdHandle<ListenRes>>,
+    listeners: Vec<RuleListener>,
     door: Door,
     writer: &mut W,
 ) -> Result<(), ServeFault>

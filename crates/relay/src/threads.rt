@@ -3,15 +3,14 @@
 ghost use Rattle.std.specs.Prelude.{◌≡◌, IfErr};
 ghost use Rattle.relay.specs.declared.fault.ServeFault.{ServeFault};
 
-use crate::accepting::RuleGate;
+use crate::accepting::{RuleGate, RuleListener, serve_rule};
 use crate::admin::{AdminGate, Door, DoorWaits, serve_sessions};
 use crate::clock::RelayClock;
 use crate::fault::ServeFault;
 use crate::pair::STACK_BYTES;
 use crate::relay::Relay;
-use fd_descriptor::FdHandle;
-use readiness::{ListenRes, Waker};
-use relay_core::{AcceptGate, accept_worker};
+use readiness::Waker;
+use relay_core::AcceptGate;
 use std::alloc::Global;
 use std::sync::ledger::Ledger;
 use std::sync::{Arc, Wait};
@@ -21,8 +20,8 @@ use std::time::Clock;
 /// What the threads beside the main one and the workers are started with.
 #[derive(Drop)]
 pub(crate) struct Unstarted {
-    /// A handle of each rule's listener, in the rules' order.
-    pub(crate) listeners: Vec<FdHandle<ListenRes>>,
+    /// Each rule's listener, in the rules' order.
+    pub(crate) listeners: Vec<RuleListener>,
     pub(crate) door: Door,
     pub(crate) door_waker: Arc<Waker>,
 }
@@ -35,15 +34,16 @@ pub(crate) struct Helpers {
     door_waker: Arc<Waker>,
 }
 
-fn spawn_acceptor<G, R>(rt: R, gate: G) -> Result<JoinHandle<()>, ServeFault>
+fn spawn_acceptor<U, D, R>(rt: R, gate: RuleGate<U, D, R>) -> Result<JoinHandle<()>, ServeFault>
 where
-    G: AcceptGate + Drop + Send + 'static,
-    R: Wait + Threads + Copy + Send + 'static,
+    U: Ledger + Send + Sync + 'static,
+    D: Ledger + Send + Sync + 'static,
+    R: Wait + Threads + Clock + Copy + Send + Sync + 'static,
     ensures faults { IfErr result (λ fault. fault ≡ ServeFault.Memory) }
 {
     let job = move || {
         let mut gate = gate;
-        let _ = accept_worker(&rt, &mut gate);
+        serve_rule(&rt, &mut gate)
     };
     match Builder::new().stack_size(STACK_BYTES).spawn(&rt, job) {
         Ok(join) => Ok(join),
@@ -82,7 +82,7 @@ impl Helpers {
         &mut self,
         rt: R,
         relay: &Relay<'_, U, D>,
-        listeners: Vec<FdHandle<ListenRes>>,
+        listeners: Vec<RuleListener>,
         door: Door,
     ) -> Result<(), ServeFault>
     where
@@ -127,7 +127,7 @@ impl Helpers {
         let _ = self.door_waker.wake();
     }
 
-    /// Waits for all of them. The accept threads end once their listeners are closed.
+    /// Waits for all of them. The accept threads end once their listeners are closed or drained.
     pub(crate) fn join<R: Threads>(self, rt: &R) {
         let Helpers {
             acceptors,

@@ -13,6 +13,6 @@ pub use admin::end::{AdminEnd, AdminFault};
 pub use admin::reply::reply_of;
 pub use admin::session::{serve_admin, serve_on};
 pub use rules::addr::Addr;
-pub use rules::file::{Rules, RulesFault};
+pub use rules::file::{MAX_BYTES, Rules, RulesFault};
 pub use rules::rule::Rule;
 pub use rules::verdict::{Verdict, check_status};

@@ -3,11 +3,11 @@ use Rattle.std.proofs.Common.{◌≡◌, ◌≢◌, ◌<◌, ◌≤◌, ◌+◌,
 use Rattle.std.proofs.Common.{sym, ◌∙◌, arith}
 use Rattle.rwloops.specs.Waits.{Tells}
 use Rattle.rwloops.specs.declared.fault.Fault.{Fault}
-use Rattle.rwloops.specs.declared.fault.Fault.TheVariants.{Closed as ListenerClosed}
+use Rattle.rwloops.specs.declared.fault.Fault.TheVariants.{Closed as ListenerClosed, Draining as ListenerDraining}
 use Rattle.relay_core.specs.declared.accepting.AcceptEnded.{AcceptEnded}
-use Rattle.relay_core.specs.declared.accepting.AcceptEnded.TheVariants.{Closed}
+use Rattle.relay_core.specs.declared.accepting.AcceptEnded.TheVariants.{Closed, Draining}
 use Rattle.relay_core.specs.AcceptTrace.{AcceptCall, Accepted, Delivered, Paused, faults_in_a_row, pause_after, GoOn}
-use Rattle.relay_core.specs.AcceptTrace.{turn_calls, LastAnswer, AtClosed, IsAccepting}
+use Rattle.relay_core.specs.AcceptTrace.{MayPass, turn_calls, LastAnswer, AtClosed, AtDraining, IsAccepting}
 
 -- answers after each of which it went on, the faults in a row now, and the pause after them
 pub record IsSoFar {T : Type 0} (before now : List (AcceptCall T) → Type 0) (faults pause : ℕ) : Type 0 where
@@ -54,11 +54,11 @@ next_pause faults pause next is first doubled =
 -- a fault was borne, and there was a pause
 pub after_fault : {T : Type 0} {before now after : List (AcceptCall T) → Type 0} {faults pause : ℕ}
     → (so : IsSoFar before now faults pause)
-    → (fault : Fault) → fault ≢ ListenerClosed → faults ≢ 1024 → (ms : ℕ) → ms ≡ pause_after (faults + 1)
+    → (fault : Fault) → MayPass fault → faults ≢ 1024 → (ms : ℕ) → ms ≡ pause_after (faults + 1)
     → Tells now after (Paused ms ∷ Accepted (Err fault) ∷ []) → IsSoFar before after (faults + 1) ms
-after_fault {faults = faults} so fault not_closed room ms is told = record {
+after_fault {faults = faults} so fault may_pass room ms is told = record {
   answers = Err fault ∷ so.answers;
-  go_on = ((not_closed, omega (arith, so.row, so.few, room)), so.go_on);
+  go_on = ((may_pass, omega (arith, so.row, so.few, room)), so.go_on);
   told = λ calls h. rw (sym (is ∙ ap (λ n. pause_after (n + 1)) so.row)) (told _ (so.told calls h));
   row = ap (λ n. n + 1) so.row;
   few = omega (arith, so.few, room);
@@ -80,3 +80,8 @@ ends_with so last ends told = record {
 pub at_closed : {T : Type 0} (answers : List (Result T Fault)) (fault : Fault) → fault ≡ ListenerClosed
     → LastAnswer answers fault Closed
 at_closed answers fault is = rw is AtClosed
+
+-- the listener was drained
+pub at_draining : {T : Type 0} (answers : List (Result T Fault)) (fault : Fault) → fault ≡ ListenerDraining
+    → LastAnswer answers fault Draining
+at_draining answers fault is = rw is AtDraining

@@ -1,5 +1,6 @@
 -- The rounds of a worker so far, and how its last calls end them.
-use Rattle.std.proofs.Common.{◌≡◌, ◌+◌, ℕ, List, [], ◌∷◌, ◌++◌, refl, Result, Ok, Err, append_assoc, arith}
+use Rattle.std.proofs.Common.{◌≡◌, ◌∙◌, ◌+◌, ℕ, List, [], ◌∷◌, ◌++◌, length, refl, sym, ap, Result, Ok, Err}
+use Rattle.std.proofs.Common.{append_assoc, append-nil, arith}
 use Rattle.rwloops.specs.Waits.{Tells}
 use Rattle.rwloops.specs.declared.fault.Fault.{Fault}
 use Rattle.rwloops.specs.declared.fault.Fault.TheVariants.{EndOfFile}
@@ -7,29 +8,79 @@ use Rattle.rwloops.specs.declared.fault.WriteFault.{WriteFault}
 use Rattle.relay_core.specs.declared.copying.Ended.{Ended}
 use Rattle.relay_core.specs.declared.copying.Ended.TheVariants.{Eof, CloseFault}
 use Rattle.relay_core.specs.CopyTrace.{GateCall, Read, Wrote, ClosedWrite, reported, written, round_calls, EndsBy}
-use Rattle.relay_core.specs.CopyTrace.{AtEnd, AtClose, uncredited, IsCopied}
+use Rattle.relay_core.specs.CopyTrace.{AtEnd, AtClose, uncredited, IsCopied, IsCopiedSoFar}
 
 -- a read and a write more: so many bytes more are written
 pub round_writes : (bytes : List ℕ) (answer : Result ℕ WriteFault) (calls : List GateCall)
     → written (Wrote bytes answer ∷ Read (Ok bytes) ∷ calls) ≡ written calls + reported answer
 round_writes bytes answer calls = omega (arith)
 
--- rounds that went well, and no end yet
-pub record IsSoFar (before now : List GateCall → Type 0) (old share : ℕ) : Type 0 where
-  pub rounds : List (List ℕ)
-  pub told : Tells before now (round_calls rounds)
-  pub grew : share ≡ old + written (round_calls rounds)
+-- no round so far
+pub no_round : {before : List GateCall → Type 0} (old : ℕ) → IsCopiedSoFar before before old old
+no_round old = record { rounds = []; told = λ calls h. h; grew = omega (arith) }
 
--- these last calls end the run
-pub ends_with : {before now after : List GateCall → Type 0} {old share new : ℕ} {ended : Ended}
-    → (so : IsSoFar before now old share) → (last : List GateCall)
-    → Tells now after last → EndsBy last ended
-    → new + uncredited ended ≡ old + written (last ++ round_calls so.rounds)
+-- one round that went well
+pub one_round : {before now : List GateCall → Type 0} {old new : ℕ} (bytes : List ℕ)
+    → Tells before now (Wrote bytes (Ok (length bytes)) ∷ Read (Ok bytes) ∷ [])
+    → new ≡ old + length bytes → IsCopiedSoFar before now old new
+one_round bytes told grew = record {
+  rounds = bytes ∷ [];
+  told = told;
+  grew = omega (arith, grew);
+}
+
+-- the calls of rounds, of which some came later
+rounds_append : (later earlier : List (List ℕ))
+    → round_calls (later ++ earlier) ≡ round_calls later ++ round_calls earlier
+rounds_append [] earlier = refl
+rounds_append (bytes ∷ later) earlier =
+    ap (λ calls. Wrote bytes (Ok (length bytes)) ∷ Read (Ok bytes) ∷ calls) (rounds_append later earlier)
+
+-- what was written by calls, of which some came later
+written_append : (later earlier : List GateCall) → written (later ++ earlier) ≡ written earlier + written later
+written_append [] earlier = omega (arith)
+written_append (call ∷ later) earlier = let before = written_append later earlier in omega (arith, before)
+
+-- rounds, and then more rounds
+pub more_rounds : {before now after : List GateCall → Type 0} {old share new : ℕ}
+    → IsCopiedSoFar before now old share → IsCopiedSoFar now after share new
+    → IsCopiedSoFar before after old new
+more_rounds so more = record {
+  rounds = more.rounds ++ so.rounds;
+  told = λ calls h. rw (rounds_append more.rounds so.rounds)
+      (rw (append_assoc (round_calls more.rounds) (round_calls so.rounds) calls)
+      (more.told _ (so.told calls h)));
+  grew = let sum = written_append (round_calls more.rounds) (round_calls so.rounds) in
+      omega (arith, so.grew, more.grew, sum, ap written (rounds_append more.rounds so.rounds));
+}
+
+-- rounds, and then a run to its end
+pub run_after : {before now after : List GateCall → Type 0} {old share new : ℕ} {ended : Ended}
+    → IsCopiedSoFar before now old share → IsCopied now after share new ended
     → IsCopied before after old new ended
-ends_with so last told ends grew = record {
-  calls = last ++ round_calls so.rounds;
-  trace = record { rounds = so.rounds; last = last; in_order = refl; ends = ends };
-  told = λ calls h. rw (append_assoc last (round_calls so.rounds) calls) (told _ (so.told calls h));
+run_after so run = record {
+  calls = run.calls ++ round_calls so.rounds;
+  trace = record {
+    rounds = run.trace.rounds ++ so.rounds;
+    last = run.trace.last;
+    in_order = ap (λ calls. calls ++ round_calls so.rounds) run.trace.in_order
+        ∙ append_assoc run.trace.last (round_calls run.trace.rounds) (round_calls so.rounds)
+        ∙ ap (λ calls. run.trace.last ++ calls) (sym (rounds_append run.trace.rounds so.rounds));
+    ends = run.trace.ends;
+  };
+  told = λ calls h. rw (append_assoc run.calls (round_calls so.rounds) calls) (run.told _ (so.told calls h));
+  grew = let sum = written_append run.calls (round_calls so.rounds) in
+      omega (arith, so.grew, run.grew, sum);
+}
+
+-- these calls alone are a run
+pub ends_with : {before after : List GateCall → Type 0} {old new : ℕ} {ended : Ended}
+    → (last : List GateCall) → Tells before after last → EndsBy last ended
+    → new + uncredited ended ≡ old + written last → IsCopied before after old new ended
+ends_with last told ends grew = record {
+  calls = last;
+  trace = record { rounds = []; last = last; in_order = sym (append-nil last); ends = ends };
+  told = told;
   grew = grew;
 }
 

@@ -7,8 +7,10 @@ use Rattle.std.specs.Prelude.{Err}
 use Rattle.rwloops.specs.Waits.{Tells}
 use Rattle.rwloops.specs.declared.fault.Fault.{Fault}
 use Rattle.rwloops.specs.declared.fault.Fault.TheVariants.{Closed as ListenerClosed}
+use Rattle.rwloops.specs.declared.fault.Fault.TheVariants.{Draining as ListenerDraining}
 use Rattle.relay_core.specs.declared.accepting.AcceptEnded.{AcceptEnded}
-use Rattle.relay_core.specs.declared.accepting.AcceptEnded.TheVariants.{Closed, TooManyFaults}
+use Rattle.relay_core.specs.declared.accepting.AcceptEnded.TheVariants.{Closed, Draining}
+use Rattle.relay_core.specs.declared.accepting.AcceptEnded.TheVariants.{TooManyFaults}
 
 -- a call of a gate, with its answer
 pub data AcceptCall (T : Type 0) : Type 0 where
@@ -29,12 +31,16 @@ pause_after zero = 0
 pause_after (suc zero) = 5
 pause_after (suc (suc faults)) = min (2 * pause_after (suc faults)) 1000
 
--- an answer after which an accept worker goes on: no closed listener, and no more than 1,024 faults
--- in a row
+-- a fault of a listener that is neither closed nor drained, so that a later accept may succeed
+abbrev pub MayPass : Fault → Type 0
+MayPass fault = (fault ≢ ListenerClosed) × (fault ≢ ListenerDraining)
+
+-- an answer after which an accept worker goes on: no fault but one that may pass, and no more than
+-- 1,024 in a row
 abbrev pub GoesOn : {T : Type 0} → Result T Fault → List (Result T Fault) → Type 0
 GoesOn (Ok taken) earlier = Unit {0}
 GoesOn (Err fault) earlier =
-    (fault ≢ ListenerClosed) × (faults_in_a_row (Err fault ∷ earlier) ≤ 1024)
+    MayPass fault × (faults_in_a_row (Err fault ∷ earlier) ≤ 1024)
 
 -- answers after each of which it goes on
 abbrev pub GoOn : {T : Type 0} → List (Result T Fault) → Type 0
@@ -56,8 +62,10 @@ pub data LastAnswer {T : Type 0} (earlier : List (Result T Fault)) : Fault → A
     → Type 0 where
   -- the listener was closed
   AtClosed : LastAnswer earlier ListenerClosed Closed
+  -- the listener was drained
+  AtDraining : LastAnswer earlier ListenerDraining Draining
   -- another fault, after 1,024 in a row
-  AtFault : (fault : Fault) → fault ≢ ListenerClosed → faults_in_a_row earlier ≡ 1024
+  AtFault : (fault : Fault) → MayPass fault → faults_in_a_row earlier ≡ 1024
       → LastAnswer earlier fault (TooManyFaults fault)
 
 -- the calls of an accept worker from its beginning to its end

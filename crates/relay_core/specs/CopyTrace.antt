@@ -77,3 +77,10 @@ pub record IsCopied (before after : List GateCall → Type 0) (old new : ℕ)
   pub trace : CopyTrace calls ended
   pub told : Tells before after calls
   pub grew : new + uncredited ended ≡ old + written calls
+
+-- a part of a worker's run in which nothing ended it: rounds that went well, and by how much the
+-- share grew
+pub record IsCopiedSoFar (before now : List GateCall → Type 0) (old new : ℕ) : Type 0 where
+  pub rounds : List (List ℕ)
+  pub told : Tells before now (round_calls rounds)
+  pub grew : new ≡ old + written (round_calls rounds)

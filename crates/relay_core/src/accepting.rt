@@ -44,6 +44,8 @@ pub trait AcceptGate {
 pub enum AcceptEnded {
     /// The listener was closed.
     Closed,
+    /// The listener is drained: it accepts nothing more, and is still to be closed.
+    Draining,
     /// One fault more came in a row than `MAX_FAULTS_IN_A_ROW`; it is the last of them.
     TooManyFaults(Fault),
 }
@@ -63,8 +65,8 @@ pub fn next_pause_ms(before_ms: u64) -> u64
     2 * before_ms
 }
 
-/// Accepts and delivers until the listener is closed. After another fault it pauses and accepts
-/// again, at most `MAX_FAULTS_IN_A_ROW` times in a row.
+/// Accepts and delivers until the listener is closed or drained. After another fault it pauses and
+/// accepts again, at most `MAX_FAULTS_IN_A_ROW` times in a row.
 pub fn accept_worker<G: AcceptGate>(rt: &impl Wait, gate: &mut G) -> AcceptEnded
     ensures { IsAccepting (G.tells gate.old) (G.tells gate.new) result }
 {
@@ -78,6 +80,7 @@ pub fn accept_worker<G: AcceptGate>(rt: &impl Wait, gate: &mut G) -> AcceptEnded
                 gate.deliver(taken);
             }
             Err(Fault::Closed) => return AcceptEnded::Closed,
+            Err(Fault::Draining) => return AcceptEnded::Draining,
             Err(fault) => {
                 if faults == MAX_FAULTS_IN_A_ROW {
                     return AcceptEnded::TooManyFaults(fault);

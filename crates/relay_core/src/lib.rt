@@ -4,6 +4,7 @@
 #![tactic(auto)]
 
 mod accepting;
+mod buffers;
 mod copying;
 mod gate;
 mod idle;
@@ -11,7 +12,8 @@ pub mod laws;
 mod pair;
 
 pub use accepting::{AcceptEnded, AcceptGate, MAX_FAULTS_IN_A_ROW, accept_worker, next_pause_ms};
-pub use copying::{BUFFER_BYTES, Ended, copy_worker};
+pub use buffers::{BUFFER_BYTES, FIRST_BUFFER_BYTES, copy_by_need};
+pub use copying::{Ended, copy_worker};
 pub use gate::CopyGate;
 pub use idle::idle_deadline;
 pub use pair::{InsertedSides, MAX_PAIRS, end_closes_pair, has_room_for_pair};

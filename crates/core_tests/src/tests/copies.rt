@@ -6,8 +6,9 @@ ghost use Rattle.relay_core.specs.CopyTrace.{written, uncredited};
 
 use relay_core::laws::each_is_delivered_in_order;
 use relay_core::{
-    AcceptEnded, AcceptGate, CopyGate, Ended, InsertedSides, MAX_PAIRS, accept_worker, copy_worker,
-    end_closes_pair, has_room_for_pair, idle_deadline, next_pause_ms,
+    AcceptEnded, AcceptGate, BUFFER_BYTES, CopyGate, Ended, FIRST_BUFFER_BYTES, InsertedSides,
+    MAX_PAIRS, accept_worker, copy_by_need, copy_worker, end_closes_pair, has_room_for_pair,
+    idle_deadline, next_pause_ms,
 };
 use relay_ledger::{Book, PARTS, Share};
 use rwloops::{DevKind, Fault, WriteFault};
@@ -217,12 +218,73 @@ fn share_grows_by_what_a_telling_gate_wrote(rt: HostRuntime) {
     assert_eq!(rt; got, Some((Ended::Eof, 300, 300)));
 }
 
-/// Answers so many faults, one number, so many faults again, and that it is closed.
+/// Gives as many bytes as the least of its script and the room, and adds up the rooms that it saw.
+#[derive(Drop)]
+struct RoomGate {
+    reads: &'static [usize],
+    rooms: usize,
+}
+
+impl CopyGate for RoomGate {
+    ghost tells = { λ _ _. ⊥ };
+
+    fn read(&mut self, buf: &mut [u8]) -> Result<usize, Fault> {
+        self.rooms = self.rooms.saturating_add(buf.len());
+        let Some((count, later)) = self.reads.split_first() else {
+            return Err(Fault::EndOfFile);
+        };
+        self.reads = later;
+        Ok((*count).max(1).min(buf.len()))
+    }
+
+    fn write(&mut self, bytes: &[u8]) -> Result<usize, WriteFault> {
+        Ok(bytes.len())
+    }
+
+    fn close_write(&mut self) -> Result<(), Fault> {
+        Ok(())
+    }
+}
+
+// How a worker by need ended, its share's amount, and the sum of the rooms that its gate saw.
+fn roomed<L: Ledger, R: Wait>(
+    rt: &R,
+    blank: Blank,
+    reads: &'static [usize],
+) -> Option<(Ended, u64, usize)>
+    requires name { blank.name ≡ L.name }
+    requires parts { blank.parts ≡ L.parts }
+    requires all { blank.parts ≡ 4294967296 }
+{
+    let mut book = Book::<L>::new(blank);
+    let Ok(mut share) = book.open_share() else {
+        return None;
+    };
+    let book = Mutex::new(book);
+    let mut gate = RoomGate { reads, rooms: 0 };
+    let ended = copy_by_need(rt, &mut gate, &book, &mut share);
+    let row = (ended, share.amount(), gate.rooms);
+    share.give_up();
+    Some(row)
+}
+
+#[test]
+fn full_first_buffer_is_followed_by_a_larger(rt: HostRuntime) {
+    assert_eq!(rt; (FIRST_BUFFER_BYTES, BUFFER_BYTES), (1_024, 16_384));
+    let short = roomed::<Brand, _>(&rt, Blank::new(PARTS), &[1, 1_023, 7]);
+    assert_eq!(rt; short, Some((Ended::Eof, 1_031, 4 * 1_024)));
+    // The read that ends it has the larger room too.
+    let long = roomed::<Brand, _>(&rt, Blank::new(PARTS), &[5, 1_024, 16_384, 1]);
+    assert_eq!(rt; long, Some((Ended::Eof, 17_414, 2 * 1_024 + 3 * 16_384)));
+}
+
+/// Answers so many faults, one number, so many faults again, and that it is closed or drained.
 #[derive(Drop)]
 struct ScriptedListener {
     faults_before: u32,
     taken: Option<u32>,
     faults_after: u32,
+    end: Fault,
     delivered: u32,
     delivered_sum: u32,
     pauses: u32,
@@ -236,6 +298,7 @@ impl ScriptedListener {
             faults_before,
             taken,
             faults_after,
+            end: Fault::Closed,
             delivered: 0,
             delivered_sum: 0,
             pauses: 0,
@@ -264,7 +327,7 @@ impl AcceptGate for ScriptedListener {
             self.faults_after -= 1;
             return Err(OTHER);
         }
-        Err(Fault::Closed)
+        Err(self.end)
     }
 
     fn deliver(&mut self, taken: u32) {
@@ -302,6 +365,14 @@ fn fault_too_many_ends_an_accept_worker(rt: HostRuntime) {
     let ended = accept_worker(&rt, &mut gate);
     assert_eq!(rt; ended, AcceptEnded::TooManyFaults(OTHER));
     assert_eq!(rt; (gate.delivered, gate.pauses), (0, 1_024));
+}
+
+#[test]
+fn drain_ends_an_accept_worker_at_once(rt: HostRuntime) {
+    let mut gate = ScriptedListener::new(3, Some(7), 0);
+    gate.end = Fault::Draining;
+    assert_eq!(rt; accept_worker(&rt, &mut gate), AcceptEnded::Draining);
+    assert_eq!(rt; (gate.delivered, gate.pauses), (1, 3));
 }
 
 #[test]

@@ -34,7 +34,44 @@ fn a_step_on_the_word_gives_the_worked_words(rt: HostRuntime) {
         (0, Kind::Decref, Err(Refused::Misuse)),
         (8, Kind::Unlock(Dir::Read), Err(Refused::Misuse)),
         (2, Kind::Unlock(Dir::Read), Err(Refused::Misuse)),
-        (1 << 63, Kind::Incref, Err(Refused::Misuse)),
+        (1 << 63, Kind::Incref, Err(Refused::Draining)),
+        (1 << 63, Kind::Decref, Err(Refused::Misuse)),
+        (1 << 63, Kind::Drain, Err(Refused::Draining)),
+        (0x8000_0000_07ff_fff8, Kind::Incref, Err(Refused::Draining)),
+        (0x8000_0000_07ff_fff8, Kind::Close, Err(Refused::TooMany)),
+        (0x8000_0000_0000_0009, Kind::Incref, Err(Refused::Closed)),
+        (9, Kind::Drain, Err(Refused::Closed)),
+        (0x8000_0000_0000_0009, Kind::Drain, Err(Refused::Closed)),
+        (
+            0x8000_0000_0000_000a,
+            Kind::Lock(Dir::Read),
+            Err(Refused::Draining),
+        ),
+        (
+            0x8000_0000_0000_000a,
+            Kind::Unlock(Dir::Read),
+            Ok((0x8000_0000_0000_0000, After::Kept)),
+        ),
+        (
+            0x8000_0000_0000_000a,
+            Kind::Close,
+            Ok((0x8000_0000_0000_0013, After::Closing { read: 0, write: 0 })),
+        ),
+        (
+            0x8000_0000_0000_0009,
+            Kind::Decref,
+            Ok((0x8000_0000_0000_0001, After::Last)),
+        ),
+        (
+            0x2000_1800_000e,
+            Kind::Drain,
+            Ok((0x8000_0000_0000_000e, After::Drained { read: 3, write: 1 })),
+        ),
+        (
+            0x7ff_fff8,
+            Kind::Drain,
+            Ok((0x8000_0000_07ff_fff8, After::Drained { read: 0, write: 0 })),
+        ),
         (0, Kind::Lock(Dir::Read), Ok((0xa, After::Held))),
         (0xa, Kind::Lock(Dir::Read), Ok((0x800_000a, After::Queued))),
         (0xa, Kind::Lock(Dir::Write), Ok((0x16, After::Held))),
@@ -70,11 +107,17 @@ fn a_word_is_packed_and_unpacked(rt: HostRuntime) {
         refs: 3,
         rwait: 262_143,
         wwait: 2,
+        drain: false,
     };
     let word = pack(fields);
     assert!(&rt; word == 0x5fff_f800_001d);
     assert!(&rt; unpack(word) == Some(fields));
-    assert!(&rt; unpack(9_223_372_036_854_775_808) == None);
+    let drained = Word {
+        drain: true,
+        ..fields
+    };
+    assert!(&rt; pack(drained) == 0x8000_5fff_f800_001d);
+    assert!(&rt; unpack(0x8000_5fff_f800_001d) == Some(drained));
 }
 
 #[test]

@@ -193,6 +193,42 @@ fn lines_at_their_limits_are_good_or_bad(rt: HostRuntime) {
 }
 
 #[test]
+fn a_drained_word_lets_nobody_in_and_is_closed(rt: HostRuntime) {
+    let rows: [(&str, &str); 3] = [
+        (
+            "1 rlock\n2 rlock\n3 drain\n3 rsignal\n2 rwake\n2 rlock\n1 runlock\n5 close\n5 decref\n5 destroy\n",
+            "held 000000000000000a 0 0 -\nqueued 000000000800000a 0 0 -\n\
+             drained 800000000000000a 0 0 -\nsignalled 800000000000000a 1 0 -\n\
+             woken 800000000000000a 0 0 -\ndraining 800000000000000a 0 0 -\n\
+             kept 8000000000000000 0 0 -\nclosing 8000000000000009 0 0 -\n\
+             last 8000000000000001 0 0 -\ndone 8000000000000001 0 0 5\n",
+        ),
+        (
+            "1 rlock\n2 wlock\n3 rlock\n4 wlock\n5 drain\n5 drain\n5 wsignal\n5 wsignal\n5 rsignal\n5 drain\n",
+            "held 000000000000000a 0 0 -\nheld 0000000000000016 0 0 -\n\
+             queued 0000000008000016 0 0 -\nqueued 0000200008000016 0 0 -\n\
+             drained 8000000000000016 0 0 -\nmisuse 8000000000000016 0 0 -\n\
+             signalled 8000000000000016 0 1 -\nmisuse 8000000000000016 0 1 -\n\
+             signalled 8000000000000016 1 1 -\ndraining 8000000000000016 1 1 -\n",
+        ),
+        (
+            "1 drain\n1 wlock\n1 close\n2 drain\n2 incref\n",
+            "drained 8000000000000000 0 0 -\ndraining 8000000000000000 0 0 -\n\
+             closing 8000000000000009 0 0 -\nclosed 8000000000000009 0 0 -\n\
+             closed 8000000000000009 0 0 -\n",
+        ),
+    ];
+    for (script, text) in rows {
+        let passed_on = Cell::new(0);
+        let mut source = reader(0, 4_096, script.as_bytes(), false, &passed_on);
+        let mut sink = writer(&rt, 0, 100, 1_000, false, 10_000, &passed_on);
+        let answer = trace(rt.alloc(), &mut source, &mut sink);
+        assert_eq!(rt; answer, Ok(End::Whole), "{script:?}");
+        assert_eq!(rt; sink.taken.as_slice(), text.as_bytes(), "{script:?}");
+    }
+}
+
+#[test]
 fn a_long_line_is_bad_before_its_end_comes(rt: HostRuntime) {
     let passed_on = Cell::new(0);
     let mut source = reader(0, 26, b"10000000+10000000 rsignals", true, &passed_on);

@@ -1,8 +1,8 @@
 //! With a deadline its alarm is armed once, with the cell's lock held.
 
-use super::scripted::{ALWAYS_BLOCKS, Told};
+use super::scripted::ALWAYS_BLOCKS;
 use super::watch::Watch;
-use super::{comes_to, open_plain};
+use super::{comes_to, told_plain};
 use deadline_core::{Deadline, Dirs};
 use fd_descriptor::Alarms;
 use std::alloc::Global;
@@ -51,8 +51,7 @@ fn an_alarm_is_armed_once_and_under_the_lock(rt: HostRuntime) -> Result<(), Fail
         ticked_meanwhile: AtomicU64::new(0),
     };
     let seen = Arc::new(rt.alloc(), seen)?;
-    let told = Told::shared(rt.alloc())?;
-    let mut handle = open_plain(rt, rt.alloc(), &told, ALWAYS_BLOCKS, None)?;
+    let (told, mut handle) = told_plain(rt, rt.alloc(), ALWAYS_BLOCKS, None)?;
     let cell = handle.cell()?;
     let theirs = Arc::try_clone(&seen)?;
     let ticking = thread::spawn(&rt, move || {
@@ -66,11 +65,11 @@ fn an_alarm_is_armed_once_and_under_the_lock(rt: HostRuntime) -> Result<(), Fail
         seen: Arc::try_clone(&seen)?,
     };
     let set = handle.set_deadline(&rt, Deadline::At(100), 0, &alarms);
-    assert!(rt; set == Ok(()));
-    assert!(rt; ticking.join(&rt), "an alarm was armed");
-    assert!(rt; seen.armed.load(Ordering::SeqCst) == 1, "once");
+    holds!(rt; set.is_ok());
+    holds!(rt; ticking.join(&rt), "an alarm was armed");
+    holds!(rt; seen.armed.load(Ordering::SeqCst) == 1, "once");
     let meanwhile = seen.ticked_meanwhile.load(Ordering::SeqCst);
-    assert!(rt; meanwhile == 0, "no tick came between");
+    holds!(rt; meanwhile == 0, "no tick came between");
     watch.end(&rt);
     Ok(())
 }

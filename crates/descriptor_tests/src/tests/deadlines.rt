@@ -1,8 +1,8 @@
 //! Deadlines set by one thread for calls of another, and the alarms that go with them.
 
-use super::scripted::{ALWAYS_BLOCKS, BLOCKS, END, Script, Told, Try};
+use super::scripted::{ALWAYS_BLOCKS, BLOCKS, END, Script, Try};
 use super::watch::Watch;
-use super::{KEY, Plain, Silent, comes_to, open_plain, share, start_read, start_two_reads};
+use super::{KEY, Plain, Silent, comes_to, share, start_read, start_two_reads, told_plain};
 use deadline_core::{Deadline, Dirs};
 use fd_descriptor::{Alarms, PollCell};
 use rwloops::{Fault, Outcome, WriteFault};
@@ -70,16 +70,15 @@ const LATE: Result<usize, Fault> = Err(Fault::DeadlineExceeded);
 #[test]
 fn a_deadline_ends_a_parked_read(rt: HostRuntime) -> Result<(), Fail> {
     let watch = Watch::start(rt, rt.alloc())?;
-    let told = Told::shared(rt.alloc())?;
-    let mut handle = open_plain(rt, rt.alloc(), &told, ALWAYS_BLOCKS, None)?;
+    let (told, mut handle) = told_plain(rt, rt.alloc(), ALWAYS_BLOCKS, None)?;
     let cell = handle.cell()?;
     let reading = start_two_reads(rt, &mut handle)?;
-    assert!(rt; comes_to(&rt, &told.tries, 1));
+    holds!(rt; comes_to(&rt, &told.tries, 1));
     let set = handle.set_read_deadline(&rt, Deadline::At(100), 0, &Silent);
-    assert!(rt; set == Ok(()));
+    holds!(rt; set.is_ok());
     cell.tick(&rt, 99);
     cell.tick(&rt, 100);
-    assert!(rt; reading.join(&rt) == [LATE, LATE], "the second read, too");
+    holds!(rt; reading.join(&rt) == [LATE, LATE], "the second read, too");
     watch.end(&rt);
     Ok(())
 }
@@ -87,44 +86,36 @@ fn a_deadline_ends_a_parked_read(rt: HostRuntime) -> Result<(), Fail> {
 #[test]
 fn a_deadline_that_has_passed_ends_a_parked_read_at_once(rt: HostRuntime) -> Result<(), Fail> {
     let watch = Watch::start(rt, rt.alloc())?;
-    let told = Told::shared(rt.alloc())?;
     let alarms = Noted::new(rt);
-    let mut handle = open_plain(rt, rt.alloc(), &told, ALWAYS_BLOCKS, None)?;
+    let (told, mut handle) = told_plain(rt, rt.alloc(), ALWAYS_BLOCKS, None)?;
     let reading = start_read(rt, &mut handle)?;
-    assert!(rt; comes_to(&rt, &told.tries, 1));
+    holds!(rt; comes_to(&rt, &told.tries, 1));
     for (deadline, now) in [(200, 99), (100, 100)] {
         let set = handle.set_deadline(&rt, Deadline::At(deadline), now, &alarms);
         assert!(rt; set == Ok(()), "{deadline}");
     }
-    assert!(rt; reading.join(&rt) == LATE);
+    holds!(rt; reading.join(&rt) == LATE);
     watch.end(&rt);
-    assert!(rt;
-        alarms.asked() == Some((KEY, Dirs::Both, None)),
-        "the alarm of the earlier one is gone"
-    );
+    holds!(rt; alarms.asked() == Some((KEY, Dirs::Both, None)), "the alarm of the earlier one is gone");
     Ok(())
 }
 
 #[test]
 fn a_later_deadline_replaces_the_earlier(rt: HostRuntime) -> Result<(), Fail> {
     let watch = Watch::start(rt, rt.alloc())?;
-    let told = Told::shared(rt.alloc())?;
-    let mut handle = open_plain(rt, rt.alloc(), &told, THEN_THREE, None)?;
+    let (told, mut handle) = told_plain(rt, rt.alloc(), THEN_THREE, None)?;
     let cell = handle.cell()?;
     let reading = start_two_reads(rt, &mut handle)?;
-    assert!(rt; comes_to(&rt, &told.tries, 1));
+    holds!(rt; comes_to(&rt, &told.tries, 1));
     for at in [100, 200] {
         let set = handle.set_deadline(&rt, Deadline::At(at), 0, &Silent);
         assert!(rt; set == Ok(()), "{at}");
     }
     cell.tick(&rt, 100);
     cell.notify(&rt, Dir::Read);
-    assert!(rt;
-        comes_to(&rt, &told.tries, 3),
-        "the first deadline ended nothing"
-    );
+    holds!(rt; comes_to(&rt, &told.tries, 3), "the first deadline ended nothing");
     cell.tick(&rt, 200);
-    assert!(rt; reading.join(&rt) == [Ok(3), LATE]);
+    holds!(rt; reading.join(&rt) == [Ok(3), LATE]);
     watch.end(&rt);
     Ok(())
 }
@@ -132,23 +123,19 @@ fn a_later_deadline_replaces_the_earlier(rt: HostRuntime) -> Result<(), Fail> {
 #[test]
 fn no_deadline_lifts_the_earlier(rt: HostRuntime) -> Result<(), Fail> {
     let watch = Watch::start(rt, rt.alloc())?;
-    let told = Told::shared(rt.alloc())?;
     let alarms = Noted::new(rt);
-    let mut handle = open_plain(rt, rt.alloc(), &told, THEN_THREE, None)?;
+    let (told, mut handle) = told_plain(rt, rt.alloc(), THEN_THREE, None)?;
     let cell = handle.cell()?;
     let reading = start_read(rt, &mut handle)?;
-    assert!(rt; comes_to(&rt, &told.tries, 1));
+    holds!(rt; comes_to(&rt, &told.tries, 1));
     for deadline in [Deadline::At(100), Deadline::Never] {
         let set = handle.set_read_deadline(&rt, deadline, 0, &alarms);
-        assert!(rt; set == Ok(()));
+        holds!(rt; set.is_ok());
     }
-    assert!(rt;
-        alarms.asked() == Some((KEY, Dirs::Read, None)),
-        "no alarm is left"
-    );
+    holds!(rt; alarms.asked() == Some((KEY, Dirs::Read, None)), "no alarm is left");
     cell.tick(&rt, 100);
     cell.notify(&rt, Dir::Read);
-    assert!(rt; reading.join(&rt) == Ok(3));
+    holds!(rt; reading.join(&rt) == Ok(3));
     watch.end(&rt);
     Ok(())
 }
@@ -160,17 +147,11 @@ fn set_one_each<T: Wait + Clock + Copy + Drop + Abort>(
     alarms: &Noted<T>,
 ) {
     let read = handle.set_read_deadline(&rt, Deadline::At(100), 0, alarms);
-    assert!(rt; read == Ok(()), "a read deadline");
-    assert!(rt;
-        alarms.asked() == Some((KEY, Dirs::Read, Some(100))),
-        "for reads"
-    );
+    holds!(rt; read.is_ok(), "a read deadline");
+    holds!(rt; alarms.asked() == Some((KEY, Dirs::Read, Some(100))), "for reads");
     let write = handle.set_write_deadline(&rt, Deadline::At(200), 0, alarms);
-    assert!(rt; write == Ok(()), "a write deadline");
-    assert!(rt;
-        alarms.asked() == Some((KEY, Dirs::Write, Some(200))),
-        "for writes"
-    );
+    holds!(rt; write.is_ok(), "a write deadline");
+    holds!(rt; alarms.asked() == Some((KEY, Dirs::Write, Some(200))), "for writes");
 }
 
 /// Reads are expired at 100, and writes are not before 200.
@@ -180,11 +161,8 @@ fn expire_in_turn<T: Wait + Clock + Copy + Drop + Abort>(
     cell: &PollCell,
 ) {
     cell.tick(&rt, 100);
-    assert!(rt; handle.read(&rt, &mut [0; 4]) == LATE, "reads are expired");
-    assert!(rt;
-        handle.write(&rt, b"") == Ok(0),
-        "writes are not expired at 100"
-    );
+    holds!(rt; handle.read(&rt, &mut [0; 4]) == LATE, "reads are expired");
+    holds!(rt; handle.write(&rt, b"") == Ok(0), "writes are not expired at 100");
     cell.tick(&rt, 200);
     let fault = Fault::DeadlineExceeded;
     assert!(rt; handle.write(&rt, b"") == Err(WriteFault { fault, count: 0 }));
@@ -193,22 +171,15 @@ fn expire_in_turn<T: Wait + Clock + Copy + Drop + Abort>(
 #[test]
 fn each_deadline_is_for_its_directions(rt: HostRuntime) -> Result<(), Fail> {
     let watch = Watch::start(rt, rt.alloc())?;
-    let told = Told::shared(rt.alloc())?;
     let alarms = Noted::new(rt);
-    let mut handle = open_plain(rt, rt.alloc(), &told, ALWAYS_BLOCKS, None)?;
+    let (told, mut handle) = told_plain(rt, rt.alloc(), ALWAYS_BLOCKS, None)?;
     let cell = handle.cell()?;
     set_one_each(rt, &mut handle, &alarms);
     expire_in_turn(rt, &mut handle, &cell);
     let both = handle.set_deadline(&rt, Deadline::At(300), 200, &alarms);
-    assert!(rt; both == Ok(()));
-    assert!(rt;
-        handle.write(&rt, b"") == Ok(0),
-        "a new deadline, not expired"
-    );
-    assert!(rt;
-        alarms.asked() == Some((KEY, Dirs::Both, Some(300))),
-        "for both"
-    );
+    holds!(rt; both.is_ok());
+    holds!(rt; handle.write(&rt, b"") == Ok(0), "a new deadline, not expired");
+    holds!(rt; alarms.asked() == Some((KEY, Dirs::Both, Some(300))), "for both");
     watch.end(&rt);
     Ok(())
 }
@@ -216,19 +187,41 @@ fn each_deadline_is_for_its_directions(rt: HostRuntime) -> Result<(), Fail> {
 #[test]
 fn a_closed_descriptor_arms_nothing(rt: HostRuntime) -> Result<(), Fail> {
     let watch = Watch::start(rt, rt.alloc())?;
-    let told = Told::shared(rt.alloc())?;
     let alarms = Noted::new(rt);
-    let mut handle = open_plain(rt, rt.alloc(), &told, ALWAYS_BLOCKS, None)?;
+    let (told, mut handle) = told_plain(rt, rt.alloc(), ALWAYS_BLOCKS, None)?;
     let mut other = share(&mut handle)?;
     let set = handle.set_deadline(&rt, Deadline::At(100), 0, &alarms);
-    assert!(rt; set == Ok(()));
-    assert!(rt; alarms.asked() == Some((KEY, Dirs::Both, Some(100))));
-    assert!(rt; handle.close(&rt) == Ok(()));
+    holds!(rt; set.is_ok());
+    holds!(rt; alarms.asked() == Some((KEY, Dirs::Both, Some(100))));
+    holds!(rt; handle.close(&rt).is_ok());
     let again = other.set_deadline(&rt, Deadline::At(50), 0, &alarms);
-    assert!(rt; again == Err(Fault::Closed));
+    holds!(rt; again == Err(Fault::Closed));
     let lifted = other.set_deadline(&rt, Deadline::Never, 0, &alarms);
-    assert!(rt; lifted == Err(Fault::Closed));
-    assert!(rt; alarms.asked().is_none(), "neither armed nor disarmed");
+    holds!(rt; lifted == Err(Fault::Closed));
+    holds!(rt; alarms.asked().is_none(), "neither armed nor disarmed");
+    watch.end(&rt);
+    Ok(())
+}
+
+#[test]
+fn a_drained_descriptor_keeps_its_deadline_and_arms_nothing(rt: HostRuntime) -> Result<(), Fail> {
+    let watch = Watch::start(rt, rt.alloc())?;
+    let alarms = Noted::new(rt);
+    let (told, mut handle) = told_plain(rt, rt.alloc(), ALWAYS_BLOCKS, None)?;
+    let cell = handle.cell()?;
+    let set = handle.set_deadline(&rt, Deadline::At(100), 0, &alarms);
+    holds!(rt; set.is_ok());
+    holds!(rt; alarms.asked() == Some((KEY, Dirs::Both, Some(100))));
+    let reading = start_read(rt, &mut handle)?;
+    holds!(rt; comes_to(&rt, &told.tries, 1));
+    holds!(rt; handle.drain(&rt).is_ok());
+    let again = handle.set_deadline(&rt, Deadline::At(50), 0, &alarms);
+    holds!(rt; again == Err(Fault::Draining));
+    let lifted = handle.set_deadline(&rt, Deadline::Never, 0, &alarms);
+    holds!(rt; lifted == Err(Fault::Draining));
+    holds!(rt; alarms.asked().is_none(), "neither armed nor disarmed");
+    cell.tick(&rt, 100);
+    holds!(rt; reading.join(&rt) == LATE, "the earlier one ends the read");
     watch.end(&rt);
     Ok(())
 }
@@ -236,17 +229,16 @@ fn a_closed_descriptor_arms_nothing(rt: HostRuntime) -> Result<(), Fail> {
 #[test]
 fn a_refused_alarm_changes_no_deadline(rt: HostRuntime) -> Result<(), Fail> {
     let watch = Watch::start(rt, rt.alloc())?;
-    let told = Told::shared(rt.alloc())?;
-    let mut handle = open_plain(rt, rt.alloc(), &told, ALWAYS_BLOCKS, None)?;
+    let (told, mut handle) = told_plain(rt, rt.alloc(), ALWAYS_BLOCKS, None)?;
     let set = handle.set_deadline(&rt, Deadline::At(100), 0, &Silent);
-    assert!(rt; set == Ok(()));
+    holds!(rt; set.is_ok());
     let refused = handle.set_deadline(&rt, Deadline::At(50), 0, &Full);
-    assert!(rt; refused == Err(Fault::OutOfMemory));
+    holds!(rt; refused == Err(Fault::OutOfMemory));
     let cell = handle.cell()?;
     cell.tick(&rt, 99);
-    assert!(rt; handle.write(&rt, b"") == Ok(0), "not expired at 99");
+    holds!(rt; handle.write(&rt, b"") == Ok(0), "not expired at 99");
     cell.tick(&rt, 100);
-    assert!(rt; handle.read(&rt, &mut [0; 4]) == LATE, "expired at 100");
+    holds!(rt; handle.read(&rt, &mut [0; 4]) == LATE, "expired at 100");
     watch.end(&rt);
     Ok(())
 }

@@ -102,20 +102,17 @@ fn a_close_answers_after_a_destroy_that_is_held(rt: HostRuntime) -> Result<(), F
     let mut handle = open_gated(rt, rt.alloc(), &gates)?;
     let mut reader = share(&mut handle)?;
     let reading = thread::spawn(&rt, move || reader.read(&rt, &mut [0; 4]))?;
-    assert!(rt;
-        comes_to(&rt, &gates.reading, 1),
-        "the reader is in its half"
-    );
+    holds!(rt; comes_to(&rt, &gates.reading, 1), "the reader is in its half");
     let closing = start_close(rt, &mut handle, &gates)?;
-    assert!(rt; closer_has_left(&rt, &mut handle), "the closer waits");
+    holds!(rt; closer_has_left(&rt, &mut handle), "the closer waits");
     gates.leave.store(1, Ordering::SeqCst);
-    assert!(rt; comes_to(&rt, &gates.destroying, 1), "the reader destroys");
+    holds!(rt; comes_to(&rt, &gates.destroying, 1), "the reader destroys");
     thread::sleep(&rt, Duration::from_millis(20));
     let answered = gates.answered.load(Ordering::SeqCst);
-    assert!(rt; answered == 0, "the close waits for the destroy");
+    holds!(rt; answered == 0, "the close waits for the destroy");
     gates.destroy.store(1, Ordering::SeqCst);
-    assert!(rt; closing.join(&rt) == Ok(()));
-    assert!(rt; reading.join(&rt) == Err(Fault::Closed));
+    holds!(rt; closing.join(&rt).is_ok());
+    holds!(rt; reading.join(&rt) == Err(Fault::Closed));
     watch.end(&rt);
     Ok(())
 }

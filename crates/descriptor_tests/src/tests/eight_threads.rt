@@ -63,6 +63,21 @@ fn closes<T: Wait + Clock, C: Clock + Drop>(rt: &T, handle: &mut Plain<C>, told:
     comes_to(rt, &told.gate, 1) && handle.close(rt) == Ok(())
 }
 
+/// What the thread of this number does until the descriptor is closed.
+fn plays<T: Wait + Clock, C: Clock + Drop>(
+    rt: &T,
+    handle: &mut Plain<C>,
+    told: &Told,
+    thread: u32,
+) -> bool {
+    match thread {
+        0..=2 => reads_on(rt, handle),
+        3..=4 => writes_on(rt, handle),
+        5..=6 => sets_on(rt, handle),
+        _ => closes(rt, handle, told),
+    }
+}
+
 /// Three that read, two that write, two that set deadlines, and one that closes.
 fn start_eight<T: Threads + Wait + Clock + Copy + Send + Drop + 'static>(
     rt: T,
@@ -74,12 +89,8 @@ fn start_eight<T: Threads + Wait + Clock + Copy + Send + Drop + 'static>(
     for thread in 0..8u32 {
         let mut mine = share(handle)?;
         let told = Arc::try_clone(told)?;
-        threads.push(thread::spawn(&rt, move || match thread {
-            0..=2 => reads_on(&rt, &mut mine),
-            3..=4 => writes_on(&rt, &mut mine),
-            5..=6 => sets_on(&rt, &mut mine),
-            _ => closes(&rt, &mut mine, &told),
-        })?)?;
+        let started = thread::spawn(&rt, move || plays(&rt, &mut mine, &told, thread))?;
+        threads.push(started)?;
     }
     Ok(threads)
 }

@@ -7,7 +7,7 @@ use super::{KEY, Silent, share};
 use deadline_core::Deadline;
 use fd_descriptor::{FdHandle, Resource};
 use linked_list_allocator::LocalHeap;
-use rwloops::DevKind;
+use rwloops::{DevKind, Fault};
 use std::alloc::{AllocError, Global};
 use std::process::Abort;
 use std::sync::atomic::{AtomicU64, Ordering};
@@ -48,7 +48,8 @@ fn half_of(drops: &Arc<AtomicU64, Global>) -> Result<Counted, Fail> {
     })
 }
 
-/// Takes what is left of a heap.
+/// Takes what is left of a heap. `core_tests` has its own: no crate uses another's tests, and one for
+/// this alone would be proved in each gate.
 pub(super) fn fill<'a>(
     alloc: Global,
     heap: &'a LocalHeap,
@@ -74,7 +75,7 @@ fn opens<R: Abort>(rt: &R, alloc: Global, size: usize) -> Result<bool, Fail> {
     let write = half_of(&drops)?;
     let opened = FdHandle::<Pair, &LocalHeap>::open_in(&heap, alloc, read, write, KEY);
     let is_open = opened.is_ok();
-    assert!(rt; !is_open || drops.load(Ordering::SeqCst) == 0, "at home");
+    holds!(*rt; !is_open || drops.load(Ordering::SeqCst) == 0, "at home");
     drop(opened);
     assert!(rt;
         drops.load(Ordering::SeqCst) == 2,
@@ -100,14 +101,16 @@ fn a_refused_open_drops_the_halves_and_destroys_nothing(rt: HostRuntime) -> Resu
     Ok(())
 }
 
-/// Shares, tells, sets a deadline and closes.
+/// Shares, tells, sets a deadline, drains and closes.
 fn use_it<T: Wait + Abort>(rt: &T, handle: &mut FdHandle<Pair, &LocalHeap>) -> Result<(), Fail> {
     let mut other = share(handle)?;
     let cell = other.cell()?;
     cell.tick(rt, 5);
     let set = other.set_deadline(rt, Deadline::At(10), 5, &Silent);
-    assert!(rt; set == Ok(()));
-    assert!(rt; other.close(rt) == Ok(()));
+    holds!(*rt; set.is_ok());
+    holds!(*rt; other.drain(rt).is_ok());
+    holds!(*rt; handle.drain(rt) == Err(Fault::Draining));
+    holds!(*rt; other.close(rt).is_ok());
     Ok(())
 }
 
@@ -122,20 +125,22 @@ fn a_handle_is_shared_and_used_with_no_memory_left(rt: HostRuntime) -> Result<()
     let blocks = fill(rt.alloc(), &heap)?;
     let full = heap.used();
     use_it(&rt, &mut handle)?;
-    assert!(rt; heap.used() == full, "no call took memory");
-    assert!(rt; drops.load(Ordering::SeqCst) == DESTROYED.saturating_add(2));
+    holds!(rt; heap.used() == full, "no call took memory");
+    holds!(rt; drops.load(Ordering::SeqCst) == DESTROYED.saturating_add(2));
     drop(blocks);
     watch.end(&rt);
     Ok(())
 }
 
-/// Holds where memory is refused as well: `tests/refused_memory.sh` refuses each allocation in turn.
+/// Holds where memory is refused as well: `tests/refused_memory.sh` refuses each allocation in turn. A
+/// descriptor that was opened is then drained, since a drain takes no memory.
 #[test]
 fn a_refused_word_drops_the_halves(rt: HostRuntime) -> Result<(), Fail> {
     let drops = Arc::new(rt.alloc(), AtomicU64::new(0))?;
     let read = half_of(&drops)?;
     let write = half_of(&drops)?;
-    if let Ok(handle) = FdHandle::<Pair>::open(rt.alloc(), read, write, KEY) {
+    if let Ok(mut handle) = FdHandle::<Pair>::open(rt.alloc(), read, write, KEY) {
+        assert!(rt; handle.drain(&rt) == Ok(()), "drained");
         assert_eq!(rt; drops.load(Ordering::SeqCst), 0, "at home");
         drop(handle);
     }

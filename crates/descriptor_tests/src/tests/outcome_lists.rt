@@ -65,6 +65,15 @@ fn same_answer<T: Wait + Drop>(
     }
 }
 
+/// How many tries were made, and what was offered and written.
+fn counts(told: &Told) -> (u64, u64, u64) {
+    (
+        told.tries.load(Ordering::SeqCst),
+        told.offered.load(Ordering::SeqCst),
+        told.taken.load(Ordering::SeqCst),
+    )
+}
+
 /// Plays a course by one call through a handle and on the half alone.
 fn play<T: Wait + Abort + Copy + Drop>(
     rt: T,
@@ -77,23 +86,19 @@ fn play<T: Wait + Abort + Copy + Drop>(
     let through = Told::shared(alloc)?;
     let mut handle = open_woken(rt, alloc, &through, course)?;
     let same = same_answer(&rt, &mut handle, &mut alone, call);
+    let of_handle = counts(&through);
+    let closes = handle.close(&rt).is_ok();
+    let destroys = through.destroys.load(Ordering::SeqCst);
+    drop(handle);
     assert!(rt; same, "another answer or other bytes of {call:?}");
-    let tries = through.tries.load(Ordering::SeqCst);
+    let of_half = counts(&direct);
     assert!(rt;
-        tries == direct.tries.load(Ordering::SeqCst),
-        "other tries of {call:?}"
+        of_handle == of_half,
+        "other tries, offers or written bytes of {call:?}"
     );
-    assert!(rt; tries > 0, "{call:?} asked the half");
-    assert!(rt;
-        through.offered.load(Ordering::SeqCst) == direct.offered.load(Ordering::SeqCst),
-        "{call:?} offered something else"
-    );
-    assert!(rt;
-        through.taken.load(Ordering::SeqCst) == direct.taken.load(Ordering::SeqCst),
-        "other bytes were written"
-    );
-    assert!(rt; handle.close(&rt) == Ok(()));
-    assert!(rt; through.destroys.load(Ordering::SeqCst) == 1);
+    assert!(rt; of_handle.0 > 0, "{call:?} asked the half");
+    holds!(rt; closes);
+    holds!(rt; destroys == 1);
     Ok(())
 }
 

@@ -3,7 +3,7 @@
 
 use super::scripted::{ALWAYS_BLOCKS, BLOCKS, END, Script, Told, Try};
 use super::watch::Watch;
-use super::{comes_to, open_plain, start_read, start_write};
+use super::{comes_to, start_read, start_write, told_plain};
 use fd_descriptor::PollCell;
 use rwloops::{Fault, Outcome};
 use std::process::Abort;
@@ -38,12 +38,11 @@ fn notify_after_each_try<T: Wait + Clock + Abort>(rt: &T, cell: &PollCell, told:
 #[test]
 fn a_notice_alone_wakes_a_parked_read(rt: HostRuntime) -> Result<(), Fail> {
     let watch = Watch::start(rt, rt.alloc())?;
-    let told = Told::shared(rt.alloc())?;
-    let mut handle = open_plain(rt, rt.alloc(), &told, AT_LAST_THREE, None)?;
+    let (told, mut handle) = told_plain(rt, rt.alloc(), AT_LAST_THREE, None)?;
     let cell = handle.cell()?;
     let reading = start_read(rt, &mut handle)?;
     notify_after_each_try(&rt, &cell, &told, Dir::Read);
-    assert!(rt; reading.join(&rt) == Ok(3));
+    holds!(rt; reading.join(&rt) == Ok(3));
     watch.end(&rt);
     Ok(())
 }
@@ -51,12 +50,11 @@ fn a_notice_alone_wakes_a_parked_read(rt: HostRuntime) -> Result<(), Fail> {
 #[test]
 fn a_notice_alone_wakes_a_parked_write(rt: HostRuntime) -> Result<(), Fail> {
     let watch = Watch::start(rt, rt.alloc())?;
-    let told = Told::shared(rt.alloc())?;
-    let mut handle = open_plain(rt, rt.alloc(), &told, AT_LAST_THREE, None)?;
+    let (told, mut handle) = told_plain(rt, rt.alloc(), AT_LAST_THREE, None)?;
     let cell = handle.cell()?;
     let writing = start_write(rt, &mut handle)?;
     notify_after_each_try(&rt, &cell, &told, Dir::Write);
-    assert!(rt; writing.join(&rt) == Ok(3));
+    holds!(rt; writing.join(&rt) == Ok(3));
     watch.end(&rt);
     Ok(())
 }
@@ -64,14 +62,13 @@ fn a_notice_alone_wakes_a_parked_write(rt: HostRuntime) -> Result<(), Fail> {
 #[test]
 fn a_read_that_a_close_wakes_tries_no_more(rt: HostRuntime) -> Result<(), Fail> {
     let watch = Watch::start(rt, rt.alloc())?;
-    let told = Told::shared(rt.alloc())?;
-    let mut handle = open_plain(rt, rt.alloc(), &told, ALWAYS_BLOCKS, None)?;
+    let (told, mut handle) = told_plain(rt, rt.alloc(), ALWAYS_BLOCKS, None)?;
     let reading = start_read(rt, &mut handle)?;
-    assert!(rt; comes_to(&rt, &told.tries, 1), "it tried");
+    holds!(rt; comes_to(&rt, &told.tries, 1), "it tried");
     thread::sleep(&rt, Duration::from_millis(1));
-    assert!(rt; handle.close(&rt) == Ok(()));
-    assert!(rt; reading.join(&rt) == Err(Fault::Closed));
-    assert!(rt; told.tries.load(Ordering::SeqCst) == 1, "and once only");
+    holds!(rt; handle.close(&rt).is_ok());
+    holds!(rt; reading.join(&rt) == Err(Fault::Closed));
+    holds!(rt; told.tries.load(Ordering::SeqCst) == 1, "and once only");
     watch.end(&rt);
     Ok(())
 }

@@ -25,7 +25,7 @@ impl Watch {
         let ended = Arc::new(alloc, AtomicU64::new(0))?;
         let seen = Arc::try_clone(&ended)?;
         let thread = thread::spawn(&rt, move || {
-            assert!(rt; comes_to(&rt, &seen, 1), "somebody waits for good");
+            holds!(rt; comes_to(&rt, &seen, 1), "somebody waits for good");
         })?;
         Ok(Watch { thread, ended })
     }

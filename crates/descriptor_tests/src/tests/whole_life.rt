@@ -24,19 +24,31 @@ const THREES: Script = [
     END,
 ];
 
-/// Two shares, a read, a write, a deadline and a close, each of which succeeds.
+/// Two shares, a read, a write, a deadline, a drain and a close, each of which succeeds.
 fn use_it<T: Wait + Abort, C: Clock + Drop>(
     rt: &T,
     handle: &mut FdHandle<Played<ClockAlone<C>>, &LocalHeap>,
 ) -> Result<(), Fail> {
     let mut second = share(handle)?;
     let mut third = share(&mut second)?;
-    assert!(rt; second.read(rt, &mut [0; 3]) == Ok(3), "a read");
-    assert!(rt; third.write(rt, b"abc") == Ok(3), "a write");
+    holds!(*rt; second.read(rt, &mut [0; 3]) == Ok(3), "a read");
+    holds!(*rt; third.write(rt, b"abc") == Ok(3), "a write");
     let set = third.set_deadline(rt, Deadline::At(10), 5, &Silent);
-    assert!(rt; set == Ok(()), "a deadline");
-    assert!(rt; second.close(rt) == Ok(()), "a close");
+    holds!(*rt; set.is_ok(), "a deadline");
+    holds!(*rt; second.drain(rt).is_ok(), "a drain");
+    holds!(*rt; second.close(rt).is_ok(), "a close");
     Ok(())
+}
+
+/// Uses a descriptor with no memory left.
+fn use_on_full_heap<T: Wait + Abort, C: Clock + Drop>(
+    rt: &T,
+    alloc: Global,
+    heap: &LocalHeap,
+    handle: &mut FdHandle<Played<ClockAlone<C>>, &LocalHeap>,
+) -> Result<(), Fail> {
+    let _blocks = fill(alloc, heap)?;
+    use_it(rt, handle)
 }
 
 /// Whether a descriptor is opened on a heap of this size. It is destroyed once where it is.
@@ -52,9 +64,7 @@ fn lives<T: Wait + Abort + Clock + Copy + Drop>(
     let opened = FdHandle::open_in(&heap, alloc, read, write, KEY);
     let is_open = opened.is_ok();
     if let Ok(mut handle) = opened {
-        let blocks = fill(alloc, &heap)?;
-        use_it(&rt, &mut handle)?;
-        drop(blocks);
+        use_on_full_heap(&rt, alloc, &heap, &mut handle)?;
     }
     let destroys = told.destroys.load(Ordering::SeqCst);
     assert!(rt; destroys == u64::from(is_open), "{destroys} at {size}");

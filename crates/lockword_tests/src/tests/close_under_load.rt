@@ -1,4 +1,4 @@
-//! Eight threads lock, queue and hold in both directions while one closes.
+//! Eight threads lock, queue and hold in both directions while one closes, or drains and then closes.
 
 ghost use Rattle.std.specs.Prelude.{IfSome, IfOk};
 ghost use Rattle.fdmutex.specs.Refusal.{IsFreedOf};
@@ -7,7 +7,7 @@ ghost use Rattle.lockword.specs.TransitionOutcomes.{IsSeatOf};
 
 use super::threads::add_slowly;
 use super::workers::{Worker, all_work, wait_for};
-use super::{CounterSeat, Counters, closed, destroy};
+use super::{CounterSeat, Counters, closed, destroy, drained};
 use fdmutex::{Freed, Refusal, drop_closing, read_lock, read_unlock, write_lock, write_unlock};
 use lockword::LockWord;
 use lockword_core::pack;
@@ -20,9 +20,11 @@ use std::thread::Threads;
 use std::time::Clock;
 use stream_base::Dir;
 
-/// What the threads of a round saw, all together.
+/// What the threads of a round saw, all together, and why each of the eight is refused at its end.
 #[derive(Drop)]
 struct Tally {
+    want: Refusal,
+    refused: AtomicU64,
     added: AtomicU64,
     read_added: AtomicU64,
     write_added: AtomicU64,
@@ -32,8 +34,10 @@ struct Tally {
 }
 
 impl Tally {
-    fn new() -> Tally {
+    fn new(want: Refusal) -> Tally {
         Tally {
+            want,
+            refused: AtomicU64::new(0),
             added: AtomicU64::new(0),
             read_added: AtomicU64::new(0),
             write_added: AtomicU64::new(0),
@@ -61,7 +65,7 @@ fn leave(word: &Counters, freed: Freed<u64, u64>, tally: &Tally) -> Option<Count
     }
 }
 
-/// Adds one to the half of a direction under its lock, unless the word is closed.
+/// Adds one to the half of a direction under its lock, unless the word is closed or draining.
 fn add<R: Wait>(
     rt: &R,
     word: &Counters,
@@ -88,8 +92,8 @@ fn add<R: Wait>(
     }
 }
 
-/// Adds in turn, until the word is closed.
-fn add_until_closed<R: Wait + Abort>(
+/// Adds in turn, until the word is closed or draining.
+fn add_until_refused<R: Wait + Abort>(
     rt: &R,
     word: &Counters,
     seat: CounterSeat,
@@ -109,7 +113,8 @@ fn add_until_closed<R: Wait + Abort>(
                 }
             }
             Err(why) => {
-                assert_eq!(rt; why, Refusal::Closed, "{dir:?}");
+                assert_eq!(rt; why, tally.want, "{dir:?}");
+                tally.refused.fetch_add(1, Ordering::SeqCst);
                 return;
             }
         }
@@ -131,23 +136,42 @@ fn close_after<R: Wait + Abort + Clock>(
     let _seat = leave(word, drop_closing(word, closing), tally);
 }
 
+/// Drains the word once so many additions were made, and closes it once all eight were refused.
+fn drain_after<R: Wait + Abort + Clock>(
+    rt: &R,
+    word: &Counters,
+    seat: CounterSeat,
+    turns: u64,
+    tally: &Tally,
+)
+    requires seat { IsSeatOf word.now (seat_place seat) }
+{
+    wait_for(rt, &tally.added, turns);
+    let seat = drained(rt, word, seat);
+    wait_for(rt, &tally.refused, 8);
+    let closing = closed(rt, word, seat);
+    let _seat = leave(word, drop_closing(word, closing), tally);
+}
+
 #[derive(Clone, Copy)]
 enum Role {
     Adds(Dir),
     Closes(u64),
+    Drains(u64),
 }
 
 impl<R: Wait + Abort + Clock> Worker<R, Tally> for Role {
     fn work(&self, rt: &R, word: &Counters, seat: CounterSeat, tally: &Tally) {
         match *self {
-            Role::Adds(dir) => add_until_closed(rt, word, seat, dir, tally),
+            Role::Adds(dir) => add_until_refused(rt, word, seat, dir, tally),
             Role::Closes(turns) => close_after(rt, word, seat, turns, tally),
+            Role::Drains(turns) => drain_after(rt, word, seat, turns, tally),
         }
     }
 }
 
-/// Four readers, four writers, and one who closes after so many additions.
-fn roles(turns: u64) -> [Role; 9] {
+/// Four readers, four writers, and one who closes or drains.
+fn roles(end: Role) -> [Role; 9] {
     [
         Role::Adds(Dir::Read),
         Role::Adds(Dir::Write),
@@ -157,7 +181,7 @@ fn roles(turns: u64) -> [Role; 9] {
         Role::Adds(Dir::Write),
         Role::Adds(Dir::Read),
         Role::Adds(Dir::Write),
-        Role::Closes(turns),
+        end,
     ]
 }
 
@@ -180,21 +204,24 @@ fn conserved<R: Abort>(rt: &R, tally: &Tally, turns: u64) {
     );
 }
 
-/// One round: the close comes once `turns` additions were made.
+/// One round: the close, or the drain, comes once `turns` additions were made.
 fn round<R: Threads + Wait + Abort + Clock + Sync>(
     rt: &R,
     alloc: Global,
+    end: Role,
+    want: Refusal,
     turns: u64,
+    flags: u64,
 ) -> Result<(), Fail> {
     let (word, seat) = LockWord::new(alloc, 0u64, 0u64)?;
     let (mut spare, seat) = word.split(seat);
-    let tally = Tally::new();
-    all_work(rt, &word, seat, &roles(turns), &tally);
+    let tally = Tally::new(want);
+    all_work(rt, &word, seat, &roles(end), &tally);
     conserved(rt, &tally, turns);
     assert_eq!(rt;
         pack(word.look(&mut spare)),
-        1,
-        "the flag and nothing else at {turns}"
+        flags,
+        "the flags and nothing else at {turns}"
     );
     assert!(rt; word.is_done(&mut spare), "destroyed at {turns}");
     Ok(())
@@ -203,7 +230,29 @@ fn round<R: Threads + Wait + Abort + Clock + Sync>(
 #[test]
 fn a_close_under_load_ends_every_waiter_in_a_hundred_rounds(rt: HostRuntime) -> Result<(), Fail> {
     for turns in 0..100 {
-        round(&rt, rt.alloc(), turns)?;
+        round(
+            &rt,
+            rt.alloc(),
+            Role::Closes(turns),
+            Refusal::Closed,
+            turns,
+            1,
+        )?;
+    }
+    Ok(())
+}
+
+#[test]
+fn a_drain_under_load_ends_every_waiter_in_a_hundred_rounds(rt: HostRuntime) -> Result<(), Fail> {
+    for turns in 0..100 {
+        round(
+            &rt,
+            rt.alloc(),
+            Role::Drains(turns),
+            Refusal::Draining,
+            turns,
+            0x8000_0000_0000_0001,
+        )?;
     }
     Ok(())
 }

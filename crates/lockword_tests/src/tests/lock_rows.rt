@@ -13,7 +13,7 @@ use std::test::Fail;
 use stream_base::Dir;
 
 /// One has the read lock, and two waits for it.
-fn reads_and_waits<R: Abort>(
+pub(super) fn reads_and_waits<R: Abort>(
     rt: &R,
     word: &Counters,
     spare: &mut CounterSeat,

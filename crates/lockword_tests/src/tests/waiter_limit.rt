@@ -100,6 +100,46 @@ fn end_both<R: Wait + Abort>(
     let _halves = destroyed(rt, word, write_unlock(rt, word, lock));
 }
 
+/// A seat that asks for the lock is refused by the single try and by the call that waits.
+fn refused_at_the_limit<R: Wait + Abort>(rt: &R, word: &Counters, seat: CounterSeat) -> CounterSeat
+    requires seat { IsSeatOf word.now (seat_place seat) }
+    ensures seat { IsSeatOf word.now (seat_place result) }
+{
+    let (seat, found) = match word.try_lock_write(seat) {
+        LockWrite::TooMany(seat, found) => (seat, found),
+        other => wrong(rt, "at the limit", other),
+    };
+    assert_eq!(*rt; found.wwait, MAX_WAITERS, "0 wlock");
+    let full = Refusal::TooMany(found);
+    refused(rt, "0 wlock", word, write_lock(rt, word, seat), &full)
+}
+
+/// A close that owes a signal to each who waits, and gives them.
+fn close_at_the_limit<R: Abort>(
+    rt: &R,
+    word: &Counters,
+    spare: &mut CounterSeat,
+    seat: CounterSeat,
+) -> Closing<u64, u64>
+    requires spare { IsSeatOf word.now (seat_place spare.old) }
+    requires seat { IsSeatOf word.now (seat_place seat) }
+    ensures spare { IsSeatOf word.now (seat_place spare.new) }
+    ensures closing { IsSeatOf word.now (closing_place result) }
+    ensures readers { owed_by result Read ≡ 0 }
+    ensures writers { owed_by result Write ≡ 0 }
+{
+    let closing = want!(rt; word.try_close(seat), Close::Closing);
+    shows(rt, word, spare, 0x15, "0 close");
+    assert_eq!(*rt;
+        closing.owed(Dir::Write),
+        MAX_WAITERS,
+        "each waiter is owed a signal"
+    );
+    let closing = signal_all(rt, word, closing);
+    owes_nobody(rt, &closing);
+    closing
+}
+
 #[test]
 fn at_the_limit_of_write_waiters_a_lock_is_refused_and_a_close_owes_them_all(
     rt: HostRuntime,
@@ -117,22 +157,8 @@ fn at_the_limit_of_write_waiters_a_lock_is_refused_and_a_close_owes_them_all(
         0x7fff_e000_0000_000c,
         "2+262143 wlock",
     );
-    let (seat, found) = match word.try_lock_write(seat) {
-        LockWrite::TooMany(seat, found) => (seat, found),
-        other => wrong(&rt, "at the limit", other),
-    };
-    assert_eq!(rt; found.wwait, MAX_WAITERS, "0 wlock");
-    let full = Refusal::TooMany(found);
-    let seat = refused(&rt, "0 wlock", &word, write_lock(&rt, &word, seat), &full);
-    let closing = want!(&rt; word.try_close(seat), Close::Closing);
-    shows(&rt, &word, &mut spare, 0x15, "0 close");
-    assert_eq!(rt;
-        closing.owed(Dir::Write),
-        MAX_WAITERS,
-        "each waiter is owed a signal"
-    );
-    let closing = signal_all(&rt, &word, closing);
-    owes_nobody(&rt, &closing);
+    let seat = refused_at_the_limit(&rt, &word, seat);
+    let closing = close_at_the_limit(&rt, &word, &mut spare, seat);
     assert_eq!(rt; wake_all(&rt, all), MAX_WAITERS, "each waiter is woken");
     end_both(&rt, &word, closing, lock);
     shows(&rt, &word, &mut spare, 1, "the flag and nothing else");

@@ -35,7 +35,7 @@ fn a_moment_before_all_others_wakes_the_poller_and_no_other_does(rt: HostRuntime
         (4, Dirs::Write, 299, true),
         (5, Dirs::Both, 298, true),
     ] {
-        assert!(rt; alarms.arm(key, dirs, at) == Ok(()));
+        holds!(rt; alarms.arm(key, dirs, at).is_ok());
         assert!(rt; is_woken(&mut poll, &mut events) == wakes, "key {key}");
     }
 }

@@ -11,7 +11,7 @@ fn a_batch_names_what_is_there(rt: HostRuntime) {
     let mut table = ConnTable::new(rt.alloc());
     let (_, gone) = table.insert('a').expect(&rt, "first");
     let (_, token) = table.insert('b').expect(&rt, "second");
-    assert!(rt; table.remove(1) == Ok('a'));
+    holds!(rt; table.remove(1) == Ok('a'));
     let none = Ev::default();
     let events = [
         Ev {
@@ -47,7 +47,7 @@ fn a_batch_names_what_is_there(rt: HostRuntime) {
         ready(2, true, true),
         ready(2, false, false),
     ];
-    assert!(rt; batch_of(&events, &table).as_slice() == wanted.as_slice());
+    holds!(rt; batch_of(&events, &table).as_slice() == wanted.as_slice());
 }
 
 #[test]

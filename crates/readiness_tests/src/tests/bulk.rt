@@ -1,5 +1,6 @@
 //! Many connections at once.
 
+use super::watch::Watch;
 use super::{Turning, World, any_port, share};
 use fd_descriptor::{Fault, FdHandle};
 use readiness::SockRes;
@@ -136,22 +137,24 @@ fn start<R: Wait + Threads + Net + Files + Clock + Abort + Copy + Drop + Send + 
 }
 
 fn ends<R: Threads + Wait + Abort>(rt: &R, echo: Echo) {
-    assert!(rt; echo.reading.join(rt) == Some(BYTES));
-    assert!(rt; echo.sending.join(rt));
-    assert!(rt; echo.echoing.join(rt));
+    holds!(*rt; echo.reading.join(rt) == Some(BYTES));
+    holds!(*rt; echo.sending.join(rt));
+    holds!(*rt; echo.echoing.join(rt));
 }
 
 #[test]
 fn sixty_four_connections_echo_a_megabyte_each(rt: HostRuntime) {
+    let watch = Watch::start(rt, rt.alloc());
     let world = World::new(rt, rt.alloc());
     let mut running = Vec::new(rt.alloc());
     for connection in 0..CONNECTIONS {
         let started = running.push(start(&world, connection));
-        assert!(rt; started.is_ok());
+        holds!(rt; started.is_ok());
     }
     let turning = Turning::start(world);
     for echo in running {
         ends(&rt, echo);
     }
     turning.stop(&rt);
+    watch.end(&rt);
 }

@@ -1,6 +1,7 @@
 //! A shut while the connection is being made: the queue of the listener is full, so that the client
 //! stays in SYN-SENT until somebody is accepted.
 
+use super::watch::Watch;
 use super::{Turning, World, accept_soon, any_port, connected, listening, pause, reach, share};
 use fd_descriptor::{Fault, FdHandle};
 use libc::net as c;
@@ -19,7 +20,7 @@ use std::time::Clock;
 fn short_queue<R: Net + Files + Abort>(rt: &R) -> Listen {
     let listener = listening(rt, &any_port());
     if let Listen::Tcp(tcp) = &listener {
-        assert!(rt; c::listen(tcp.as_raw_fd(), 1) == 0, "a short queue");
+        holds!(*rt; c::listen(tcp.as_raw_fd(), 1) == 0, "a short queue");
     }
     listener
 }
@@ -40,13 +41,14 @@ fn reads_the_end_and_writes<
     let mut served = world.add(served);
     let turning = Turning::start(world);
     let read = served.read(&rt, &mut [0; 8]);
-    assert!(rt; read == Err(Fault::EndOfFile), "the shut came");
-    assert!(rt; served.write(&rt, b"bye") == Ok(3));
+    holds!(rt; read == Err(Fault::EndOfFile), "the shut came");
+    holds!(rt; served.write(&rt, b"bye") == Ok(3));
     turning.stop(&rt);
 }
 
 #[test]
 fn a_shut_waits_for_its_connection(rt: HostRuntime) {
+    let watch = Watch::start(rt, rt.alloc());
     let world = World::new(rt, rt.alloc());
     let mut listener = short_queue(&rt);
     let addr = reach(&any_port(), &listener);
@@ -60,7 +62,8 @@ fn a_shut_waits_for_its_connection(rt: HostRuntime) {
         accept_soon(&rt, &mut listener),
     ];
     let served = accept_soon(&rt, &mut listener);
-    assert!(rt; shutting.join(&rt) == Ok(()));
+    holds!(rt; shutting.join(&rt).is_ok());
     turning.stop(&rt);
     reads_the_end_and_writes(rt, rt.alloc(), served);
+    watch.end(&rt);
 }

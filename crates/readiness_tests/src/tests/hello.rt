@@ -1,6 +1,7 @@
 //! What passes over one connection: bytes, their end, resets, and connections that nobody takes.
 
 use super::paths::own_path;
+use super::watch::Watch;
 use super::{LOOPBACK, Turning, World, any_port, connected, listening, socks};
 use fd_descriptor::{DevKind, Fault, FdHandle, WriteFault};
 use readiness::{Addr, SockRes};
@@ -15,16 +16,16 @@ use std::time::Clock;
 
 /// Sends `hello`, which is read whole at the other end.
 fn passes<R: Wait + Abort>(rt: &R, from: &mut FdHandle<SockRes>, to: &mut FdHandle<SockRes>) {
-    assert!(rt; from.write(rt, b"hello") == Ok(5));
+    holds!(*rt; from.write(rt, b"hello") == Ok(5));
     let mut buf = [0; 8];
-    assert!(rt; to.read(rt, &mut buf) == Ok(5));
-    assert!(rt; &buf[..5] == b"hello".as_slice());
+    holds!(*rt; to.read(rt, &mut buf) == Ok(5));
+    holds!(*rt; &buf[..5] == b"hello".as_slice());
 }
 
 /// Shuts one way, and the other end reads the end.
 fn shuts<R: Wait + Abort>(rt: &R, from: &mut FdHandle<SockRes>, to: &mut FdHandle<SockRes>) {
-    assert!(rt; from.close_write(rt) == Ok(()));
-    assert!(rt; to.read(rt, &mut [0; 8]) == Err(Fault::EndOfFile));
+    holds!(*rt; from.close_write(rt).is_ok());
+    holds!(*rt; to.read(rt, &mut [0; 8]) == Err(Fault::EndOfFile));
 }
 
 /// Says hello each way, then shuts each way.
@@ -44,29 +45,35 @@ fn greets_and_ends<
 
 #[test]
 fn hello_passes_each_way_over_tcp(rt: HostRuntime) {
+    let watch = Watch::start(rt, rt.alloc());
     greets_and_ends(rt, rt.alloc(), &any_port());
+    watch.end(&rt);
 }
 
 #[test]
 fn hello_passes_each_way_over_a_unix_socket(rt: HostRuntime) {
+    let watch = Watch::start(rt, rt.alloc());
     let path = own_path(&rt, "hello").expect(&rt, "a path");
     greets_and_ends(rt, rt.alloc(), &Addr::Unix(path));
-    assert!(rt; fs::remove_file(&rt, path.as_str()).is_ok());
+    holds!(rt; fs::remove_file(&rt, path.as_str()).is_ok());
+    watch.end(&rt);
 }
 
 #[test]
 fn a_peer_that_resets_is_told_as_reset(rt: HostRuntime) {
+    let watch = Watch::start(rt, rt.alloc());
     let world = World::new(rt, rt.alloc());
     let (near, far) = socks(&rt, &any_port());
     let mut near = world.add(near);
     let turning = Turning::start(world);
-    assert!(rt; near.write(&rt, b"unread") == Ok(6));
+    holds!(rt; near.write(&rt, b"unread") == Ok(6));
     drop(far);
     let read = near.read(&rt, &mut [0; 8]);
-    assert!(rt; read == Err(Fault::Device(DevKind::Reset)));
+    holds!(rt; read == Err(Fault::Device(DevKind::Reset)));
     let fault = Fault::Device(DevKind::BrokenPipe);
     assert!(rt; near.write(&rt, b"more") == Err(WriteFault { fault, count: 0 }));
     turning.stop(&rt);
+    watch.end(&rt);
 }
 
 /// A descriptor whose connection nobody takes.
@@ -88,15 +95,17 @@ const UNWRITTEN: WriteFault = WriteFault {
 
 #[test]
 fn a_refused_connect_is_told_by_the_first_call(rt: HostRuntime) {
+    let watch = Watch::start(rt, rt.alloc());
     let world = World::new(rt, rt.alloc());
     let mut reader = refused(&world);
     let mut writer = refused(&world);
     let mut shutter = refused(&world);
     let turning = Turning::start(world);
-    assert!(rt; reader.read(&rt, &mut [0; 8]) == Err(REFUSED));
+    holds!(rt; reader.read(&rt, &mut [0; 8]) == Err(REFUSED));
     let again = reader.read(&rt, &mut [0; 8]);
-    assert!(rt; again == Err(Fault::EndOfFile), "it is told once");
-    assert!(rt; writer.write(&rt, b"hello") == Err(UNWRITTEN));
-    assert!(rt; shutter.close_write(&rt) == Err(REFUSED));
+    holds!(rt; again == Err(Fault::EndOfFile), "it is told once");
+    holds!(rt; writer.write(&rt, b"hello") == Err(UNWRITTEN));
+    holds!(rt; shutter.close_write(&rt) == Err(REFUSED));
     turning.stop(&rt);
+    watch.end(&rt);
 }

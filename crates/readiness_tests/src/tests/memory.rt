@@ -13,29 +13,35 @@ use std::process::Abort;
 use std::sync::{Arc, Mutex, Wait};
 use std::time::Clock;
 
+/// Splits a socket on this heap, and says whether memory sufficed; the socket is closed where it
+/// didn't.
+fn is_split<P: TryRead>(rt: &impl Abort, heap: &LocalHeap, near: Sock, peer: &mut P) -> bool {
+    match near.split(heap) {
+        Ok((_read, mut write)) => {
+            holds!(*rt; write.try_write(b"x") == Outcome::Count(1));
+            true
+        }
+        Err(_) => {
+            holds!(*rt; peer.try_read(&mut [0; 4]) == Outcome::Count(0), "closed");
+            false
+        }
+    }
+}
+
 /// Splits a socket on a heap of so many bytes, and says whether memory sufficed.
 fn splits_or_closes<R: Net + Files + Clock + Abort>(rt: &R, alloc: Global, size: usize) -> bool {
     let heap = LocalHeap::new(alloc, size).expect(rt, "heap");
     let (near, far) = socks(rt, &any_port());
     let (mut peer, _written) = far.split(alloc).expect(rt, "the peer");
-    let is_split = match near.split(&heap) {
-        Ok((_read, mut write)) => {
-            assert!(rt; write.try_write(b"x") == Outcome::Count(1));
-            true
-        }
-        Err(_) => {
-            assert!(rt; peer.try_read(&mut [0; 4]) == Outcome::Count(0), "closed");
-            false
-        }
-    };
-    assert_eq!(rt; heap.used(), 0, "nothing is left at {size}");
+    let is_split = is_split(rt, &heap, near, &mut peer);
+    assert!(rt; heap.used() == 0, "nothing is left at {size}");
     is_split
 }
 
 #[test]
 fn a_refused_split_closes_the_socket(rt: HostRuntime) {
     let before = open_files(&rt);
-    assert!(rt; before.is_some());
+    holds!(rt; before.is_some());
     let mut made = 0u32;
     for size in 1..24usize {
         if splits_or_closes(&rt, rt.alloc(), size.saturating_mul(16)) {
@@ -46,30 +52,40 @@ fn a_refused_split_closes_the_socket(rt: HostRuntime) {
     assert_eq!(rt; open_files(&rt), before);
 }
 
-/// Makes a poller on a heap of so many bytes, and says whether memory sufficed.
-fn polls_or_leaves_nothing<R: Net + Abort>(rt: &R, alloc: Global, size: usize) -> bool {
-    let heap = LocalHeap::new(alloc, size).expect(rt, "heap");
-    let is_made = match Poller::new(rt, &heap) {
+/// A poller is woken, and its waker takes no memory.
+fn wakes<R: Abort>(rt: &R, heap: &LocalHeap, poller: &Poller<&LocalHeap>) {
+    let full = heap.used();
+    let waker = poller.waker().expect(rt, "waker");
+    holds!(*rt; waker.wake().is_ok());
+    holds!(*rt; heap.used() == full, "a waker takes no memory");
+}
+
+/// Makes a poller on this heap, and says whether memory sufficed.
+fn is_polling<R: Net + Abort>(rt: &R, heap: &LocalHeap) -> bool {
+    match Poller::new(rt, heap) {
         Ok(poller) => {
-            let full = heap.used();
-            let waker = poller.waker().expect(rt, "waker");
-            assert!(rt; waker.wake().is_ok());
-            assert_eq!(rt; heap.used(), full, "a waker takes no memory");
+            wakes(rt, heap, &poller);
             true
         }
         Err(fault) => {
-            assert!(rt; fault == Fault::OutOfMemory);
+            holds!(*rt; fault == Fault::OutOfMemory);
             false
         }
-    };
-    assert_eq!(rt; heap.used(), 0, "nothing is left at {size}");
+    }
+}
+
+/// Makes a poller on a heap of so many bytes, and says whether memory sufficed.
+fn polls_or_leaves_nothing<R: Net + Abort>(rt: &R, alloc: Global, size: usize) -> bool {
+    let heap = LocalHeap::new(alloc, size).expect(rt, "heap");
+    let is_made = is_polling(rt, &heap);
+    assert!(rt; heap.used() == 0, "nothing is left at {size}");
     is_made
 }
 
 #[test]
 fn a_refused_poller_leaves_nothing(rt: HostRuntime) {
     let before = open_files(&rt);
-    assert!(rt; before.is_some());
+    holds!(rt; before.is_some());
     let mut refused = 0u32;
     for size in 8..128usize {
         if !polls_or_leaves_nothing(&rt, rt.alloc(), size.saturating_mul(128)) {
@@ -88,11 +104,19 @@ fn next_file<R: Net + Files>(rt: &R) -> Option<RawFd> {
     }
 }
 
+fn alarms_of<R: Wait + Copy + Drop>(
+    rt: R,
+    alloc: Global,
+    poller: &Poller,
+) -> Option<TimerAlarms<R>> {
+    let timers = Arc::new(alloc, Mutex::new(Timers::new(alloc))).ok()?;
+    Some(TimerAlarms::new(rt, timers, poller.waker().ok()?))
+}
+
 /// Sets up a poller, a table and a descriptor with a deadline, as far as memory is given.
 fn sets_up<R: Wait + Net + Copy + Drop>(rt: R, alloc: Global, near: Sock) -> Option<()> {
     let poller = Poller::new(&rt, alloc).ok()?;
-    let timers = Arc::new(alloc, Mutex::new(Timers::new(alloc))).ok()?;
-    let alarms = TimerAlarms::new(rt, timers, poller.waker().ok()?);
+    let alarms = alarms_of(rt, alloc, &poller)?;
     let mut table = ConnTable::<Held<SockRes>>::new(alloc);
     let (_, mut handle) = poller.hold(alloc, &mut table, near).ok()?;
     handle.set_deadline(&rt, Deadline::At(100), 0, &alarms).ok()
@@ -105,5 +129,5 @@ fn a_refused_setting_up_leaves_no_file_open(rt: HostRuntime) {
     let (near, far) = socks(&rt, &any_port());
     let _ = sets_up(rt, rt.alloc(), near);
     drop(far);
-    assert!(rt; next_file(&rt) == before);
+    holds!(rt; next_file(&rt) == before);
 }

@@ -1,5 +1,6 @@
 //! Which file descriptors are open, and how.
 
+use super::watch::Watch;
 use super::{World, any_port, socks};
 use readiness::Sock;
 use std::fs;
@@ -20,7 +21,7 @@ pub(super) fn open_files(rt: &HostRuntime) -> Option<usize> {
 fn remove_first<R: Wait + Threads + Net + Files + Clock + Abort + Copy + Drop>(world: &World<R>) {
     let mut table = world.shared.table.lock(&world.rt);
     let id = table.first_id().expect(&world.rt, "an entry");
-    assert!(world.rt; table.remove(id).is_ok());
+    holds!(world.rt; table.remove(id).is_ok());
 }
 
 /// Opens a connection, closes one end, and drops the other.
@@ -28,18 +29,20 @@ fn comes_and_goes<R: Wait + Threads + Net + Files + Clock + Abort + Copy + Drop>
     let (mut near, _far) = world.pair(&any_port());
     remove_first(world);
     remove_first(world);
-    assert!(world.rt; near.close(&world.rt) == Ok(()), "one is closed");
+    holds!(world.rt; near.close(&world.rt).is_ok(), "one is closed");
 }
 
 #[test]
 fn no_file_is_left_open_after_1000_connections(rt: HostRuntime) {
+    let watch = Watch::start(rt, rt.alloc());
     let world = World::new(rt, rt.alloc());
     let before = open_files(&rt);
-    assert!(rt; before.is_some());
+    holds!(rt; before.is_some());
     for _ in 0..1_000u32 {
         comes_and_goes(&world);
     }
     assert_eq!(rt; open_files(&rt), before);
+    watch.end(&rt);
 }
 
 fn raw(sock: &Sock) -> RawFd {
@@ -69,6 +72,6 @@ fn is_set_up(rt: &HostRuntime, sock: &Sock) -> bool {
 #[test]
 fn sockets_are_closed_on_exec_and_never_block(rt: HostRuntime) {
     let (near, far) = socks(&rt, &any_port());
-    assert!(rt; is_set_up(&rt, &near));
-    assert!(rt; is_set_up(&rt, &far));
+    holds!(rt; is_set_up(&rt, &near));
+    holds!(rt; is_set_up(&rt, &far));
 }

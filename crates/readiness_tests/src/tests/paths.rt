@@ -1,5 +1,6 @@
 //! Unix sockets: paths of the test's own, their lengths, stale ones, and a full queue.
 
+use super::watch::Watch;
 use super::{Turning, World, connected, listening};
 use arrayvec::ArrayString;
 use fd_descriptor::DevKind;
@@ -29,16 +30,18 @@ fn lengthened(path: ArrayString<100>, len: usize) -> Option<ArrayString<100>> {
 
 #[test]
 fn a_path_of_100_bytes_serves_and_101_are_no_address(rt: HostRuntime) {
+    let watch = Watch::start(rt, rt.alloc());
     let short = own_path(&rt, "x").expect(&rt, "a path");
-    assert!(rt; lengthened(short, 101).is_none());
+    holds!(rt; lengthened(short, 101).is_none());
     let path = lengthened(short, 100).expect(&rt, "a path of 100 bytes");
     let world = World::new(rt, rt.alloc());
     let (mut near, mut far) = world.pair(&Addr::Unix(path));
     let turning = Turning::start(world);
-    assert!(rt; near.write(&rt, b"hello") == Ok(5));
-    assert!(rt; far.read(&rt, &mut [0; 8]) == Ok(5));
+    holds!(rt; near.write(&rt, b"hello") == Ok(5));
+    holds!(rt; far.read(&rt, &mut [0; 8]) == Ok(5));
     turning.stop(&rt);
-    assert!(rt; fs::remove_file(&rt, path.as_str()).is_ok());
+    holds!(rt; fs::remove_file(&rt, path.as_str()).is_ok());
+    watch.end(&rt);
 }
 
 #[test]
@@ -46,17 +49,17 @@ fn a_stale_path_refuses(rt: HostRuntime) {
     let path = own_path(&rt, "stale").expect(&rt, "a path");
     let addr = Addr::Unix(path);
     let nowhere = connect(&rt, &addr).err();
-    assert!(rt; nowhere == Some(DevKind::Other), "no such path");
+    holds!(rt; nowhere == Some(DevKind::Other), "no such path");
     let listener = listening(&rt, &addr);
-    assert!(rt; listener.port().is_none());
+    holds!(rt; listener.port().is_none());
     let taken = listen(&rt, &addr).err();
-    assert!(rt; taken == Some(DevKind::Other), "taken");
+    holds!(rt; taken == Some(DevKind::Other), "taken");
     drop(listener);
     let stale = connect(&rt, &addr).err();
-    assert!(rt; stale == Some(DevKind::Refused), "stale");
+    holds!(rt; stale == Some(DevKind::Refused), "stale");
     let stays = listen(&rt, &addr).err();
-    assert!(rt; stays == Some(DevKind::Other), "it stays");
-    assert!(rt; fs::remove_file(&rt, path.as_str()).is_ok());
+    holds!(rt; stays == Some(DevKind::Other), "it stays");
+    holds!(rt; fs::remove_file(&rt, path.as_str()).is_ok());
 }
 
 #[test]
@@ -69,6 +72,6 @@ fn a_full_unix_queue_is_told_at_once(rt: HostRuntime) {
     }
     let _queued = [connected(&rt, &addr), connected(&rt, &addr)];
     let full = connect(&rt, &addr).err();
-    assert!(rt; full == Some(DevKind::Other));
-    assert!(rt; fs::remove_file(&rt, path.as_str()).is_ok());
+    holds!(rt; full == Some(DevKind::Other));
+    holds!(rt; fs::remove_file(&rt, path.as_str()).is_ok());
 }

@@ -1,11 +1,12 @@
 //! Calls that wait, and what ends them: a turn at their deadline, a close, a waker.
 
+use super::watch::Watch;
 use super::{
     Turning, World, any_port, comes_to, connected, listening, nanos_since, pause, reach, share,
     start_read,
 };
 use fd_descriptor::{Deadline, Fault, FdHandle};
-use readiness::{ListenRes, Poller, SockRes};
+use readiness::{ListenRes, Poller, SockRes, TimerAlarms};
 use std::fs::Files;
 use std::net::Net;
 use std::process::Abort;
@@ -19,22 +20,25 @@ const LATE: Result<usize, Fault> = Err(Fault::DeadlineExceeded);
 
 #[test]
 fn a_deadline_ends_a_parked_read_at_the_turn_of_its_moment(rt: HostRuntime) {
+    let watch = Watch::start(rt, rt.alloc());
     let mut world = World::new(rt, rt.alloc());
     let (mut near, _far) = world.pair(&any_port());
     let set = near.set_read_deadline(&rt, Deadline::At(100), 0, &world.alarms());
-    assert!(rt; set == Ok(()));
+    holds!(rt; set.is_ok());
     let reading = start_read(rt, &mut near);
-    assert!(rt; world.turn(99));
-    let next = world.shared.timers.lock(&rt).next();
-    assert!(rt; next == Some(100), "not due at 99");
-    assert!(rt; world.turn(100));
-    assert!(rt; reading.join(&rt) == LATE);
-    let next = world.shared.timers.lock(&rt).next();
-    assert!(rt; next.is_none(), "taken out");
+    holds!(rt; world.turn(99));
+    let next = world.next_due();
+    holds!(rt; next == Some(100), "not due at 99");
+    holds!(rt; world.turn(100));
+    holds!(rt; reading.join(&rt) == LATE);
+    let next = world.next_due();
+    holds!(rt; next.is_none(), "taken out");
+    watch.end(&rt);
 }
 
 #[test]
 fn a_deadline_that_is_set_while_the_poller_sleeps_ends_a_read(rt: HostRuntime) {
+    let watch = Watch::start(rt, rt.alloc());
     let world = World::new(rt, rt.alloc());
     let alarms = world.alarms();
     let (mut near, _far) = world.pair(&any_port());
@@ -45,47 +49,58 @@ fn a_deadline_that_is_set_while_the_poller_sleeps_ends_a_read(rt: HostRuntime) {
     let now = nanos_since(&rt, start);
     let at = now.saturating_add(20_000_000);
     let set = near.set_read_deadline(&rt, Deadline::At(at), now, &alarms);
-    assert!(rt; set == Ok(()));
-    assert!(rt; reading.join(&rt) == LATE);
-    assert!(rt; nanos_since(&rt, start) >= at, "no earlier than its moment");
+    holds!(rt; set.is_ok());
+    holds!(rt; reading.join(&rt) == LATE);
+    holds!(rt; nanos_since(&rt, start) >= at, "no earlier than its moment");
     turning.stop(&rt);
+    watch.end(&rt);
 }
 
 #[test]
 fn a_close_ends_a_parked_read_and_the_peer_reads_the_end(rt: HostRuntime) {
+    let watch = Watch::start(rt, rt.alloc());
     let world = World::new(rt, rt.alloc());
     let (mut near, mut far) = world.pair(&any_port());
     let shared = world.keep();
     let turning = Turning::start(world);
     let reading = start_read(rt, &mut near);
     pause(&rt, 20);
-    let removed = shared.table.lock(&rt).remove(1);
-    assert!(rt; removed.is_ok(), "the entry goes first");
-    assert!(rt; near.close(&rt) == Ok(()));
-    assert!(rt; reading.join(&rt) == Err(Fault::Closed));
-    assert!(rt; far.read(&rt, &mut [0; 8]) == Err(Fault::EndOfFile));
+    holds!(rt; shared.removes(&rt, 1), "the entry goes first");
+    holds!(rt; near.close(&rt).is_ok());
+    holds!(rt; reading.join(&rt) == Err(Fault::Closed));
+    holds!(rt; far.read(&rt, &mut [0; 8]) == Err(Fault::EndOfFile));
     turning.stop(&rt);
+    watch.end(&rt);
+}
+
+/// A deadline of 100 on a new descriptor.
+fn due_at_100<R: Wait + Threads + Net + Files + Clock + Abort + Copy + Drop>(
+    world: &World<R>,
+    alarms: &TimerAlarms<R>,
+) -> (FdHandle<SockRes>, FdHandle<SockRes>) {
+    let (mut near, far) = world.pair(&any_port());
+    let set = near.set_deadline(&world.rt, Deadline::At(100), 0, alarms);
+    holds!(world.rt; set.is_ok());
+    (near, far)
 }
 
 #[test]
 fn a_due_key_without_an_entry_is_passed_over(rt: HostRuntime) {
+    let watch = Watch::start(rt, rt.alloc());
     let mut world = World::new(rt, rt.alloc());
     let alarms = world.alarms();
-    let (mut near, _far) = world.pair(&any_port());
-    let (mut gone, _gone_far) = world.pair(&any_port());
-    let first = gone.set_deadline(&rt, Deadline::At(100), 0, &alarms);
-    let second = near.set_deadline(&rt, Deadline::At(100), 0, &alarms);
-    assert!(rt; (first, second) == (Ok(()), Ok(())));
-    let removed = world.shared.table.lock(&rt).remove(3);
-    assert!(rt; removed.is_ok());
-    assert!(rt; world.turn(100));
-    assert!(rt; near.read(&rt, &mut [0; 8]) == LATE);
-    let next = world.shared.timers.lock(&rt).next();
-    assert!(rt; next.is_none(), "all are taken out");
+    let (mut near, _far) = due_at_100(&world, &alarms);
+    let _gone = due_at_100(&world, &alarms);
+    holds!(rt; world.shared.removes(&rt, 3));
+    holds!(rt; world.turn(100));
+    holds!(rt; near.read(&rt, &mut [0; 8]) == LATE);
+    holds!(rt; world.next_due().is_none(), "all are taken out");
+    watch.end(&rt);
 }
 
 #[test]
 fn a_wake_ends_a_turn_and_is_told_to_no_entry(rt: HostRuntime) {
+    let watch = Watch::start(rt, rt.alloc());
     let world = World::new(rt, rt.alloc());
     let shared = world.keep();
     let waker = world.waker();
@@ -93,10 +108,11 @@ fn a_wake_ends_a_turn_and_is_told_to_no_entry(rt: HostRuntime) {
     let turning = Turning::start(world);
     for _ in 0..100u32 {
         let turns = shared.turns.load(Ordering::SeqCst);
-        assert!(rt; waker.wake().is_ok());
-        assert!(rt; comes_to(&rt, &shared.turns, turns.saturating_add(1)));
+        holds!(rt; waker.wake().is_ok());
+        holds!(rt; comes_to(&rt, &shared.turns, turns.saturating_add(1)));
     }
     turning.stop(&rt);
+    watch.end(&rt);
 }
 
 /// Reads on until a fault, and gives it.
@@ -133,12 +149,13 @@ fn start_reading_on<
 
 fn ends_closed<R: Wait + Threads + Abort>(rt: &R, read: Read) {
     let mut near = read.near;
-    assert!(rt; near.close(rt) == Ok(()));
-    assert!(rt; read.reading.join(rt) == Fault::Closed);
+    holds!(*rt; near.close(rt).is_ok());
+    holds!(*rt; read.reading.join(rt) == Fault::Closed);
 }
 
 #[test]
 fn closes_from_other_threads_end_what_waits(rt: HostRuntime) {
+    let watch = Watch::start(rt, rt.alloc());
     let world = World::new(rt, rt.alloc());
     let first = start_reading_on(&world);
     let second = start_reading_on(&world);
@@ -148,36 +165,46 @@ fn closes_from_other_threads_end_what_waits(rt: HostRuntime) {
     ends_closed(&rt, second);
     ends_closed(&rt, third);
     turning.stop(&rt);
+    watch.end(&rt);
 }
 
 #[test]
 fn a_wait_without_a_table_lasts_a_second_or_until_a_wake(rt: HostRuntime) {
+    let watch = Watch::start(rt, rt.alloc());
     let mut poller = Poller::new(&rt, rt.alloc()).expect(&rt, "poller");
     let start = Instant::now(&rt).expect(&rt, "clock");
-    assert!(rt; poller.wait_any() == Ok(()));
-    assert!(rt; nanos_since(&rt, start) >= 900_000_000, "nobody woke it");
+    holds!(rt; poller.wait_any().is_ok());
+    holds!(rt; nanos_since(&rt, start) >= 900_000_000, "nobody woke it");
     let waker = poller.waker().expect(&rt, "waker");
-    assert!(rt; waker.wake().is_ok());
-    assert!(rt; poller.wait_any() == Ok(()));
+    holds!(rt; waker.wake().is_ok());
+    holds!(rt; poller.wait_any().is_ok());
+    watch.end(&rt);
 }
 
-/// Accepts twice in a thread, and counts the first: whether it took one, and how the second ended.
+/// Accepts twice, and counts the first: whether it took one, and how the second ended.
+fn accepts_twice<R: Wait>(
+    rt: &R,
+    acceptor: &mut FdHandle<ListenRes>,
+    taken: &AtomicU64,
+) -> (bool, Option<Fault>) {
+    let first = acceptor.accept(rt).is_ok();
+    taken.fetch_add(1, Ordering::SeqCst);
+    (first, acceptor.accept(rt).err())
+}
+
 fn start_accepting<R: Wait + Threads + Abort + Copy + Drop + Send + Sync + 'static>(
     rt: R,
     acceptor: FdHandle<ListenRes>,
     taken: Arc<AtomicU64>,
 ) -> JoinHandle<(bool, Option<Fault>)> {
     let mut acceptor = acceptor;
-    let started = thread::spawn(&rt, move || {
-        let first = acceptor.accept(&rt).is_ok();
-        taken.fetch_add(1, Ordering::SeqCst);
-        (first, acceptor.accept(&rt).err())
-    });
+    let started = thread::spawn(&rt, move || accepts_twice(&rt, &mut acceptor, &taken));
     started.expect(&rt, "thread")
 }
 
 #[test]
 fn a_parked_accept_takes_who_comes_and_a_close_ends_it(rt: HostRuntime) {
+    let watch = Watch::start(rt, rt.alloc());
     let world = World::new(rt, rt.alloc());
     let listener = listening(&rt, &any_port());
     let addr = reach(&any_port(), &listener);
@@ -189,8 +216,11 @@ fn a_parked_accept_takes_who_comes_and_a_close_ends_it(rt: HostRuntime) {
     let accepting = start_accepting(rt, acceptor, told);
     pause(&rt, 20);
     let _client = connected(&rt, &addr);
-    assert!(rt; comes_to(&rt, &taken, 1));
-    assert!(rt; handle.close(&rt) == Ok(()));
-    assert!(rt; accepting.join(&rt) == (true, Some(Fault::Closed)));
+    holds!(rt; comes_to(&rt, &taken, 1));
+    holds!(rt; handle.close(&rt).is_ok());
+    let (first, second) = accepting.join(&rt);
+    holds!(rt; first);
+    holds!(rt; second == Some(Fault::Closed));
     turning.stop(&rt);
+    watch.end(&rt);
 }

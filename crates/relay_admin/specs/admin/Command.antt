@@ -17,6 +17,7 @@ words_of command.Totals = (codes "totals", behind.Nothing)
 words_of command.Quit = (codes "quit", behind.Nothing)
 words_of command.Stop = (codes "stop", behind.Nothing)
 words_of (command.CloseConn id) = (codes "close", behind.Id id)
+words_of (command.DrainConn id) = (codes "drain", behind.Id id)
 words_of (command.DeadlineOf id after) = (codes "deadline", behind.IdAndDeadline id after)
 
 -- how the session ends by a command; where it doesn't, the desk is asked

@@ -6,7 +6,7 @@ use Rattle.relay_admin.specs.rules.Grammar.{space}
 use Rattle.relay_admin.specs.declared.admin.command.Command.{Command}
 use Rattle.relay_admin.specs.declared.admin.reply_text.TheConstants.{DONE, BAD_COMMAND}
 use Rattle.relay_admin.specs.declared.admin.reply_text.TheConstants.{NO_SUCH_CONNECTION, CLOSED}
-use Rattle.relay_admin.specs.declared.admin.reply_text.TheConstants.{BUSY, OUT_OF_MEMORY}
+use Rattle.relay_admin.specs.declared.admin.reply_text.TheConstants.{DRAINING, BUSY, OUT_OF_MEMORY}
 use Rattle.relay_admin.specs.declared.admin.desk.DeskAnswer.{DeskAnswer}
 use Rattle.relay_admin.specs.declared.admin.desk.DeskAnswer.TheVariants as variant
 
@@ -17,6 +17,7 @@ pub data Answer : Type 0 where
   fine : Answer
   unknown : Answer
   closed : Answer
+  draining : Answer
   busy : Answer
   no_memory : Answer
 
@@ -27,6 +28,7 @@ answer_of (variant.Totals up down) = totals up down
 answer_of variant.Fine = fine
 answer_of variant.Unknown = unknown
 answer_of variant.Closed = closed
+answer_of variant.Draining = draining
 answer_of variant.Busy = busy
 answer_of variant.NoMemory = no_memory
 
@@ -39,6 +41,7 @@ reply_text (totals up down) =
 reply_text fine = DONE.now
 reply_text unknown = NO_SUCH_CONNECTION.now
 reply_text closed = CLOSED.now
+reply_text draining = DRAINING.now
 reply_text busy = BUSY.now
 reply_text no_memory = OUT_OF_MEMORY.now
 

@@ -23,6 +23,8 @@ pub enum Command {
     Stop,
     /// Closes the connection or listener with this id.
     CloseConn(u64),
+    /// Drains the connection or listener with this id.
+    DrainConn(u64),
     /// Sets the deadline of both directions to so many milliseconds from now, 0 to 86,400,000, or
     /// to none.
     DeadlineOf(u64, Option<u32>),
@@ -84,6 +86,7 @@ fn command_named(word: &[u8], arguments: Arguments) -> Option<Command>
         },
         Arguments::Id(id) => match word {
             b"close" => Some(Command::CloseConn(id)),
+            b"drain" => Some(Command::DrainConn(id)),
             _ => None,
         },
         Arguments::IdAndDeadline(id, after_ms) => match word {

@@ -21,14 +21,16 @@ pub enum DeskAnswer {
     Unknown,
     /// The connection is closed already.
     Closed,
+    /// The connection is drained already, and not closed.
+    Draining,
     /// The connection has as many references as it may.
     Busy,
     /// Memory was refused.
     NoMemory,
 }
 
-/// What a session asks: once for each `List`, `Totals`, `CloseConn` and `DeadlineOf`, in the order
-/// of the lines, and for nothing else.
+/// What a session asks: once for each `List`, `Totals`, `CloseConn`, `DrainConn` and `DeadlineOf`, in
+/// the order of the lines, and for nothing else.
 pub trait Desk {
     // The questions so far with their answers, where the desk still tells them.
     ghost exchanges: { Self → Option (List Exchange) };
@@ -48,6 +50,12 @@ pub trait Desk {
         ensures { Exchanges (exchanges self.old) (exchanges self.new)
             (commands.CloseConn id) (answer_of result) };
 
+    /// Drains the connection or listener with this id: what was begun on it ends as it would, nothing
+    /// new is begun, and a close still works.
+    fn drain(&mut self, id: u64) -> DeskAnswer
+        ensures { Exchanges (exchanges self.old) (exchanges self.new)
+            (commands.DrainConn id) (answer_of result) };
+
     /// Sets the deadline of both directions to `after_ms` milliseconds from now, 0 being expired at
     /// once and a moment past the greatest `u64` the greatest; or, at `None`, to none.
     fn deadline(&mut self, alloc: Global, id: u64, after_ms: Option<u32>) -> DeskAnswer
@@ -65,6 +73,7 @@ pub(crate) fn ask<D: Desk>(alloc: Global, desk: &mut D, command: &Command) -> De
         Command::List => desk.ids(alloc),
         Command::Totals => desk.totals(),
         Command::CloseConn(id) => desk.close(id),
+        Command::DrainConn(id) => desk.drain(id),
         Command::DeadlineOf(id, after_ms) => desk.deadline(alloc, id, after_ms),
         Command::Quit | Command::Stop => unreachable!(),
     }

@@ -5,12 +5,13 @@ ghost use Rattle.std.specs.Prelude.{None};
 use crate::admin::desk::{Desk, DeskAnswer};
 use std::alloc::Global;
 
-/// A desk with these ids and totals, which counts its questions.
+/// A desk with these ids and totals, which counts its questions. Its connection 1 can be drained.
 #[derive(Drop)]
 pub(crate) struct FakeDesk {
     pub(crate) ids: &'static [u64],
     pub(crate) totals: (u64, u64),
     pub(crate) asked: u64,
+    is_drained: bool,
 }
 
 impl FakeDesk {
@@ -19,11 +20,21 @@ impl FakeDesk {
             ids: &[1, 2],
             totals: (12, 0),
             asked: 0,
+            is_drained: false,
         }
     }
 
     fn count(&mut self) {
         self.asked = self.asked.saturating_add(1);
+    }
+
+    fn refused(id: u64) -> DeskAnswer {
+        match id {
+            2 => DeskAnswer::Closed,
+            3 => DeskAnswer::Busy,
+            4 => DeskAnswer::NoMemory,
+            _ => DeskAnswer::Unknown,
+        }
     }
 }
 
@@ -46,17 +57,29 @@ impl Desk for FakeDesk {
 
     fn close(&mut self, id: u64) -> DeskAnswer {
         self.count();
-        match id {
-            1 => DeskAnswer::Fine,
-            2 => DeskAnswer::Closed,
-            3 => DeskAnswer::Busy,
-            4 => DeskAnswer::NoMemory,
-            _ => DeskAnswer::Unknown,
+        if id != 1 {
+            return FakeDesk::refused(id);
         }
+        DeskAnswer::Fine
     }
 
-    fn deadline(&mut self, _alloc: Global, _id: u64, _after_ms: Option<u32>) -> DeskAnswer {
+    fn drain(&mut self, id: u64) -> DeskAnswer {
         self.count();
+        if id != 1 {
+            return FakeDesk::refused(id);
+        }
+        if self.is_drained {
+            return DeskAnswer::Draining;
+        }
+        self.is_drained = true;
+        DeskAnswer::Fine
+    }
+
+    fn deadline(&mut self, _alloc: Global, id: u64, _after_ms: Option<u32>) -> DeskAnswer {
+        self.count();
+        if id == 1 && self.is_drained {
+            return DeskAnswer::Draining;
+        }
         DeskAnswer::Fine
     }
 }

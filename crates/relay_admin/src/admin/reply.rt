@@ -8,7 +8,7 @@ ghost use Rattle.relay_admin.specs.admin.ReplyBytes.{bytes_of};
 use crate::admin::command::Command;
 use crate::admin::desk::DeskAnswer;
 use crate::admin::reply_bytes::Reply;
-use crate::admin::reply_text::{BUSY, CLOSED, DONE, NO_SUCH_CONNECTION, OUT_OF_MEMORY};
+use crate::admin::reply_text::{BUSY, CLOSED, DONE, DRAINING, NO_SUCH_CONNECTION, OUT_OF_MEMORY};
 use std::alloc::{Allocator, Global};
 use stream_base::OutOfMemory;
 
@@ -36,6 +36,7 @@ fn reply_in<A: Allocator + Copy>(alloc: A, answer: &DeskAnswer) -> Result<Vec<u8
         DeskAnswer::Fine => Vec::from_slice(alloc, DONE),
         DeskAnswer::Unknown => Vec::from_slice(alloc, NO_SUCH_CONNECTION),
         DeskAnswer::Closed => Vec::from_slice(alloc, CLOSED),
+        DeskAnswer::Draining => Vec::from_slice(alloc, DRAINING),
         DeskAnswer::Busy => Vec::from_slice(alloc, BUSY),
         DeskAnswer::NoMemory => Vec::from_slice(alloc, OUT_OF_MEMORY),
     }
@@ -64,6 +65,7 @@ pub(crate) fn reply_to<A: Allocator + Copy>(alloc: A, answer: &DeskAnswer) -> Re
         DeskAnswer::Fine => Reply::Fixed(DONE),
         DeskAnswer::Unknown => Reply::Fixed(NO_SUCH_CONNECTION),
         DeskAnswer::Closed => Reply::Fixed(CLOSED),
+        DeskAnswer::Draining => Reply::Fixed(DRAINING),
         DeskAnswer::Busy => Reply::Fixed(BUSY),
         DeskAnswer::NoMemory => Reply::Fixed(OUT_OF_MEMORY),
     }

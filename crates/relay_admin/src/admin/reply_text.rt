@@ -13,6 +13,9 @@ pub const NO_SUCH_CONNECTION: &[u8] = b"error 404 no such connection\n";
 /// The connection is closed already.
 pub const CLOSED: &[u8] = b"error 409 closed\n";
 
+/// The connection is drained already.
+pub const DRAINING: &[u8] = b"error 409 draining\n";
+
 /// The connection has as many references as it may.
 pub const BUSY: &[u8] = b"error 409 busy\n";
 

@@ -3,34 +3,24 @@
 
 ghost use Rattle.std.specs.Prelude.{⊤};
 
-use super::TURNS;
+use super::comes;
+use super::watch::Watch;
 use conntable::ConnTable;
 use deadline_core::Timers;
 use relay::{Closes, close_by_id};
 use rwloops::Fault;
-use std::alloc::Global;
+use std::process::Abort;
 use std::sync::atomic::{AtomicU64, Ordering};
 use std::sync::{Arc, Mutex, Wait};
-use std::test::Fail;
 use std::thread;
-use std::thread::Threads;
-use std::time::{Clock, Duration};
+use std::thread::{JoinHandle, Threads};
+use std::time::Clock;
 
 /// What an entry and the thread that looks on tell each other.
 #[derive(Drop)]
 struct Marks {
     closing: AtomicU64,
     looked: AtomicU64,
-}
-
-fn comes<C: Clock>(clock: &C, mark: &AtomicU64) -> bool {
-    for _ in 0..TURNS {
-        if mark.load(Ordering::SeqCst) > 0 {
-            return true;
-        }
-        thread::sleep(clock, Duration::from_millis(1));
-    }
-    false
 }
 
 /// An entry whose close ends once somebody has looked into the table meanwhile.
@@ -71,45 +61,47 @@ impl<C: Clock + Drop> World<C> {
     }
 }
 
-fn closes_in_order<R>(rt: R, alloc: Global) -> Result<bool, Fail>
-where
-    R: Wait + Threads + Clock + Copy + Drop + Send + Sync + 'static,
-{
-    let marks = Arc::new(
-        alloc,
-        Marks {
-            closing: AtomicU64::new(0),
-            looked: AtomicU64::new(0),
-        },
-    )?;
+/// A table with one such entry, whose id is 1, and an alarm of its own.
+fn world_of_one<R: Clock + Abort + AllocGlobal + Copy + Drop>(rt: R) -> Arc<World<R>> {
+    let marks = Marks {
+        closing: AtomicU64::new(0),
+        looked: AtomicU64::new(0),
+    };
+    let marks = Arc::new(rt.alloc(), marks).expect(&rt, "marks");
     let entry = Looked {
         clock: rt,
-        marks: Arc::try_clone(&marks)?,
+        marks: Arc::try_clone(&marks).expect(&rt, "marks"),
     };
-    let mut table = ConnTable::new(alloc);
-    let Ok((id, _)) = table.insert(entry) else {
-        return Err(Fail::new("insert"));
-    };
-    let mut timers = Timers::new(alloc);
-    timers.arm_both(id, 7)?;
+    let mut table = ConnTable::new(rt.alloc());
+    let (id, _) = table.insert(entry).ok().expect(&rt, "insert");
+    let mut timers = Timers::new(rt.alloc());
+    timers.arm_both(id, 7).expect(&rt, "timers");
     let world = World {
         table: Mutex::new(table),
         timers: Mutex::new(timers),
         marks,
     };
-    let world = Arc::new(alloc, world)?;
-    let other = Arc::try_clone(&world)?;
-    let Ok(looking) = thread::spawn(&rt, move || other.look(&rt, id)) else {
-        return Err(Fail::new("thread"));
-    };
-    let closed = close_by_id(&rt, &world.table, &world.timers, id);
-    let again = close_by_id(&rt, &world.table, &world.timers, id);
-    let is_disarmed = world.timers.lock(&rt).next().is_none();
-    Ok(looking.join(&rt) && closed == Some(Ok(())) && again.is_none() && is_disarmed)
+    Arc::new(rt.alloc(), world).expect(&rt, "world")
+}
+
+fn start_looking<R>(rt: R, world: &Arc<World<R>>) -> JoinHandle<bool>
+where
+    R: Wait + Threads + Clock + Abort + Copy + Drop + Send + Sync + 'static,
+{
+    let other = Arc::try_clone(world).expect(&rt, "world");
+    thread::spawn(&rt, move || other.look(&rt, 1)).expect(&rt, "thread")
 }
 
 #[test]
-fn an_entry_is_closed_outside_the_tables_lock(rt: HostRuntime) -> Result<(), Fail> {
-    assert!(rt; closes_in_order(rt, rt.alloc())?);
-    Ok(())
+fn an_entry_is_closed_outside_the_tables_lock(rt: HostRuntime) {
+    let watch = Watch::start(rt, rt.alloc());
+    let world = world_of_one(rt);
+    let looking = start_looking(rt, &world);
+    let closed = close_by_id(&rt, &world.table, &world.timers, 1);
+    let again = close_by_id(&rt, &world.table, &world.timers, 1);
+    holds!(rt; looking.join(&rt));
+    holds!(rt; closed == Some(Ok(())));
+    holds!(rt; again.is_none());
+    holds!(rt; world.timers.lock(&rt).next().is_none());
+    watch.end(&rt);
 }

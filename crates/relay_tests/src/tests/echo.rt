@@ -1,10 +1,12 @@
 //! Bytes through the relay and back.
 
-use super::{Place, Running, free_port, heard, own_path, reach, served, target};
-use std::io::Write;
+use super::watch::Watch;
+use super::{
+    Place, Running, free_port, heard, is_text, is_there, own_path, place_to, reach, says, served,
+    target,
+};
 use std::net::{Shutdown, TcpListener};
-use std::test::Fail;
-use std::{fs, io, thread};
+use std::{io, thread};
 
 /// Sends the bytes of one connection back, until their end.
 fn echo(listener: TcpListener) -> bool {
@@ -14,56 +16,68 @@ fn echo(listener: TcpListener) -> bool {
     }
 }
 
-#[test]
-fn hello_comes_back_and_is_counted(rt: HostRuntime) -> Result<(), Fail> {
-    let alloc = rt.alloc();
-    let (listener, target) = target(&rt)?;
-    let echoing = thread::spawn(&rt, move || echo(listener))?;
-    let port = free_port(&rt)?;
-    let rules = format!(in alloc; "relay a tcp:127.0.0.1:{port} tcp:127.0.0.1:{target} never\n")?;
-    let Place { rules, admin } = Place::with_rules(&rt, rules.as_str())?;
-    let socket = admin.clone()?;
-    let thread = thread::spawn(&rt, move || served(rt, &rules, &socket))?;
-    let running = Running { thread, admin };
-    let mut client = reach(&rt, port)?;
-    client.write_all(b"hello")?;
-    client.shutdown(Shutdown::Write)?;
-    assert!(rt; heard(&mut client, alloc)?.as_str() == "hello");
-    assert!(rt; echoing.join(&rt));
-    let path = running.admin.clone()?;
-    let said = running.stop(&rt, alloc)?;
-    assert!(rt; said.is(Ok(()), "listening 1\nup 5 down 5\n"));
-    assert!(rt;
-        fs::metadata(&rt, path.as_str()).is_err(),
-        "the admin socket's path is left"
-    );
-    Ok(())
+/// What comes back of a hello that is sent to this port, until the end.
+fn echo_of_hello(rt: &HostRuntime, port: u16) -> Option<String> {
+    let mut client = reach(rt, port)?;
+    if !says(&mut client, b"hello") {
+        return None;
+    }
+    client.shutdown(Shutdown::Write).ok()?;
+    heard(&mut client, rt.alloc())
 }
 
 #[test]
-fn unix_sockets_serve_on_both_sides(rt: HostRuntime) -> Result<(), Fail> {
-    let alloc = rt.alloc();
-    let middle = own_path(&rt, "middle")?;
-    let (listener, target) = target(&rt)?;
-    let echoing = thread::spawn(&rt, move || echo(listener))?;
-    let port = free_port(&rt)?;
-    let rules = format!(in alloc;
-        "relay in tcp:127.0.0.1:{port} unix:{middle} never\nrelay out unix:{middle} tcp:127.0.0.1:{target} 60000\n"
-    )?;
-    let Place { rules, admin } = Place::with_rules(&rt, rules.as_str())?;
-    let socket = admin.clone()?;
-    let thread = thread::spawn(&rt, move || served(rt, &rules, &socket))?;
+fn hello_comes_back_and_is_counted(rt: HostRuntime) {
+    let watch = Watch::start(rt, rt.alloc());
+    let (listener, target) = target(&rt).expect(&rt, "a target");
+    let echoing = thread::spawn(&rt, move || echo(listener)).expect(&rt, "thread");
+    let (place, port) = place_to(&rt, target, "never").expect(&rt, "a place");
+    let path = own_path(&rt, "admin").expect(&rt, "a path");
+    let Place {
+        rules,
+        admin,
+        socket,
+    } = place;
+    let thread = thread::spawn(&rt, move || served(rt, &rules, &socket));
+    let thread = thread.expect(&rt, "thread");
     let running = Running { thread, admin };
-    let mut client = reach(&rt, port)?;
-    client.write_all(b"hello")?;
-    client.shutdown(Shutdown::Write)?;
-    assert!(rt; heard(&mut client, alloc)?.as_str() == "hello");
-    assert!(rt; echoing.join(&rt));
-    let said = running.stop(&rt, alloc)?;
-    assert!(rt; said.is(Ok(()), "listening 2\nup 10 down 10\n"));
-    assert!(rt;
-        fs::metadata(&rt, middle.as_str()).is_err(),
-        "a rule's path is left"
+    holds!(rt; is_text(echo_of_hello(&rt, port), "hello"));
+    holds!(rt; echoing.join(&rt));
+    holds!(rt; running.is_stopped(&rt));
+    running.ends(&rt, "listening 1\nup 5 down 5\n");
+    holds!(rt; !is_there(&rt, &path), "the admin socket's path is left");
+    watch.end(&rt);
+}
+
+/// A place with a rule from a port to a Unix path and one from there to this port, and the first
+/// port.
+fn place_over(rt: &HostRuntime, middle: &str, target: u16) -> Option<(Place, u16)> {
+    let port = free_port(rt)?;
+    let rules = format!(in rt.alloc();
+        "relay in tcp:127.0.0.1:{port} unix:{middle} never\nrelay out unix:{middle} tcp:127.0.0.1:{target} 60000\n"
     );
-    Ok(())
+    Some((Place::with_rules(rt, &rules.ok()?)?, port))
+}
+
+#[test]
+fn unix_sockets_serve_on_both_sides(rt: HostRuntime) {
+    let watch = Watch::start(rt, rt.alloc());
+    let middle = own_path(&rt, "middle").expect(&rt, "a path");
+    let (listener, target) = target(&rt).expect(&rt, "a target");
+    let echoing = thread::spawn(&rt, move || echo(listener)).expect(&rt, "thread");
+    let (place, port) = place_over(&rt, middle.as_str(), target).expect(&rt, "a place");
+    let Place {
+        rules,
+        admin,
+        socket,
+    } = place;
+    let thread = thread::spawn(&rt, move || served(rt, &rules, &socket));
+    let thread = thread.expect(&rt, "thread");
+    let running = Running { thread, admin };
+    holds!(rt; is_text(echo_of_hello(&rt, port), "hello"));
+    holds!(rt; echoing.join(&rt));
+    holds!(rt; running.is_stopped(&rt));
+    running.ends(&rt, "listening 2\nup 10 down 10\n");
+    holds!(rt; !is_there(&rt, &middle), "a rule's path is left");
+    watch.end(&rt);
 }

@@ -1,13 +1,13 @@
 //! The most pairs that stand at once. The test holds some 2,100 descriptors.
 
-use super::{Place, Running, TURNS, free_port, hears, reach, served, target};
+use super::watch::Watch;
+use super::{Place, Running, TURNS, hears, place_to, reach, served, target};
 use relay_core::MAX_PAIRS;
 use std::alloc::Global;
 use std::io::Write;
-use std::net::{Net, TcpListener, TcpStream};
-use std::test::Fail;
+use std::net::{TcpListener, TcpStream};
 use std::thread;
-use std::time::{Clock, Duration};
+use std::time::Duration;
 
 /// What the target says to each connection, so that a client hears whether it has a pair.
 const GREETING: &[u8] = b"h";
@@ -24,58 +24,68 @@ fn greet_all(alloc: Global, listener: &TcpListener) -> Option<Vec<TcpStream>> {
     Some(held)
 }
 
-/// A client that the target greeted, or none where the relay dropped it.
-fn greeted<R>(rt: &R, port: u16) -> Result<Option<TcpStream>, Fail>
-where
-    R: Net<Listener = TcpListener, Stream = TcpStream> + Clock,
-{
+/// What became of a client: whether the target greeted it, or the relay dropped it. None where it
+/// reached nobody.
+fn greeted(rt: &HostRuntime, port: u16) -> Option<(TcpStream, bool)> {
     let mut client = reach(rt, port)?;
-    if hears(&mut client, GREETING) {
-        return Ok(Some(client));
+    let is_greeted = hears(&mut client, GREETING);
+    Some((client, is_greeted))
+}
+
+/// As many clients as there are pairs at most, where all of them are greeted.
+fn most_clients(rt: &HostRuntime, port: u16) -> Option<Vec<TcpStream>> {
+    let mut clients = Vec::new(rt.alloc());
+    for _ in 0..MAX_PAIRS {
+        let (client, is_greeted) = greeted(rt, port)?;
+        if !is_greeted {
+            return None;
+        }
+        clients.push(client).ok()?;
     }
-    Ok(None)
+    Some(clients)
+}
+
+fn next_is_dropped(rt: &HostRuntime, port: u16) -> bool {
+    match greeted(rt, port) {
+        Some((_, is_greeted)) => !is_greeted,
+        None => false,
+    }
 }
 
 /// Whether a client is greeted at last, of those that come one after the other.
-fn one_is_greeted<R>(rt: &R, port: u16) -> Result<bool, Fail>
-where
-    R: Net<Listener = TcpListener, Stream = TcpStream> + Clock,
-{
+fn one_is_greeted(rt: &HostRuntime, port: u16) -> bool {
     for _ in 0..TURNS {
-        if greeted(rt, port)?.is_some() {
-            return Ok(true);
+        match greeted(rt, port) {
+            Some((_, true)) => return true,
+            Some((_, false)) => thread::sleep(rt, Duration::from_millis(1)),
+            None => return false,
         }
-        thread::sleep(rt, Duration::from_millis(1));
     }
-    Ok(false)
+    false
 }
 
 #[test]
-fn the_next_after_512_pairs_is_dropped_until_one_ends(rt: HostRuntime) -> Result<(), Fail> {
+fn the_next_after_512_pairs_is_dropped_until_one_ends(rt: HostRuntime) {
+    let watch = Watch::start(rt, rt.alloc());
     let alloc = rt.alloc();
-    let (listener, target) = target(&rt)?;
-    let greeter = thread::spawn(&rt, move || greet_all(alloc, &listener))?;
-    let port = free_port(&rt)?;
-    let rules = format!(in alloc; "relay a tcp:127.0.0.1:{port} tcp:127.0.0.1:{target} never\n")?;
-    let Place { rules, admin } = Place::with_rules(&rt, rules.as_str())?;
-    let socket = admin.clone()?;
-    let thread = thread::spawn(&rt, move || served(rt, &rules, &socket))?;
+    let (listener, target) = target(&rt).expect(&rt, "a target");
+    let greeter = thread::spawn(&rt, move || greet_all(alloc, &listener));
+    let greeter = greeter.expect(&rt, "thread");
+    let (place, port) = place_to(&rt, target, "never").expect(&rt, "a place");
+    let Place {
+        rules,
+        admin,
+        socket,
+    } = place;
+    let thread = thread::spawn(&rt, move || served(rt, &rules, &socket));
+    let thread = thread.expect(&rt, "thread");
     let running = Running { thread, admin };
-    let mut clients = Vec::new(alloc);
-    for _ in 0..MAX_PAIRS {
-        let Some(client) = greeted(&rt, port)? else {
-            return Err(Fail::new("one of 512 is dropped"));
-        };
-        clients.push(client)?;
-    }
-    assert!(rt; greeted(&rt, port)?.is_none(), "one more is served");
-    assert!(rt; running.ask(&rt, alloc, "close 2\n")?.as_str() == "ok\n");
-    assert!(rt;
-        one_is_greeted(&rt, port)?,
-        "nobody is served once a pair has ended"
-    );
-    assert!(rt; greeter.join(&rt).is_some());
-    let said = running.stop(&rt, alloc)?;
-    assert!(rt; said.is(Ok(()), "listening 1\nup 0 down 513\n"));
-    Ok(())
+    let _clients = most_clients(&rt, port).expect(&rt, "one of 512 is dropped");
+    holds!(rt; next_is_dropped(&rt, port), "one more is served");
+    holds!(rt; running.answers(&rt, "close 2\n", "ok\n"));
+    holds!(rt; one_is_greeted(&rt, port), "nobody is served once a pair has ended");
+    holds!(rt; greeter.join(&rt).is_some());
+    holds!(rt; running.is_stopped(&rt));
+    running.ends(&rt, "listening 1\nup 0 down 513\n");
+    watch.end(&rt);
 }

@@ -3,19 +3,27 @@
 ghost use Rattle.std.specs.Prelude.{◌≡◌};
 
 use super::TURNS;
+use super::watch::Watch;
 use relay::{AtEnd, Done, start_pair};
 use relay_core::{CopyGate, Ended};
 use relay_ledger::{Book, PARTS, give_up_all};
 use rwloops::{Fault, WriteFault};
-use std::alloc::Global;
 use std::marker::Brand;
+use std::process::Abort;
 use std::sync::atomic::{AtomicU64, Ordering};
 use std::sync::ledger::{Blank, Ledger};
 use std::sync::{Arc, Mutex, Wait};
-use std::test::Fail;
 use std::thread;
 use std::thread::Threads;
 use std::time::{Clock, Duration};
+
+fn zero<R: Abort + AllocGlobal>(rt: &R) -> Arc<AtomicU64> {
+    Arc::new(rt.alloc(), AtomicU64::new(0)).expect(rt, "a count")
+}
+
+fn shared<R: Abort, T>(rt: &R, one: &Arc<T>) -> Arc<T> {
+    Arc::try_clone(one).expect(rt, "shared")
+}
 
 /// Gives three bytes and then the end. A write says that it has begun, and ends once the other gate's
 /// write has.
@@ -79,51 +87,33 @@ impl AtEnd for Counted {
 }
 
 /// Whether the worker ended at the reader's end, and the book gathers with its share alone.
-fn leaves<L: Ledger, R: Wait>(
-    rt: &R,
-    alloc: Global,
-    book: &Mutex<Book<L>>,
-    done: Done<L>,
-) -> Result<bool, Fail> {
+fn leaves<L: Ledger, R: Wait + AllocGlobal>(rt: &R, book: &Mutex<Book<L>>, done: Done<L>) -> bool {
     let Done { ended, share } = done;
     let Some(share) = share else {
-        return Err(Fail::new("no share"));
+        return false;
     };
     book.lock(rt).settle(share.into_share());
-    let gathered = book.lock(rt).gather(Vec::new(alloc));
+    let gathered = book.lock(rt).gather(Vec::new(rt.alloc()));
     match gathered {
-        Ok(total) => Ok(total == 3 && ended == Ended::Eof),
+        Ok(total) => total == 3 && ended == Ended::Eof,
         Err(back) => {
             give_up_all(back);
-            Err(Fail::new("not gathered"))
+            false
         }
     }
 }
 
-/// Runs a pair of which each worker waits in its write for the other's.
-fn both_run<U, D, R>(rt: R, alloc: Global, up: Blank, down: Blank) -> Result<bool, Fail>
+/// The gates of a pair of which each worker waits in its write for the other's.
+fn gates<R>(rt: R) -> (OneRound<R>, OneRound<R>)
 where
-    U: Ledger + Send + Sync + 'static,
-    D: Ledger + Send + Sync + 'static,
-    R: Wait + Threads + Clock + Copy + Send + Sync + 'static,
-    requires up_name { up.name ≡ U.name }
-    requires up_parts { up.parts ≡ U.parts }
-    requires up_all { up.parts ≡ 4294967296 }
-    requires down_name { down.name ≡ D.name }
-    requires down_parts { down.parts ≡ D.parts }
-    requires down_all { down.parts ≡ 4294967296 }
+    R: Abort + AllocGlobal + Clock + Copy + Drop,
 {
-    let up_book = Arc::new(alloc, Mutex::new(Book::<U>::new(up)))?;
-    let down_book = Arc::new(alloc, Mutex::new(Book::<D>::new(down)))?;
-    let (one, two) = (
-        Arc::new(alloc, AtomicU64::new(0))?,
-        Arc::new(alloc, AtomicU64::new(0))?,
-    );
-    let ended = Arc::new(alloc, AtomicU64::new(0))?;
+    let one = zero(&rt);
+    let two = zero(&rt);
     let first = OneRound {
         rt,
-        own: Arc::try_clone(&one)?,
-        other: Arc::try_clone(&two)?,
+        own: shared(&rt, &one),
+        other: shared(&rt, &two),
         was_read: false,
     };
     let second = OneRound {
@@ -132,26 +122,46 @@ where
         other: one,
         was_read: false,
     };
+    (first, second)
+}
+
+/// Runs such a pair.
+fn both_run<U, D, R>(rt: R, up: Blank, down: Blank) -> bool
+where
+    U: Ledger + Send + Sync + 'static,
+    D: Ledger + Send + Sync + 'static,
+    R: Wait + Threads + Clock + Abort + AllocGlobal + Copy + Drop + Send + Sync + 'static,
+    requires up_name { up.name ≡ U.name }
+    requires up_parts { up.parts ≡ U.parts }
+    requires up_all { up.parts ≡ 4294967296 }
+    requires down_name { down.name ≡ D.name }
+    requires down_parts { down.parts ≡ D.parts }
+    requires down_all { down.parts ≡ 4294967296 }
+{
+    let up_book = Mutex::new(Book::<U>::new(up));
+    let up_book = Arc::new(rt.alloc(), up_book).expect(&rt, "a book");
+    let down_book = Mutex::new(Book::<D>::new(down));
+    let down_book = Arc::new(rt.alloc(), down_book).expect(&rt, "a book");
+    let ended = zero(&rt);
+    let (first, second) = gates(rt);
+    let (ups, downs) = (shared(&rt, &up_book), shared(&rt, &down_book));
     let first_end = Counted {
-        ended: Arc::try_clone(&ended)?,
+        ended: shared(&rt, &ended),
     };
     let second_end = Counted {
-        ended: Arc::try_clone(&ended)?,
+        ended: shared(&rt, &ended),
     };
-    let (ups, downs) = (Arc::try_clone(&up_book)?, Arc::try_clone(&down_book)?);
-    let Ok((first, second)) = start_pair(rt, first, second, ups, downs, first_end, second_end)
-    else {
-        return Err(Fail::new("threads"));
-    };
-    let up = leaves(&rt, alloc, &up_book, first.join(&rt))?;
-    let down = leaves(&rt, alloc, &down_book, second.join(&rt))?;
-    Ok(up && down && ended.load(Ordering::SeqCst) == 2)
+    let started = start_pair(rt, first, second, ups, downs, first_end, second_end);
+    let (first, second) = started.ok().expect(&rt, "threads");
+    holds!(rt; leaves(&rt, &up_book, first.join(&rt)));
+    holds!(rt; leaves(&rt, &down_book, second.join(&rt)));
+    ended.load(Ordering::SeqCst) == 2
 }
 
 #[test]
-fn both_directions_run_at_once(rt: HostRuntime) -> Result<(), Fail> {
+fn both_directions_run_at_once(rt: HostRuntime) {
+    let watch = Watch::start(rt, rt.alloc());
     let (up, down) = (Blank::new(PARTS), Blank::new(PARTS));
-    let ran = both_run::<Brand, Brand, HostRuntime>(rt, rt.alloc(), up, down)?;
-    assert!(rt; ran);
-    Ok(())
+    holds!(rt; both_run::<Brand, Brand, HostRuntime>(rt, up, down));
+    watch.end(&rt);
 }

@@ -1,74 +1,82 @@
 //! What keeps a relay from starting, which of two faults it tells, and that no path is left.
 
-use super::{Place, own_path, served};
+use super::watch::Watch;
+use super::{Place, is_there, own_path, served, write_empty};
 use arrayvec::ArrayString;
 use relay::ServeFault;
-use std::fs;
-use std::test::Fail;
+use std::fs::Files;
+use std::net::Net;
+use std::sync::Wait;
+use std::thread::Threads;
+use std::time::Clock;
 
-fn fault_of_listening(name: &str) -> Result<ServeFault, Fail> {
-    match ArrayString::from(name) {
-        Ok(name) => Ok(ServeFault::Listen(name)),
-        Err(_) => Err(Fail::new("a short name")),
+fn fault_of_listening(name: &str) -> Option<ServeFault> {
+    Some(ServeFault::Listen(ArrayString::from(name).ok()?))
+}
+
+/// Whether a relay is refused for this fault, and writes nothing.
+fn is_refused<R>(rt: R, rules: &String, admin: &String, fault: ServeFault) -> bool
+where
+    R: Wait + Threads + Net + Clock + Files + AllocGlobal + Copy + Send + Sync + 'static,
+{
+    served(rt, rules, admin).is(Err(fault), "")
+}
+
+#[test]
+fn a_missing_rules_file_is_told(rt: HostRuntime) {
+    let watch = Watch::start(rt, rt.alloc());
+    let place = Place::new(&rt).expect(&rt, "a place");
+    holds!(rt; is_refused(rt, &place.rules, &place.admin, ServeFault::RulesFile));
+    watch.end(&rt);
+}
+
+/// A place with two rules that listen at these paths, and whose admin socket's path is taken.
+fn place_of_two(rt: &HostRuntime, first: &str, second: &str) -> Option<Place> {
+    let rules = format!(in rt.alloc();
+        "relay a unix:{first} unix:/x never\nrelay b unix:{second} unix:/x never\n"
+    );
+    let place = Place::with_rules(rt, &rules.ok()?)?;
+    if write_empty(rt, &place.admin) {
+        return Some(place);
     }
+    None
 }
 
 #[test]
-fn a_missing_rules_file_is_told(rt: HostRuntime) -> Result<(), Fail> {
-    let place = Place::new(&rt)?;
-    let said = served(rt, &place.rules, &place.admin);
-    assert!(rt; said.is(Err(ServeFault::RulesFile), ""));
-    Ok(())
+fn the_first_listener_that_fails_is_told_before_the_admin_socket(rt: HostRuntime) {
+    let watch = Watch::start(rt, rt.alloc());
+    let first = own_path(&rt, "first").expect(&rt, "a path");
+    let taken = own_path(&rt, "taken").expect(&rt, "a path");
+    holds!(rt; write_empty(&rt, &taken));
+    let place = place_of_two(&rt, first.as_str(), taken.as_str()).expect(&rt, "a place");
+    let fault = fault_of_listening("b").expect(&rt, "a short name");
+    holds!(rt; is_refused(rt, &place.rules, &place.admin, fault));
+    holds!(rt; !is_there(&rt, &first), "a path that it bound is left");
+    holds!(rt; is_there(&rt, &taken), "a path that it didn't bind is gone");
+    watch.end(&rt);
 }
 
-#[test]
-fn the_first_listener_that_fails_is_told_before_the_admin_socket(
-    rt: HostRuntime,
-) -> Result<(), Fail> {
-    let alloc = rt.alloc();
-    let place = Place::new(&rt)?;
-    let first = own_path(&rt, "first")?;
-    let taken = own_path(&rt, "taken")?;
-    fs::write(&rt, taken.as_str(), "")?;
-    fs::write(&rt, place.admin.as_str(), "")?;
-    let rules = format!(in alloc;
-        "relay a unix:{first} unix:/x never\nrelay b unix:{taken} unix:/x never\n"
-    )?;
-    fs::write(&rt, place.rules.as_str(), rules.as_str())?;
-    let said = served(rt, &place.rules, &place.admin);
-    assert!(rt; said.is(Err(fault_of_listening("b")?), ""));
-    assert!(rt;
-        fs::metadata(&rt, first.as_str()).is_err(),
-        "a path that it bound is left"
-    );
-    assert!(rt;
-        fs::metadata(&rt, taken.as_str()).is_ok(),
-        "a path that it didn't bind is gone"
-    );
-    Ok(())
-}
-
-#[test]
-fn an_admin_socket_that_fails_is_told(rt: HostRuntime) -> Result<(), Fail> {
-    let alloc = rt.alloc();
-    let place = Place::new(&rt)?;
-    let first = own_path(&rt, "first")?;
-    let rules = format!(in alloc; "relay a unix:{first} unix:/x never\n")?;
-    fs::write(&rt, place.rules.as_str(), rules.as_str())?;
-    fs::write(&rt, place.admin.as_str(), "")?;
-    let empty = String::new(alloc);
-    let long = format!(in alloc; "/{:0>100}", 1)?;
-    for admin in [&place.admin, &empty, &long] {
-        let said = served(rt, &place.rules, admin);
-        assert!(rt; said.is(Err(ServeFault::Admin), ""));
-        assert!(rt;
-            fs::metadata(&rt, first.as_str()).is_err(),
-            "a path that it bound is left"
-        );
+/// A place with a rule that listens at this path, and whose admin socket's path is taken.
+fn place_of_one(rt: &HostRuntime, first: &str) -> Option<Place> {
+    let rules = format!(in rt.alloc(); "relay a unix:{first} unix:/x never\n");
+    let place = Place::with_rules(rt, &rules.ok()?)?;
+    if write_empty(rt, &place.admin) {
+        return Some(place);
     }
-    assert!(rt;
-        fs::metadata(&rt, place.admin.as_str()).is_ok(),
-        "a path that it didn't bind is gone"
-    );
-    Ok(())
+    None
+}
+
+#[test]
+fn an_admin_socket_that_fails_is_told(rt: HostRuntime) {
+    let watch = Watch::start(rt, rt.alloc());
+    let first = own_path(&rt, "first").expect(&rt, "a path");
+    let Place { rules, admin, .. } = place_of_one(&rt, first.as_str()).expect(&rt, "a place");
+    let empty = String::new(rt.alloc());
+    let long = format!(in rt.alloc(); "/{:0>100}", 1).expect(&rt, "a path");
+    for admin in [&admin, &empty, &long] {
+        holds!(rt; is_refused(rt, &rules, admin, ServeFault::Admin));
+        holds!(rt; !is_there(&rt, &first), "a path that it bound is left");
+    }
+    holds!(rt; is_there(&rt, &admin), "a path that it didn't bind is gone");
+    watch.end(&rt);
 }

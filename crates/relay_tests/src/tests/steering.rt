@@ -1,88 +1,80 @@
 //! Pairs that are ended: by an admin session, by a deadline, by silence, by a stop.
 
-use super::{Place, Running, TURNS, accepted, free_port, has_ended, hears, reach, served, target};
+use super::watch::Watch;
+use super::{Place, Running, TURNS, accepted, has_ended, hears, place_to_own, reach, says, served};
 use std::io::Write;
-use std::test::Fail;
 use std::thread;
 use std::time::Duration;
 
 #[test]
-fn closing_one_side_ends_the_pair(rt: HostRuntime) -> Result<(), Fail> {
-    let alloc = rt.alloc();
-    let (listener, target) = target(&rt)?;
-    let port = free_port(&rt)?;
-    let rules = format!(in alloc; "relay a tcp:127.0.0.1:{port} tcp:127.0.0.1:{target} never\n")?;
-    let Place { rules, admin } = Place::with_rules(&rt, rules.as_str())?;
-    let socket = admin.clone()?;
-    let thread = thread::spawn(&rt, move || served(rt, &rules, &socket))?;
+fn closing_one_side_ends_the_pair(rt: HostRuntime) {
+    let watch = Watch::start(rt, rt.alloc());
+    let (place, listener, port) = place_to_own(&rt, "never").expect(&rt, "a place");
+    let Place {
+        rules,
+        admin,
+        socket,
+    } = place;
+    let thread = thread::spawn(&rt, move || served(rt, &rules, &socket));
+    let thread = thread.expect(&rt, "thread");
     let running = Running { thread, admin };
-    let mut client = reach(&rt, port)?;
-    let mut peer = accepted(&rt, &listener)?;
-    client.write_all(b"hello")?;
-    assert!(rt; hears(&mut peer, b"hello"));
-    running.comes_to(
-        &rt,
-        alloc,
-        "list\ntotals\n",
-        "ids 1 2 3\ntotals up 5 down 0\n",
-    )?;
-    assert!(rt;
-        running.ask(&rt, alloc, "close 3\nclose 3\n")?.as_str()
-            == "ok\nerror 404 no such connection\n"
-    );
-    assert!(rt; has_ended(&mut client));
-    assert!(rt; has_ended(&mut peer));
-    running.comes_to(&rt, alloc, "list\n", "ids 1\n")?;
-    let said = running.stop(&rt, alloc)?;
-    assert!(rt; said.is(Ok(()), "listening 1\nup 5 down 0\n"));
-    Ok(())
+    let mut client = reach(&rt, port).expect(&rt, "nobody listens");
+    let mut peer = accepted(&rt, &listener).expect(&rt, "nobody connects");
+    holds!(rt; says(&mut client, b"hello"));
+    holds!(rt; hears(&mut peer, b"hello"));
+    holds!(rt; running.comes_to(&rt, "list\ntotals\n", "ids 1 2 3\ntotals up 5 down 0\n"));
+    let once = "ok\nerror 404 no such connection\n";
+    holds!(rt; running.answers(&rt, "close 3\nclose 3\n", once));
+    holds!(rt; has_ended(&mut client));
+    holds!(rt; has_ended(&mut peer));
+    holds!(rt; running.comes_to(&rt, "list\n", "ids 1\n"));
+    holds!(rt; running.is_stopped(&rt));
+    running.ends(&rt, "listening 1\nup 5 down 0\n");
+    watch.end(&rt);
 }
 
 #[test]
-fn a_deadline_ends_a_pair_and_one_that_is_lifted_lets_a_listener_accept(
-    rt: HostRuntime,
-) -> Result<(), Fail> {
-    let alloc = rt.alloc();
-    let (listener, target) = target(&rt)?;
-    let port = free_port(&rt)?;
-    let rules = format!(in alloc; "relay a tcp:127.0.0.1:{port} tcp:127.0.0.1:{target} never\n")?;
-    let Place { rules, admin } = Place::with_rules(&rt, rules.as_str())?;
-    let socket = admin.clone()?;
-    let thread = thread::spawn(&rt, move || served(rt, &rules, &socket))?;
+fn a_deadline_ends_a_pair_and_one_that_is_lifted_lets_a_listener_accept(rt: HostRuntime) {
+    let watch = Watch::start(rt, rt.alloc());
+    let (place, listener, port) = place_to_own(&rt, "never").expect(&rt, "a place");
+    let Place {
+        rules,
+        admin,
+        socket,
+    } = place;
+    let thread = thread::spawn(&rt, move || served(rt, &rules, &socket));
+    let thread = thread.expect(&rt, "thread");
     let running = Running { thread, admin };
-    assert!(rt; running.ask(&rt, alloc, "deadline 1 0\n")?.as_str() == "ok\n");
-    let mut client = reach(&rt, port)?;
+    holds!(rt; running.answers(&rt, "deadline 1 0\n", "ok\n"));
+    let mut client = reach(&rt, port).expect(&rt, "nobody listens");
     // A thousand faults that follow each other within a millisecond would be over by now.
     thread::sleep(&rt, Duration::from_millis(1_200));
-    assert!(rt;
-        running
-            .ask(&rt, alloc, "list\ndeadline 1 never\n")?
-            .as_str()
-            == "ids 1\nok\n"
-    );
-    let mut peer = accepted(&rt, &listener)?;
-    client.write_all(b"hello")?;
-    assert!(rt; hears(&mut peer, b"hello"));
-    assert!(rt; running.ask(&rt, alloc, "deadline 2 30\n")?.as_str() == "ok\n");
-    assert!(rt; has_ended(&mut client));
-    assert!(rt; has_ended(&mut peer));
-    let said = running.stop(&rt, alloc)?;
-    assert!(rt; said.is(Ok(()), "listening 1\nup 5 down 0\n"));
-    Ok(())
+    holds!(rt; running.answers(&rt, "list\ndeadline 1 never\n", "ids 1\nok\n"));
+    let mut peer = accepted(&rt, &listener).expect(&rt, "nobody connects");
+    holds!(rt; says(&mut client, b"hello"));
+    holds!(rt; hears(&mut peer, b"hello"));
+    holds!(rt; running.answers(&rt, "deadline 2 30\n", "ok\n"));
+    holds!(rt; has_ended(&mut client));
+    holds!(rt; has_ended(&mut peer));
+    holds!(rt; running.is_stopped(&rt));
+    running.ends(&rt, "listening 1\nup 5 down 0\n");
+    watch.end(&rt);
 }
 
 #[test]
-fn the_silent_way_ends_a_pair_after_its_idle_time(rt: HostRuntime) -> Result<(), Fail> {
-    let alloc = rt.alloc();
-    let (listener, target) = target(&rt)?;
-    let port = free_port(&rt)?;
-    let rules = format!(in alloc; "relay a tcp:127.0.0.1:{port} tcp:127.0.0.1:{target} 100\n")?;
-    let Place { rules, admin } = Place::with_rules(&rt, rules.as_str())?;
-    let socket = admin.clone()?;
-    let thread = thread::spawn(&rt, move || served(rt, &rules, &socket))?;
+fn the_silent_way_ends_a_pair_after_its_idle_time(rt: HostRuntime) {
+    let watch = Watch::start(rt, rt.alloc());
+    let (place, listener, port) = place_to_own(&rt, "100").expect(&rt, "a place");
+    let Place {
+        rules,
+        admin,
+        socket,
+    } = place;
+    let thread = thread::spawn(&rt, move || served(rt, &rules, &socket));
+    let thread = thread.expect(&rt, "thread");
     let running = Running { thread, admin };
-    let mut client = reach(&rt, port)?;
-    let _peer = accepted(&rt, &listener)?;
+    let mut client = reach(&rt, port).expect(&rt, "nobody listens");
+    let _peer = accepted(&rt, &listener).expect(&rt, "nobody connects");
     // The client speaks all the time, and the target never: its silence ends the pair.
     let mut turns = 0u32;
     for _ in 0..TURNS {
@@ -92,38 +84,39 @@ fn the_silent_way_ends_a_pair_after_its_idle_time(rt: HostRuntime) -> Result<(),
         turns = turns.saturating_add(1);
         thread::sleep(&rt, Duration::from_millis(1));
     }
-    assert!(rt; turns > 20, "it ended at once");
-    assert!(rt; turns < TURNS, "the pair goes on");
-    running.comes_to(&rt, alloc, "list\n", "ids 1\n")?;
-    let said = running.stop(&rt, alloc)?;
-    assert!(rt; said.done == Ok(()));
-    Ok(())
+    holds!(rt; turns > 20, "it ended at once");
+    holds!(rt; turns < TURNS, "the pair goes on");
+    holds!(rt; running.comes_to(&rt, "list\n", "ids 1\n"));
+    holds!(rt; running.is_stopped(&rt));
+    holds!(rt; running.thread.join(&rt).done == Ok(()));
+    watch.end(&rt);
 }
 
 #[test]
-fn a_stop_ends_pairs_that_stand(rt: HostRuntime) -> Result<(), Fail> {
-    let alloc = rt.alloc();
-    let (listener, target) = target(&rt)?;
-    let port = free_port(&rt)?;
-    let rules = format!(in alloc; "relay a tcp:127.0.0.1:{port} tcp:127.0.0.1:{target} 60000\n")?;
-    let Place { rules, admin } = Place::with_rules(&rt, rules.as_str())?;
-    let socket = admin.clone()?;
-    let thread = thread::spawn(&rt, move || served(rt, &rules, &socket))?;
+fn a_stop_ends_pairs_that_stand(rt: HostRuntime) {
+    let watch = Watch::start(rt, rt.alloc());
+    let (place, listener, port) = place_to_own(&rt, "60000").expect(&rt, "a place");
+    let Place {
+        rules,
+        admin,
+        socket,
+    } = place;
+    let thread = thread::spawn(&rt, move || served(rt, &rules, &socket));
+    let thread = thread.expect(&rt, "thread");
     let running = Running { thread, admin };
-    let mut first = reach(&rt, port)?;
-    let mut second = reach(&rt, port)?;
-    let mut peer = accepted(&rt, &listener)?;
-    first.write_all(b"hello")?;
-    second.write_all(b"hello")?;
-    assert!(rt; hears(&mut peer, b"hello"));
-    running.comes_to(
-        &rt,
-        alloc,
+    let mut first = reach(&rt, port).expect(&rt, "nobody listens");
+    let mut second = reach(&rt, port).expect(&rt, "nobody listens");
+    let mut peer = accepted(&rt, &listener).expect(&rt, "nobody connects");
+    holds!(rt; says(&mut first, b"hello"));
+    holds!(rt; says(&mut second, b"hello"));
+    holds!(rt; hears(&mut peer, b"hello"));
+    holds!(rt; running.comes_to(&rt,
         "list\ntotals\n",
-        "ids 1 2 3 4 5\ntotals up 10 down 0\n",
-    )?;
-    let said = running.stop(&rt, alloc)?;
-    assert!(rt; said.is(Ok(()), "listening 1\nup 10 down 0\n"));
-    assert!(rt; has_ended(&mut first) && has_ended(&mut second) && has_ended(&mut peer));
-    Ok(())
+        "ids 1 2 3 4 5\ntotals up 10 down 0\n",));
+    holds!(rt; running.is_stopped(&rt));
+    running.ends(&rt, "listening 1\nup 10 down 0\n");
+    holds!(rt; has_ended(&mut first));
+    holds!(rt; has_ended(&mut second));
+    holds!(rt; has_ended(&mut peer));
+    watch.end(&rt);
 }

@@ -1,4 +1,4 @@
-use Rattle.lockword.proofs.RuleLaws.{counts_seats, one_lock, one_place}
+use Rattle.lockword.proofs.RuleLaws.{counts_seats, none_waits, one_drainer, one_lock, one_place}
 use Rattle.lockword.proofs.laws.the_word_counts_the_seats.Goals as goal
 
 pub returns-clause-counts : goal.returns-clause-counts
@@ -9,3 +9,12 @@ returns-clause-one_lock g c s d reached = one_lock s d reached
 
 pub returns-clause-one_place : goal.returns-clause-one_place
 returns-clause-one_place g c s d reached = one_place s d reached
+
+pub returns-clause-one_drainer : goal.returns-clause-one_drainer
+returns-clause-one_drainer g c s fields read = one_drainer s fields read
+
+pub returns-clause-no_reader_waits : goal.returns-clause-no_reader_waits
+returns-clause-no_reader_waits g c s fields read drained = (none_waits s fields read drained).0
+
+pub returns-clause-no_writer_waits : goal.returns-clause-no_writer_waits
+returns-clause-no_writer_waits g c s fields read drained = (none_waits s fields read drained).1

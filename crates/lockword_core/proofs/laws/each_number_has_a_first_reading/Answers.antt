@@ -1,6 +1,6 @@
 use Rattle.std.proofs.Common.{◌≡◌, ◌+◌, ◌/◌, ◌%◌}
 use Rattle.std.specs.Prelude.{◌==◌}
-use Rattle.lockword_core.proofs.Words.{ℕ, Bool, arith, not, Read, Write, Word, CLOSED, NO_WORD, bit}
+use Rattle.lockword_core.proofs.Words.{ℕ, arith, not, Read, Write, Word, CLOSED, DRAIN, bit}
 use Rattle.lockword_core.specs.declared.word.TheConstants.{READ_LOCK, REFERENCE}
 use Rattle.lockword_core.specs.declared.layout_one.TheConstants as one
 use Rattle.lockword_core.specs.Word.{lock_in}
@@ -17,15 +17,13 @@ fields_of n =
       refs = n / REFERENCE % (one.MAX_REFERENCES + 1);
       rwait = n / one.READ_WAITER % (one.MAX_WAITERS + 1);
       wwait = n / one.WRITE_WAITER % (one.MAX_WAITERS + 1);
+      drain = n / DRAIN == 1;
     }
-
-abbrev top_of : ℕ → Bool
-top_of n = not (n / NO_WORD == 0)
 
 pub returns : goal.returns
 returns c n small =
     let a : bit (n % READ_LOCK == CLOSED) ≡ n % READ_LOCK = flag_of (n % READ_LOCK) (omega arith) in
     let b : bit (not (lock_in Read n == 0)) ≡ lock_in Read n = bit_of (lock_in Read n) (omega arith) in
     let w : bit (not (lock_in Write n == 0)) ≡ lock_in Write n = bit_of (lock_in Write n) (omega arith) in
-    let t : bit (not (n / NO_WORD == 0)) ≡ n / NO_WORD = bit_of (n / NO_WORD) (omega arith) in
-    (fields_of n, top_of n, record { fit = omega arith; sum = omega arith })
+    let t : bit (n / DRAIN == 1) ≡ n / DRAIN = flag_of (n / DRAIN) (omega arith) in
+    (fields_of n, record { fit = omega arith; sum = omega arith })

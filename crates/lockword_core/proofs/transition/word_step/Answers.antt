@@ -1,14 +1,10 @@
 use Rattle.std.proofs.Common.{◌∙◌}
 use Rattle.lockword_core.proofs.Words.{ℕ, Result, sym, subst, After, Refused, outcome, transition, op_of, Tells}
 use Rattle.lockword_core.specs.WordStep.{TellsTransition}
-use Rattle.lockword_core.proofs.WordLemmas.{step_same, IsWordResult, stepped_word-small}
+use Rattle.lockword_core.proofs.WordLemmas.{step_same}
 use Rattle.lockword_core.proofs.WordRefines.{tells}
 use Rattle.lockword_core.proofs.StateLemmas.{tells_transition}
 use Rattle.lockword_core.proofs.transition.word_step.Goals as goal
-
-pub returns-clause-is_word : goal.returns-clause-is_word
-returns-clause-is_word c =
-    subst IsWordResult (sym c.step.ensures) (stepped_word-small c.args.word c.args.kind c.if-word-ge-NO_WORD.false)
 
 pub returns-clause-fields : goal.returns-clause-fields
 returns-clause-fields c f fits same = c.step.ensures ∙ step_same f c.args.kind c.args.word fits same

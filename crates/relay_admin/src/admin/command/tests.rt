@@ -19,6 +19,17 @@ fn lines_spell_their_commands(rt: HostRuntime) {
         ("close 0", None),
         ("close 01", None),
         ("close", None),
+        ("drain 1", Some(Command::DrainConn(1))),
+        (
+            "drain 4503599627370494",
+            Some(Command::DrainConn(4_503_599_627_370_494)),
+        ),
+        ("drain 4503599627370495", None),
+        ("drain 0", None),
+        ("drain 01", None),
+        ("drain", None),
+        ("drain 1 never", None),
+        ("draining 1", None),
         ("deadline 3 0", Some(Command::DeadlineOf(3, Some(0)))),
         (
             "deadline 3 86400000",

@@ -8,7 +8,6 @@ use std::io;
 use std::io::Cursor;
 use std::prelude::HostRuntime;
 use std::process::Abort;
-use std::test::Fail;
 
 const X64: &str = "xxxxxxxxxxxxxxxxxxxxxxxxxxxxxxxxxxxxxxxxxxxxxxxxxxxxxxxxxxxxxxxx";
 
@@ -20,7 +19,7 @@ const X65: &str = "xxxxxxxxxxxxxxxxxxxxxxxxxxxxxxxxxxxxxxxxxxxxxxxxxxxxxxxxxxxxx
 const BAD: &str = "error 400 bad command\n";
 
 /// Sessions: what is read, what is replied, how it ends, and how often the desk is asked.
-const SESSIONS: [(&str, &str, AdminEnd, u64); 13] = [
+const SESSIONS: [(&str, &str, AdminEnd, u64); 17] = [
     ("", "", AdminEnd::End, 0),
     ("list\n", "ids 1 2\n", AdminEnd::End, 1),
     ("deadline 3 0\n", "ok\n", AdminEnd::End, 1),
@@ -60,6 +59,30 @@ const SESSIONS: [(&str, &str, AdminEnd, u64); 13] = [
         AdminEnd::Stop,
         5,
     ),
+    (
+        "drain 9\n",
+        "error 404 no such connection\n",
+        AdminEnd::End,
+        1,
+    ),
+    (
+        "drain 1\ndrain 1\n",
+        "ok\nerror 409 draining\n",
+        AdminEnd::End,
+        2,
+    ),
+    (
+        "deadline 1 50\ndrain 1\ndeadline 1 50\ndeadline 1 never\nclose 1\n",
+        "ok\nok\nerror 409 draining\nerror 409 draining\nok\n",
+        AdminEnd::End,
+        5,
+    ),
+    (
+        "drain 2\ndrain 3\ndrain 4\ndrain 01\ndrain\nquit\n",
+        "error 409 closed\nerror 409 busy\nerror 507 out of memory\nerror 400 bad command\nerror 400 bad command\nok\n",
+        AdminEnd::Quit,
+        3,
+    ),
 ];
 
 /// Plays one session.
@@ -92,8 +115,28 @@ fn a_list_of_no_ids_is_a_word_alone(rt: HostRuntime) {
     assert_eq!(rt; writer.as_slice(), b"ids\nok\n".as_slice());
 }
 
+/// So many bad lines, and then this text.
+fn bad_lines(alloc: Global, lines: u32, last: &str) -> Option<Vec<u8>> {
+    let mut text = Vec::new(alloc);
+    for _ in 0..lines {
+        text.extend_from_slice(b"x\n").ok()?;
+    }
+    text.extend_from_slice(last.as_bytes()).ok()?;
+    Some(text)
+}
+
+/// How a session over this text ends, and how many bytes it writes.
+fn end_and_bytes(alloc: Global, text: Option<Vec<u8>>) -> Option<(AdminEnd, usize)> {
+    let text = text?;
+    let mut reader = Cursor::new(text.as_slice());
+    let mut writer = Vec::new(alloc);
+    let mut desk = FakeDesk::new();
+    let end = serve_admin(alloc, &mut reader, &mut writer, &mut desk).ok()?;
+    Some((end, writer.len()))
+}
+
 #[test]
-fn a_session_has_65536_lines_at_most(rt: HostRuntime) -> Result<(), Fail> {
+fn a_session_has_65536_lines_at_most(rt: HostRuntime) {
     for (lines, last, end, bytes) in [
         (65_536u32, "", AdminEnd::TooManyLines, 22 * 65_536),
         (65_535, "", AdminEnd::End, 22 * 65_535),
@@ -103,19 +146,9 @@ fn a_session_has_65536_lines_at_most(rt: HostRuntime) -> Result<(), Fail> {
         (65_536, "quit\n", AdminEnd::TooManyLines, 22 * 65_536),
         (65_535, X65, AdminEnd::TooLong, 22 * 65_536),
     ] {
-        let mut text = Vec::new(rt.alloc());
-        for _ in 0..lines {
-            text.extend_from_slice(b"x\n")?;
-        }
-        text.extend_from_slice(last.as_bytes())?;
-        let mut reader = Cursor::new(text.as_slice());
-        let mut writer = Vec::new(rt.alloc());
-        let mut desk = FakeDesk::new();
-        let got = serve_admin(rt.alloc(), &mut reader, &mut writer, &mut desk);
-        assert_eq!(rt; got, Ok(end), "{lines} lines and {last}");
-        assert_eq!(rt; writer.len(), bytes, "{lines} lines and {last}");
+        let got = end_and_bytes(rt.alloc(), bad_lines(rt.alloc(), lines, last));
+        assert!(rt; got == Some((end, bytes)), "{lines} lines and {last}");
     }
-    Ok(())
 }
 
 /// Gives a line a read, so many times, and fails from then on.

@@ -113,16 +113,26 @@ fn files_have_their_verdicts(rt: HostRuntime) {
     }
 }
 
+/// The only rule of a text.
+fn only_rule(text: &[u8]) -> Option<Rule> {
+    let rules = Rules::parse(text).ok()?;
+    match rules.as_slice() {
+        [rule] => Some(*rule),
+        _ => None,
+    }
+}
+
 #[test]
 fn a_rule_holds_what_its_line_says(rt: HostRuntime) -> Result<(), Fail> {
-    let rules = Rules::parse(WEB.as_bytes()).ok().ok_or("no rules")?;
-    assert_eq!(rt; rules.as_slice().len(), 1);
-    let rule = rules.as_slice()[0];
-    assert_eq!(rt; rule.name.as_str(), "web");
-    assert_eq!(rt; rule.listen, Addr::Tcp([127, 0, 0, 1], 8080));
+    let rule = only_rule(WEB.as_bytes()).ok_or("one rule")?;
     let path = ArrayString::from("/tmp/a.sock").ok().ok_or("too long")?;
-    assert_eq!(rt; rule.target, Addr::Unix(path));
-    assert_eq!(rt; rule.idle, Some(5000));
+    assert!(rt; rule.name.as_str() == "web", "the name");
+    assert!(rt;
+        rule.listen == Addr::Tcp([127, 0, 0, 1], 8080),
+        "where it listens"
+    );
+    assert!(rt; rule.target == Addr::Unix(path), "where it leads");
+    assert!(rt; rule.idle == Some(5000), "the idle time");
     Ok(())
 }
 

@@ -5,11 +5,12 @@ use Rattle.lockword.specs.contracts.local_view.LocalView as local_view
 use Rattle.lockword.specs.contracts.shared_rule.Half as content
 use Rattle.lockword.specs.declared.shared_rule.Half.TheVariants as half
 use Rattle.lockword.specs.declared.directions.Direction.{Ghosts}
+use Rattle.lockword.specs.declared.directions.Guards as guards
 use Rattle.lockword.specs.declared.holders.Held.{Held}
 use Rattle.lockword.specs.Lent.{with_half}
 use Rattle.lockword.proofs.holders.Held.half.Goals as goal
 
-module _ {D R W G : Type 0} {way : Ghosts D} (l : Held D R W G way) where
+module _ {D R W G : Type 0} {kept : guards.Ghosts D R W G} {way : Ghosts D} (l : Held D R W G kept way) where
   abbrev HasStake : Type 0
   HasStake = l.place.me.0.stake ≡ lock_stake way.dir
 

@@ -1,4 +1,6 @@
-use Rattle.lockword.proofs.Words.{rules, subst, sym, ap, LocalView, IsFound}
+use Rattle.std.proofs.Common.{◌∙◌}
+use Rattle.lockword_core.proofs.WordFields.{unpacks}
+use Rattle.lockword.proofs.Words.{rules, subst, sym, ap, LocalView, IsFound, Word}
 use Rattle.lockword.proofs.WordTests.{shown}
 use Rattle.lockword.proofs.LookSteps.{looks}
 use Rattle.lockword.proofs.holders.LockWord.look_at.Goals as goal
@@ -9,6 +11,8 @@ load-requires g c = (search rules, search rules, looks _ _ _ _ _)
 pub returns-clause-looks : goal.returns-clause-looks
 returns-clause-looks g c =
     let told = c.load.ensures.2.0 in
+    let now = c.load.ensures.2.1 in
+    let fields = unpacks c.fields_of.result c.load.result c.fields_of.ensures.fits c.fields_of.ensures.same in
     record {
       shown = shown g.row.R.Denot g.row.W.Denot c.load.result c.fields_of.result c.load.new.seat.me.0
           (subst (λ (v : LocalView). IsFound g.row.R.Denot g.row.W.Denot c.load.result v)
@@ -16,9 +20,11 @@ returns-clause-looks g c =
       same_deeds = search rules;
       is_word = search rules;
       same_word = search rules;
-      sees_flag = search rules;
+      sees_flag = ap (λ m. m.0.saw.closed) now ∙ ap (λ (f : Word). f.closed) fields;
       same_done = search rules;
       flag_stays = search rules;
+      sees_drain = ap (λ m. m.0.saw.draining) now ∙ ap (λ (f : Word). f.drain) fields;
+      drain_stays = search rules;
       nothing_after_done = search rules;
       shows_stake = search rules;
     }

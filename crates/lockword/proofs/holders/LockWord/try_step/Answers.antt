@@ -3,7 +3,8 @@ use Rattle.lockword.proofs.Words.{rules, sym, ap, subst, Ok, true, allows, op_of
 use Rattle.lockword_core.specs.declared.transition.Refused.TheVariants as why
 use Rattle.lockword.specs.Steps.{HasSlots}
 use Rattle.lockword.proofs.LookSteps.{looks}
-use Rattle.lockword.proofs.WordTests.{is_stepped, came_after, lost, refused_closed, refused_full, no_misuse}
+use Rattle.lockword.proofs.WordTests.{is_stepped, came_after, lost, refused_closed, refused_draining, refused_full}
+use Rattle.lockword.proofs.WordTests.{no_misuse}
 use Rattle.lockword.proofs.StateSteps.{moves}
 use Rattle.lockword.proofs.holders.LockWord.try_step.Goals as goal
 
@@ -62,7 +63,16 @@ returns-in-Err-Closed-clause-step g c =
     let err : c.word_step.result ≡ Err why.Closed = search rules in
     let is : stepped_word n c.args.kind ≡ Err why.Closed =
     sym (is_stepped n c.args.kind c.word_step.result told.0.is_word c.word_step.ensures.fields) ∙ err in
-    refused_closed c.args.kind n c.args.place.now c.load-found.new.seat is told.1 c.load-found.ensures.0
+    refused_closed c.args.kind n c.args.place.now c.load-found.new.seat told.0 is told.1 c.load-found.ensures.0
+
+pub returns-in-Err-Draining-clause-step : goal.returns-in-Err-Draining-clause-step
+returns-in-Err-Draining-clause-step g c =
+    let n = c.load-found.result in
+    let told = c.load-found.ensures.2 in
+    let err : c.word_step.result ≡ Err why.Draining = search rules in
+    let is : stepped_word n c.args.kind ≡ Err why.Draining =
+    sym (is_stepped n c.args.kind c.word_step.result told.0.is_word c.word_step.ensures.fields) ∙ err in
+    refused_draining c.args.kind n c.args.place.now c.load-found.new.seat told.0 is told.1 c.load-found.ensures.0
 
 pub returns-in-Err-TooMany-clause-step : goal.returns-in-Err-TooMany-clause-step
 returns-in-Err-TooMany-clause-step g c =
