@@ -2,7 +2,8 @@
 //! halves are destroyed once, which alarms are asked for, and refused memory.
 
 /// Ends the test's process where this doesn't hold, and says what should. A call costs the proof
-/// of a test less than a branch does.
+/// of a test less than a branch does. `readiness_tests` and `relay_tests` have one too: no crate uses
+/// another's tests.
 macro_rules! holds {
     ($rt:expr; $is:expr) => {
         $crate::tests::holds(&$rt, $is, stringify!($is))

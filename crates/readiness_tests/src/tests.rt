@@ -5,7 +5,8 @@ ghost use Rattle.std.specs.Prelude.{◌≡◌};
 ghost use Rattle.std.specs.Arc.{arc_value};
 
 /// Ends the test's process where this doesn't hold, and says what should. A call costs the proof
-/// of a test less than a branch does.
+/// of a test less than a branch does. `descriptor_tests` and `relay_tests` have one too: no crate uses
+/// another's tests.
 macro_rules! holds {
     ($rt:expr; $is:expr) => {
         $crate::tests::holds(&$rt, $is, stringify!($is))

@@ -46,8 +46,8 @@ fn text_on<S: Source>(alloc: Global, source: &mut S) -> Result<Vec<u8>, ServeFau
     Ok(text)
 }
 
-/// The bytes of a file, or one byte more than a rules file may have, where it has more, which are enough to see that it is too
-/// long. The faults are `RulesFile`, where it can't be opened or read, and `Memory`.
+/// The bytes of a file, or one byte more than a rules file may have, where it has more, which are
+/// enough to see that it is too long. The faults are `RulesFile`, where it can't be opened or read, and `Memory`.
 pub fn text_of<R: Files>(rt: &R, alloc: Global, path: &str) -> Result<Vec<u8>, ServeFault>
     ensures most { IfOk result (λ text. length text.items ≤ MAX_BYTES + 1) }
     ensures faults { IfErr result (λ fault. IsReadFault fault) }
