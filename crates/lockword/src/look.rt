@@ -11,8 +11,8 @@ pub trait Holder<R: Drop, W: Drop> {
 
     ghost place: { Self → Place R W };
 
-    /// What a look leaves as it is, beside the stake.
-    ghost keeps: { Self → Self → Type 0 };
+    /// What a look leaves as it is, beside the stake: of most values the stake says all.
+    ghost keeps: { Self → Self → Type 0 } = { λ _ _. Unit {0} };
 
     /// One load of the state word.
     fn look_in(&mut self, word: &LockWord<R, W>) -> Word
@@ -41,8 +41,6 @@ impl<R: Drop, W: Drop> Holder<R, W> for Seat<R, W> {
 
     ghost place = { seat_place };
 
-    ghost keeps = { λ _ _. Unit {0} };
-
     fn look_in(&mut self, word: &LockWord<R, W>) -> Word {
         word.look_at(&mut self.place)
     }
@@ -52,8 +50,6 @@ impl<R: Drop, W: Drop> Holder<R, W> for Ref<R, W> {
     ghost use Rattle.lockword.specs.Places.{ref_place};
 
     ghost place = { ref_place };
-
-    ghost keeps = { λ _ _. Unit {0} };
 
     fn look_in(&mut self, word: &LockWord<R, W>) -> Word {
         word.look_at(&mut self.place)
@@ -65,8 +61,6 @@ impl<R: Drop, W: Drop> Holder<R, W> for Closing<R, W> {
 
     ghost place = { closing_place };
 
-    ghost keeps = { λ _ _. Unit {0} };
-
     fn look_in(&mut self, word: &LockWord<R, W>) -> Word {
         word.look_at(&mut self.place)
     }
@@ -76,8 +70,6 @@ impl<R: Drop, W: Drop> Holder<R, W> for Last<R, W> {
     ghost use Rattle.lockword.specs.Places.{last_place};
 
     ghost place = { last_place };
-
-    ghost keeps = { λ _ _. Unit {0} };
 
     fn look_in(&mut self, word: &LockWord<R, W>) -> Word {
         word.look_at(&mut self.place)
@@ -102,8 +94,6 @@ impl<D: Direction, R: Drop, W: Drop> Holder<R, W> for Waiting<D, R, W> {
 
     ghost place = { wait_place };
 
-    ghost keeps = { λ _ _. Unit {0} };
-
     fn look_in(&mut self, word: &LockWord<R, W>) -> Word {
         word.look_at(&mut self.place)
     }
@@ -114,8 +104,6 @@ impl<R: Drop, W: Drop> Holder<R, W> for Owing<R, W> {
 
     ghost place = { owing_place };
 
-    ghost keeps = { λ _ _. Unit {0} };
-
     fn look_in(&mut self, word: &LockWord<R, W>) -> Word {
         word.look_at(&mut self.place)
     }
@@ -125,8 +113,6 @@ impl<R: Drop, W: Drop> Holder<R, W> for Drains<R, W> {
     ghost use Rattle.lockword.specs.Places.{drains_place};
 
     ghost place = { drains_place };
-
-    ghost keeps = { λ _ _. Unit {0} };
 
     fn look_in(&mut self, word: &LockWord<R, W>) -> Word {
         word.look_at(&mut self.place)

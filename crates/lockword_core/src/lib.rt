@@ -6,6 +6,7 @@ pub mod layout_one;
 mod machine;
 mod signals;
 mod stake;
+mod stake_rules;
 mod transition;
 mod word;
 
