@@ -1,5 +1,5 @@
 -- A handle, as callers see it: its descriptor, the descriptor's key and cell, and what it has seen.
-use Rattle.std.specs.Prelude.{◌≡◌, ℕ, Bool}
+use Rattle.std.specs.Prelude.{◌≡◌, ℕ, Bool, false}
 use Rattle.std.specs.Arc.{arc_value}
 use Rattle.fd_descriptor.specs.declared.descriptor.Fd.{Fd}
 use Rattle.fd_descriptor.specs.declared.descriptor.FdHandle.{FdHandle}
@@ -55,3 +55,23 @@ pub record KeepsHandle {X R W A : Type 0} (before after : FdHandle X R W A) : Ty
   pub same : descriptor_of after ≡ descriptor_of before
   -- what was seen stays seen
   pub marks : KeepsMarks (marks_of before) (marks_of after)
+
+-- what a call keeps that neither closes, nor destroys, nor drains
+pub record KeepsDeeds {X R W A : Type 0} (before after : FdHandle X R W A) : Type 0 where
+  pub no_close : closes_of after ≡ closes_of before
+  pub no_destroy : destroys_of after ≡ destroys_of before
+  pub no_drain : drains_of after ≡ drains_of before
+
+-- a handle that has closed nothing, destroyed nothing and drained nothing so far
+pub record DidNothing {X R W A : Type 0} (handle : FdHandle X R W A) : Type 0 where
+  pub no_close : closes_of handle ≡ 0
+  pub no_destroy : destroys_of handle ≡ 0
+  pub no_drain : drains_of handle ≡ 0
+
+-- the first handle on a descriptor that was opened with this key: it has seen nothing, and done nothing
+pub record IsFirst {X R W A : Type 0} (given : ℕ) (handle : FdHandle X R W A) : Type 0 where
+  pub key : key_of handle ≡ given
+  pub unclosed : saw_closed handle ≡ false
+  pub undrained : saw_draining handle ≡ false
+  pub not_done : saw_done handle ≡ false
+  pub idle : DidNothing handle

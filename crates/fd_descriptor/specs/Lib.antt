@@ -1,5 +1,6 @@
 pub mod CellKey
 pub mod Deadlines
+pub mod Entry
 pub mod FdHandle
 pub mod HalfUse
 pub mod HandleCalls

@@ -4,10 +4,10 @@ ghost use Rattle.std.specs.Prelude.{◌≡◌, ◌≤◌, ◌<◌, true, length,
 ghost use Rattle.fd_descriptor.specs.FdHandle.{KeepsHandle, marks_of, saw_closed, saw_draining};
 ghost use Rattle.fd_descriptor.specs.FdHandle.{closes_of, destroys_of, drains_of};
 ghost use Rattle.fd_descriptor.specs.HandleCalls.{IsLockFault, MayTell, HasEnded};
-ghost use Rattle.fd_descriptor.specs.HandleCalls.{IsRefusedEntry, IsRefusedWrite};
+ghost use Rattle.fd_descriptor.specs.HandleCalls.{IsRefusedWrite};
 ghost use Rattle.fd_descriptor.specs.HandleCalls.{TellsWhoClosed, TellsOwnDestroy};
-ghost use Rattle.fd_descriptor.specs.HandleCalls.{Reads, Accepts, Writes, Shuts, Closes};
-ghost use Rattle.fd_descriptor.specs.Deadlines.{IsSetting};
+ghost use Rattle.fd_descriptor.specs.HandleCalls.{Reads, Accepts, Writes, Shuts, SetsDeadline, Closes};
+ghost use Rattle.fd_descriptor.specs.Entry.{IsEntry};
 
 use crate::close::close_by;
 use crate::deadlines::Setting;
@@ -28,12 +28,7 @@ impl<X: Resource, A: Allocator> FdHandle<X, A> {
     pub fn read<T: Wait>(&mut self, rt: &T, buf: &mut [u8]) -> Result<usize, Fault>
     where
         X::R: TryRead,
-        ensures keeps { KeepsHandle self.old self.new }
-        ensures no_close { closes_of self.new ≡ closes_of self.old }
-        ensures no_drain { drains_of self.new ≡ drains_of self.old }
-        ensures closed { saw_closed self.old ≡ true → result ≡ Err Fault.Closed }
-        ensures draining { saw_draining self.old ≡ true → IsRefusedEntry result }
-        ensures allowed { IfErr result (MayTell Reads (marks_of self.old) (marks_of self.new)) }
+        ensures entry { IsEntry Reads self.old self.new result }
         ensures within { IfOk result (λ count. count ≤ length buf.old) }
         ensures some { 0 < length buf.old → IfOk result (λ count. 0 < count) }
         ensures empty { length buf.old ≡ 0
@@ -49,12 +44,7 @@ impl<X: Resource, A: Allocator> FdHandle<X, A> {
     pub fn accept<T: Wait>(&mut self, rt: &T) -> Result<<X::R as TryAccept>::T, Fault>
     where
         X::R: TryAccept,
-        ensures keeps { KeepsHandle self.old self.new }
-        ensures no_close { closes_of self.new ≡ closes_of self.old }
-        ensures no_drain { drains_of self.new ≡ drains_of self.old }
-        ensures closed { saw_closed self.old ≡ true → result ≡ Err Fault.Closed }
-        ensures draining { saw_draining self.old ≡ true → IsRefusedEntry result }
-        ensures allowed { IfErr result (MayTell Accepts (marks_of self.old) (marks_of self.new)) }
+        ensures entry { IsEntry Accepts self.old self.new result }
     {
         let fd: &Fd<X, A> = &self.fd;
         with_half::<Reading, X, A, T, _, _>(rt, fd, &mut self.seat, |half| {
@@ -96,12 +86,7 @@ impl<X: Resource, A: Allocator> FdHandle<X, A> {
     pub fn close_write<T: Wait>(&mut self, rt: &T) -> Result<(), Fault>
     where
         X::W: HalfClose,
-        ensures keeps { KeepsHandle self.old self.new }
-        ensures no_close { closes_of self.new ≡ closes_of self.old }
-        ensures no_drain { drains_of self.new ≡ drains_of self.old }
-        ensures closed { saw_closed self.old ≡ true → result ≡ Err Fault.Closed }
-        ensures draining { saw_draining self.old ≡ true → IsRefusedEntry result }
-        ensures allowed { IfErr result (MayTell Shuts (marks_of self.old) (marks_of self.new)) }
+        ensures entry { IsEntry Shuts self.old self.new result }
     {
         let fd: &Fd<X, A> = &self.fd;
         match with_half::<Writing, X, A, T, _, _>(rt, fd, &mut self.seat, |half| {
@@ -113,7 +98,7 @@ impl<X: Resource, A: Allocator> FdHandle<X, A> {
     }
 
     fn set<T: Wait, L: Alarms>(&mut self, rt: &T, alarms: &L, setting: Setting) -> Result<(), Fault>
-        ensures setting { IsSetting self.old self.new result }
+        ensures entry { IsEntry SetsDeadline self.old self.new result }
     {
         let Some(seat) = self.seat.take() else {
             unreachable!()
@@ -140,7 +125,7 @@ impl<X: Resource, A: Allocator> FdHandle<X, A> {
         now: u64,
         alarms: &L,
     ) -> Result<(), Fault>
-        ensures setting { IsSetting self.old self.new result }
+        ensures entry { IsEntry SetsDeadline self.old self.new result }
     {
         self.set(rt, alarms, Setting::new(Dirs::Both, deadline, now))
     }
@@ -154,7 +139,7 @@ impl<X: Resource, A: Allocator> FdHandle<X, A> {
         now: u64,
         alarms: &L,
     ) -> Result<(), Fault>
-        ensures setting { IsSetting self.old self.new result }
+        ensures entry { IsEntry SetsDeadline self.old self.new result }
     {
         self.set(rt, alarms, Setting::new(Dirs::Read, deadline, now))
     }
@@ -167,7 +152,7 @@ impl<X: Resource, A: Allocator> FdHandle<X, A> {
         now: u64,
         alarms: &L,
     ) -> Result<(), Fault>
-        ensures setting { IsSetting self.old self.new result }
+        ensures entry { IsEntry SetsDeadline self.old self.new result }
     {
         self.set(rt, alarms, Setting::new(Dirs::Write, deadline, now))
     }

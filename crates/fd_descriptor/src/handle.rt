@@ -1,11 +1,10 @@
 //! The handle's own calls: how a descriptor is opened, shared and waited for.
 
-ghost use Rattle.std.specs.Prelude.{◌≡◌, true, false, IfOk, IfErr};
+ghost use Rattle.std.specs.Prelude.{◌≡◌, true, IfOk, IfErr};
 ghost use Rattle.std.specs.Arc.{arc_value};
 ghost use Rattle.lockword.specs.TransitionOutcomes.{IsOnlyClosed};
-ghost use Rattle.fd_descriptor.specs.FdHandle.{descriptor_of, key_of, cell_of};
+ghost use Rattle.fd_descriptor.specs.FdHandle.{descriptor_of, cell_of, KeepsDeeds, DidNothing, IsFirst};
 ghost use Rattle.fd_descriptor.specs.FdHandle.{marks_of, saw_closed, saw_draining, saw_done};
-ghost use Rattle.fd_descriptor.specs.FdHandle.{closes_of, destroys_of, drains_of};
 
 use crate::descriptor::{Fd, FdHandle};
 use crate::poll_cell::PollCell;
@@ -26,13 +25,7 @@ impl<X: Resource> FdHandle<X> {
         write: X::W,
         key: u64,
     ) -> Result<FdHandle<X>, OutOfMemory>
-        ensures key { IfOk result (λ handle. key_of handle ≡ key) }
-        ensures open { IfOk result (λ handle. saw_closed handle ≡ false) }
-        ensures undrained { IfOk result (λ handle. saw_draining handle ≡ false) }
-        ensures not_done { IfOk result (λ handle. saw_done handle ≡ false) }
-        ensures no_close { IfOk result (λ handle. closes_of handle ≡ 0) }
-        ensures no_destroy { IfOk result (λ handle. destroys_of handle ≡ 0) }
-        ensures no_drain { IfOk result (λ handle. drains_of handle ≡ 0) }
+        ensures first { IfOk result (IsFirst key) }
     {
         FdHandle::open_in(alloc, alloc, read, write, key)
     }
@@ -49,13 +42,7 @@ impl<X: Resource, A: Allocator> FdHandle<X, A> {
     ) -> Result<FdHandle<X, A>, OutOfMemory>
     where
         A: Copy,
-        ensures key { IfOk result (λ handle. key_of handle ≡ key) }
-        ensures open { IfOk result (λ handle. saw_closed handle ≡ false) }
-        ensures undrained { IfOk result (λ handle. saw_draining handle ≡ false) }
-        ensures not_done { IfOk result (λ handle. saw_done handle ≡ false) }
-        ensures no_close { IfOk result (λ handle. closes_of handle ≡ 0) }
-        ensures no_destroy { IfOk result (λ handle. destroys_of handle ≡ 0) }
-        ensures no_drain { IfOk result (λ handle. drains_of handle ≡ 0) }
+        ensures first { IfOk result (IsFirst key) }
     {
         let Ok(cell) = Arc::new(alloc, PollCell::new(key)) else {
             return Err(OutOfMemory);
@@ -91,9 +78,7 @@ impl<X: Resource, A: Allocator> FdHandle<X, A> {
         ensures drain_stays { saw_draining self.old ≡ true → result.drain ≡ true }
         ensures done { saw_done self.new ≡ saw_done self.old }
         ensures gone { saw_done self.old ≡ true → IsOnlyClosed result }
-        ensures no_close { closes_of self.new ≡ closes_of self.old }
-        ensures no_destroy { destroys_of self.new ≡ destroys_of self.old }
-        ensures no_drain { drains_of self.new ≡ drains_of self.old }
+        ensures deeds { KeepsDeeds self.old self.new }
     {
         let Some(mut seat) = self.seat.take() else {
             unreachable!()
@@ -108,14 +93,10 @@ impl<X: Resource, A: Allocator> FdHandle<X, A> {
     pub fn share(&mut self) -> Result<FdHandle<X, A>, Fault>
         ensures same { descriptor_of self.new ≡ descriptor_of self.old }
         ensures kept { marks_of self.new ≡ marks_of self.old }
-        ensures no_close { closes_of self.new ≡ closes_of self.old }
-        ensures no_destroy { destroys_of self.new ≡ destroys_of self.old }
-        ensures no_drain { drains_of self.new ≡ drains_of self.old }
+        ensures deeds { KeepsDeeds self.old self.new }
         ensures shared { IfOk result (λ other. descriptor_of other ≡ descriptor_of self.old) }
         ensures seen { IfOk result (λ other. marks_of other ≡ marks_of self.old) }
-        ensures new { IfOk result (λ other. closes_of other ≡ 0) }
-        ensures new_too { IfOk result (λ other. destroys_of other ≡ 0) }
-        ensures new_undrained { IfOk result (λ other. drains_of other ≡ 0) }
+        ensures idle { IfOk result DidNothing }
         ensures refused { IfErr result (λ fault. fault ≡ Fault.OutOfMemory) }
     {
         let Ok(fd) = Arc::try_clone(&self.fd) else {

@@ -4,7 +4,10 @@ use Rattle.fd_descriptor.specs.Marks.{marks_in}
 use Rattle.fd_descriptor.proofs.FaultLemmas.{own_fault}
 use Rattle.fd_descriptor.proofs.descriptor.FdHandle.accept.Goals as goal
 
-pub returns-clause-allowed : goal.returns-clause-allowed
-returns-clause-allowed g c =
-    own_fault Accepts (marks_in c.args.self.now.seat) (marks_in c.with_half.new.seat)
-    c.in_ok-with_half.field-0 (search rules)
+pub returns : goal.returns
+returns g c =
+    search (
+      rules,
+      own_fault Accepts (marks_in c.args.self.now.seat) (marks_in c.with_half.new.seat)
+          c.in_ok-with_half.field-0 (search rules),
+    )
