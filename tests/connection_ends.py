@@ -24,6 +24,7 @@ class End:
         self.sock, self.sends, self.expects = sock, sends, expects
         self.chunk = rng.choice(CHUNKS)
         self.sent = self.received = 0
+        self.sent_at = 0.0  # before the last send
         self.first_wrong = None
         self.waits = False  # for the other's end, before it sends
         self.holds_open = False
@@ -46,6 +47,7 @@ class End:
             self.receive()
 
     def send(self):
+        self.sent_at = time.monotonic()
         try:
             self.sent += self.sock.send(self.sends[self.sent : self.sent + self.chunk])
         except BlockingIOError:
