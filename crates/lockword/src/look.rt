@@ -36,6 +36,7 @@ impl<R: Drop, W: Drop> LockWord<R, W> {
     }
 }
 
+// Each value has its seat in a field of its own type, so each has an impl, which names that field.
 impl<R: Drop, W: Drop> Holder<R, W> for Seat<R, W> {
     ghost use Rattle.lockword.specs.Places.{seat_place};
 
