@@ -20,8 +20,14 @@ cd "$work/crates/misuse"
 # refuses WHAT: the program on standard input is refused at each marked line, and at no other
 refuses() {
     cat > src/lib.rt
-    grep -n '// refused: ' src/lib.rt | sed 's/:.*refused: / /' | sort -u > "$work/wanted"
-    rt check --only "" 2>&1 | sed -n 's/^src\/lib\.rt:\([0-9]*\):[0-9]*: error\[\([a-z0-9-]*\)\].*/\1 \2/p' | sort -u > "$work/found"
+    refuses_in lib "$1"
+}
+
+# refuses_in FILE WHAT: src/FILE.rt of this crate is refused at each marked line, and at no other
+refuses_in() {
+    grep -n '// refused: ' "src/$1.rt" | sed 's/:.*refused: / /' | sort -u > "$work/wanted"
+    rt check --only "" 2>&1 | sed -n 's/^src\/'"$1"'\.rt:\([0-9]*\):[0-9]*: error\[\([a-z0-9-]*\)\].*/\1 \2/p' | sort -u > "$work/found"
+    shift
     if ! diff "$work/wanted" "$work/found"; then
         echo "$1: not refused as it must be (< wanted, > found)"
         exit 1
@@ -110,3 +116,10 @@ pub fn try_with_a_mutex_around_the_state(state: &Mutex<u64>) -> u64 {
     *state.lock() // refused: mismatched-argument-count
 }
 END
+
+# The same inside the word: a `LockWord` that keeps a mutex beside its table, and a try that takes it before its step.
+cd "$work/crates/lockword"
+sed -i 's|^    pub(crate) table: Table<.*|&\n    pub(crate) guard: std::sync::Mutex<u64>,|' src/holders.rt
+sed -i 's|^        match self\.try_step::<TakeReference>.*|        let held = self.guard.lock(); // refused: mismatched-argument-count\n&|' src/references.rt
+sed -i 's|Ok((LockWord { table }, |Ok((LockWord { table, guard: std::sync::Mutex::new(0) }, |' src/destroy.rt
+refuses_in references 'a lock held inside the word'

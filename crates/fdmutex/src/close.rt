@@ -5,11 +5,12 @@ ghost use Rattle.std.specs.Prelude.{◌≡◌, false, IfOk, IfErr};
 ghost use Rattle.stream_base.specs.declared.direction.Dir.{Dir};
 ghost use Rattle.stream_base.specs.declared.direction.Dir.TheVariants.{Read, Write};
 ghost use Rattle.lockword_core.specs.LockState.{is_same};
-ghost use Rattle.lockword.specs.Marks.{NowClosed, SameDeeds};
+ghost use Rattle.lockword.specs.Marks.{NowClosed, SameDeeds, HeardOn};
 ghost use Rattle.lockword.specs.Places.{seat_place, closing_place, owed_by};
 ghost use Rattle.lockword.specs.TransitionOutcomes.{IsSeatOf};
 ghost use Rattle.lockword.specs.Dropping.{IsDecided, LeavesClosed};
 ghost use Rattle.fdmutex.specs.Deeds.{MadeNoEnd, MadeTheClose, LeavesWithoutEnd};
+ghost use Rattle.fdmutex.specs.Heard.{TakesHearing, LeavesHearing};
 ghost use Rattle.fdmutex.specs.Refusal.{IsClosingOrRefused};
 
 use crate::Refusal;
@@ -28,6 +29,7 @@ fn take_over<R: Drop, W: Drop, T: Wait>(
     ensures answer { IsClosingOrRefused seat result }
     ensures made { IfOk result (λ closing. MadeTheClose (seat_place seat) (closing_place closing)) }
     ensures refused { IfErr result (λ back. SameDeeds (seat_place seat) (seat_place back.0)) }
+    ensures heard { TakesHearing closing_place seat result }
 {
     let mut seat = seat;
     for _ in rt.forever() {
@@ -54,6 +56,7 @@ fn signal_all<R: Drop, W: Drop, T: Wait>(
     ensures given { owed_by result dir ≡ 0 }
     ensures other_way { (d : Dir) → is_same dir d ≡ false → owed_by result d ≡ owed_by closing d }
     ensures made { MadeNoEnd (closing_place closing) (closing_place result) }
+    ensures heard { HeardOn (closing_place closing) (closing_place result) }
 {
     let mut closing = closing;
     for _ in rt.forever() {
@@ -82,6 +85,7 @@ pub fn close_mark<R: Drop, W: Drop, T: Wait>(
     ensures no_writer_owed { IfOk result (λ closing. owed_by closing Write ≡ 0) }
     ensures made { IfOk result (λ closing. MadeTheClose (seat_place seat) (closing_place closing)) }
     ensures refused { IfErr result (λ back. SameDeeds (seat_place seat) (seat_place back.0)) }
+    ensures heard { TakesHearing closing_place seat result }
 {
     let closing = take_over(rt, word, seat)?;
     let closing = signal_all(rt, word, closing, Dir::Read);
@@ -96,6 +100,7 @@ pub fn drop_closing<R: Drop, W: Drop>(word: &LockWord<R, W>, closing: Closing<R,
     ensures left { LeavesClosed (closing_place closing) result }
     ensures decided { IsDecided (closing_place closing) result }
     ensures no_end { LeavesWithoutEnd (closing_place closing) result }
+    ensures heard { LeavesHearing (closing_place closing) result }
 {
     word.drop_closing(closing)
 }

@@ -1,7 +1,7 @@
 //! The wait until the resource is destroyed. `mark_done` wakes one waiter, and each wakes the next.
 
 ghost use Rattle.std.specs.Prelude.{◌≡◌, true};
-ghost use Rattle.lockword.specs.Marks.{saw_closed, saw_draining, saw_done, word_of, SameDeeds};
+ghost use Rattle.lockword.specs.Marks.{saw_closed, saw_draining, saw_done, word_of, SameDeeds, SameHeard};
 ghost use Rattle.lockword.specs.Places.{seat_place};
 ghost use Rattle.lockword.specs.TransitionOutcomes.{IsSeatOf};
 
@@ -20,6 +20,7 @@ pub fn wait_done<R: Drop, W: Drop, T: Wait>(
     ensures same_draining { saw_draining (seat_place result) ≡ saw_draining (seat_place seat) }
     ensures done { saw_done (seat_place result) ≡ true }
     ensures same_deeds { SameDeeds (seat_place seat) (seat_place result) }
+    ensures same_heard { SameHeard (seat_place seat) (seat_place result) }
 {
     let mut seat = seat;
     for _ in rt.forever() {

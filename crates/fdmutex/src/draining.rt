@@ -2,10 +2,11 @@
 //! it returns. The woken contend again, and find the word draining.
 
 ghost use Rattle.std.specs.Prelude.{IfOk, IfErr};
-ghost use Rattle.lockword.specs.Marks.{NowDraining, SameDeeds};
+ghost use Rattle.lockword.specs.Marks.{NowDraining, SameDeeds, HeardOn};
 ghost use Rattle.lockword.specs.Places.{seat_place, drains_place};
 ghost use Rattle.lockword.specs.TransitionOutcomes.{IsSeatOf};
 ghost use Rattle.fdmutex.specs.Deeds.{MadeNoEnd, MadeTheDrain};
+ghost use Rattle.fdmutex.specs.Heard.{TakesHearing};
 ghost use Rattle.fdmutex.specs.Refusal.{IsNever, IsTakenOrRefused};
 
 use crate::Refusal;
@@ -24,6 +25,7 @@ fn signal_both<R: Drop, W: Drop, T: Wait>(
     requires seat { IsSeatOf word.now (drains_place drains) }
     ensures draining { NowDraining (drains_place drains) (seat_place result) }
     ensures no_end { MadeNoEnd (drains_place drains) (seat_place result) }
+    ensures heard { HeardOn (drains_place drains) (seat_place result) }
 {
     let mut drains = drains;
     for _ in rt.forever() {
@@ -55,6 +57,7 @@ pub fn drain<R: Drop, W: Drop, T: Wait>(
     ensures answer { IsTakenOrRefused NowDraining seat_place IsNever seat result }
     ensures made { IfOk result (λ after. MadeTheDrain (seat_place seat) (seat_place after)) }
     ensures refused { IfErr result (λ back. SameDeeds (seat_place seat) (seat_place back.0)) }
+    ensures heard { TakesHearing seat_place seat result }
 {
     let mut seat = seat;
     for _ in rt.forever() {

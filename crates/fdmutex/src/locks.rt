@@ -2,11 +2,12 @@
 //! and contends from the start. Who gives a lock back gives the signal that it owes before it returns.
 
 ghost use Rattle.stream_base.specs.declared.direction.Dir.TheVariants.{Read, Write};
-ghost use Rattle.lockword.specs.Marks.{SameMarks};
+ghost use Rattle.lockword.specs.Marks.{SameMarks, HeardOn};
 ghost use Rattle.lockword.specs.Places.{seat_place, lock_place, wait_place, owing_place};
 ghost use Rattle.lockword.specs.TransitionOutcomes.{IsSeatOf};
 ghost use Rattle.lockword.specs.Dropping.{Leaves};
 ghost use Rattle.fdmutex.specs.Deeds.{MadeNoEnd, TakesWithoutEnd, LeavesWithoutEnd};
+ghost use Rattle.fdmutex.specs.Heard.{TakesHearing, LeavesHearing};
 ghost use Rattle.fdmutex.specs.Refusal.{IsLockFull, IsTakenOrRefused};
 
 use crate::Refusal;
@@ -25,6 +26,7 @@ fn await_signal<D: Direction, R: Drop, W: Drop, T: Wait>(
     requires seat { IsSeatOf word.now (wait_place wait) }
     ensures marks { SameMarks (wait_place wait) (seat_place result) }
     ensures no_end { MadeNoEnd (wait_place wait) (seat_place result) }
+    ensures heard { HeardOn (wait_place wait) (seat_place result) }
 {
     let mut wait = wait;
     for _ in rt.forever() {
@@ -50,6 +52,7 @@ fn signal<R: Drop, W: Drop, T: Wait>(
     requires seat { IsSeatOf word.now (owing_place owing) }
     ensures marks { SameMarks (owing_place owing) (seat_place result) }
     ensures no_end { MadeNoEnd (owing_place owing) (seat_place result) }
+    ensures heard { HeardOn (owing_place owing) (seat_place result) }
 {
     let mut owing = owing;
     for _ in rt.forever() {
@@ -70,6 +73,7 @@ pub fn lock<D: Guards<R, W>, R: Drop, W: Drop, T: Wait>(
     requires seat { IsSeatOf word.now (seat_place seat) }
     ensures answer { IsTakenOrRefused SameMarks lock_place (IsLockFull D.dir) seat result }
     ensures no_end { TakesWithoutEnd lock_place seat result }
+    ensures heard { TakesHearing lock_place seat result }
 {
     let mut seat = seat;
     for _ in rt.forever() {
@@ -94,6 +98,7 @@ pub fn unlock<D: Guards<R, W>, R: Drop, W: Drop, T: Wait>(
     requires seat { IsSeatOf word.now (lock_place held) }
     ensures left { Leaves (lock_place held) result }
     ensures no_end { LeavesWithoutEnd (lock_place held) result }
+    ensures heard { LeavesHearing (lock_place held) result }
 {
     let mut held = held;
     for _ in rt.forever() {
@@ -116,6 +121,7 @@ pub fn read_lock<R: Drop, W: Drop, T: Wait>(
     requires seat { IsSeatOf word.now (seat_place seat) }
     ensures answer { IsTakenOrRefused SameMarks lock_place (IsLockFull Read) seat result }
     ensures no_end { TakesWithoutEnd lock_place seat result }
+    ensures heard { TakesHearing lock_place seat result }
 {
     lock(rt, word, seat)
 }
@@ -129,6 +135,7 @@ pub fn write_lock<R: Drop, W: Drop, T: Wait>(
     requires seat { IsSeatOf word.now (seat_place seat) }
     ensures answer { IsTakenOrRefused SameMarks lock_place (IsLockFull Write) seat result }
     ensures no_end { TakesWithoutEnd lock_place seat result }
+    ensures heard { TakesHearing lock_place seat result }
 {
     lock(rt, word, seat)
 }
@@ -142,6 +149,7 @@ pub fn read_unlock<R: Drop, W: Drop, T: Wait>(
     requires seat { IsSeatOf word.now (lock_place held) }
     ensures left { Leaves (lock_place held) result }
     ensures no_end { LeavesWithoutEnd (lock_place held) result }
+    ensures heard { LeavesHearing (lock_place held) result }
 {
     unlock(rt, word, held)
 }
@@ -155,6 +163,7 @@ pub fn write_unlock<R: Drop, W: Drop, T: Wait>(
     requires seat { IsSeatOf word.now (lock_place held) }
     ensures left { Leaves (lock_place held) result }
     ensures no_end { LeavesWithoutEnd (lock_place held) result }
+    ensures heard { LeavesHearing (lock_place held) result }
 {
     unlock(rt, word, held)
 }

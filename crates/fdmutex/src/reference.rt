@@ -5,6 +5,7 @@ ghost use Rattle.lockword.specs.Places.{seat_place, ref_place};
 ghost use Rattle.lockword.specs.TransitionOutcomes.{IsSeatOf};
 ghost use Rattle.lockword.specs.Dropping.{IsDecided, Leaves};
 ghost use Rattle.fdmutex.specs.Deeds.{TakesWithoutEnd, LeavesWithoutEnd};
+ghost use Rattle.fdmutex.specs.Heard.{TakesHearing, LeavesHearing};
 ghost use Rattle.fdmutex.specs.Refusal.{IsReferenceFull, IsTakenOrRefused};
 
 use crate::Refusal;
@@ -20,6 +21,7 @@ pub fn incref<R: Drop, W: Drop, T: Wait>(
     requires seat { IsSeatOf word.now (seat_place seat) }
     ensures answer { IsTakenOrRefused SameMarks ref_place IsReferenceFull seat result }
     ensures no_end { TakesWithoutEnd ref_place seat result }
+    ensures heard { TakesHearing ref_place seat result }
 {
     let mut seat = seat;
     for _ in rt.forever() {
@@ -40,6 +42,7 @@ pub fn decref<R: Drop, W: Drop>(word: &LockWord<R, W>, held: Ref<R, W>) -> Freed
     ensures left { Leaves (ref_place held) result }
     ensures decided { IsDecided (ref_place held) result }
     ensures no_end { LeavesWithoutEnd (ref_place held) result }
+    ensures heard { LeavesHearing (ref_place held) result }
 {
     word.drop_ref(held)
 }

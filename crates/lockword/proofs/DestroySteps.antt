@@ -2,7 +2,7 @@
 use Rattle.std.proofs.Common.{◌≡◌, ◌+◌, ◌≤◌, ◌∙◌, [], ◌∷◌, ◌++◌}
 use Rattle.lockword.proofs.Words.{ℕ, Bool, true, false, List, length, get_or, set, refl, sym, ap, subst, arith}
 use Rattle.lockword.proofs.Words.{length-set, Option, none, some, get_elem?, step, Allows, set_here, Dir, Read, Write}
-use Rattle.lockword.proofs.Words.{Stake, bit, Census, empty, locks, lasts, part, number, state_after, ChangesOneStake}
+use Rattle.lockword.proofs.Words.{Stake, Event, bit, Census, empty, locks, lasts, part, number, state_after, ChangesOneStake}
 use Rattle.lockword.proofs.Words.{count-within, IsBalanced, LocalView, STATE, DONE, newcomer, stakes_of, taken_by}
 use Rattle.lockword.proofs.Words.{Guarded, half_of, half_home, Represents, IsReached}
 use Rattle.atomic_table.specs.Table.{takes, gives, chain}
@@ -15,7 +15,7 @@ use Rattle.lockword_core.specs.LockState.{count}
 use Rattle.lockword_core.proofs.BalanceLemmas.{destroy_keeps}
 use Rattle.lockword.specs.declared.shared_rule.Half.TheVariants as half
 use Rattle.lockword.specs.LocalView.{takers}
-use Rattle.lockword.specs.Steps.{destroyed_view, emptied, marked}
+use Rattle.lockword.specs.Steps.{destroyed_view, emptied, hearing, marked}
 use Rattle.lockword.proofs.ViewLemmas.{one_changes, same_stakes, counted_at, takers-set, takers-le}
 use Rattle.lockword.proofs.Representation.{both, seated, present, fits, represents, on_done}
 use Rattle.lockword.proofs.LookSteps.{is_over, view_of}
@@ -23,6 +23,8 @@ use Rattle.lockword.proofs.HistorySteps.{event, same_history, same_deeds, more_d
 use Rattle.lockword.proofs.HistorySteps.{is_made}
 use Rattle.lockword.proofs.HistoryEnds.{destroy_moves, destroyed_history}
 use Rattle.lockword.proofs.Exchanges.{H, M}
+use Rattle.lockword.proofs.HeardSteps.{heard_same, heard_more, stays}
+use Rattle.lockword.proofs.Rehear.{rehear_after}
 
 module _ (R W : Type 0) where
   -- a half at home
@@ -111,6 +113,7 @@ module _ (R W : Type 0) where
           interleaves = same_deeds reached.history s.views id me.0 w reached.interleaves at refl;
           none_refused = reached.none_refused;
           leads = same_history (state_after empty reached.history) s.words s.views DONE id me.0 w reached.leads at refl;
+          heard = heard_same reached.history s.views id me.0 w reached.heard at refl;
         },
         (refl, (a.0, b.0, refl)),
       )
@@ -156,22 +159,28 @@ module _ (R W : Type 0) where
       (destroy_keeps c (stakes_of views) state f.balance from_last)
       (both _ (omega arith) (omega arith))
       (λ e. refl)
-      record { closed = (f.seen id me.0 at).closed; draining = (f.seen id me.0 at).draining; done = λ e. refl } in (
-        w,
+      record { closed = (f.seen id me.0 at).closed; draining = (f.seen id me.0 at).draining; done = λ e. refl } in
+      let all : List Event = h ++ event id op.Destroy ∷ [] in
+      let y : LocalView = hearing all w in
+      let over : IsReached {R = R} {W = W} record { words = set s.words DONE 1; homes = homes; views = views } =
+      record {
+        represents = represents (set s.words DONE 1) homes views
+            (record c { stakes = stakes_of views; destroyed = true }) state next;
+        history = all;
+        interleaves = more_deeds h s.views id me.0 w op.Destroy reached.interleaves at refl;
+        none_refused = none_refused_more h id op.Destroy answer.Done stake.Free destroys made reached.none_refused;
+        leads = destroyed_history h s.words s.views id me.0 w reached.leads r.four_words at last refl;
+        heard = heard_more h s.views id me.0 w (event id op.Destroy) reached.heard at refl;
+      } in (
+        y,
         chain gives gives,
         (tt, tt),
-        record {
-          represents = represents (set s.words DONE 1) homes views
-              (record c { stakes = stakes_of views; destroyed = true }) state next;
-          history = h ++ event id op.Destroy ∷ [];
-          interleaves = more_deeds h s.views id me.0 w op.Destroy reached.interleaves at refl;
-          none_refused = none_refused_more h id op.Destroy answer.Done stake.Free destroys made reached.none_refused;
-          leads = destroyed_history h s.words s.views id me.0 w reached.leads r.four_words at last refl;
-        },
+        rehear_after R W id me.0 w all (set s.words DONE 1) homes s.views at over (stays all),
         (
+          all,
           refl,
           refl,
-          is_made h id me.0 w op.Destroy answer.Done stake.Free destroys
-              (view_of s reached id me.0 at) made refl refl,
+          is_made h id me.0 y op.Destroy answer.Done stake.Free destroys reached.none_refused
+              (view_of s reached id me.0 at) made refl refl (reached.heard.each id me.0 at) refl,
         ),
       ))

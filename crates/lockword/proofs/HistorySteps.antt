@@ -22,7 +22,7 @@ use Rattle.lockword_core.proofs.ReplayLemmas.{state_after-append}
 use Rattle.lockword_core.proofs.HolderLemmas.{stake-own, stake-other}
 use Rattle.lockword_core.proofs.OperationAdds.{move_is_no_refusal}
 use Rattle.lockword_core.proofs.OperationLemmas.{none_refused-push}
-use Rattle.lockword.specs.History.{Interleaves, IsView}
+use Rattle.lockword.specs.History.{Interleaves, IsView, GoesOn}
 use Rattle.lockword.proofs.Representation.{not_state}
 use Rattle.lockword.proofs.ViewLemmas.{at_there, stake_at, stakes-set, same_stakes}
 
@@ -177,17 +177,21 @@ own_view h words views id v l i at closed draining done =
 
 -- a move of the core is made by this seat
 pub is_made : (h : List Event) (id : ℕ) (v w : LocalView) (o : Op) (a : Answer) (new : Stake) (change : Change)
-    → IsView h id v → IsMove h id o a new change → w.stake ≡ new → w.did ≡ v.did ++ o ∷ [] → IsMade o a v w
-is_made h id v w o a new change own made is did =
+    → NoneRefused h → IsView h id v → IsMove h id o a new change → w.stake ≡ new → w.did ≡ v.did ++ o ∷ []
+    → GoesOn v.heard h → w.heard ≡ h ++ event id o ∷ [] → IsMade o a v w
+is_made h id v w o a new change none own made is did so_far heard =
     let leads = leads_to h id o a new change made in
     record {
       history = h;
+      none_refused = none;
       seat = id;
       own = own;
       answered = ap (λ (p : LockState × Answer). p.1) leads;
       stake = ap (λ (p : LockState × Answer). stake_of p.0 id) leads ∙ stake-own (state_after empty h) id new change
           ∙ sym is;
       did = did;
+      goes_on = so_far;
+      heard = heard;
     }
 
 -- ---- Exchanges of the state word

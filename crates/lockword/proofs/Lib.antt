@@ -4,7 +4,9 @@ pub mod Representation
 pub mod HistorySteps
 pub mod SignalHistory
 pub mod HistoryEnds
+pub mod HeardSteps
 pub mod Exchanges
+pub mod Rehear
 pub mod LookSteps
 pub mod WordTests
 pub mod StepParts

@@ -4,7 +4,7 @@ use Rattle.lockword.proofs.Words.{ℕ, Bool, true, List, get_or, get_or-set_same
 use Rattle.lockword.proofs.Words.{arith, is_some, dite, Option, none, some, ℕ_discrete, get_elem?, State, step, keeps}
 use Rattle.lockword.proofs.Words.{stepped, Allows, set_here, Dir, Read, Write, Stake, bit, LockState, empty}
 use Rattle.lockword.proofs.Words.{Census, census, encoded, Counted, references, locks, lasts, part, number, state_after}
-use Rattle.lockword.proofs.Words.{count-within, IsBalanced, balance_of, always_consistent, LocalView, Half, STATE, DONE}
+use Rattle.lockword.proofs.Words.{Event, count-within, IsBalanced, balance_of, always_consistent, LocalView, Half, STATE, DONE}
 use Rattle.lockword.proofs.Words.{stakes_of, taken_by, Represents, IsReached, IsFound, Shows, Told, seen_in}
 use Rattle.lockword_core.specs.declared.stake.Stake.TheVariants as stake
 use Rattle.lockword_core.specs.Word.{closed_in, drain_in, waiters_in}
@@ -14,12 +14,13 @@ use Rattle.lockword_core.proofs.InvariantPreserved.{bit-le, bit-true}
 use Rattle.lockword_core.proofs.FieldSteps.{same_numbers}
 use Rattle.lockword_core.proofs.WordTable.{flag_is}
 use Rattle.lockword.specs.LocalView.{takers}
-use Rattle.lockword.specs.History.{IsView}
-use Rattle.lockword.specs.Steps.{IsJustClosed, asked, asked_view, looked}
+use Rattle.lockword.specs.History.{IsView, GoesOn}
+use Rattle.lockword.specs.Steps.{IsJustClosed, asked, asked_view, looked, hearing}
 use Rattle.lockword.proofs.ViewLemmas.{at_there, same_stakes, counted_at, takers-set}
 use Rattle.lockword.proofs.Representation.{seated, present, Fits, fits, recounted, represents, on_state, on_done}
 use Rattle.lockword.proofs.Exchanges.{M}
 use Rattle.lockword.proofs.HistorySteps.{same_history, same_deeds, own_view}
+use Rattle.lockword.proofs.HeardSteps.{heard_set, heard_same, stays}
 
 -- ---- Where one is the last, or destroyed
 
@@ -81,9 +82,10 @@ some_destroyed b k e = let one : bit b ≡ 1 = ap bit e in omega arith
 
 module _ {R W : Type 0} where
   pub told : (words : List ℕ) (homes : List (Option (Half R W))) (views : List LocalView) (c : Census) (n id : ℕ)
-      (v : LocalView) → Fits words homes views c n → get_elem? views id ≡ some v → IsFound R W n (seen_in n v)
-      → Told R W n v
-  told words homes views c n id v f at found =
+      (v : LocalView) (h : List Event) → Fits words homes views c n → get_elem? views id ≡ some v
+      → IsFound R W n (seen_in n (hearing h v))
+      → Told R W n (hearing h v)
+  told words homes views c n id v h f at found =
       let r = reads_as c n f.balance in
       let flag : c.closed ≡ closed_in n = flag_is c.closed _ r.flag in
       let drain : c.draining ≡ drain_in n = flag_is c.draining _ r.drain in
@@ -124,14 +126,15 @@ view_of s reached id v at =
 
 module _ (R W : Type 0) where
   -- a seat that has seen the state word, which is as it was
-  pub seen_fits : (id : ℕ) (me : M R W) (s : State (Half R W) LocalView) → Represents s
+  pub seen_fits : (id : ℕ) (me : M R W) (h : List Event) (s : State (Half R W) LocalView) → Represents s
       → get_elem? s.views id ≡ some me.0
-      → Represents (stepped s STATE (get_or s.words STATE 0) id me.1 (seen_in (get_or s.words STATE 0) me.0) keeps)
-  seen_fits id me s r at =
+      → Represents (stepped s STATE (get_or s.words STATE 0) id me.1
+      (seen_in (get_or s.words STATE 0) (hearing h me.0)) keeps)
+  seen_fits id me h s r at =
       let n : ℕ = get_or s.words STATE 0 in
       let f = fits s r in
       let c : Census = present s r in
-      let w : LocalView = seen_in n me.0 in
+      let w : LocalView = seen_in n (hearing h me.0) in
       let views : List LocalView = set s.views id w in
       let flag : c.closed ≡ closed_in n = flag_is c.closed _ (reads_as c n f.balance).flag in
       let drain : c.draining ≡ drain_in n = flag_is c.draining _ (reads_as c n f.balance).drain in
@@ -146,49 +149,70 @@ module _ (R W : Type 0) where
       record { closed = λ e. flag ∙ e; draining = λ e. drain ∙ e; done = (f.seen id me.0 at).done })
 
   -- a seat that has seen the state word did nothing
-  pub seen_reached : (id : ℕ) (me : M R W) (s : State (Half R W) LocalView) → IsReached s
-      → get_elem? s.views id ≡ some me.0
-      → IsReached (stepped s STATE (get_or s.words STATE 0) id me.1 (seen_in (get_or s.words STATE 0) me.0) keeps)
-  seen_reached id me s reached at =
-      let w : LocalView = seen_in (get_or s.words STATE 0) me.0 in
+  pub seen_reached : (id : ℕ) (me : M R W) (h : List Event) (s : State (Half R W) LocalView) (reached : IsReached s)
+      → get_elem? s.views id ≡ some me.0 → GoesOn h reached.history
+      → IsReached (stepped s STATE (get_or s.words STATE 0) id me.1
+      (seen_in (get_or s.words STATE 0) (hearing h me.0)) keeps)
+  seen_reached id me h s reached at so_far =
+      let w : LocalView = seen_in (get_or s.words STATE 0) (hearing h me.0) in
       record {
-        represents = seen_fits id me s reached.represents at;
+        represents = seen_fits id me h s reached.represents at;
         history = reached.history;
         interleaves = same_deeds reached.history s.views id me.0 w reached.interleaves at refl;
         none_refused = reached.none_refused;
         leads = same_history (state_after empty reached.history) s.words s.views STATE id me.0 w reached.leads at refl;
+        heard = heard_set reached.history s.views id w reached.heard so_far;
       }
 
   -- what the state word tells a seat
-  pub told_of : (id : ℕ) (me : M R W) (s : State (Half R W) LocalView) → IsReached s → get_elem? s.views id ≡ some me.0
-      → Told R W (get_or s.words STATE 0) me.0
-  told_of id me s reached at =
+  pub told_of : (id : ℕ) (me : M R W) (h : List Event) (s : State (Half R W) LocalView) (reached : IsReached s)
+      → get_elem? s.views id ≡ some me.0 → GoesOn h reached.history
+      → Told R W (get_or s.words STATE 0) (hearing h me.0)
+  told_of id me h s reached at so_far =
       let n : ℕ = get_or s.words STATE 0 in
       let r = reached.represents in
       let f = fits s r in
       let wide = f.wide in
-      let w : LocalView = seen_in n me.0 in
+      let w : LocalView = seen_in n (hearing h me.0) in
       let found : IsFound R W n w =
       record {
         moment = record { words = set s.words STATE n; homes = s.homes; views = set s.views id w };
-        rule = seen_reached id me s reached at;
+        rule = seen_reached id me h s reached at so_far;
         seat = id;
         own =
             set_here s.views id w (at_there s.views id me.0 at).0;
         word = get_or-set_same s.words 0 n 0 (omega arith);
       } in
-      told s.words s.homes s.views (present s r) n id me.0 f at found
+      told s.words s.homes s.views (present s r) n id me.0 h f at found
 
-  -- a load of the state
+  -- a load of the state, at which the seat hears what all did
   pub looks : (slots id : ℕ) (me : M R W)
       → Allows IsReached slots id me STATE (λ n. n) (looked (step slots STATE 0 0 none) me)
-  looks slots id me s reached deep at small = (
-    seen_in (get_or s.words STATE 0) me.0,
-    keeps,
-    tt,
-    seen_reached id me s reached at,
-    (told_of id me s reached at, refl),
-  )
+  unfolding seen_reached
+  looks slots id me s reached deep at small =
+      let n : ℕ = get_or s.words STATE 0 in
+      let h : List Event = reached.history in
+      let w : LocalView = seen_in n (hearing h me.0) in
+      let so_far = stays h in
+      let next = seen_reached id me h s reached at so_far in
+      let there = (at_there s.views id me.0 at).0 in (
+        w,
+        keeps,
+        tt,
+        next,
+        (
+          h,
+          told_of id me h s reached at so_far,
+          refl,
+          record {
+            goes_on = reached.heard.each id me.0 at;
+            none_refused = reached.none_refused;
+            leads = sym reached.leads.state_word;
+            seat = id;
+            own = view_of (stepped s STATE n id me.1 w keeps) next id w (set_here s.views id w there);
+          },
+        ),
+      )
 
   -- a load of the done word
   pub asks : (slots id : ℕ) (me : M R W)
@@ -226,6 +250,7 @@ module _ (R W : Type 0) where
           interleaves = same_deeds reached.history s.views id me.0 w reached.interleaves at refl;
           none_refused = reached.none_refused;
           leads = same_history (state_after empty reached.history) s.words s.views DONE id me.0 w reached.leads at refl;
+          heard = heard_same reached.history s.views id me.0 w reached.heard at refl;
         },
         (omega arith, (λ e. done_is ∙ ap bit (saw.done e)), refl),
       )

@@ -12,6 +12,7 @@ use Rattle.lockword.specs.LocalView.{takers}
 use Rattle.lockword.proofs.ViewLemmas.{takers-nil, takers-push}
 use Rattle.lockword.proofs.Representation.{both, represents}
 use Rattle.lockword.proofs.HistoryEnds.{first_history, first_deeds}
+use Rattle.lockword.proofs.HeardSteps.{first_heard}
 
 none_counted : (what : Rattle.lockword_core.specs.LockState.Counted) → count what (stake.Free ∷ []) ≡ 0
 none_counted what =
@@ -76,4 +77,5 @@ module _ (R W : Type 0) where
         interleaves = first_deeds;
         none_refused = refl;
         leads = first_history;
+        heard = first_heard;
       }

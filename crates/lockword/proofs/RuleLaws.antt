@@ -7,7 +7,7 @@ use Rattle.lockword.proofs.Words.{get_or, get_or-set_same, get_or-set_other, dit
 use Rattle.lockword.proofs.Words.{Read, Write, Op, Event, Word, bit, signals_in, empty, census, references}
 use Rattle.lockword.proofs.Words.{locks, lasts, number, state_after, count-within, always_consistent, LocalView}
 use Rattle.lockword.proofs.Words.{stakes_of, deeds_of, IsReached}
-use Rattle.lockword_core.specs.LockState.{queued, drainers, count}
+use Rattle.lockword_core.specs.LockState.{queued, owed, closers, drainers, count}
 use Rattle.lockword_core.specs.Laws.{ReturnedTheLast}
 use Rattle.lockword_core.specs.OperationCounts.{is_taking, is_returning, is_signal, is_wake, is_close, is_drain}
 use Rattle.lockword_core.specs.OperationCounts.{is_destroy, made_in, operations_of, AddsUp}
@@ -18,6 +18,7 @@ use Rattle.lockword_core.proofs.WordLaws.{counts_stakes}
 use Rattle.lockword_core.proofs.NameLemmas.{counts_by_seats}
 use Rattle.lockword_core.proofs.WordRefines.{pick_then, pick_else}
 use Rattle.lockword_core.proofs.OperationLemmas.{count_by-cons, adds_up, destroyer}
+use Rattle.lockword.specs.Directions.{semaphore}
 use Rattle.lockword.specs.LocalView.{made_by_seats}
 use Rattle.lockword.specs.TransitionOutcomes.{IsOnlyClosed}
 use Rattle.lockword.specs.Steps.{IsJustClosed}
@@ -120,6 +121,45 @@ module _ {R W : Type 0} where
       let no_reader = f.balance.reading.none_drained (omega arith) in
       let no_writer = f.balance.writing.none_drained (omega arith) in
       (omega arith, omega arith)
+
+  -- nobody is left to be signalled in a word that is closed
+  pub none_waits_closed : (s : Moment R W) (fields : Word) → IsRead s fields → fields.closed ≡ true
+      → (fields.rwait ≡ 0) × (fields.wwait ≡ 0)
+  none_waits_closed s fields read shut =
+      let f = fits s read.rule.represents in
+      let n : ℕ = get_or s.words 0 0 in
+      let told = reads_fields fields n read.is_word read.same in
+      let have = reads_as (present s read.rule.represents) n f.balance in
+      let flag : bit fields.closed ≡ 1 = ap bit shut in
+      let closed_is = told.flag in
+      let closed_has = have.flag in
+      let readers = told.rwait in
+      let writers = told.wwait in
+      let pending_readers = have.waiters Read in
+      let pending_writers = have.waiters Write in
+      let no_reader = f.balance.reading.none_pending (omega arith) in
+      let no_writer = f.balance.writing.none_pending (omega arith) in
+      (omega arith, omega arith)
+
+  -- at most one seat is closing, and only in a word that is closed
+  pub one_closer : (s : Moment R W) (fields : Word) → IsRead s fields → over_seats closers s ≤ bit fields.closed
+  one_closer s fields read =
+      let f = fits s read.rule.represents in
+      let n : ℕ = get_or s.words 0 0 in
+      let told = (reads_fields fields n read.is_word read.same).flag in
+      let have = (reads_as (present s read.rule.represents) n f.balance).flag in
+      let one = f.balance.one_closer in
+      omega arith
+
+  -- signals that are owed or lie ready have waiters
+  pub signals_have_waiters : (s : Moment R W) (d : Dir) → IsReached s
+      → over_seats (owed d) s + get_or s.words (semaphore d) 0 ≤ over_seats (queued d) s
+  signals_have_waiters s Read reached =
+      let f = fits s reached.represents in
+      let ready = f.semaphores Read in let fewer = f.balance.reading.signals_have_waiters in omega arith
+  signals_have_waiters s Write reached =
+      let f = fits s reached.represents in
+      let ready = f.semaphores Write in let fewer = f.balance.writing.signals_have_waiters in omega arith
 
   pub comes_of_deeds : (s : Moment R W) (fields : Word) → IsRead s fields → ComesOfDeeds s fields
   comes_of_deeds s fields read =

@@ -13,6 +13,7 @@ use Rattle.lockword.specs.LocalView.{takers, without_stake}
 use Rattle.lockword.proofs.ViewLemmas.{stakes_push, takers-push}
 use Rattle.lockword.proofs.Representation.{seated, present, Fits, fits, recounted, represents}
 use Rattle.lockword.proofs.HistoryEnds.{split_history, split_deeds}
+use Rattle.lockword.proofs.HeardSteps.{split_heard}
 
 -- stakes that count as much keep the balance
 same_way : (d : Dir) (c : Census) (ys : List Stake) → ((what : Counted) → count what ys ≡ number what c)
@@ -105,4 +106,5 @@ module _ (R W : Type 0) where
         interleaves = split_deeds reached.history s.views w reached.interleaves refl;
         none_refused = reached.none_refused;
         leads = split_history (state_after empty reached.history) s.words s.views w reached.leads refl;
+        heard = split_heard reached.history s.views w reached.heard (reached.heard.each id v at);
       }

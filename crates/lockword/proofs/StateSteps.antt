@@ -8,7 +8,7 @@ use Rattle.lockword.proofs.Words.{number, ChangesOneStake, lock_stake, allows, o
 use Rattle.lockword.proofs.Words.{change_of, same_pair, LocalView, Half, set_here, stakes_of, taken_by, slot_of}
 use Rattle.lockword.proofs.Words.{Guarded, half_of, half_home, Represents, IsReached, IsMade, STATE, saw_after}
 use Rattle.lockword.proofs.Words.{saw_drain_after, moved_view, Carries}
-use Rattle.atomic_table.specs.Table.{Act, takes, gives, Valid, carried_after}
+use Rattle.atomic_table.specs.Table.{Act, takes, gives, Valid, carried_after, homes_after}
 use Rattle.lockword_core.specs.declared.stake.Stake.TheVariants as stake
 use Rattle.lockword_core.specs.declared.transition.Kind.TheVariants as kind
 use Rattle.lockword_core.specs.declared.transition.After.TheVariants as after
@@ -21,7 +21,7 @@ use Rattle.atomic_table.proofs.Lists.{set_else}
 use Rattle.lockword.proofs.WordTests.{possible}
 use Rattle.lockword.proofs.DestroySteps.{has_half}
 use Rattle.lockword.specs.LocalView.{takers}
-use Rattle.lockword.specs.Steps.{HasSlots}
+use Rattle.lockword.specs.Steps.{HasSlots, hearing}
 use Rattle.lockword.specs.Steps as steps
 use Rattle.lockword.proofs.ViewLemmas.{one_changes, takers-set, taken-le, takers-le}
 use Rattle.lockword.proofs.Representation.{seated, present, IsInOnePlace, fits, recounted, represents, on_state}
@@ -32,6 +32,8 @@ use Rattle.lockword.proofs.Exchanges.{H, St, M, swaps}
 use Rattle.lockword.proofs.StepParts.{MovesNoHalf, drain_grows, flag_after, flag_grows, holder_may, is_free, is_holder}
 use Rattle.lockword.proofs.StepParts.{lock_not_last, lock_part, locks_alone, new_lockless, not_last, one_less, one_more}
 use Rattle.lockword.proofs.StepParts.{own_lockless, saw_drain_so, saw_so, unlocked}
+use Rattle.lockword.proofs.HeardSteps.{heard_more, stays}
+use Rattle.lockword.proofs.Rehear.{rehear_after}
 
 module _ {R W : Type 0} where
   -- a slot once another content is in it, or in the other slot
@@ -223,34 +225,46 @@ module _ (R W : Type 0) where
   MovesAs slots id n m me k =
       Allows IsReached slots id me 0 (λ x. either (eqb x n) m x) (steps.moved k (step slots 0 n m none) me)
 
+  abbrev MovedAs : Kind → After → M R W → M R W → Type 0
+  MovedAs k b me me' =
+      (h : List Event) × (me'.0 ≡ hearing h (moved_view k b me.0)) × Carries k b me.1 me'.1
+      × IsMade (op_of k) (gained k b).0 me.0 me'.0
+
   pub moves : (slots id n m : ℕ) (me : M R W) (k j : Kind) (a : After) → k ≡ j → stepped_word n k ≡ Ok (m, a)
       → allows me.0.stake (op_of k) ≡ true → HasSlots k me.1
       → Allows IsReached slots id me 0 (λ x. either (eqb x n) m x) (steps.moved j (step slots 0 n m none) me)
   moves slots id n m me k j a same_kind is may has =
       subst (λ (z : Kind). MovesAs slots id n m me z) same_kind
-      (swaps R W slots id 0 n m me (λ me'. (b : After) → stepped_word n k ≡ Ok (m, b) → (me'.0 ≡ moved_view k b me.0)
-      × Carries k b me.1 me'.1 × IsMade (op_of k) (gained k b).0 me.0 me'.0)
+      (swaps R W slots id 0 n m me (λ me'. (b : After) → stepped_word n k ≡ Ok (m, b) → MovedAs k b me me')
       (λ s reached at found.
       let r = reached.represents in
       let t = kept k a n m id me s is may has r at found in
       let w : LocalView = moved_view k a me.0 in
       let h : List Event = reached.history in
+      let all : List Event = h ++ event id (op_of k) ∷ [] in
+      let x : LocalView = hearing all w in
       let own_may = ap (λ (x : Stake). allows x (op_of k))
       (own_stake (state_after empty h) s.words s.views id me.0 reached.leads at) ∙ may in
       let made : IsMove h id (op_of k) (gained k a).0 (gained k a).1 (change_of k) =
-      step_moves h id k a n m (sym found ∙ reached.leads.state_word) own_may is in (
-        w,
+      step_moves h id k a n m (sym found ∙ reached.leads.state_word) own_may is in
+      let next : IsReached (stepped s 0 m id me.1 w t.0) = record {
+        represents = t.2;
+        history = all;
+        interleaves = more_deeds h s.views id me.0 w (op_of k) reached.interleaves at refl;
+        none_refused = none_refused_more h id (op_of k) _ _ _ made reached.none_refused;
+        leads = stepped_history h s.words s.views id me.0 w k a n m reached.leads r.four_words at may is found refl;
+        heard = heard_more h s.views id me.0 w (event id (op_of k)) reached.heard at refl;
+      } in (
+        x,
         t.0,
         t.1,
-        record {
-          represents = t.2;
-          history = h ++ event id (op_of k) ∷ [];
-          interleaves = more_deeds h s.views id me.0 w (op_of k) reached.interleaves at refl;
-          none_refused = none_refused_more h id (op_of k) _ _ _ made reached.none_refused;
-          leads = stepped_history h s.words s.views id me.0 w k a n m reached.leads r.four_words at may is found refl;
-        },
-        λ b same. subst (λ (x : After). (w ≡ moved_view k x me.0) × Carries k x me.1 (carried_after me.1 t.0)
-            × IsMade (op_of k) (gained k x).0 me.0 w)
-            (ap (λ (p : ℕ × After). p.1) (same_pair (m, a) (m, b) (sym is ∙ same)))
-            (refl, t.3, is_made h id me.0 w (op_of k) _ _ _ (view_of s reached id me.0 at) made refl refl),
+        rehear_after R W id me.0 w all (set s.words 0 m) (homes_after s.homes me.1 t.0) s.views at next (stays all),
+        λ b same. subst (λ (z : After). MovedAs k z me (x, carried_after me.1 t.0))
+            (ap (λ (p : ℕ × After). p.1) (same_pair (m, a) (m, b) (sym is ∙ same))) (
+              all,
+              refl,
+              t.3,
+              is_made h id me.0 x (op_of k) _ _ _ reached.none_refused (view_of s reached id me.0 at) made refl refl
+                  (reached.heard.each id me.0 at) refl,
+            ),
       )))

@@ -19,7 +19,7 @@ use Rattle.lockword_core.specs.FieldStep.{left, packed_result, unless_refused, f
 use Rattle.lockword_core.proofs.WordFields.{packs_back, fields_fit}
 use Rattle.lockword.specs.Dropping.{IsLastReference, MakesLast, Decides}
 use Rattle.lockword.specs.Marks.{Place}
-use Rattle.lockword.specs.Steps.{IsJustClosed, subtracted}
+use Rattle.lockword.specs.Steps.{IsJustClosed, hearing, subtracted}
 use Rattle.lockword.proofs.ViewLemmas.{at_there}
 use Rattle.lockword.proofs.Representation.{fits}
 use Rattle.lockword.proofs.Exchanges.{St, M}
@@ -28,6 +28,8 @@ use Rattle.lockword.proofs.HistorySteps.{event, IsMove, own_stake, step_moves, s
 use Rattle.lockword.proofs.HistorySteps.{none_refused_more, is_made}
 use Rattle.lockword.proofs.WordTests.{Shown, possible}
 use Rattle.lockword.proofs.StateSteps.{no_half_fits}
+use Rattle.lockword.proofs.HeardSteps.{heard_more, stays}
+use Rattle.lockword.proofs.Rehear.{rehear_after}
 
 -- whoever gives a reference back is among those that the word counts
 counted : (own : Stake) (n : ℕ) → Shows own n → allows own op.Decref ≡ true → 0 < references_in n
@@ -70,7 +72,7 @@ module _ (R W : Type 0) where
       let wide : length s.words ≡ 4 = (fits s r).wide in
       let saw : Represents (stepped s STATE n id me.1 v keeps) =
       subst (λ (k : ℕ). Represents (stepped s STATE k id me.1 (seen_in k me.0) keeps)) found
-      (seen_fits R W id me s r at) in
+      (seen_fits R W id me me.0.heard s r at) in
       let next = no_half_fits R W kind.Decref a n m id (v, me.1) (stepped s STATE n id me.1 v keeps) is may tt saw
       (set_here s.views id v there.0) (get_or-set_same s.words 0 n 0 (omega arith)) in
       subst (λ (z : List ℕ × List LocalView). Represents record { words = z.0; homes = s.homes; views = z.1 })
@@ -83,7 +85,7 @@ module _ (R W : Type 0) where
   subtracts slots id me may s reached deep at small =
       let r = reached.represents in
       let n : ℕ = get_or s.words STATE 0 in
-      let told : Told R W n me.0 = told_of R W id me s reached at in
+      let told : Told R W n me.0 = told_of R W id me me.0.heard s reached at (reached.heard.each id me.0 at) in
       let counts = counted me.0.stake n told.shows may in
       let a : After = left (fields_in n) in
       let is = dropped n told.is_word counts in
@@ -103,25 +105,32 @@ module _ (R W : Type 0) where
         leads =
             stepped_history h s.words s.views id me.0 w kind.Decref a n m reached.leads r.four_words at may is
             refl refl;
+        heard = heard_more h s.views id me.0 w (event id op.Decref) reached.heard at refl;
       } in
       let there = at_there s.views id me.0 at in
       let wide : length s.words ≡ 4 = (fits s r).wide in
       let shown : Told R W (get_or (set s.words 0 m) 0 0) w =
-      told_of R W id (w, me.1) (stepped s STATE m id me.1 w keeps) next (set_here s.views id w there.0) in
-      let same : get_or (set s.words 0 m) 0 0 ≡ m = get_or-set_same s.words 0 m 0 (omega arith) in (
-        w,
+      told_of R W id (w, me.1) w.heard (stepped s STATE m id me.1 w keeps) next (set_here s.views id w there.0)
+      (next.heard.each id w (set_here s.views id w there.0)) in
+      let same : get_or (set s.words 0 m) 0 0 ≡ m = get_or-set_same s.words 0 m 0 (omega arith) in
+      let all : List Event = h ++ event id op.Decref ∷ [] in
+      let x : LocalView = hearing all w in (
+        x,
         keeps,
         tt,
-        subst (λ (k : ℕ). IsReached (stepped s STATE k id me.1 w keeps))
-            (sym (no_wrap n told.is_word (at_least n counts))) next,
+        subst (λ (k : ℕ). IsReached (stepped s STATE k id me.1 x keeps))
+            (sym (no_wrap n told.is_word (at_least n counts)))
+            (rehear_after R W id me.0 w all (set s.words 0 m) s.homes s.views at next (stays all)),
         (
           told,
           (
             a,
+            all,
             is,
             refl,
             subst (λ (k : ℕ). Shows w.stake k) same shown.shows,
-            is_made h id me.0 w op.Decref _ _ _ (view_of s reached id me.0 at) made refl refl,
+            is_made h id me.0 x op.Decref _ _ _ reached.none_refused (view_of s reached id me.0 at) made refl refl
+                (reached.heard.each id me.0 at) refl,
           ),
           refl,
         ),
@@ -159,7 +168,8 @@ module _ {R W : Type 0} where
   -- what a seat has and has seen once it made a subtraction
   abbrev pub Subtracted : ℕ → After → Place R W → Place R W → Type 0
   Subtracted n a p q =
-      (stepped_word n kind.Decref ≡ Ok (n - REFERENCE, a)) × (q.me.0 ≡ moved_view kind.Decref a (seen_in n p.me.0))
+      (h : List Event) × (stepped_word n kind.Decref ≡ Ok (n - REFERENCE, a))
+      × (q.me.0 ≡ hearing h (moved_view kind.Decref a (seen_in n p.me.0)))
       × Shows q.me.0.stake (n - REFERENCE) × IsMade op.Decref (gained kind.Decref a).0 p.me.0 q.me.0
 
   -- what the step on the word that was found answers is what the subtraction came to
@@ -168,11 +178,11 @@ module _ {R W : Type 0} where
       → Subtracted n b p q
   as_answered a b n m p q did is =
       subst (λ (x : After). Subtracted n x p q)
-      (ap (λ (y : ℕ × After). y.1) (same_pair (n - REFERENCE, a) (m, b) (sym did.0 ∙ is))) did
+      (ap (λ (y : ℕ × After). y.1) (same_pair (n - REFERENCE, a) (m, b) (sym did.1 ∙ is))) did
 
   pub decides : (a : After) (n : ℕ) (p q : Place R W) → allows p.me.0.stake op.Decref ≡ true → Told R W n p.me.0
       → Subtracted n a p q → q.table_id ≡ p.table_id → Decides p q a
-  decides a n p q may told (is, view, shows, made_it) same = (
+  decides a n p q may told (h, is, view, shows, made_it) same = (
     fields_in n,
     record {
       is_word = fields_fit n;

@@ -1,8 +1,8 @@
 -- Semaphores: a signal that is given or taken keeps the rule.
 use Rattle.std.proofs.Common.{◌≡◌, ◌≢◌, ◌+◌, ◌-◌, ◌<◌, ◌≤◌, ◌∙◌, [], ◌∷◌, ◌++◌}
 use Rattle.std.specs.Prelude.{nat_lt}
-use Rattle.lockword.proofs.Words.{ℕ, eqb, true, List, get_or, set, refl, sym, subst, arith, nat_tests, none, either}
-use Rattle.lockword.proofs.Words.{step, keeps, Allows, Dir, Read, Write, Stake, Event, Op, Answer, signals_in}
+use Rattle.lockword.proofs.Words.{ℕ, eqb, true, get_or, set, refl, sym, subst, arith, nat_tests, none, either}
+use Rattle.lockword.proofs.Words.{List, step, stepped, keeps, Allows, Dir, Read, Write, Stake, Event, Op, Answer, signals_in}
 use Rattle.lockword.proofs.Words.{with_signals, Census, empty, locks, lasts, part, state_after, ChangesOneStake, allows}
 use Rattle.lockword.proofs.Words.{IsBalanced, LocalView, STATE, stakes_of, taken_by, semaphore, IsReached, IsMade}
 use Rattle.lockword_core.specs.declared.stake.Stake.TheVariants as stake
@@ -15,7 +15,7 @@ use Rattle.lockword_core.proofs.BalanceLemmas as laws
 use Rattle.lockword.specs.LocalView.{takers}
 use Rattle.lockword.specs.declared.transitions.SignalMove.{SignalMove}
 use Rattle.lockword.specs.declared.transitions.SignalMove.TheVariants as move
-use Rattle.lockword.specs.Steps.{way_of, op_at, answer_at, Changes, signalled_view, counted, signalled}
+use Rattle.lockword.specs.Steps.{way_of, op_at, answer_at, Changes, hearing, signalled_view, counted, signalled}
 use Rattle.lockword.proofs.ViewLemmas.{one_changes, takers-set, taken-le}
 use Rattle.lockword.proofs.Representation.{present, fits, recounted, represents, on_signals}
 use Rattle.lockword.proofs.StepParts.{drainer_lockless}
@@ -24,6 +24,8 @@ use Rattle.lockword.proofs.LookSteps.{view_of}
 use Rattle.lockword.proofs.HistorySteps.{event, IsMove, own_stake, more_deeds, none_refused_more, is_made}
 use Rattle.lockword.proofs.SignalHistory.{IsDeed, gives_deed, takes_deed, deed_moves, signalled_history}
 use Rattle.lockword.proofs.Exchanges.{M, swaps, unmoved}
+use Rattle.lockword.proofs.HeardSteps.{heard_more, stays}
+use Rattle.lockword.proofs.Rehear.{rehear_after}
 
 -- what an exchange of n for m at the semaphore of a direction does for the holder of a stake, which then has another
 pub record KeepsCounts (d : Dir) (n m : ℕ) (own new : Stake) : Type 0 where
@@ -172,7 +174,8 @@ few_signals Write c word b = b.writing.signals_fit
 module _ (R W : Type 0) where
   -- what the seat has and did once it gave or took a signal
   abbrev IsSignalled : (Dir → Op) → Answer → Dir → M R W → M R W → Type 0
-  IsSignalled o a d me me' = (me' ≡ (signalled_view o d me.0, me.1)) × IsMade (o d) a me.0 me'.0
+  IsSignalled o a d me me' =
+      (h : List Event) × (me' ≡ (hearing h (signalled_view o d me.0), me.1)) × IsMade (o d) a me.0 me'.0
 
   -- an exchange of a semaphore, by which a seat's stake changes, keeps the rule
   signals_there : (d : Dir) (slots id n m : ℕ) (me : M R W) (o : Dir → Op) (a : Answer)
@@ -200,26 +203,34 @@ module _ (R W : Type 0) where
       let h : List Event = reached.history in
       let own = own_stake (state_after empty h) s.words s.views id me.0 reached.leads at in
       let made : IsMove h id (o d) a (stake_after_signal d me.0.stake) signal.deed.change =
-      deed_moves h id d n m me.0.stake _ (o d) a signal.deed own (sym (reached.leads.semaphores d) ∙ found) in (
-        w,
+      deed_moves h id d n m me.0.stake _ (o d) a signal.deed own (sym (reached.leads.semaphores d) ∙ found) in
+      let all : List Event = h ++ event id (o d) ∷ [] in
+      let x : LocalView = hearing all w in
+      let next : IsReached (stepped s (semaphore d) m id me.1 w keeps) = record {
+        represents = represents (set s.words (semaphore d) m) s.homes views
+            (record c { stakes = stakes_of views; signals = with_signals d m c.signals }) (get_or s.words STATE 0)
+            (on_signals d s.words s.homes s.views c (get_or s.words STATE 0) m id w f
+            (keeps_counts.balances c (stakes_of views) _ f.balance one here)
+            (λ e. recounted e s.homes c (stakes_of views) _ _ (locked e) takers_same (f.halves e))
+            (let saw = f.seen id me.0 at in
+            record { closed = saw.closed; draining = saw.draining; done = saw.done }));
+        history = all;
+        interleaves = more_deeds h s.views id me.0 w (o d) reached.interleaves at refl;
+        none_refused = none_refused_more h id (o d) a _ _ made reached.none_refused;
+        leads = signalled_history h s.words s.views id me.0 w d n m (stake_after_signal d me.0.stake)
+            (o d) a signal.deed reached.leads r.four_words at found refl;
+        heard = heard_more h s.views id me.0 w (event id (o d)) reached.heard at refl;
+      } in (
+        x,
         keeps,
         tt,
-        record {
-          represents = represents (set s.words (semaphore d) m) s.homes views
-              (record c { stakes = stakes_of views; signals = with_signals d m c.signals }) (get_or s.words STATE 0)
-              (on_signals d s.words s.homes s.views c (get_or s.words STATE 0) m id w f
-              (keeps_counts.balances c (stakes_of views) _ f.balance one here)
-              (λ e. recounted e s.homes c (stakes_of views) _ _ (locked e) takers_same (f.halves e))
-              (let saw = f.seen id me.0 at in
-              record { closed = saw.closed; draining = saw.draining; done = saw.done }));
-          history = h ++ event id (o d) ∷ [];
-          interleaves = more_deeds h s.views id me.0 w (o d) reached.interleaves at refl;
-          none_refused = none_refused_more h id (o d) a _ _ made reached.none_refused;
-          leads = signalled_history h s.words s.views id me.0 w d n m (stake_after_signal d me.0.stake)
-              (o d) a signal.deed reached.leads r.four_words at found refl;
-        },
-        subst (λ (x : Dir). IsSignalled o a x me (w, me.1)) (sym (way_back d))
-            (refl, is_made h id me.0 w (o d) a _ _ (view_of s reached id me.0 at) made refl refl),
+        rehear_after R W id me.0 w all (set s.words (semaphore d) m) s.homes s.views at next (stays all),
+        subst (λ (y : Dir). IsSignalled o a y me (x, me.1)) (sym (way_back d)) (
+          all,
+          refl,
+          is_made h id me.0 x (o d) a _ _ reached.none_refused (view_of s reached id me.0 at) made refl refl
+              (reached.heard.each id me.0 at) refl,
+        ),
       ))
 
   -- a load of a semaphore

@@ -22,8 +22,12 @@ use Rattle.lockword.specs.declared.local_view.Marks.{Marks}
 use Rattle.lockword.specs.Moment.{IsShown}
 use Rattle.lockword.specs.declared.transitions.Advance.TheVariants as advance
 use Rattle.lockword.specs.Marks.{Place, SameMarks, SameButDraining, Later, NowClosed, IsOpen, IsUndrained, HasNotTaken}
-use Rattle.lockword.specs.Marks.{IsFullWay, IsFull, Marked, LostMarks, FullMarks, SameDeeds, FoundClosed, FoundDraining}
-use Rattle.lockword.specs.Steps.{Keeps, Came, IsEntering, Advanced}
+use Rattle.lockword.specs.Marks.{IsFullWay, IsFull, Marked, LostMarks, FullMarks, OnlyLooked, Heard, FoundClosed}
+use Rattle.lockword.specs.Marks.{FoundDraining}
+use Rattle.lockword.specs.History.{GoesOn, Hears}
+use Rattle.lockword.proofs.HeardSteps.{goes_on_on}
+use Rattle.lockword.proofs.Words.{Event}
+use Rattle.lockword.specs.Steps.{hearing, Keeps, Came, IsEntering, Advanced}
 
 -- ---- The tests
 
@@ -157,6 +161,7 @@ pub made_before : {R W : Type 0} (n : ℕ) (v w : LocalView) (o : Op) (a : Answe
 made_before n v w o a told made =
     record {
       history = made.history;
+      none_refused = made.none_refused;
       seat = made.seat;
       own = record {
         did = made.own.did;
@@ -168,6 +173,30 @@ made_before n v w o a told made =
       answered = made.answered;
       stake = made.stake;
       did = made.did;
+      goes_on = made.goes_on;
+      heard = made.heard;
+    }
+
+-- what a seat that has heard more made, it made since it had heard less
+made_since : (v w : LocalView) (h : List Event) (o : Op) (a : Answer) → GoesOn v.heard h
+    → IsMade o a (hearing h v) w → IsMade o a v w
+made_since v w h o a so_far made =
+    record {
+      history = made.history;
+      none_refused = made.none_refused;
+      seat = made.seat;
+      own = record {
+        did = made.own.did;
+        stake = made.own.stake;
+        saw_closed = made.own.saw_closed;
+        saw_draining = made.own.saw_draining;
+        saw_done = made.own.saw_done;
+      };
+      answered = made.answered;
+      stake = made.stake;
+      did = made.did;
+      goes_on = goes_on_on v.heard h made.history so_far made.goes_on;
+      heard = made.heard;
     }
 
 -- neither flag is set
@@ -177,7 +206,8 @@ IsOpenWord n = (closed_in n ≡ false) × (drain_in n ≡ false)
 module _ {R W : Type 0} where
   -- what the marks of a seat are after a load of this word, beside those that the load tells
   pub record Saw (n : ℕ) (p q : Place R W) : Type 0 where
-    told : Told R W n p.me.0
+    heard : List Event
+    told : Told R W n (hearing heard p.me.0)
     flag : q.me.0.saw.closed ≡ closed_in n
     drain : q.me.0.saw.draining ≡ drain_in n
     done : q.me.0.saw.done ≡ p.me.0.saw.done
@@ -207,10 +237,11 @@ module _ {R W : Type 0} where
   marks_closed n p q saw shut =
       (saw.same, saw.flag ∙ shut, saw.done, λ e. saw.drain ∙ saw.told.saw_draining e)
 
-  pub came : (k : Kind) (a : After) (n m : ℕ) (p q : Place R W) → Told R W n p.me.0 → stepped_word n k ≡ Ok (m, a)
-      → q.me.0 ≡ moved_view k a (seen_in n p.me.0) → Carries k a p.me.1 q.me.1 → q.table_id ≡ p.table_id
+  pub came : (k : Kind) (a : After) (n m : ℕ) (p q : Place R W) (g h : List Event)
+      → Told R W n (hearing g p.me.0) → stepped_word n k ≡ Ok (m, a)
+      → q.me.0 ≡ hearing h (moved_view k a (seen_in n p.me.0)) → Carries k a p.me.1 q.me.1 → q.table_id ≡ p.table_id
       → IsMade (op_of k) (gained k a).0 p.me.0 q.me.0 → Came k a p q
-  came k a n m p q told is view slots same made = (
+  came k a n m p q g h told is view slots same made = (
     ap (λ (v : LocalView). v.stake) view,
     slots,
     (
@@ -227,7 +258,7 @@ module _ {R W : Type 0} where
       not_taken = ap (λ (v : LocalView). v.took) view
 
       saw : q.me.0.saw.closed ≡ closed_in n → q.me.0.saw.draining ≡ drain_in n → Saw n p q
-      saw flag drain = record { told = told; flag = flag; drain = drain; done = done; same = same }
+      saw flag drain = record { heard = g; told = told; flag = flag; drain = drain; done = done; same = same }
 
       by : (k : Kind) (a : After) → Shown n k a → q.me.0.saw.closed ≡ saw_after k (closed_in n)
           → q.me.0.saw.draining ≡ saw_drain_after k (drain_in n) → Marked k a p q
@@ -264,16 +295,19 @@ module _ {R W : Type 0} where
       by _ _ (g, made) flag drain = absurd made.shows
 
   -- the seat after a load
-  pub kept : (n : ℕ) (p q : Place R W) → q.me ≡ (seen_in n p.me.0, p.me.1) → Keeps p q
-  kept n p q e = (ap (λ m. m.0.stake) e, ap (λ m. m.0.took) e, ap (λ m. m.1) e)
+  kept : (n : ℕ) (p q : Place R W) (h : List Event) → q.me ≡ (seen_in n (hearing h p.me.0), p.me.1) → Keeps p q
+  kept n p q h e = (ap (λ m. m.0.stake) e, ap (λ m. m.0.took) e, ap (λ m. m.1) e)
 
-  pub deeds_kept : (n : ℕ) (p q : Place R W) → q.me ≡ (seen_in n p.me.0, p.me.1) → SameDeeds p q
-  deeds_kept n p q e = ap (λ m. m.0.did) e
+  only_looked : (n : ℕ) (p q : Place R W) (h : List Event) → q.me ≡ (seen_in n (hearing h p.me.0), p.me.1)
+      → GoesOn p.me.0.heard h → OnlyLooked p q
+  only_looked n p q h e so_far =
+      (ap (λ m. m.0.did) e, subst (λ (xs : List Event). GoesOn p.me.0.heard xs) (sym (ap (λ m. m.0.heard) e)) so_far)
 
-  saw_by : (n : ℕ) (p q : Place R W) → Told R W n p.me.0 → q.me ≡ (seen_in n p.me.0, p.me.1)
-      → q.table_id ≡ p.table_id → Saw n p q
-  saw_by n p q told me same =
+  saw_by : (n : ℕ) (p q : Place R W) (h : List Event) → Told R W n (hearing h p.me.0)
+      → q.me ≡ (seen_in n (hearing h p.me.0), p.me.1) → q.table_id ≡ p.table_id → Saw n p q
+  saw_by n p q h told me same =
       record {
+        heard = h;
         told = told;
         flag = ap (λ m. m.0.saw.closed) me;
         drain = ap (λ m. m.0.saw.draining) me;
@@ -281,12 +315,14 @@ module _ {R W : Type 0} where
         same = same;
       }
 
-  pub lost : (k : Kind) (a : After) (n m : ℕ) (p q : Place R W) → Told R W n p.me.0 → stepped_word n k ≡ Ok (m, a)
-      → q.me ≡ (seen_in n p.me.0, p.me.1) → q.table_id ≡ p.table_id → Advanced k p q advance.Lost
-  lost k a n m p q told is me same = (kept n p q me, (by k a (possible n m k a is), deeds_kept n p q me))
+  pub lost : (k : Kind) (a : After) (n m : ℕ) (p q : Place R W) (h : List Event) → Told R W n (hearing h p.me.0)
+      → stepped_word n k ≡ Ok (m, a) → q.me ≡ (seen_in n (hearing h p.me.0), p.me.1) → GoesOn p.me.0.heard h
+      → q.table_id ≡ p.table_id → Advanced k p q advance.Lost
+  lost k a n m p q h told is me so_far same =
+      (kept n p q h me, (by k a (possible n m k a is), only_looked n p q h me so_far))
     where
       saw : Saw n p q
-      saw = saw_by n p q told me same
+      saw = saw_by n p q h told me same
 
       by : (k : Kind) (a : After) → Shown n k a → LostMarks k p q
       by kind.Incref a (g, made) = marks_open n p q saw (made.passes why.Closed, made.passes why.Draining)
@@ -296,13 +332,15 @@ module _ {R W : Type 0} where
       by kind.Decref a made = marks_later n p q saw
       by (kind.Unlock d) a made = marks_later n p q saw
 
-  pub refused_closed : (k : Kind) (n : ℕ) (p q : Place R W) → Told R W n p.me.0 → stepped_word n k ≡ Err why.Closed
-      → q.me ≡ (seen_in n p.me.0, p.me.1) → q.table_id ≡ p.table_id → Advanced k p q advance.Closed
-  refused_closed k n p q told is me same =
+  pub refused_closed : (k : Kind) (n : ℕ) (p q : Place R W) (h : List Event) → Told R W n (hearing h p.me.0)
+      → stepped_word n k ≡ Err why.Closed → q.me ≡ (seen_in n (hearing h p.me.0), p.me.1) → GoesOn p.me.0.heard h
+      → q.table_id ≡ p.table_id → Advanced k p q advance.Closed
+  refused_closed k n p q h told is me so_far same =
       by k (refused_holds (fields_in n) k why.Closed (refusing n k why.Closed is))
     where
       found : closed_in n ≡ true → Keeps p q × FoundClosed p q
-      found shut = (kept n p q me, (marks_closed n p q (saw_by n p q told me same) shut, deeds_kept n p q me))
+      found shut =
+          (kept n p q h me, (marks_closed n p q (saw_by n p q h told me same) shut, only_looked n p q h me so_far))
 
       by : (k : Kind) → holds why.Closed (guards (fields_in n) k) ≡ true → Advanced k p q advance.Closed
       by kind.Incref shut = (tt, (found shut).0, (found shut).1)
@@ -312,10 +350,10 @@ module _ {R W : Type 0} where
       by kind.Decref none = absurd (cc)
       by (kind.Unlock d) none = absurd (cc)
 
-  pub refused_draining : (k : Kind) (n : ℕ) (p q : Place R W) → Told R W n p.me.0
-      → stepped_word n k ≡ Err why.Draining → q.me ≡ (seen_in n p.me.0, p.me.1) → q.table_id ≡ p.table_id
-      → Advanced k p q advance.Draining
-  refused_draining k n p q told is me same = by k (refusing n k why.Draining is)
+  pub refused_draining : (k : Kind) (n : ℕ) (p q : Place R W) (h : List Event) → Told R W n (hearing h p.me.0)
+      → stepped_word n k ≡ Err why.Draining → q.me ≡ (seen_in n (hearing h p.me.0), p.me.1) → GoesOn p.me.0.heard h
+      → q.table_id ≡ p.table_id → Advanced k p q advance.Draining
+  refused_draining k n p q h told is me so_far same = by k (refusing n k why.Draining is)
     where
       f : Word
       f = fields_in n
@@ -323,7 +361,7 @@ module _ {R W : Type 0} where
       found : (closed_in n ≡ false) × (drain_in n ≡ true) → Keeps p q × FoundDraining p q
       found (unshut, drained) =
           let unseen = was_open p.me.0.saw.closed (closed_in n) told.saw_closed unshut in (
-            kept n p q me,
+            kept n p q h me,
             (
               (
                 same,
@@ -332,7 +370,7 @@ module _ {R W : Type 0} where
                 ap (λ m. m.0.saw.draining) me ∙ drained,
               ),
               unseen,
-              deeds_kept n p q me,
+              only_looked n p q h me so_far,
             ),
           )
 
@@ -345,15 +383,23 @@ module _ {R W : Type 0} where
       by (kind.Unlock d) e = absurd (none_drains f (kind.Unlock d) (refused_holds f (kind.Unlock d) why.Draining e))
       by kind.Close e = absurd (none_drains f kind.Close (refused_holds f kind.Close why.Draining e))
 
-  pub refused_full : (k : Kind) (n : ℕ) (w : Word) (p q : Place R W) → Told R W n p.me.0
-      → stepped_word n k ≡ Err why.TooMany → IsWord w → packed w ≡ n → q.me ≡ (seen_in n p.me.0, p.me.1)
-      → q.table_id ≡ p.table_id → Advanced k p q (advance.TooMany w)
-  refused_full k n w p q told is fits same_word me same = (
-    kept n p q me,
+  -- what a load lets a seat hear, once the word that was found is told by its fields
+  pub heard_in : (n : ℕ) (w : Word) (p q : Place R W) (h : List Event) → packed w ≡ n
+      → q.me ≡ (seen_in n (hearing h p.me.0), p.me.1) → Hears p.me.0 h n (seen_in n (hearing h p.me.0)) → Heard w p q
+  heard_in n w p q h same_word me hears =
+      subst (λ (v : LocalView). Hears p.me.0 v.heard (packed w) v) (sym (ap (λ m. m.0) me))
+      (subst (λ (k : ℕ). Hears p.me.0 h k (seen_in n (hearing h p.me.0))) (sym same_word) hears)
+
+  pub refused_full : (k : Kind) (n : ℕ) (w : Word) (p q : Place R W) (h : List Event) → Told R W n (hearing h p.me.0)
+      → stepped_word n k ≡ Err why.TooMany → IsWord w → packed w ≡ n → q.me ≡ (seen_in n (hearing h p.me.0), p.me.1)
+      → Hears p.me.0 h n (seen_in n (hearing h p.me.0)) → q.table_id ≡ p.table_id → Advanced k p q (advance.TooMany w)
+  refused_full k n w p q h told is fits same_word me hears same = (
+    kept n p q h me,
     (
       by k (full_undrained w k first) (is_full w k (refused_holds w k why.TooMany first)),
       shown R W n w q.me.0 found fits same_word,
-      deeds_kept n p q me,
+      heard_in n w p q h same_word me hears,
+      ap (λ m. m.0.did) me,
     ),
   )
     where
@@ -369,7 +415,7 @@ module _ {R W : Type 0} where
       fields = unpacks w n fits same_word
 
       saw : Saw n p q
-      saw = saw_by n p q told me same
+      saw = saw_by n p q h told me same
 
       unshut : w.closed ≡ false
       unshut = full_is_open w k first
@@ -393,21 +439,26 @@ module _ {R W : Type 0} where
       by kind.Drain undrained full = absurd full
 
   -- the same, where the step was told of an equal kind, and was made after a load
-  pub came_after : (k j : Kind) (a : After) (n m : ℕ) (p x q : Place R W) → k ≡ j → Told R W n p.me.0
-      → stepped_word n k ≡ Ok (m, a) → x.me ≡ (seen_in n p.me.0, p.me.1)
-      → ((b : After) → stepped_word n j ≡ Ok (m, b) → (q.me.0 ≡ moved_view j b x.me.0) × Carries j b x.me.1 q.me.1
+  pub came_after : (k j : Kind) (a : After) (n m : ℕ) (p x q : Place R W) (h : List Event) → k ≡ j
+      → Told R W n (hearing h p.me.0) → stepped_word n k ≡ Ok (m, a)
+      → x.me ≡ (seen_in n (hearing h p.me.0), p.me.1) → GoesOn p.me.0.heard h
+      → ((b : After) → stepped_word n j ≡ Ok (m, b) → (g : List Event)
+      × (q.me.0 ≡ hearing g (moved_view j b x.me.0)) × Carries j b x.me.1 q.me.1
       × IsMade (op_of j) (gained j b).0 x.me.0 q.me.0)
       → q.table_id ≡ p.table_id → Came k a p q
-  came_after k j a n m p x q same_kind told is looked did same =
-      let did_k : ((b : After) → stepped_word n k ≡ Ok (m, b) → (q.me.0 ≡ moved_view k b x.me.0)
-      × Carries k b x.me.1 q.me.1 × IsMade (op_of k) (gained k b).0 x.me.0 q.me.0) =
-      subst (λ (z : Kind). (b : After) → stepped_word n z ≡ Ok (m, b) → (q.me.0 ≡ moved_view z b x.me.0)
-      × Carries z b x.me.1 q.me.1 × IsMade (op_of z) (gained z b).0 x.me.0 q.me.0) (sym same_kind) did in
+  came_after k j a n m p x q h same_kind told is looked so_far did same =
+      let did_k : ((b : After) → stepped_word n k ≡ Ok (m, b) → (g : List Event)
+      × (q.me.0 ≡ hearing g (moved_view k b x.me.0)) × Carries k b x.me.1 q.me.1
+      × IsMade (op_of k) (gained k b).0 x.me.0 q.me.0) =
+      subst (λ (z : Kind). (b : After) → stepped_word n z ≡ Ok (m, b) → (g : List Event)
+      × (q.me.0 ≡ hearing g (moved_view z b x.me.0)) × Carries z b x.me.1 q.me.1
+      × IsMade (op_of z) (gained z b).0 x.me.0 q.me.0) (sym same_kind) did in
       let one = did_k a is in
-      came k a n m p q told is (one.0 ∙ ap (λ y. moved_view k a y.0) looked)
-      (subst (λ (l : List (ℕ × Half R W)). Carries k a l q.me.1) (ap (λ y. y.1) looked) one.1) same
-      (made_before n p.me.0 q.me.0 (op_of k) (gained k a).0 told
-      (subst (λ (y : LocalView). IsMade (op_of k) (gained k a).0 y q.me.0) (ap (λ y. y.0) looked) one.2))
+      came k a n m p q h one.0 told is (one.1 ∙ ap (λ y. hearing one.0 (moved_view k a y.0)) looked)
+      (subst (λ (l : List (ℕ × Half R W)). Carries k a l q.me.1) (ap (λ y. y.1) looked) one.2) same
+      (made_since p.me.0 q.me.0 h (op_of k) (gained k a).0 so_far
+      (made_before n (hearing h p.me.0) q.me.0 (op_of k) (gained k a).0 told
+      (subst (λ (y : LocalView). IsMade (op_of k) (gained k a).0 y q.me.0) (ap (λ y. y.0) looked) one.3)))
 
 -- no step that a stake allows is a misuse
 pub no_misuse : (k : Kind) (own : Stake) (n : ℕ) → Shows own n → allows own (op_of k) ≡ true

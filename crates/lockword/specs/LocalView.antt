@@ -13,11 +13,12 @@ newcomer =
       took = false;
       saw = record { closed = false; draining = false; done = false };
       did = [];
+      heard = [];
     }
 
 -- a seat that has nothing, and has seen what another has
 abbrev pub without_stake : LocalView → LocalView
-without_stake v = record { stake = stake.Free; took = false; saw = v.saw; did = [] }
+without_stake v = record { stake = stake.Free; took = false; saw = v.saw; did = []; heard = v.heard }
 
 -- the stakes of all seats
 abbrev pub stakes_of : List LocalView → List Stake

@@ -1,6 +1,7 @@
 -- A seat's word and its marks, before and after a call.
 use Rattle.std.specs.Prelude.{◌≡◌, ◌⊎◌}
-use Rattle.lockword.specs.Words.{List, Bool, true, false, Dir, Op, Answer, After, Word}
+use Rattle.lockword.specs.Words.{List, Bool, true, false, Dir, Event, Op, Answer, After, Word}
+use Rattle.lockword_core.specs.Word.{packed}
 use Rattle.atomic_table.specs.declared.shared.Seat as table
 use Rattle.atomic_table.specs.Seated.{TableId}
 use Rattle.lockword_core.specs.declared.transition.Kind.{Kind}
@@ -9,7 +10,7 @@ use Rattle.lockword_core.specs.declared.transition.After.TheVariants as after
 use Rattle.lockword_core.specs.declared.word.TheConstants.{MAX_REFERENCES, MAX_WAITERS}
 use Rattle.lockword_core.specs.FieldStep.{lock_of, waiters_of}
 use Rattle.lockword_core.specs.WordStep.{op_of, gained}
-use Rattle.lockword.specs.History.{IsMade}
+use Rattle.lockword.specs.History.{IsMade, GoesOn, Hears}
 use Rattle.lockword.specs.Moment.{IsShown}
 use Rattle.lockword.specs.declared.local_view.Marks.{Marks}
 use Rattle.lockword.specs.declared.local_view.LocalView.{LocalView}
@@ -80,14 +81,40 @@ module _ {R W : Type 0} where
       (word_of q ≡ word_of p) × (saw_closed q ≡ saw_closed p) × (saw_done q ≡ saw_done p)
       × KeepsDraining p q
 
-  -- after some list of operations by the word's seats, this seat made this operation, was answered
-  -- so, and has what it has now
+  -- what all seats had done when the seat made its last operation or look, in the order in which
+  -- they did it
+  abbrev pub heard_by : Place R W → List Event
+  heard_by p = p.me.0.heard
+
+  -- after some list of operations by the word's seats, none of which was refused, this seat made
+  -- this operation, was answered so, and has what it has now
   abbrev pub Did : Op → Answer → Place R W → Place R W → Type 0
   Did o a p q = IsMade o a p.me.0 q.me.0
 
   -- the seat made no operation
   abbrev pub SameDeeds : Place R W → Place R W → Type 0
   SameDeeds p q = deeds q ≡ deeds p
+
+  -- the seat has heard nothing since
+  abbrev pub SameHeard : Place R W → Place R W → Type 0
+  SameHeard p q = heard_by q ≡ heard_by p
+
+  -- what the seat has heard goes on from what it had heard
+  abbrev pub HeardOn : Place R W → Place R W → Type 0
+  HeardOn p q = GoesOn (heard_by p) (heard_by q)
+
+  -- the seat made no operation, and has heard nothing since
+  abbrev pub DidNothing : Place R W → Place R W → Type 0
+  DidNothing p q = SameDeeds p q × SameHeard p q
+
+  -- the seat looked and made no operation: what it has heard goes on from what it had heard
+  abbrev pub OnlyLooked : Place R W → Place R W → Type 0
+  OnlyLooked p q = SameDeeds p q × HeardOn p q
+
+  -- what all seats did at some moment goes on from what the seat had heard, is what it has heard
+  -- since, was refused nowhere, and replays to this word
+  abbrev pub Heard : Word → Place R W → Place R W → Type 0
+  Heard w p q = Hears p.me.0 (heard_by q) (packed w) q.me.0
 
   -- these were the seven fields at some moment, at which the rule held and this seat had this view
   abbrev pub Showed : Word → Place R W → Type 0
@@ -159,18 +186,19 @@ module _ {R W : Type 0} where
   abbrev pub Made : Kind → After → Place R W → Place R W → Type 0
   Made k a p q = Marked k a p q × Did (op_of k) (gained k a).0 p q
 
-  -- the exchange of a step was lost, and the seat did nothing
+  -- the exchange of a step was lost, and the seat did nothing but look
   abbrev pub LostStep : Kind → Place R W → Place R W → Type 0
-  LostStep k p q = LostMarks k p q × SameDeeds p q
+  LostStep k p q = LostMarks k p q × OnlyLooked p q
 
-  -- a step found the word closed, and the seat did nothing
+  -- a step found the word closed, and the seat did nothing but look
   abbrev pub FoundClosed : Place R W → Place R W → Type 0
-  FoundClosed p q = NowClosed p q × SameDeeds p q
+  FoundClosed p q = NowClosed p q × OnlyLooked p q
 
-  -- a step found the word draining and not closed, and the seat did nothing
+  -- a step found the word draining and not closed, and the seat did nothing but look
   abbrev pub FoundDraining : Place R W → Place R W → Type 0
-  FoundDraining p q = NowDraining p q × IsOpen p × SameDeeds p q
+  FoundDraining p q = NowDraining p q × IsOpen p × OnlyLooked p q
 
-  -- a step was refused by this word, which was the word at some moment, and the seat did nothing
+  -- a step was refused by this word, which was the word at some moment that the seat has heard of,
+  -- and the seat did nothing but look
   abbrev pub FoundFull : Kind → Place R W → Place R W → Word → Type 0
-  FoundFull k p q w = FullMarks k p q w × Showed w q × SameDeeds p q
+  FoundFull k p q w = FullMarks k p q w × Showed w q × Heard w p q × SameDeeds p q

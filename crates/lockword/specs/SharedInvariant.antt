@@ -12,7 +12,7 @@ use Rattle.lockword.specs.declared.shared_rule.Half.{Half}
 use Rattle.lockword.specs.declared.shared_rule.TheConstants.{STATE, DONE}
 use Rattle.lockword.specs.Directions.{semaphore, slot_of, half_home}
 use Rattle.lockword.specs.LocalView.{stakes_of, takers}
-use Rattle.lockword.specs.History.{Matches, Interleaves}
+use Rattle.lockword.specs.History.{Matches, Interleaves, IsHeard}
 
 -- what a seat saw is so
 pub record SawRightly (c : Census) (v : LocalView) : Type 0 where
@@ -48,3 +48,4 @@ module _ {R W : Type 0} where
     pub interleaves : Interleaves history s.views
     pub none_refused : NoneRefused history
     pub leads : Matches (state_after empty history) s.words s.views
+    pub heard : IsHeard history s.views

@@ -2,7 +2,7 @@
 use Rattle.std.specs.Prelude.{◌≡◌, ◌≢◌, ◌==◌, ◌<◌, ◌≤◌, ◌+◌, ◌-◌, ◌%◌, ◌^◌, [], ◌∷◌, ◌++◌, Ok}
 use Rattle.std.specs.Prelude.{if◌then◌else◌}
 use Rattle.lockword.specs.Words.{ℕ, List, Bool, true, false, Dir, Read, Write, Stake, Op, Answer}
-use Rattle.lockword.specs.Words.{After}
+use Rattle.lockword.specs.Words.{After, Event}
 use Rattle.atomic_table.specs.Table.{Me, Step, rest}
 use Rattle.lockword_core.specs.declared.stake.Stake.TheVariants as stake
 use Rattle.lockword_core.specs.declared.stake.Op.TheVariants as op
@@ -24,9 +24,9 @@ use Rattle.lockword.specs.declared.transitions.SignalMove.TheVariants as move
 use Rattle.lockword.specs.declared.signals.SignalTry.{SignalTry}
 use Rattle.lockword.specs.declared.signals.SignalTry.TheVariants as tried
 use Rattle.lockword.specs.Directions.{slot_of, Guarded, half_of}
-use Rattle.lockword.specs.History.{IsMade}
+use Rattle.lockword.specs.History.{IsMade, Hears}
 use Rattle.lockword.specs.Moment.{IsFound}
-use Rattle.lockword.specs.Marks.{Place, SameMarks, Did, SameDeeds, Made, LostStep, FoundClosed}
+use Rattle.lockword.specs.Marks.{Place, SameMarks, Did, DidNothing, Made, LostStep, FoundClosed}
 use Rattle.lockword.specs.Marks.{FoundDraining, FoundFull}
 use Rattle.lockword.specs.declared.shared_rule.Half.{Half}
 use Rattle.lockword.specs.declared.shared_rule.Half.TheVariants as half
@@ -51,6 +51,10 @@ seen_in n v =
     record v {
       saw = record { closed = closed_in n; draining = drain_in n; done = v.saw.done };
     }
+
+-- the view once the seat heard what all seats did
+abbrev pub hearing : List Event → LocalView → LocalView
+hearing h v = record v { heard = h }
 
 -- what a load of the state tells a seat with this view
 pub record Told (R W : Type 0) (n : ℕ) (v : LocalView) : Type 0 where
@@ -86,6 +90,7 @@ moved_view k a v =
         done = v.saw.done;
       };
       did = v.did ++ op_of k ∷ [];
+      heard = v.heard;
     }
 
 -- the view once the done word was seen
@@ -103,6 +108,7 @@ destroyed_view v =
       took = false;
       saw = record { closed = v.saw.closed; draining = v.saw.draining; done = true };
       did = v.did ++ op.Destroy ∷ [];
+      heard = v.heard;
     }
 
 module _ {S : Type 0} where
@@ -113,10 +119,12 @@ module _ {S : Type 0} where
       × (me' ≡ (asked_view n me.0, me.1))
 
 module _ {R W : Type 0} where
-  -- a load of the state
+  -- a load of the state, at which the seat hears what all seats did
   abbrev pub looked : Step (Half R W) → Me (Half R W) LocalView → ℕ → Me (Half R W) LocalView
       → Type 0
-  looked st me n me' = Told R W n me.0 × (me' ≡ (seen_in n me.0, me.1))
+  looked st me n me' =
+      (h : List Event) × Told R W n (hearing h me.0) × (me' ≡ (seen_in n (hearing h me.0), me.1))
+      × Hears me.0 h n (seen_in n (hearing h me.0))
 
   -- the slots that a seat holds once it made a step: a lock that is taken brings its half, one
   -- given back leaves it
@@ -132,7 +140,7 @@ module _ {R W : Type 0} where
       → Type 0
   moved k st me n me' =
       (n ≡ st.first → (a : After) → stepped_word st.first k ≡ Ok (st.second, a)
-      → (me'.0 ≡ moved_view k a me.0) × Carries k a me.1 me'.1
+      → (h : List Event) × (me'.0 ≡ hearing h (moved_view k a me.0)) × Carries k a me.1 me'.1
       × IsMade (op_of k) (gained k a).0 me.0 me'.0)
       × (n ≢ st.first → me' ≡ me)
 
@@ -141,9 +149,9 @@ module _ {R W : Type 0} where
       → Type 0
   subtracted st me n me' =
       Told R W n me.0
-      × ((a : After) × (stepped_word n kind.Decref ≡ Ok (n - REFERENCE, a))
-      × (me'.0 ≡ moved_view kind.Decref a (seen_in n me.0)) × Shows me'.0.stake (n - REFERENCE)
-      × IsMade op.Decref (gained kind.Decref a).0 me.0 me'.0)
+      × ((a : After) × (h : List Event) × (stepped_word n kind.Decref ≡ Ok (n - REFERENCE, a))
+      × (me'.0 ≡ hearing h (moved_view kind.Decref a (seen_in n me.0)))
+      × Shows me'.0.stake (n - REFERENCE) × IsMade op.Decref (gained kind.Decref a).0 me.0 me'.0)
       × (me'.1 ≡ me.1)
 
   -- the last holder takes both halves
@@ -158,7 +166,7 @@ module _ {R W : Type 0} where
   abbrev pub marked : Step (Half R W) → Me (Half R W) LocalView → ℕ → Me (Half R W) LocalView
       → Type 0
   marked st me n me' =
-      (me'.0 ≡ destroyed_view me.0) × (me'.1 ≡ rest (rest me.1))
+      (h : List Event) × (me'.0 ≡ hearing h (destroyed_view me.0)) × (me'.1 ≡ rest (rest me.1))
       × IsMade op.Destroy answer.Done me.0 me'.0
 
 -- ---- A try at a step on the state word
@@ -231,6 +239,7 @@ signalled_view o d v =
       took = false;
       saw = v.saw;
       did = v.did ++ o d ∷ [];
+      heard = v.heard;
     }
 
 module _ {S : Type 0} where
@@ -242,7 +251,7 @@ module _ {S : Type 0} where
   abbrev pub signalled : (Dir → Op) → Answer → Step S → Me S LocalView → ℕ → Me S LocalView → Type 0
   signalled o a st me n me' =
       (n ≡ st.first
-      → (me' ≡ (signalled_view o (way_of st.word) me.0, me.1))
+      → (h : List Event) × (me' ≡ (hearing h (signalled_view o (way_of st.word) me.0), me.1))
       × IsMade (o (way_of st.word)) a me.0 me'.0)
       × (n ≢ st.first → me' ≡ me)
 
@@ -253,5 +262,5 @@ abbrev pub Signalled : {R W : Type 0} → (Dir → Op) → Answer → Dir → Pl
 Signalled o a d p q tried.Done =
     (q.me.0.stake ≡ stake_after_signal d p.me.0.stake) × (q.me.1 ≡ p.me.1) × SameMarks p q
     × Did (o d) a p q
-Signalled o a d p q tried.Refused = Keeps p q × SameMarks p q × SameDeeds p q
-Signalled o a d p q tried.Lost = Keeps p q × SameMarks p q × SameDeeds p q
+Signalled o a d p q tried.Refused = Keeps p q × SameMarks p q × DidNothing p q
+Signalled o a d p q tried.Lost = Keeps p q × SameMarks p q × DidNothing p q

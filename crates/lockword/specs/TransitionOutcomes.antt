@@ -34,8 +34,8 @@ use Rattle.lockword.specs.declared.holders.Drains.{Drains}
 use Rattle.lockword.specs.declared.holders.Waiting.{Waiting}
 use Rattle.lockword_core.specs.LockState.{is_same}
 use Rattle.lockword.specs.Marks.{WordId, Place, word_of, saw_closed, saw_draining, saw_done}
-use Rattle.lockword.specs.Marks.{SameMarks, NowClosed, Did, SameDeeds, Showed, Made, LostStep}
-use Rattle.lockword.specs.Marks.{FoundClosed, FoundDraining, FoundFull}
+use Rattle.lockword.specs.Marks.{SameMarks, NowClosed, Did, DidNothing, SameDeeds, Showed, Heard}
+use Rattle.lockword.specs.Marks.{Made, LostStep, FoundClosed, FoundDraining, FoundFull}
 use Rattle.lockword.specs.Places.{seat_place, ref_place, closing_place, owed_by, last_place}
 use Rattle.lockword.specs.Places.{drains_place, drains_owed}
 use Rattle.lockword.specs.Places.{lock_place, wait_place, owing_place, owing_way}
@@ -106,11 +106,11 @@ module _ {R W : Type 0} where
   AnswersUnlock {way = way} p (unlock.Last l) = Made (kind.Unlock way.dir) after.Last p (last_place l)
   AnswersUnlock {way = way} p (unlock.Lost l) = LostStep (kind.Unlock way.dir) p (lock_place l)
 
-  -- a signal was not given: marks, direction and deeds are as before
+  -- a signal was not given: marks, direction, deeds and what was heard are as before
   abbrev pub StillOwes : Owing R W → Owing R W → Type 0
   StillOwes o n =
       SameMarks (owing_place o) (owing_place n) × (owing_way n ≡ owing_way o)
-      × SameDeeds (owing_place o) (owing_place n)
+      × DidNothing (owing_place o) (owing_place n)
 
   -- a signal changes no mark
   abbrev pub AnswersSignal : Owing R W → Signal R W → Type 0
@@ -123,7 +123,8 @@ module _ {R W : Type 0} where
   -- a closer gave no signal, and owes what it owed
   abbrev pub StillOwesAll : Closing R W → Closing R W → Type 0
   StillOwesAll c n =
-      FoundClosed (closing_place c) (closing_place n) × ((e : Dir) → owed_by n e ≡ owed_by c e)
+      NowClosed (closing_place c) (closing_place n) × DidNothing (closing_place c) (closing_place n)
+      × ((e : Dir) → owed_by n e ≡ owed_by c e)
 
   -- a signal that a closer gives is owed no more; in the other direction as many are owed as before
   abbrev pub AnswersSignalClosing : Closing R W → Dir → SignalClosing R W → Type 0
@@ -134,10 +135,11 @@ module _ {R W : Type 0} where
   AnswersSignalClosing c d (signal_closing.Full n) = StillOwesAll c n
   AnswersSignalClosing c d (signal_closing.Lost n) = StillOwesAll c n
 
-  -- a drainer gave no signal: marks and deeds are as before, and it owes what it owed
+  -- a drainer gave no signal: marks, deeds and what was heard are as before, and it owes what it
+  -- owed
   abbrev pub StillDrains : Drains R W → Drains R W → Type 0
   StillDrains o n =
-      SameMarks (drains_place o) (drains_place n) × SameDeeds (drains_place o) (drains_place n)
+      SameMarks (drains_place o) (drains_place n) × DidNothing (drains_place o) (drains_place n)
       × ((e : Dir) → drains_owed n e ≡ drains_owed o e)
 
   -- a signal that a drainer gives is owed no more; in the other direction as many are owed as
@@ -154,10 +156,10 @@ module _ {R W : Type 0} where
   AnswersSignalDrains o d (signal_drains.Full n) = StillDrains o n
   AnswersSignalDrains o d (signal_drains.Lost n) = StillDrains o n
 
-  -- no signal was taken: marks and deeds are as before
+  -- no signal was taken: marks, deeds and what was heard are as before
   abbrev pub StillWaits : {D : Type 0} {way : Ghosts D} → Waiting D R W way → Waiting D R W way
       → Type 0
-  StillWaits o n = SameMarks (wait_place o) (wait_place n) × SameDeeds (wait_place o) (wait_place n)
+  StillWaits o n = SameMarks (wait_place o) (wait_place n) × DidNothing (wait_place o) (wait_place n)
 
   -- a wake changes no mark
   abbrev pub AnswersWake : {D : Type 0} {way : Ghosts D} → Waiting D R W way → Wake D R W way
@@ -186,6 +188,8 @@ ShowsStake _ w = Unit {0}
 -- what a look shows to a seat, and what the seat then has seen
 pub record Looks {R W : Type 0} (p q : Place R W) (w : Word) : Type 0 where
   pub shown : Showed w q
+  -- what all seats did at that moment goes on from what this seat had heard, and replays to the word
+  pub heard : Heard w p q
   pub same_deeds : SameDeeds p q
   pub is_word : IsWord w
   pub same_word : word_of q ≡ word_of p

@@ -3,8 +3,8 @@
 ghost use Rattle.std.specs.Prelude.{◌≡◌, true, false, [], IfOk};
 ghost use Rattle.lockword_core.specs.declared.stake.Op.TheVariants as op;
 ghost use Rattle.lockword_core.specs.declared.stake.Answer.TheVariants as answer;
-ghost use Rattle.lockword.specs.Marks.{saw_closed, saw_draining, saw_done, deeds};
-ghost use Rattle.lockword.specs.Marks.{SameMarks, Did, SameDeeds};
+ghost use Rattle.lockword.specs.Marks.{saw_closed, saw_draining, saw_done, deeds, heard_by};
+ghost use Rattle.lockword.specs.Marks.{SameMarks, Did, SameDeeds, SameHeard};
 ghost use Rattle.lockword.specs.Places.{seat_place, last_place};
 ghost use Rattle.lockword.specs.TransitionOutcomes.{IsSeatOf, HasTaken, HasNotTaken};
 
@@ -28,6 +28,7 @@ impl<R: Drop, W: Drop> LockWord<R, W> {
         ensures undrained { IfOk result (λ made. saw_draining (seat_place made.1) ≡ false) }
         ensures not_done { IfOk result (λ made. saw_done (seat_place made.1) ≡ false) }
         ensures no_deeds { IfOk result (λ made. deeds (seat_place made.1) ≡ []) }
+        ensures none_heard { IfOk result (λ made. heard_by (seat_place made.1) ≡ []) }
     {
         let mut halves = Vec::with_capacity(alloc, 2)?;
         if let Err(AllocFailed { value: _ }) = halves.push(Half::Read(read)) {
@@ -49,6 +50,8 @@ impl<R: Drop, W: Drop> LockWord<R, W> {
         ensures second { SameMarks (seat_place seat) (seat_place result.1) }
         ensures same_deeds { SameDeeds (seat_place seat) (seat_place result.0) }
         ensures no_deeds { deeds (seat_place result.1) ≡ [] }
+        ensures first_heard { SameHeard (seat_place seat) (seat_place result.0) }
+        ensures second_heard { SameHeard (seat_place seat) (seat_place result.1) }
     {
         let Seat { mut place } = seat;
         let other = self.table.shared.split_seat::<Another>(&mut place);
@@ -64,6 +67,7 @@ impl<R: Drop, W: Drop> LockWord<R, W> {
         ensures sees { saw_done (seat_place seat.new) ≡ result }
         ensures stays { saw_done (seat_place seat.old) ≡ true → result ≡ true }
         ensures same_deeds { SameDeeds (seat_place seat.old) (seat_place seat.new) }
+        ensures same_heard { SameHeard (seat_place seat.old) (seat_place seat.new) }
     {
         self.table.shared.load::<Ask>(&mut seat.place, DONE) == 1
     }
@@ -106,6 +110,7 @@ impl<R: Drop, W: Drop> Last<R, W> {
         ensures marks { SameMarks (last_place self.old) (last_place self.new) }
         ensures taken { HasTaken (last_place self.new) }
         ensures same_deeds { SameDeeds (last_place self.old) (last_place self.new) }
+        ensures same_heard { SameHeard (last_place self.old) (last_place self.new) }
     {
         let shared = &word.table.shared;
         let place = &mut self.place;

@@ -1,20 +1,28 @@
 //! What the rule of a running word comes to. The rule holds between any two atomic steps of any number
 //! of threads; each law is the contract of a function that does nothing.
 
-ghost use Rattle.std.specs.Prelude.{◌≡◌, ◌≤◌, ◌<◌, ◌+◌, ◌==◌, ◌&&◌, ℕ, true, count_by, slice_index};
+ghost use Rattle.std.specs.Prelude.{◌≡◌, ◌≤◌, ◌<◌, ◌+◌, ◌==◌, ◌&&◌, ◌⊎◌, ℕ, List, true};
+ghost use Rattle.std.specs.Prelude.{count_by, slice_index};
 ghost use mathlib.Core.Option.{some};
 ghost use lib.ListN.{get_elem?};
 ghost use Rattle.stream_base.specs.declared.direction.Dir.{Dir};
+ghost use Rattle.lockword_core.specs.declared.stake.Answer.{Answer};
+ghost use Rattle.lockword_core.specs.declared.stake.Event.{Event};
+ghost use Rattle.lockword_core.specs.declared.stake.Op.{Op};
 ghost use Rattle.lockword_core.specs.declared.word.Word.{Word};
 ghost use Rattle.lockword_core.specs.Word.{bit};
-ghost use Rattle.lockword_core.specs.LockState.{references, locks, drainers, lasts};
+ghost use Rattle.lockword_core.specs.LockState.{references, locks, queued, owed, closers, drainers};
+ghost use Rattle.lockword_core.specs.LockState.{lasts};
 ghost use Rattle.lockword_core.specs.OperationCounts.{is_close, is_drain, is_destroy, AddsUp};
 ghost use Rattle.lockword_core.specs.Laws.{ReturnedTheLast};
 ghost use Rattle.lockword.specs.declared.local_view.LocalView.{LocalView};
 ghost use Rattle.lockword.specs.declared.shared_rule.TheConstants.{DONE};
+ghost use Rattle.lockword.specs.Directions.{semaphore};
+ghost use Rattle.lockword.specs.History.{GoesOn, IsMade};
 ghost use Rattle.lockword.specs.LocalView.{made_by_seats};
+ghost use Rattle.lockword.specs.Marks.{Place, HeardOn};
 ghost use Rattle.lockword.specs.SharedInvariant.{IsReached};
-ghost use Rattle.lockword.specs.TransitionOutcomes.{IsOnlyClosed};
+ghost use Rattle.lockword.specs.TransitionOutcomes.{IsOnlyClosed, Looks};
 ghost use Rattle.lockword.specs.Moment.{Moment, IsRead};
 ghost use Rattle.lockword.specs.Laws.{seats_census, over_seats, IsInOnePlace, CountsSeats, ComesOfDeeds};
 
@@ -26,18 +34,43 @@ pub fn the_word_comes_of_what_its_seats_did<R, W>()
 {}
 
 /// At every moment the lock bits and counts of the word are those of the stakes of all seats, at most
-/// one seat reads and at most one writes, each half is in one place, at most one seat owes the signals of
-/// a drain, and nobody is left to be signalled in a word that is draining.
+/// one seat reads and at most one writes, each half is in one place, at most one seat is closing, only
+/// in a closed word, at most one owes the signals of a drain, only in a draining word, and nobody is
+/// left to be signalled in a word that is closed or draining. The signals that lie ready and those that
+/// are owed never exceed the seats that wait for them, so that no count of waiters is cut off at 0.
 pub fn the_word_counts_the_seats<R, W>()
     ensures counts { (s : Moment R W) (fields : Word) → IsRead s fields → CountsSeats s fields }
     ensures one_lock { (s : Moment R W) (d : Dir) → IsReached s → over_seats (locks d) s ≤ 1 }
     ensures one_place { (s : Moment R W) (d : Dir) → IsReached s → IsInOnePlace d s }
     ensures one_drainer { (s : Moment R W) (fields : Word) → IsRead s fields
         → over_seats drainers s ≤ bit fields.drain }
+    ensures one_closer { (s : Moment R W) (fields : Word) → IsRead s fields
+        → over_seats closers s ≤ bit fields.closed }
+    ensures signals_have_waiters { (s : Moment R W) (d : Dir) → IsReached s
+        → over_seats (owed d) s + slice_index s.words (semaphore d) ≤ over_seats (queued d) s }
+    ensures no_reader_waits_closed { (s : Moment R W) (fields : Word) → IsRead s fields
+        → fields.closed ≡ true → fields.rwait ≡ 0 }
+    ensures no_writer_waits_closed { (s : Moment R W) (fields : Word) → IsRead s fields
+        → fields.closed ≡ true → fields.wwait ≡ 0 }
     ensures no_reader_waits { (s : Moment R W) (fields : Word) → IsRead s fields
         → fields.drain ≡ true → fields.rwait ≡ 0 }
     ensures no_writer_waits { (s : Moment R W) (fields : Word) → IsRead s fields
         → fields.drain ≡ true → fields.wwait ≡ 0 }
+{}
+
+/// What each seat has heard is a beginning of the one list of what all seats did, so that of what two
+/// seats have heard at one moment one is a beginning of the other. Each operation goes on from what its
+/// seat had heard, and so does each look, so that any two looks of a seat are of one list, the later of
+/// at least as much of it: what goes on from a list goes on from all that this goes on from.
+pub fn what_seats_heard_is_one_list<R, W>()
+    ensures beginning { (s : Moment R W) (seat : ℕ) (v : LocalView) (reached : IsReached s)
+        → get_elem? s.views seat ≡ some v → GoesOn v.heard reached.history }
+    ensures comparable { (s : Moment R W) (one other : ℕ) (v w : LocalView) → IsReached s
+        → get_elem? s.views one ≡ some v → get_elem? s.views other ≡ some w
+        → GoesOn v.heard w.heard ⊎ GoesOn w.heard v.heard }
+    ensures made { (o : Op) (a : Answer) (v w : LocalView) → IsMade o a v w → GoesOn v.heard w.heard }
+    ensures looked { (p q : Place R W) (fields : Word) → Looks p q fields → HeardOn p q }
+    ensures chained { (a b c : List Event) → GoesOn a b → GoesOn b c → GoesOn a c }
 {}
 
 /// A closed word without references has one `Last` or was destroyed, and no other has either; once it

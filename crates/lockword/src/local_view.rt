@@ -4,7 +4,9 @@ ghost use Rattle.std.specs.Prelude.{List};
 ghost use base.Fml.{ftrue};
 ghost use base.Stored.{coded_list};
 ghost use Rattle.lockword_core.specs.declared.stake.Op.{Op};
+ghost use Rattle.lockword_core.specs.declared.stake.Event.{Event};
 ghost use Rattle.lockword_core.specs.contracts.stake.Op.{the_row};
+ghost use Rattle.lockword_core.specs.contracts.stake.Event as event;
 
 use lockword_core::Stake;
 use std::marker::Model;
@@ -29,6 +31,9 @@ pub struct LocalView {
     pub saw: Marks,
     // The operations that the seat has made, in order; never taken back.
     pub ghost did: { List Op } by { coded_list the_row.coded },
+    // What all seats had done when the seat made its last operation or look, in an order that keeps
+    // each seat's own; it only grows, at its end.
+    pub ghost heard: { List Event } by { coded_list event.the_row.coded },
 }
 
 impl Model for LocalView {

@@ -21,7 +21,7 @@ use atomic_table::{Play, Split};
 use lockword_core::{After, Kind, Refused, Word, signal_add, signal_take, unpack, word_step};
 use std::marker::PhantomData;
 
-/// A load of the state.
+/// A load of the state, at which the seat hears what all seats did.
 pub(crate) struct Look;
 
 impl<R, W> Play<Half<R, W>, LocalView> for Look {

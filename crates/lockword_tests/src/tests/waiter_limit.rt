@@ -11,7 +11,7 @@ use fdmutex::{Refusal, drop_closing, write_lock, write_unlock};
 use lockword::{
     Close, Closing, LockWord, LockWrite, SignalClosing, WakeWrite, WriteLock, WriteWait,
 };
-use lockword_core::MAX_WAITERS;
+use lockword_core::{MAX_WAITERS, Word};
 use std::alloc::{AllocError, AllocFailed, Global};
 use std::process::Abort;
 use std::sync::Wait;
@@ -100,6 +100,20 @@ fn end_both<R: Wait + Abort>(
     let _halves = destroyed(rt, word, write_unlock(rt, word, lock));
 }
 
+/// A seat that asks for the lock by the call that waits is refused with this word.
+fn refused_with<R: Wait + Abort>(
+    rt: &R,
+    word: &Counters,
+    seat: CounterSeat,
+    found: Word,
+) -> CounterSeat
+    requires seat { IsSeatOf word.now (seat_place seat) }
+    ensures seat { IsSeatOf word.now (seat_place result) }
+{
+    let full = Refusal::TooMany(found);
+    refused(rt, "0 wlock", word, write_lock(rt, word, seat), &full)
+}
+
 /// A seat that asks for the lock is refused by the single try and by the call that waits.
 fn refused_at_the_limit<R: Wait + Abort>(rt: &R, word: &Counters, seat: CounterSeat) -> CounterSeat
     requires seat { IsSeatOf word.now (seat_place seat) }
@@ -110,8 +124,7 @@ fn refused_at_the_limit<R: Wait + Abort>(rt: &R, word: &Counters, seat: CounterS
         other => wrong(rt, "at the limit", other),
     };
     assert_eq!(*rt; found.wwait, MAX_WAITERS, "0 wlock");
-    let full = Refusal::TooMany(found);
-    refused(rt, "0 wlock", word, write_lock(rt, word, seat), &full)
+    refused_with(rt, word, seat, found)
 }
 
 /// A close that owes a signal to each who waits, and gives them.

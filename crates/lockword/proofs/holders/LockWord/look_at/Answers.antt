@@ -1,7 +1,7 @@
 use Rattle.std.proofs.Common.{◌∙◌}
 use Rattle.lockword_core.proofs.WordFields.{unpacks}
 use Rattle.lockword.proofs.Words.{rules, subst, sym, ap, LocalView, IsFound, Word}
-use Rattle.lockword.proofs.WordTests.{shown}
+use Rattle.lockword.proofs.WordTests.{shown, heard_in}
 use Rattle.lockword.proofs.LookSteps.{looks}
 use Rattle.lockword.proofs.holders.LockWord.look_at.Goals as goal
 
@@ -10,13 +10,17 @@ load-requires g c = (search rules, search rules, looks _ _ _ _ _)
 
 pub returns-clause-looks : goal.returns-clause-looks
 returns-clause-looks g c =
-    let told = c.load.ensures.2.0 in
-    let now = c.load.ensures.2.1 in
+    let h = c.load.ensures.2.0 in
+    let told = c.load.ensures.2.1 in
+    let now = c.load.ensures.2.2 in
+    let hears = c.load.ensures.2.3 in
     let fields = unpacks c.fields_of.result c.load.result c.fields_of.ensures.fits c.fields_of.ensures.same in
     record {
       shown = shown g.row.R.Denot g.row.W.Denot c.load.result c.fields_of.result c.load.new.seat.me.0
           (subst (λ (v : LocalView). IsFound g.row.R.Denot g.row.W.Denot c.load.result v)
-          (sym (ap (λ m. m.0) c.load.ensures.2.1)) told.found) c.fields_of.ensures.fits c.fields_of.ensures.same;
+          (sym (ap (λ m. m.0) now)) told.found) c.fields_of.ensures.fits c.fields_of.ensures.same;
+      heard = heard_in c.load.result c.fields_of.result c.args.place.now c.load.new.seat h c.fields_of.ensures.same
+          now hears;
       same_deeds = search rules;
       is_word = search rules;
       same_word = search rules;
