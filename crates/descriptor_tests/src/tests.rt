@@ -24,6 +24,7 @@ mod outcome_lists;
 mod processor_time;
 mod rows;
 mod scripted;
+mod under_way;
 mod wakes;
 mod watch;
 mod whole_life;

@@ -6,7 +6,8 @@ use Rattle.fd_descriptor.specs.declared.descriptor.FdHandle.{FdHandle}
 use Rattle.fd_descriptor.specs.declared.poll_cell.PollCell.{PollCell}
 use Rattle.fd_descriptor.specs.CellKey.{key_of_cell}
 use Rattle.fd_descriptor.specs.Marks.{Marks, KeepsMarks, marks_in, closes_in, destroys_in}
-use Rattle.fd_descriptor.specs.Marks.{drains_in}
+use Rattle.fd_descriptor.specs.Marks.{drains_in, LooksThrough}
+use Rattle.lockword_core.specs.declared.word.Word.{Word}
 
 module _ {X R W A : Type 0} where
   -- the descriptor that a handle is on
@@ -48,6 +49,11 @@ module _ {X R W A : Type 0} where
   -- how many times this handle set the descriptor's drain flag
   abbrev pub drains_of : FdHandle X R W A → ℕ
   drains_of h = drains_in h.seat
+
+  -- what a look shows to a handle, as it shows it to the handle's seat: the word was so at a moment
+  -- that goes on from what the handle had heard
+  abbrev pub LooksAt : FdHandle X R W A → FdHandle X R W A → Word → Type 0
+  LooksAt before after word = LooksThrough before.seat after.seat word
 
 -- what every call keeps of its handle
 pub record KeepsHandle {X R W A : Type 0} (before after : FdHandle X R W A) : Type 0 where

@@ -5,6 +5,8 @@ use Rattle.fdmutex.specs.declared.answers.Refusal.TheVariants as refusal
 use Rattle.rwloops.specs.declared.fault.Fault.{Fault}
 use Rattle.rwloops.specs.declared.fault.Fault.TheVariants as fault
 use Rattle.rwloops.specs.declared.fault.WriteFault.{WriteFault}
+use Rattle.rwloops.specs.declared.tries.Progress.{Progress}
+use Rattle.rwloops.specs.declared.tries.Progress.TheVariants as progress
 use Rattle.fd_descriptor.specs.Marks.{Marks, SawTheEnd, NowDraining, SameButDraining}
 
 -- what a handle is asked to do
@@ -115,3 +117,15 @@ abbrev pub TellsOwnDestroy : Result (Unit {0}) Fault → ℕ → ℕ → Type 0
 TellsOwnDestroy (Ok u) before after = Unit {0}
 TellsOwnDestroy (Err (fault.Device kind)) before after = after ≡ before + 1
 TellsOwnDestroy _ before after = after ≡ before
+
+-- this holds where a close got as far as to send out the calls that wait: where it is Ok, or tells the
+-- fault of destroying the halves
+abbrev pub WhereEvicted : Result (Unit {0}) Fault → Type 0 → Type 0
+WhereEvicted (Ok u) Holds = Holds
+WhereEvicted (Err (fault.Device kind)) Holds = Holds
+WhereEvicted _ Holds = Unit {0}
+
+-- where a write that doesn't wait failed, this is so of its fault
+abbrev pub IfFailed : Progress → (WriteFault → Type 0) → Type 0
+IfFailed (progress.Failed failed) Holds = Holds failed
+IfFailed _ Holds = Unit {0}

@@ -6,3 +6,4 @@ pub mod HalfUse
 pub mod HandleCalls
 pub mod Marks
 pub mod Parking
+pub mod UnderWay

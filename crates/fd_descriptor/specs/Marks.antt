@@ -5,7 +5,8 @@ use Rattle.lockword.specs.declared.holders.Seat.{Seat}
 use Rattle.lockword.specs.declared.holders.LockWord.{LockWord}
 use Rattle.lockword.specs.Marks.{WordId, word_of, marks_of as marks_at}
 use Rattle.lockword.specs.Places.{seat_place, last_place}
-use Rattle.lockword.specs.TransitionOutcomes.{word_id}
+use Rattle.lockword.specs.TransitionOutcomes.{word_id, Looks}
+use Rattle.lockword_core.specs.declared.word.Word.{Word}
 use Rattle.lockword.specs.declared.holders.Freed.{Freed}
 use Rattle.lockword.specs.declared.holders.Freed.TheVariants as left
 use Rattle.fdmutex.specs.Deeds.{closes, destroys, drains}
@@ -37,6 +38,11 @@ module _ {R W : Type 0} where
   abbrev pub marks_in : Option (Seat R W) → Marks
   marks_in None = record { closed = false; done = false; draining = false }
   marks_in (Some s) = marks_at (seat_place s)
+
+  -- what a look shows to the seat that a handle holds
+  abbrev pub LooksThrough : Option (Seat R W) → Option (Seat R W) → Word → Type 0
+  LooksThrough (Some before) (Some after) word = Looks (seat_place before) (seat_place after) word
+  LooksThrough _ _ word = ⊥
 
   -- how many closes the seat that a handle holds has made
   abbrev pub closes_in : Option (Seat R W) → ℕ

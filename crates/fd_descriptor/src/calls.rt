@@ -5,11 +5,11 @@ ghost use Rattle.fd_descriptor.specs.FdHandle.{KeepsHandle, marks_of, saw_closed
 ghost use Rattle.fd_descriptor.specs.FdHandle.{closes_of, destroys_of, drains_of};
 ghost use Rattle.fd_descriptor.specs.HandleCalls.{IsLockFault, MayTell, HasEnded};
 ghost use Rattle.fd_descriptor.specs.HandleCalls.{IsRefusedWrite};
-ghost use Rattle.fd_descriptor.specs.HandleCalls.{TellsWhoClosed, TellsOwnDestroy};
+ghost use Rattle.fd_descriptor.specs.HandleCalls.{TellsWhoClosed, TellsOwnDestroy, WhereEvicted};
 ghost use Rattle.fd_descriptor.specs.HandleCalls.{Reads, Accepts, Writes, Shuts, SetsDeadline, Closes};
 ghost use Rattle.fd_descriptor.specs.Entry.{IsEntry};
 
-use crate::close::close_by;
+use crate::close::{AtEviction, Nobody, close_by};
 use crate::deadlines::Setting;
 use crate::descriptor::{Fd, FdHandle};
 use crate::half_use::{accept_in, read_in, shut_connected, with_half, write_in};
@@ -170,6 +170,22 @@ impl<X: Resource, A: Allocator> FdHandle<X, A> {
         ensures closer { TellsWhoClosed result (closes_of self.old) (closes_of self.new) }
         ensures destroyer { TellsOwnDestroy result (destroys_of self.old) (destroys_of self.new) }
     {
-        close_by(rt, &self.fd, &mut self.seat)
+        self.close_telling(rt, &Nobody)
+    }
+
+    /// Closes as `close` does, and tells this once: when the calls that wait were sent out, and before
+    /// it waits for the last user. A close that is refused, as `Closed` or `TooMany`, tells nobody. An
+    /// event loop ends its own calls under way before it closes, since it would wait for itself.
+    pub fn close_telling<T: Wait, E: AtEviction>(&mut self, rt: &T, who: &E) -> Result<(), Fault>
+        ensures keeps { KeepsHandle self.old self.new }
+        ensures no_drain { drains_of self.new ≡ drains_of self.old }
+        ensures closed { saw_closed self.old ≡ true → result ≡ Err Fault.Closed }
+        ensures allowed { IfErr result (MayTell Closes (marks_of self.old) (marks_of self.new)) }
+        ensures ended { HasEnded result (marks_of self.new) }
+        ensures closer { TellsWhoClosed result (closes_of self.old) (closes_of self.new) }
+        ensures destroyer { TellsOwnDestroy result (destroys_of self.old) (destroys_of self.new) }
+        ensures told { WhereEvicted result (E.told who.now) }
+    {
+        close_by(rt, &self.fd, &mut self.seat, who)
     }
 }

@@ -6,7 +6,7 @@ ghost use Rattle.lockword.specs.Places.{seat_place};
 ghost use Rattle.lockword.specs.TransitionOutcomes.{IsSeatOf};
 ghost use Rattle.fdmutex.specs.Deeds.{closes, destroys, drains};
 ghost use Rattle.fdmutex.specs.Refusal.{IsFreedOf};
-ghost use Rattle.fd_descriptor.specs.HandleCalls.{Closes, MayTell, HasEnded};
+ghost use Rattle.fd_descriptor.specs.HandleCalls.{Closes, MayTell, HasEnded, WhereEvicted};
 ghost use Rattle.fd_descriptor.specs.HandleCalls.{TellsWhoClosed, TellsOwnDestroy};
 ghost use Rattle.fd_descriptor.specs.Marks.{HoldsSeatOf, KeepsMarks, SawTheEnd, IsKept};
 ghost use Rattle.fd_descriptor.specs.Marks.{marks_in, marks_left, closes_in, closes_left};
@@ -45,12 +45,34 @@ fn end_close<X: Resource, T: Wait>(
     }
 }
 
-/// Closes: the flag first, so that nobody comes in; then all that wait are woken, to leave; then the
-/// closer's own reference goes, and it waits until whoever leaves last has destroyed.
-pub(crate) fn close_by<X: Resource, A: Allocator, T: Wait>(
+/// Who is told that a descriptor is closing, before its closer waits for the last user. That user may
+/// be a call under way, which nothing wakes: its event loop has to hear of the close, and to end it.
+pub trait AtEviction {
+    /// What is so once it was told. Whoever has nothing to say of it leaves it out.
+    ghost told: { Self → Type 0 } = { λ _. Unit {0} };
+
+    /// The descriptor is closing, for good, and each try on it is refused as `Closed` from now on. It
+    /// is called on the closer's thread, with no lock held.
+    fn evicted(&self)
+        ensures told { told self.now };
+}
+
+/// Nobody is told.
+#[derive(Clone, Copy, Debug, Drop)]
+pub struct Nobody;
+
+impl AtEviction for Nobody {
+    fn evicted(&self) {}
+}
+
+/// Closes: the flag first, so that nobody comes in; then all that wait are woken, to leave, and who
+/// runs calls under way is told, to end them; then the closer's own reference goes, and it waits until
+/// whoever leaves last has destroyed.
+pub(crate) fn close_by<X: Resource, A: Allocator, T: Wait, E: AtEviction>(
     rt: &T,
     fd: &Fd<X, A>,
     seat: &mut Option<Seat<X::R, X::W>>,
+    who: &E,
 ) -> Result<(), Fault>
     requires { HoldsSeatOf fd.now.word seat.old }
     ensures seat { HoldsSeatOf fd.now.word seat.new }
@@ -61,6 +83,7 @@ pub(crate) fn close_by<X: Resource, A: Allocator, T: Wait>(
     ensures ended { HasEnded result (marks_in seat.new) }
     ensures closer { TellsWhoClosed result (closes_in seat.old) (closes_in seat.new) }
     ensures destroyer { TellsOwnDestroy result (destroys_in seat.old) (destroys_in seat.new) }
+    ensures told { WhereEvicted result (E.told who.now) }
 {
     let word = &fd.word;
     let Some(free) = seat.take() else {
@@ -74,6 +97,7 @@ pub(crate) fn close_by<X: Resource, A: Allocator, T: Wait>(
         }
     };
     fd.cell.evict(rt, &closing);
+    who.evicted();
     let (left, told) = end_close::<X, T>(rt, word, drop_closing(word, closing));
     *seat = Some(left);
     match told {

@@ -3,19 +3,22 @@
 //! A half is borrowed from the value of its lock, so that a use before the lock or after its return
 //! doesn't compile.
 
-ghost use Rattle.std.specs.Prelude.{◌≡◌, ◌≤◌, ◌<◌, true, length, Ok, Err, IfOk, IfErr};
+ghost use Rattle.std.specs.Prelude.{◌≡◌, ◌≤◌, ◌<◌, true, length, Ok, Err, IfOk, IfErr, Some, IfSome};
 ghost use Rattle.fd_descriptor.specs.HalfUse.{Did};
-ghost use Rattle.fd_descriptor.specs.HandleCalls.{Reads, Accepts, Writes, IsLockFault, IsOwnFault};
-ghost use Rattle.fd_descriptor.specs.HandleCalls.{IsRefusedEntry};
+ghost use Rattle.rwloops.specs.Waits.{fault_of};
+ghost use Rattle.rwloops.specs.TryNow.{ReadNow, AcceptNow, WriteNow, IsTried, IsPartOf};
+ghost use Rattle.fd_descriptor.specs.HandleCalls.{Reads, Accepts, Writes, Shuts, IsLockFault, IsOwnFault};
+ghost use Rattle.fd_descriptor.specs.HandleCalls.{IsRefusedEntry, IfFailed};
 ghost use Rattle.fd_descriptor.specs.Marks.{HoldsSeatOf, KeepsMarks, marks_in, closes_in, drains_in};
 
 use crate::descriptor::Fd;
 use crate::leave::{leave, lock_fault};
 use crate::poll_cell::{CellWaits, PollCell};
 use crate::resource::{HalfClose, Resource};
+use deadline_core::Refusal;
 use fdmutex::{lock, unlock};
 use lockword::{Guards, Seat};
-use rwloops::{DevKind, Fault, TryAccept, TryRead, TryWrite, Waits, WriteFault};
+use rwloops::{DevKind, Fault, Progress, TryAccept, TryRead, TryWrite, Waits, WriteFault};
 use std::alloc::Allocator;
 use std::sync::Wait;
 use stream_base::Dir;
@@ -117,4 +120,85 @@ pub(crate) fn shut_connected<H: HalfClose, W: Waits>(
         }
     }
     unreachable!()
+}
+
+/// Tries to read from a half, once the cell was asked, with this answer: so closing comes before
+/// expiry, and both before what the half gives. A `prepare` forgets the notice that an earlier one left;
+/// since a try follows it at once, what that notice was for is found there, and no wake-up is lost under
+/// events that come at a change alone.
+pub(crate) fn read_now_in<H: TryRead>(
+    prepared: Result<(), Refusal>,
+    half: &mut H,
+    buf: &mut [u8],
+) -> Option<Result<usize, Fault>>
+    ensures within { IfSome result (λ answer. IfOk answer (λ count. count ≤ length buf.old)) }
+    ensures some { 0 < length buf.old → IfSome result (λ answer. IfOk answer (λ count. 0 < count)) }
+    ensures faults { IfSome result (λ answer. IfErr answer (IsOwnFault Reads)) }
+    ensures refused { IfErr prepared (λ refusal. (result ≡ Some (Err (fault_of refusal)))
+        × (half.new ≡ half.old)) }
+    ensures tried { IfOk prepared (λ u. IsTried (λ tries. ReadNow buf.new tries result)
+        (H.tells half.old) (H.tells half.new)) }
+{
+    match prepared {
+        Ok(()) => rwloops::read_now(half, buf),
+        Err(refusal) => Some(Err(Fault::from(refusal))),
+    }
+}
+
+/// Tries to accept from a half, in the order of `read_now_in`.
+pub(crate) fn accept_now_in<H: TryAccept>(
+    prepared: Result<(), Refusal>,
+    half: &mut H,
+) -> Option<Result<H::T, Fault>>
+    ensures faults { IfSome result (λ answer. IfErr answer (IsOwnFault Accepts)) }
+    ensures refused { IfErr prepared (λ refusal. (result ≡ Some (Err (fault_of refusal)))
+        × (half.new ≡ half.old)) }
+    ensures tried { IfOk prepared (λ u. IsTried (λ tries. AcceptNow tries result)
+        (H.tells half.old) (H.tells half.new)) }
+{
+    match prepared {
+        Ok(()) => rwloops::accept_now(half),
+        Err(refusal) => Some(Err(Fault::from(refusal))),
+    }
+}
+
+/// Tries to write to a half, in the order of `read_now_in`.
+pub(crate) fn write_now_in<H: TryWrite>(
+    prepared: Result<(), Refusal>,
+    half: &mut H,
+    bytes: &[u8],
+) -> Progress
+    ensures part { IsPartOf (length bytes.now) result }
+    ensures faults { IfFailed result (λ failed. IsOwnFault Writes failed.fault) }
+    ensures refused { IfErr prepared (λ refusal.
+        (result ≡ Progress.Failed (record { fault = fault_of refusal; count = 0 }))
+        × (half.new ≡ half.old)) }
+    ensures tried { IfOk prepared (λ u. IsTried (λ tries. WriteNow bytes.now tries result)
+        (H.tells half.old) (H.tells half.new)) }
+{
+    match prepared {
+        Ok(()) => rwloops::write_now(half, bytes),
+        Err(refusal) => Progress::Failed(WriteFault {
+            fault: Fault::from(refusal),
+            count: 0,
+        }),
+    }
+}
+
+/// Shuts a half, unless its connection isn't made yet; a deadline or a close that came shuts it as it
+/// is, as in `shut_connected`.
+pub(crate) fn shut_now_in<H: HalfClose, T: Wait>(
+    rt: &T,
+    cell: &PollCell,
+    half: &mut H,
+) -> Option<Result<(), Fault>>
+    ensures faults { IfSome result (λ answer. IfErr answer (IsOwnFault Shuts)) }
+{
+    if half.is_connecting() && cell.prepare(rt, Dir::Write).is_ok() {
+        return None;
+    }
+    match half.shut() {
+        Ok(()) => Some(Ok(())),
+        Err(kind) => Some(Err(Fault::Device(kind))),
+    }
 }

@@ -4,7 +4,7 @@ ghost use Rattle.std.specs.Prelude.{◌≡◌, true, IfOk, IfErr};
 ghost use Rattle.std.specs.Arc.{arc_value};
 ghost use Rattle.lockword.specs.TransitionOutcomes.{IsOnlyClosed};
 ghost use Rattle.fd_descriptor.specs.FdHandle.{descriptor_of, cell_of, KeepsDeeds, DidNothing, IsFirst};
-ghost use Rattle.fd_descriptor.specs.FdHandle.{marks_of, saw_closed, saw_draining, saw_done};
+ghost use Rattle.fd_descriptor.specs.FdHandle.{marks_of, saw_closed, saw_draining, saw_done, LooksAt};
 
 use crate::descriptor::{Fd, FdHandle};
 use crate::poll_cell::PollCell;
@@ -78,6 +78,7 @@ impl<X: Resource, A: Allocator> FdHandle<X, A> {
         ensures drain_stays { saw_draining self.old ≡ true → result.drain ≡ true }
         ensures done { saw_done self.new ≡ saw_done self.old }
         ensures gone { saw_done self.old ≡ true → IsOnlyClosed result }
+        ensures looks { LooksAt self.old self.new result }
         ensures deeds { KeepsDeeds self.old self.new }
     {
         let Some(mut seat) = self.seat.take() else {

@@ -13,18 +13,23 @@ mod handle;
 mod leave;
 mod poll_cell;
 mod resource;
+mod trying;
+mod under_way;
 mod watched;
 
+pub use close::{AtEviction, Nobody};
 pub use deadlines::{AlarmPlan, Setting};
 pub use descriptor::{Fd, FdHandle};
 pub use poll_cell::{CellWaits, PollCell};
 pub use resource::{Alarms, HalfClose, Resource};
+pub use under_way::{ReadUnderWay, UnderWay, WriteUnderWay};
 pub use watched::{Parked, Watched};
 
 // What callers of the above speak of, so that they need this crate alone.
 pub use deadline_core::{Deadline, Dirs, Look, Refusal};
 pub use lockword_core::Word;
 pub use rwloops::{
-    AcceptOutcome, DevKind, Fault, Outcome, TryAccept, TryRead, TryWrite, Waits, WriteFault,
+    AcceptOutcome, DevKind, Fault, Outcome, Progress, TryAccept, TryRead, TryWrite, Waits,
+    WriteFault,
 };
 pub use stream_base::{Dir, OutOfMemory};

@@ -92,7 +92,8 @@ impl PollCell {
         Ok(())
     }
 
-    fn prepare<T: Wait>(&self, rt: &T, dir: Dir) -> Result<(), Refusal> {
+    /// Says that tries in this direction begin, unless it is closing or expired.
+    pub(crate) fn prepare<T: Wait>(&self, rt: &T, dir: Dir) -> Result<(), Refusal> {
         self.watched.lock(rt).prepare(dir)
     }
 

@@ -5,3 +5,4 @@ pub mod PartialWriteLemmas
 pub mod RetryLemmas
 pub mod AnswerLemmas
 pub mod TurnLemmas
+pub mod TryNowLemmas

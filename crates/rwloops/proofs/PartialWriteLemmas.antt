@@ -18,7 +18,8 @@ use Rattle.rwloops.specs.declared.retries.Next.TheVariants.{Done, Failed}
 use Rattle.rwloops.specs.declared.write_loop.WriteLoop.{WriteLoop}
 use Rattle.rwloops.specs.RetryBound.{has_short_rows}
 use Rattle.rwloops.specs.Outcome.{is_interrupted, is_would_block, count_in, sum_of_counts, IsCountWithin}
-use Rattle.rwloops.specs.Waits.{WaitCall}
+use Rattle.stream_base.specs.declared.direction.Dir.TheVariants.{Write}
+use Rattle.rwloops.specs.Waits.{WaitCall, Prepared}
 use Rattle.rwloops.specs.OutcomeTrace.{EachTry, Refused, WaitRefused, Decided}
 use Rattle.rwloops.specs.WriteTrace.{WriteTry, write_goes_on, write_is_inconclusive, write_decision, write_outcome}
 use Rattle.rwloops.specs.WriteTrace.{write_try_rules, count_of, chunk_after, taken_bytes, IsWriteTry, IsOfferedCount}
@@ -149,6 +150,24 @@ part_count bytes tries calls failed (Tried (Decided newest earlier are undecided
     let below = sum_below (length bytes) (map write_outcome earlier) undecided in
     let all : count_of tries ≡ count_of earlier + count_in newest.outcome = ap count_of are in
     (sum.0, omega (arith, sum.0, sum.1, below, all))
+
+-- a write that is refused a wait has written less than the whole
+pub refused_part : (bytes : List ℕ) (tries : List WriteTry) (asked : WaitCall) (calls : List WaitCall)
+    (failed : WriteFault) → WriteTrace bytes tries (asked ∷ (Prepared Write (Ok tt) ∷ calls)) (Err failed)
+    → failed.count < length bytes
+refused_part bytes tries asked calls failed (Empty none no_tries are answer) = cc
+refused_part bytes tries asked calls failed (Tried (Refused refusal no_tries are answer)) = cc
+refused_part bytes tries asked calls failed (Tried (WaitRefused refusal newest earlier are blocks undecided offered
+    asks answer)) =
+    let sum : failed.count ≡ count_of tries = cc (answer) in
+    let below = sum_below (length bytes) (map write_outcome tries) undecided in
+    omega (arith, sum, below)
+refused_part bytes tries asked calls failed (Tried (Decided newest earlier are undecided decisive offered asks
+    answer)) =
+    let sum = decided_part (length bytes) tries newest.outcome failed answer in
+    let below = sum_below (length bytes) (map write_outcome earlier) undecided in
+    let all : count_of tries ≡ count_of earlier + count_in newest.outcome = ap count_of are in
+    omega (arith, sum.0, sum.1, below, all)
 
 -- older outcomes of a write that goes on sum to no more
 sum_of_older : (newer older : List Outcome) → sum_of_counts older ≤ sum_of_counts (newer ++ older)

@@ -81,33 +81,33 @@ may_try_granted rules (made ∷ earlier) = may_try_step rules (rules.blocks made
     refl (may_try_granted rules earlier)
 
 -- who wants to try again at once has not blocked
-not_blocked : {D : Type 0} (goes_on blocks : Bool) (decision : Next D) → goes_on ≡ true →
+pub not_blocked : {D : Type 0} (goes_on blocks : Bool) (decision : Next D) → goes_on ≡ true →
     Try ≡ cond goes_on (cond blocks Wait Try) decision → blocks ≡ false
 not_blocked true true decision e is = cc
 not_blocked true false decision e is = refl
 not_blocked false blocks decision e is = cc
 
 -- who wants to wait has blocked
-has_blocked : {D : Type 0} (goes_on blocks : Bool) (decision : Next D) → goes_on ≡ true →
+pub has_blocked : {D : Type 0} (goes_on blocks : Bool) (decision : Next D) → goes_on ≡ true →
     Wait ≡ cond goes_on (cond blocks Wait Try) decision → blocks ≡ true
 has_blocked true true decision e is = refl
 has_blocked true false decision e is = cc
 has_blocked false blocks decision e is = cc
 
 -- an answer that ends the call is a decision, after tries that are not inconclusive
-is_decision : {D : Type 0} (goes_on blocks : Bool) (decision next : Next D) →
+pub is_decision : {D : Type 0} (goes_on blocks : Bool) (decision next : Next D) →
     next ≡ cond goes_on (cond blocks Wait Try) decision → is_open next ≡ false → (goes_on ≡ false) × (next ≡ decision)
 is_decision false blocks decision next is closed = (refl, is)
 is_decision true true decision next is closed = absurd (let still_open : is_open next ≡ true = ap is_open is in cc)
 is_decision true false decision next is closed = absurd (let still_open : is_open next ≡ true = ap is_open is in cc)
 
 -- a test that would make another true is false with it
-false_with : (blocks goes_on : Bool) → (blocks ≡ true → goes_on ≡ true) → goes_on ≡ false → blocks ≡ false
+pub false_with : (blocks goes_on : Bool) → (blocks ≡ true → goes_on ≡ true) → goes_on ≡ false → blocks ≡ false
 false_with true goes_on holds is = let true_too = holds refl in cc
 false_with false goes_on holds is = refl
 
 -- what holds of two lists holds of two that are the same
-at_lists : {A : Type 0} {tries tries' : List A} {calls calls' : List WaitCall}
+pub at_lists : {A : Type 0} {tries tries' : List A} {calls calls' : List WaitCall}
     (Trace : List A → List WaitCall → Type 0) → tries' ≡ tries → calls' ≡ calls → Trace tries calls →
     Trace tries' calls'
 at_lists {tries' = tries'} {calls = calls} Trace same asked trace =

@@ -1,5 +1,6 @@
 pub mod RetryBound
 pub mod Outcome
+pub mod TryNow
 pub mod Waits
 pub mod OutcomeTrace
 pub mod Turns

@@ -1,9 +1,10 @@
 //! Accepts: the pure loop, and the call over a half that may have to wait.
-ghost use Rattle.std.specs.Prelude.{◌≡◌, List, [], ◌∷◌, IsTrue};
+ghost use Rattle.std.specs.Prelude.{◌≡◌, ◌<◌, List, [], ◌∷◌, IsTrue};
 ghost use Rattle.rwloops.specs.declared.outcome.AcceptOutcome.{AcceptOutcome};
 ghost use Rattle.rwloops.specs.OutcomeTrace.{next_after, is_open, IsTraced};
 ghost use Rattle.rwloops.specs.Turns.{Event, Tried, Asked, IsTurn, IsInTurn};
 ghost use Rattle.rwloops.specs.Waits.{Prepared, Waited};
+ghost use Rattle.rwloops.specs.TryNow.{accept_tries_left};
 ghost use Rattle.rwloops.specs.AcceptTrace.{accept_rules, AcceptStandsFor, IsAcceptTry, AcceptTrace};
 
 use crate::fault::Fault;
@@ -40,6 +41,8 @@ impl<T> AcceptLoop<T> {
             → result ≡ next_after (accept_rules T) fed outcome }
         ensures stands { (fed : List (AcceptOutcome T)) → AcceptStandsFor self.old fed
             → IsTrue (is_open result) → AcceptStandsFor self.new (outcome ∷ fed) }
+        ensures ends { result ≡ Next.Try
+            → accept_tries_left self.new < accept_tries_left self.old }
     {
         match outcome {
             AcceptOutcome::Interrupted | AcceptOutcome::Aborted => self.retries.again(),
@@ -101,8 +104,10 @@ pub trait AcceptTurns {
 }
 
 // One try, and what the loop makes of it.
-fn try_once<P: AcceptTurns>(pair: &mut P, accepting: &mut AcceptLoop<P::T>) -> Next<P::T>
-    ensures { (first : P) (earlier : List (AcceptOutcome P.T))
+pub(crate) fn try_once<P: AcceptTurns>(pair: &mut P, accepting: &mut AcceptLoop<P::T>) -> Next<P::T>
+    ensures ends { result ≡ Next.Try
+        → accept_tries_left accepting.new < accept_tries_left accepting.old }
+    ensures turn { (first : P) (earlier : List (AcceptOutcome P.T))
         → AcceptStandsFor accepting.old earlier
         → IsTurn (accept_rules P.T) IsAcceptTry IsAcceptTry
         (λ events. P.went first events pair.old) (λ events. P.went first events pair.new)

@@ -10,6 +10,7 @@ mod outcome;
 mod pair;
 mod read_loop;
 mod retries;
+mod tries;
 mod waits;
 mod write_loop;
 
@@ -19,5 +20,6 @@ pub use limits::{MAX_RETRIES, MAX_TRY_BYTES, chunk_of};
 pub use outcome::{AcceptOutcome, DevKind, Outcome};
 pub use read_loop::{ReadLoop, ReadTurns, TryRead, read, read_in_turn};
 pub use retries::Next;
+pub use tries::{Progress, accept_now, read_now, write_now};
 pub use waits::Waits;
 pub use write_loop::{TryWrite, WriteLoop, WriteTurns, write, write_in_turn};

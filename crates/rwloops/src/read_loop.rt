@@ -3,6 +3,7 @@ ghost use Rattle.std.specs.Prelude.{◌≡◌, ◌<◌, ◌≤◌, ℕ, List, []
 ghost use Rattle.rwloops.specs.declared.outcome.Outcome.{Outcome};
 ghost use Rattle.rwloops.specs.Outcome.{IsCountWithin};
 ghost use Rattle.rwloops.specs.Waits.{Prepared, Waited};
+ghost use Rattle.rwloops.specs.TryNow.{read_tries_left};
 ghost use Rattle.rwloops.specs.OutcomeTrace.{next_after, is_open, IsTraced};
 ghost use Rattle.rwloops.specs.Turns.{Event, Tried, Asked, IsTurn, IsInTurn};
 ghost use Rattle.rwloops.specs.ReadTrace.{read_rules, ReadStandsFor, ReadTry, read_try, read_outcome, read_try_rules, IsReadTry, ReadTrace, HasRead, StandsForTries};
@@ -40,6 +41,7 @@ impl ReadLoop {
             → result ≡ next_after read_rules fed outcome }
         ensures stands { (fed : List Outcome) → ReadStandsFor self.old fed
             → IsTrue (is_open result) → ReadStandsFor self.new (outcome ∷ fed) }
+        ensures ends { result ≡ Next.Try → read_tries_left self.new < read_tries_left self.old }
     {
         match outcome {
             Outcome::Interrupted => self.retries.again(),
@@ -94,8 +96,13 @@ pub trait ReadTurns {
 }
 
 // One try with the front of the buffer, and what the loop makes of it.
-fn try_once<P: ReadTurns>(pair: &mut P, buf: &mut [u8], reading: &mut ReadLoop) -> Next<usize>
-    ensures { (first : P) (earlier : List ReadTry) → StandsForTries reading.old earlier
+pub(crate) fn try_once<P: ReadTurns>(
+    pair: &mut P,
+    buf: &mut [u8],
+    reading: &mut ReadLoop,
+) -> Next<usize>
+    ensures ends { result ≡ Next.Try → read_tries_left reading.new < read_tries_left reading.old }
+    ensures turn { (first : P) (earlier : List ReadTry) → StandsForTries reading.old earlier
         → IsTurn read_try_rules (IsReadTry (length buf.old)) (HasRead buf.new)
         (λ events. P.went first events pair.old) (λ events. P.went first events pair.new)
         (StandsForTries reading.new) earlier result }

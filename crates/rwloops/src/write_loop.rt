@@ -6,6 +6,7 @@ ghost use Rattle.rwloops.specs.Outcome.{IsCountWithin, sum_of_counts};
 ghost use Rattle.rwloops.specs.OutcomeTrace.{next_after, is_open, IsTraced};
 ghost use Rattle.rwloops.specs.Turns.{Event, Tried, Asked, IsTurn, IsInTurn};
 ghost use Rattle.rwloops.specs.Waits.{Prepared, Waited};
+ghost use Rattle.rwloops.specs.TryNow.{write_tries_left};
 ghost use Rattle.rwloops.specs.WriteTrace.{write_rules, WriteStandsFor, written, IsOfferedCount, WriteTry, write_try_rules, IsWriteTry, WriteTrace, HasWritten, StandsForTries, chunk_after};
 
 use crate::fault::{Fault, WriteFault};
@@ -56,6 +57,8 @@ impl WriteLoop {
         ensures count { (len : ℕ) (fed : List Outcome) → WriteStandsFor self.old len fed
             → IsOfferedCount len fed outcome → written self.new ≡ sum_of_counts (outcome ∷ fed) }
         ensures done { (count : ℕ) → result ≡ Next.Done count → written self.new ≡ count }
+        ensures ends { result ≡ Next.Try
+            → write_tries_left self.new < write_tries_left self.old }
     {
         match outcome {
             Outcome::Interrupted => self.retries.again(),
@@ -133,9 +136,15 @@ fn offer<P: WriteTurns>(pair: &mut P, bytes: &[u8], done: usize) -> Outcome
 }
 
 // One try, and what the loop makes of it.
-fn try_once<P: WriteTurns>(pair: &mut P, bytes: &[u8], writing: &mut WriteLoop) -> Next<usize>
+pub(crate) fn try_once<P: WriteTurns>(
+    pair: &mut P,
+    bytes: &[u8],
+    writing: &mut WriteLoop,
+) -> Next<usize>
     requires { written writing.old ≤ length bytes.now }
     ensures done { (count : ℕ) → result ≡ Next.Done count → written writing.new ≡ count }
+    ensures ends { result ≡ Next.Try
+        → write_tries_left writing.new < write_tries_left writing.old }
     ensures turn { (first : P) (earlier : List WriteTry)
         → StandsForTries writing.old (length bytes.now) earlier
         → IsTurn (write_try_rules (length bytes.now)) (IsWriteTry bytes.now)

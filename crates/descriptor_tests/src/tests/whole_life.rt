@@ -5,7 +5,7 @@ use super::memory::fill;
 use super::scripted::{ClockAlone, END, Played, Script, ScriptedHalf, Told, Try};
 use super::{KEY, Silent, share};
 use deadline_core::Deadline;
-use fd_descriptor::FdHandle;
+use fd_descriptor::{FdHandle, Progress};
 use linked_list_allocator::LocalHeap;
 use rwloops::Outcome;
 use std::alloc::Global;
@@ -24,8 +24,26 @@ const THREES: Script = [
     END,
 ];
 
-/// Two shares, a read, a write, a deadline, a drain and a close, each of which succeeds.
-fn use_it<T: Wait + Abort, C: Clock + Drop>(
+/// A read and a write under way, each with one try, and both ended.
+fn try_it<T: Wait + Abort + Copy, C: Clock + Drop>(
+    rt: T,
+    handle: FdHandle<Played<ClockAlone<C>>, &LocalHeap>,
+) -> Result<(), Fail> {
+    let Ok(mut reading) = handle.begin_read(rt) else {
+        return Err(Fail::new("begin a read"));
+    };
+    holds!(rt; reading.try_read(&mut [0; 3]) == Some(Ok(3)), "a try to read");
+    let Ok(mut writing) = reading.end().begin_write(rt) else {
+        return Err(Fail::new("begin a write"));
+    };
+    holds!(rt; writing.try_write(b"abc") == Progress::Whole, "a try to write");
+    drop(writing);
+    Ok(())
+}
+
+/// Two shares, a read, a write, both of them under way, a deadline, a drain and a close, each of which
+/// succeeds.
+fn use_it<T: Wait + Abort + Copy, C: Clock + Drop>(
     rt: &T,
     handle: &mut FdHandle<Played<ClockAlone<C>>, &LocalHeap>,
 ) -> Result<(), Fail> {
@@ -33,6 +51,7 @@ fn use_it<T: Wait + Abort, C: Clock + Drop>(
     let mut third = share(&mut second)?;
     holds!(*rt; second.read(rt, &mut [0; 3]) == Ok(3), "a read");
     holds!(*rt; third.write(rt, b"abc") == Ok(3), "a write");
+    try_it(*rt, share(&mut third)?)?;
     let set = third.set_deadline(rt, Deadline::At(10), 5, &Silent);
     holds!(*rt; set.is_ok(), "a deadline");
     holds!(*rt; second.drain(rt).is_ok(), "a drain");
@@ -41,7 +60,7 @@ fn use_it<T: Wait + Abort, C: Clock + Drop>(
 }
 
 /// Uses a descriptor with no memory left.
-fn use_on_full_heap<T: Wait + Abort, C: Clock + Drop>(
+fn use_on_full_heap<T: Wait + Abort + Copy, C: Clock + Drop>(
     rt: &T,
     alloc: Global,
     heap: &LocalHeap,

@@ -30,20 +30,20 @@ loop-init g c = record {
 -- the loop tries again at once
 pub loop-preserved-in-Try : goal.loop-preserved-in-Try
 loop-preserved-in-Try g c = tries_on _ _ _ _ _ _ _ _ (accept_goes_on_with _)
-    (accept_goes_on_with _) c.loop.invariant (c.try_once.ensures _) c.in-Try.is
+    (accept_goes_on_with _) c.loop.invariant (c.try_once.ensures.turn _) c.in-Try.is
 
 -- the loop waited, and tries again
 pub loop-preserved : goal.loop-preserved
 loop-preserved g c =
     waits_on _ _ _ _ _ _ _ _ (accept_goes_on_with _) (accept_goes_on_with _) _
-    c.loop.invariant (c.try_once.ensures _) (c.in-Ok-wait.ensures.told _) c.in-Wait.is
+    c.loop.invariant (c.try_once.ensures.turn _) (c.in-Ok-wait.ensures.told _) c.in-Wait.is
 
 -- the wait was refused
 pub returns-in-Err-wait : goal.returns-in-Err-wait
 returns-in-Err-wait g c = record {
   turns = wait_refused _ _ _ _ _ _ _ _ (accept_goes_on_with _) (accept_goes_on_with _) _ _
       _ c.in-Err-wait.refusal
-      c.loop.invariant (c.try_once.ensures _) (c.in-Err-wait.ensures.told _) c.in-Wait.is
+      c.loop.invariant (c.try_once.ensures.turn _) (c.in-Err-wait.ensures.told _) c.in-Wait.is
       (λ made earlier none. ap Err c.from-in-Err-wait.ensures);
 }
 
@@ -51,7 +51,7 @@ returns-in-Err-wait g c = record {
 pub returns-in-Done : goal.returns-in-Done
 returns-in-Done g c = record {
   turns = decided _ _ _ _ _ _ _ _ (accept_goes_on_with _)
-      (accept_goes_on_with _) _ _ c.loop.invariant (c.try_once.ensures _) (ap is_open c.in-Done.is)
+      (accept_goes_on_with _) _ _ c.loop.invariant (c.try_once.ensures.turn _) (ap is_open c.in-Done.is)
       (answers_taken _ _ c.in-Done.is);
 }
 
@@ -59,6 +59,6 @@ returns-in-Done g c = record {
 pub returns-in-Failed : goal.returns-in-Failed
 returns-in-Failed g c = record {
   turns = decided _ _ _ _ _ _ _ _ (accept_goes_on_with _)
-      (accept_goes_on_with _) _ _ c.loop.invariant (c.try_once.ensures _) (ap is_open c.in-Failed.is)
+      (accept_goes_on_with _) _ _ c.loop.invariant (c.try_once.ensures.turn _) (ap is_open c.in-Failed.is)
       (answers_fault _ _ c.in-Failed.is);
 }

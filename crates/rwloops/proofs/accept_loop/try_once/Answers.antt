@@ -1,7 +1,7 @@
 use Rattle.rwloops.proofs.accept_loop.try_once.Goals as goal
 
-pub returns : goal.returns
-returns g c = λ first earlier stands. record {
+pub returns-clause-turn : goal.returns-clause-turn
+returns-clause-turn g c = λ first earlier stands. record {
   made = c.try_accept-outcome.result;
   told = c.try_accept-outcome.ensures.told first;
   offered = tt;

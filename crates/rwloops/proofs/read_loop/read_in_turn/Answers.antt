@@ -45,7 +45,7 @@ loop-preserved-in-Try g c = record {
   some = omega arith;
   so_far = at_length _ _ c.try_once.auto.buf
       (tries_on _ _ _ _ _ _ _ _ (read_goes_on_with _)
-      (read_goes_on_with _) c.loop.invariant.so_far (c.try_once.ensures _) c.in-Try.is);
+      (read_goes_on_with _) c.loop.invariant.so_far (c.try_once.ensures.turn _) c.in-Try.is);
 }
 
 -- the loop waited, and tries again
@@ -54,7 +54,7 @@ loop-preserved g c = record {
   some = omega arith;
   so_far = at_length _ _ c.try_once.auto.buf
       (waits_on _ _ _ _ _ _ _ _ (read_goes_on_with _) (read_goes_on_with _) _
-      c.loop.invariant.so_far (c.try_once.ensures _) (c.in-Ok-wait.ensures.told _) c.in-Wait.is);
+      c.loop.invariant.so_far (c.try_once.ensures.turn _) (c.in-Ok-wait.ensures.told _) c.in-Wait.is);
 }
 
 -- the wait was refused
@@ -62,7 +62,7 @@ pub returns-in-Err-wait-clause-turns : goal.returns-in-Err-wait-clause-turns
 returns-in-Err-wait-clause-turns g c = as_trace (has_tried _ _ c.loop.invariant.some c.try_once.auto.buf _)
     (wait_refused _ _ _ _ _ _ _ _ (read_goes_on_with _) (read_goes_on_with _) _ _
     _ c.in-Err-wait.refusal
-    c.loop.invariant.so_far (c.try_once.ensures _) (c.in-Err-wait.ensures.told _) c.in-Wait.is
+    c.loop.invariant.so_far (c.try_once.ensures.turn _) (c.in-Err-wait.ensures.told _) c.in-Wait.is
     (λ made earlier has_read. ap Err c.from-in-Err-wait.ensures))
 
 -- a decisive count
@@ -70,7 +70,7 @@ pub returns-in-Done : goal.returns-in-Done
 returns-in-Done g c =
     let traced = as_trace (has_tried _ _ c.loop.invariant.some c.try_once.auto.buf _)
     (decided _ _ _ _ _ _ _ _ (read_goes_on_with _)
-    (read_goes_on_with _) _ _ c.loop.invariant.so_far (c.try_once.ensures _) (ap is_open c.in-Done.is)
+    (read_goes_on_with _) _ _ c.loop.invariant.so_far (c.try_once.ensures.turn _) (ap is_open c.in-Done.is)
     (answers_count _ _ _ c.in-Done.is)) in
     let bounds = count_bounds _ _ _ _ traced.trace (omega (arith, c.loop.invariant.some, c.try_once.auto.buf)) in
     record { turns = traced; empty = search rules; some = λ _. bounds.0; within = omega (arith, bounds.1) }
@@ -79,5 +79,5 @@ returns-in-Done g c =
 pub returns-in-Failed-clause-turns : goal.returns-in-Failed-clause-turns
 returns-in-Failed-clause-turns g c = as_trace (has_tried _ _ c.loop.invariant.some c.try_once.auto.buf _)
     (decided _ _ _ _ _ _ _ _ (read_goes_on_with _)
-    (read_goes_on_with _) _ _ c.loop.invariant.so_far (c.try_once.ensures _) (ap is_open c.in-Failed.is)
+    (read_goes_on_with _) _ _ c.loop.invariant.so_far (c.try_once.ensures.turn _) (ap is_open c.in-Failed.is)
     (answers_fault _ _ _ c.in-Failed.is))

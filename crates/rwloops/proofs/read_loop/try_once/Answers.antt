@@ -4,8 +4,8 @@ use Rattle.rwloops.specs.Outcome.{count_in}
 use Rattle.rwloops.specs.ReadTrace.{read_try, read_outcome}
 use Rattle.rwloops.proofs.read_loop.try_once.Goals as goal
 
-pub returns : goal.returns
-returns g c = λ first earlier stands. record {
+pub returns-clause-turn : goal.returns-clause-turn
+returns-clause-turn g c = λ first earlier stands. record {
   made = read_try c.try_read-outcome.new.buf c.try_read-outcome.result;
   told = c.try_read-outcome.ensures.told first;
   offered = record { room = search rules; count = search (rules, c.try_read-outcome.ensures.within) };
