@@ -10,3 +10,5 @@ mod machine_rows;
 mod scripts;
 mod streams;
 mod tables;
+mod tasks;
+mod tries;

@@ -1,5 +1,6 @@
 -- What a worker does through its gate, and how its share grows. Lists are newest first.
-use Rattle.std.specs.Prelude.{◌≡◌, ◌≢◌, ◌+◌, ℕ, List, [], ◌∷◌, ◌++◌, length, take, Result, Ok, Err}
+use Rattle.std.specs.Prelude.{◌≡◌, ◌≢◌, ◌≤◌, ◌+◌, ℕ, List, [], ◌∷◌, ◌++◌, length, take, Result, Ok}
+use Rattle.std.specs.Prelude.{Err}
 use Rattle.rwloops.specs.Waits.{Tells}
 use Rattle.rwloops.specs.declared.fault.Fault.{Fault}
 use Rattle.rwloops.specs.declared.fault.Fault.TheVariants.{EndOfFile}
@@ -24,6 +25,16 @@ read_call buffer (Err fault) = Read (Err fault)
 abbrev pub reported : Result ℕ WriteFault → ℕ
 reported (Ok count) = count
 reported (Err failed) = failed.count
+
+-- a write that is Ok took all that it was offered
+abbrev pub Whole : ℕ → ℕ → Type 0
+Whole offered count = count ≡ offered
+
+-- an answer that a gate may give to a write of so many bytes, where one that is Ok may take so many
+-- of so many: one that failed took at most all
+abbrev pub MayAnswer : (ℕ → ℕ → Type 0) → ℕ → Result ℕ WriteFault → Type 0
+MayAnswer Takes offered (Ok count) = Takes offered count
+MayAnswer Takes offered (Err failed) = failed.count ≤ offered
 
 -- how many bytes a call wrote
 abbrev pub written_by : GateCall → ℕ
@@ -52,10 +63,12 @@ pub data EndsBy : List GateCall → Ended → Type 0 where
   -- a read that failed
   AtRead : (fault : Fault) → fault ≢ EndOfFile → EndsBy (Read (Err fault) ∷ []) (ReadFault fault)
   -- a write of exactly the bytes that were read, which failed
-  AtWrite : (bytes : List ℕ) (failed : WriteFault)
+  AtWrite : (bytes : List ℕ) (failed : WriteFault) → failed.count ≤ length bytes
       → EndsBy (Wrote bytes (Err failed) ∷ Read (Ok bytes) ∷ []) (Unwritten failed)
-  -- such a write, whose count found no room in the book
+  -- a write of exactly these bytes, which took all of them or failed, and whose count found no room
+  -- in the book
   AtCredit : (bytes : List ℕ) (answer : Result ℕ WriteFault)
+      → MayAnswer Whole (length bytes) answer
       → EndsBy (Wrote bytes answer ∷ Read (Ok bytes) ∷ []) (BookFull (reported answer))
 
 -- the calls of a worker from its beginning to its end: rounds, and the last calls

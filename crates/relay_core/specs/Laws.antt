@@ -1,10 +1,18 @@
 -- What the traces of the workers mean. Lists are newest first.
-use Rattle.std.specs.Prelude.{◌≡◌, ◌*◌, ◌^◌, min, ℕ, suc, List, [], ◌∷◌, ◌++◌, take, Ok, Err}
+use Rattle.std.specs.Prelude.{◌≡◌, ◌*◌, ◌+◌, ◌^◌, min, ℕ, suc, List, [], ◌∷◌, ◌++◌, length, take}
+use Rattle.std.specs.Prelude.{Result, Ok}
+use Rattle.rwloops.specs.declared.fault.WriteFault.{WriteFault}
 use Rattle.relay_core.specs.declared.copying.Ended.{Ended}
-use Rattle.relay_core.specs.declared.copying.Ended.TheVariants.{Eof}
+use Rattle.relay_core.specs.declared.copying.Ended.TheVariants.{Eof, BookFull}
 use Rattle.relay_core.specs.declared.accepting.AcceptEnded.{AcceptEnded}
-use Rattle.relay_core.specs.CopyTrace.{GateCall, Read, Wrote, CopyTrace}
-use Rattle.relay_core.specs.AcceptTrace.{AcceptCall, Accepted, Delivered, pause_after, AcceptTrace}
+use Rattle.relay_core.specs.CopyTrace.{GateCall, Read, Wrote, reported, Whole, MayAnswer, CopyTrace}
+use Rattle.relay_core.specs.CopyTrace.{IsCopied}
+use Rattle.relay_core.specs.Passing.{Rest, Bytes, unwritten, Passing, EndsAt, IsPassing, IsPassed}
+use Rattle.relay_core.specs.AcceptTrace.{AcceptCall, Accepted, Delivered, Paused, pause_after}
+use Rattle.relay_core.specs.AcceptTrace.{AcceptTrace}
+use Rattle.relay_core.specs.AcceptTrace.{IsAccepting}
+use Rattle.relay_core.specs.Accepting.{IsTaking, IsPausing, IsEnding, IsAcceptingSoFar}
+use Rattle.rwloops.specs.Waits.{Tells}
 
 -- the bytes that the reads gave, in the order in which they came
 abbrev pub read_bytes : List GateCall → List ℕ
@@ -18,11 +26,10 @@ offered_bytes [] = []
 offered_bytes (Wrote bytes answer ∷ earlier) = offered_bytes earlier ++ bytes
 offered_bytes (_ ∷ earlier) = offered_bytes earlier
 
--- the bytes that the writes took, in order: all that were offered, or the first of them
+-- the bytes that the writes took, in order: of each as many from the front as it reported
 abbrev pub taken_bytes : List GateCall → List ℕ
 taken_bytes [] = []
-taken_bytes (Wrote bytes (Ok count) ∷ earlier) = taken_bytes earlier ++ bytes
-taken_bytes (Wrote bytes (Err failed) ∷ earlier) = taken_bytes earlier ++ take failed.count bytes
+taken_bytes (Wrote bytes answer ∷ earlier) = taken_bytes earlier ++ take (reported answer) bytes
 taken_bytes (_ ∷ earlier) = taken_bytes earlier
 
 -- what a worker offers is what it read; what was taken is a front of it, and all of it at the
@@ -32,6 +39,49 @@ BytesPassInOrder = (calls : List GateCall) (ended : Ended) → CopyTrace calls e
     (offered_bytes calls ≡ read_bytes calls)
     × ((rest : List ℕ) × (read_bytes calls ≡ taken_bytes calls ++ rest))
     × (ended ≡ Eof → taken_bytes calls ≡ read_bytes calls)
+
+-- where the book was full, the last call is a write of what was read last, which took all of it or
+-- failed having taken a front of it, and the answer that the gate gave has the count that is told
+abbrev pub FullBookTellsTheLastWrite : Type 0
+FullBookTellsTheLastWrite = (calls : List GateCall) (n : ℕ) → CopyTrace calls (BookFull n) →
+    (bytes : List ℕ) × (answer : Result ℕ WriteFault) × (earlier : List GateCall)
+    × (calls ≡ Wrote bytes answer ∷ Read (Ok bytes) ∷ earlier)
+    × MayAnswer Whole (length bytes) answer × (n ≡ reported answer)
+
+-- what was left to write before these calls, and what they read, is what they wrote, and what is
+-- left after them
+abbrev pub NothingIsLost : (ℕ → ℕ → Type 0) → Type 0
+NothingIsLost Takes = (from rest : Rest) (calls : List GateCall) → Passing Takes from calls rest →
+    unwritten from ++ read_bytes calls ≡ taken_bytes calls ++ unwritten rest
+
+-- of a whole copy: what was written is a front of what was read, and all of it at the reader's end
+abbrev pub BytesPassInParts : (ℕ → ℕ → Type 0) → Type 0
+BytesPassInParts Takes = (rest : Rest) (calls : List GateCall) (last : GateCall) (ended : Ended)
+    → Passing Takes (Bytes []) calls rest → EndsAt Takes rest last ended →
+    ((left : List ℕ) × (read_bytes (last ∷ calls) ≡ taken_bytes (last ∷ calls) ++ left))
+    × (ended ≡ Eof → taken_bytes (last ∷ calls) ≡ read_bytes (last ∷ calls))
+
+-- two parts of a copy, of which one begins where the other ended, are one part
+abbrev pub PartsJoin : (G : Type 0) → (G → List GateCall → Type 0) → (ℕ → ℕ → Type 0) → Type 0
+PartsJoin G tells Takes = (first second third : G) (old share new : ℕ) (from between rest : Rest)
+    (some more reads later : ℕ)
+    → IsPassing Takes (tells first) (tells second) old share from between some reads
+    → IsPassing Takes (tells second) (tells third) share new between rest more later
+    → IsPassing Takes (tells first) (tells third) old new from rest (some + more) (reads + later)
+
+-- a part of a copy, and then one that ends it, are one part that ends it
+abbrev pub LastPartJoins : (G : Type 0) → (G → List GateCall → Type 0) → (ℕ → ℕ → Type 0) → Type 0
+LastPartJoins G tells Takes = (first second third : G) (old share new : ℕ) (from between : Rest)
+    (ended : Ended) (some reads later : ℕ)
+    → IsPassing Takes (tells first) (tells second) old share from between some reads
+    → IsPassed Takes (tells second) (tells third) share new between ended later
+    → IsPassed Takes (tells first) (tells third) old new from ended (reads + later)
+
+-- a copy whose writes each take all that they are offered goes in rounds, as a worker's
+abbrev pub WholeWritesMakeRounds : (G : Type 0) → (G → List GateCall → Type 0) → Type 0
+WholeWritesMakeRounds G tells = (first last : G) (old new reads : ℕ) (ended : Ended)
+    → IsPassed Whole (tells first) (tells last) old new (Bytes []) ended reads
+    → IsCopied (tells first) (tells last) old new ended
 
 -- what was accepted, newest first
 abbrev pub accepted : {T : Type 0} → List (AcceptCall T) → List T
@@ -49,6 +99,32 @@ delivered (_ ∷ earlier) = delivered earlier
 abbrev pub EachIsDeliveredInOrder : Type 0 → Type 0
 EachIsDeliveredInOrder T = (calls : List (AcceptCall T)) (ended : AcceptEnded)
     → AcceptTrace calls ended → delivered calls ≡ accepted calls
+
+-- an accept task that made no call yet is at the beginning of a run
+abbrev pub AcceptsBegin : {T : Type 0} (G : Type 0) → (G → List (AcceptCall T) → Type 0) → Type 0
+AcceptsBegin G tells = (first : G) → IsAcceptingSoFar (tells first) (tells first) 0
+
+-- a run so far, and a turn that took some, are a run so far
+abbrev pub AcceptsGoOn : {T : Type 0} (G : Type 0) → (G → List (AcceptCall T) → Type 0) → Type 0
+AcceptsGoOn G tells = (first second third : G) (old new least most : ℕ)
+    → IsAcceptingSoFar (tells first) (tells second) old
+    → IsTaking (tells second) (tells third) old new least most
+    → IsAcceptingSoFar (tells first) (tells third) new
+
+-- a run so far, a turn that asks for a pause, and that pause, are a run so far
+abbrev pub AcceptsPause : {T : Type 0} (G : Type 0) → (G → List (AcceptCall T) → Type 0) → Type 0
+AcceptsPause G tells = (first second third fourth : G) (old new most ms : ℕ)
+    → IsAcceptingSoFar (tells first) (tells second) old
+    → IsPausing (tells second) (tells third) old new most ms
+    → Tells (tells third) (tells fourth) (Paused ms ∷ [])
+    → IsAcceptingSoFar (tells first) (tells fourth) new
+
+-- a run so far, and a turn that ended it, are the run of an accept worker
+abbrev pub AcceptsEnd : {T : Type 0} (G : Type 0) → (G → List (AcceptCall T) → Type 0) → Type 0
+AcceptsEnd G tells = (first second third : G) (old most : ℕ) (ended : AcceptEnded)
+    → IsAcceptingSoFar (tells first) (tells second) old
+    → IsEnding (tells second) (tells third) old most ended
+    → IsAccepting (tells first) (tells third) ended
 
 -- 5 ms after the first fault in a row, and twice as long after each further one, up to 1 s
 abbrev pub PausesAreCapped : Type 0

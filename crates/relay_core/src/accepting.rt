@@ -3,6 +3,7 @@
 ghost use Rattle.std.specs.Prelude.{◌≡◌, ◌<◌, ◌*◌, min, List, ◌∷◌};
 ghost use Rattle.relay_core.specs.AcceptTrace.{AcceptCall, Accepted, Delivered, Paused, IsAccepting};
 
+use crate::accept_task::{AcceptStep, Accepting};
 use rwloops::Fault;
 use std::sync::Wait;
 
@@ -70,25 +71,13 @@ pub fn next_pause_ms(before_ms: u64) -> u64
 pub fn accept_worker<G: AcceptGate>(rt: &impl Wait, gate: &mut G) -> AcceptEnded
     ensures { IsAccepting (G.tells gate.old) (G.tells gate.new) result }
 {
-    let mut faults = 0;
-    let mut pause_ms = 0;
+    let mut accepting = Accepting::new();
     for _ in rt.forever() {
-        match gate.accept() {
-            Ok(taken) => {
-                faults = 0;
-                pause_ms = 0;
-                gate.deliver(taken);
-            }
-            Err(Fault::Closed) => return AcceptEnded::Closed,
-            Err(Fault::Draining) => return AcceptEnded::Draining,
-            Err(fault) => {
-                if faults == MAX_FAULTS_IN_A_ROW {
-                    return AcceptEnded::TooManyFaults(fault);
-                }
-                faults += 1;
-                pause_ms = next_pause_ms(pause_ms);
-                gate.pause(pause_ms);
-            }
+        match accepting.resume(gate) {
+            AcceptStep::Again => {}
+            AcceptStep::Pauses(ms) => gate.pause(ms),
+            AcceptStep::Ended(ended) => return ended,
+            AcceptStep::Waits => unreachable!(),
         }
     }
     unreachable!()

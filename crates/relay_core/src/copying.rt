@@ -2,8 +2,10 @@
 
 ghost use Rattle.std.specs.Prelude.{◌≡◌, ◌+◌, ◌<◌, length, OnOk, OnErr, IfOk, IfErr, IfSome, IfNone};
 ghost use Rattle.relay_core.specs.CopyTrace.{IsCopied, IsCopiedSoFar};
+ghost use Rattle.relay_core.specs.Passing.{IfOpen};
 
 use crate::gate::CopyGate;
+use crate::passing::{Step, close_once, offer, read_once};
 use relay_ledger::{Book, Full, Share};
 use rwloops::{Fault, WriteFault};
 use std::sync::ledger::Ledger;
@@ -85,28 +87,29 @@ fn copy_once<G: CopyGate, L: Ledger, R: Wait>(
     ensures copied { IfErr result (λ ended.
         IsCopied (G.tells gate.old) (G.tells gate.new) share.old share.new ended) }
 {
-    let count = match gate.read(buf) {
-        Ok(count) => count,
-        Err(Fault::EndOfFile) => match gate.close_write() {
-            Ok(()) => return Err(Ended::Eof),
-            Err(fault) => return Err(Ended::CloseFault(fault)),
+    match read_once(gate, buf) {
+        Ok(Some(count)) => match offer(rt, gate, book, share, &buf[..count]) {
+            Ok(_) => Ok(count),
+            Err(step) => Err(end_of(step)),
         },
-        Err(fault) => return Err(Ended::ReadFault(fault)),
-    };
-    match gate.write(&buf[..count]) {
-        Ok(written) => match credited(rt, book, share, written as u64) {
-            Ok(()) => Ok(count),
-            Err(Full) => Err(Ended::BookFull(written as u64)),
-        },
-        Err(failed) => match credited(rt, book, share, failed.count as u64) {
-            Ok(()) => Err(Ended::WriteFault(failed)),
-            Err(Full) => Err(Ended::BookFull(failed.count as u64)),
-        },
+        Ok(None) => Err(end_of(close_once(gate))),
+        Err(step) => Err(end_of(step)),
+    }
+}
+
+// How a copy ended that a gate stopped which never says "not yet".
+fn end_of(step: Step) -> Ended
+    requires { IfOpen step ⊥ }
+    ensures { step ≡ Step.Ended result }
+{
+    match step {
+        Step::Ended(ended) => ended,
+        _ => unreachable!(),
     }
 }
 
 // A credit under the book's lock. The lock is held for nothing else.
-fn credited<L: Ledger, R: Wait>(
+pub(crate) fn credited<L: Ledger, R: Wait>(
     rt: &R,
     book: &Mutex<Book<L>>,
     share: &mut Share<L>,

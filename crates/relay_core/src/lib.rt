@@ -3,17 +3,35 @@
 //! they copy and accept through are traits.
 #![tactic(auto)]
 
+mod accept_task;
 mod accepting;
 mod buffers;
 mod copying;
 mod gate;
 mod idle;
+mod kept;
 pub mod laws;
 mod pair;
+mod pair_tasks;
+mod passing;
+mod placing;
+mod poll_accept;
+mod poll_gate;
+mod resuming;
+mod waiting;
+mod ways;
 
+pub use accept_task::{ACCEPTS_IN_A_ROW, AcceptStep, Accepting};
 pub use accepting::{AcceptEnded, AcceptGate, MAX_FAULTS_IN_A_ROW, accept_worker, next_pause_ms};
 pub use buffers::{BUFFER_BYTES, FIRST_BUFFER_BYTES, copy_by_need};
 pub use copying::{Ended, copy_worker};
 pub use gate::CopyGate;
 pub use idle::idle_deadline;
 pub use pair::{InsertedSides, MAX_PAIRS, end_closes_pair, has_room_for_pair};
+pub use pair_tasks::{PairNext, PairTasks, Standing, Ways};
+pub use passing::Step;
+pub use placing::loop_of;
+pub use poll_accept::PollAcceptGate;
+pub use poll_gate::PollGate;
+pub use resuming::{Copying, TURNS_IN_A_ROW};
+pub use ways::{Side, Way, deadline_side, sink_of, source_of};

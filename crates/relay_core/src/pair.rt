@@ -21,7 +21,7 @@ pub fn has_room_for_pair(pairs: usize) -> bool
 
 /// Whether the pair is to be closed now that one of its workers ended so, where so many of its
 /// workers ran until then, this one with them. This project's own rule: a pair is closed when a
-/// worker ended other than by `Eof`, or when both ended.
+/// worker ended other than by `Eof`, or when both ended. `PairTasks::note` says so of tasks.
 pub fn end_closes_pair(ended: &Ended, running: u64) -> bool
     ensures { (earlier : List Ended) → length earlier + running ≡ 2
         → (result ≡ true ↔ IsToBeClosed (ended.now ∷ earlier)) }

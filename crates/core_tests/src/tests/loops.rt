@@ -26,15 +26,15 @@ fn note(log: &Cell<u64>, done: u64) {
 
 /// Gives the outcomes of a script, each so many times in a row, and `WouldBlock` after its end. It tells nothing, as a socket.
 #[derive(Drop)]
-struct ScriptedHalf {
+pub(super) struct ScriptedHalf {
     script: &'static [(Outcome, u32)],
     step: usize,
     repeats: u32,
-    tries: u32,
+    pub(super) tries: u32,
 }
 
 impl ScriptedHalf {
-    fn new(script: &'static [(Outcome, u32)]) -> ScriptedHalf {
+    pub(super) fn new(script: &'static [(Outcome, u32)]) -> ScriptedHalf {
         ScriptedHalf {
             script,
             step: 0,

@@ -1,54 +1,27 @@
-use Rattle.std.proofs.Common.{rules, arith, [], ◌∷◌, Ok, Err, take}
-use Rattle.relay_core.specs.CopyTrace.{Read, AtRead, AtWrite, AtCredit}
-use Rattle.relay_core.proofs.CopyTraceLemmas.{one_round, ends_with, at_end, at_close}
+use Rattle.relay_core.proofs.PassingLemmas.{then_passed, ended_so}
+use Rattle.relay_core.proofs.WholeWriteLemmas.{whole_round, whole_copy}
 use Rattle.relay_core.proofs.copying.copy_once.Goals as goal
 
--- the reader's end came, and the writer was told
-pub returns-in-Ok-close_write-clause-copied : goal.returns-in-Ok-close_write-clause-copied
-returns-in-Ok-close_write-clause-copied g c = ends_with _
-    (λ calls h. c.in-Ok-close_write.ensures.told _ (c.in-Err-EndOfFile.ensures.told _ h))
-    (at_end c.in-Ok-close_write.field-0 _ c.in-Err-EndOfFile.field-0-is)
-    (omega (arith))
+-- a round that went well
+pub returns-in-Ok-clause-so_far : goal.returns-in-Ok-clause-so_far
+returns-in-Ok-clause-so_far g c =
+    let read = rw c.in-Ok-Some.field-0-is at c.in-Ok-Some.ensures.bytes in
+    whole_round (read c.args.share.now) c.in-Ok.ensures.took c.in-Ok.ensures.rest
 
--- the reader's end came, and the writer couldn't be told
-pub returns-in-Err-close_write-clause-copied : goal.returns-in-Err-close_write-clause-copied
-returns-in-Err-close_write-clause-copied g c = ends_with _
-    (λ calls h. c.in-Err-close_write.ensures.told _ (c.in-Err-EndOfFile.ensures.told _ h))
-    (at_close c.in-Err-close_write.fault _ c.in-Err-EndOfFile.field-0-is)
-    (omega (arith))
+-- a write failed, or its count found no room in the book
+pub returns-in-Err-offer-clause-copied : goal.returns-in-Err-offer-clause-copied
+returns-in-Err-offer-clause-copied g c =
+    let read = rw c.in-Ok-Some.field-0-is at c.in-Ok-Some.ensures.bytes in
+    whole_copy (then_passed (read c.args.share.now) (ended_so _ c.in-Err-offer.ensures.stopped c.end_of.ensures))
+
+-- the reader's end
+pub returns-in-Ok-None-clause-copied : goal.returns-in-Ok-None-clause-copied
+returns-in-Ok-None-clause-copied g c =
+    let end = rw c.in-Ok-None.field-0-is at c.in-Ok-None.ensures.end in
+    whole_copy (then_passed (end c.args.share.now)
+    (ended_so _ c.close_once.ensures c.end_of-in-Ok-None.ensures c.args.share.now))
 
 -- a read failed
-pub returns-in-Err : goal.returns-in-Err
-returns-in-Err g c = record {
-  so_far = tt;
-  copied = ends_with (Read (Err c.in-Err.fault) ∷ [])
-      (λ calls h. c.in-Err.ensures.told _ h) (AtRead _ (search rules)) (omega (arith));
-}
-
--- a round that went well
-pub returns-in-Ok-credited-clause-so_far : goal.returns-in-Ok-credited-clause-so_far
-returns-in-Ok-credited-clause-so_far g c = one_round (take c.in-Ok.count c.read.new.buf)
-    (λ calls h. rw (← c.in-Ok-write.ensures.whole)
-    (c.in-Ok-write.ensures.told _ (c.in-Ok.ensures.told _ h)))
-    (omega (arith, c.in-Ok-credited.ensures.amount, c.in-Ok-write.ensures.whole))
-
--- what a whole write reported is not credited
-pub returns-in-Err-credited-clause-copied : goal.returns-in-Err-credited-clause-copied
-returns-in-Err-credited-clause-copied g c = ends_with _
-    (λ calls h. c.in-Ok-write.ensures.told _ (c.in-Ok.ensures.told _ h))
-    (AtCredit (take c.in-Ok.count c.read.new.buf) (Ok c.in-Ok-write.written))
-    (omega (arith, c.in-Err-credited.ensures.kept))
-
--- a write failed, and what it reported is credited
-pub returns-in-Ok-credited-2-clause-copied : goal.returns-in-Ok-credited-2-clause-copied
-returns-in-Ok-credited-2-clause-copied g c = ends_with _
-    (λ calls h. c.in-Err-write.ensures.told _ (c.in-Ok.ensures.told _ h))
-    (AtWrite (take c.in-Ok.count c.read.new.buf) c.in-Err-write.failed)
-    (omega (arith, c.in-Ok-credited-2.ensures.amount))
-
--- a write failed, and what it reported is not credited
-pub returns-in-Err-credited-2-clause-copied : goal.returns-in-Err-credited-2-clause-copied
-returns-in-Err-credited-2-clause-copied g c = ends_with _
-    (λ calls h. c.in-Err-write.ensures.told _ (c.in-Ok.ensures.told _ h))
-    (AtCredit (take c.in-Ok.count c.read.new.buf) (Err c.in-Err-write.failed))
-    (omega (arith, c.in-Err-credited-2.ensures.kept))
+pub returns-in-Err-clause-copied : goal.returns-in-Err-clause-copied
+returns-in-Err-clause-copied g c =
+    whole_copy (ended_so _ c.in-Err.ensures.stopped c.end_of-in-Err.ensures c.args.share.now)

@@ -1,0 +1,195 @@
+//! The copy as a value that goes on when it is told to, so that one thread has many of them.
+
+ghost use Rattle.std.specs.Prelude.{◌≡◌, ◌<◌, ◌≤◌, [], length, IfOk, IfErr};
+ghost use Rattle.relay_core.specs.Passing.{Bytes, IsPassing, IsPassed, IsStop};
+ghost use Rattle.relay_core.specs.Passing.{next_dir, unwritten, IfWaits, IfEnded};
+
+use crate::kept::Kept;
+use crate::passing::{Step, close_once, offer, read_once};
+use crate::poll_gate::PollGate;
+use relay_ledger::{Book, Share};
+use std::alloc::{Allocator, Global};
+use std::marker::Model;
+use std::sync::ledger::Ledger;
+use std::sync::{Mutex, Wait};
+use stream_base::OutOfMemory;
+
+/// The turns of one `resume`, each a read and a write at most, after which others have theirs: so one
+/// reads at most 32 times 16 KiB, half a MiB, in a row. This project's own rule. The clauses below have
+/// the figure itself, so that another value is refused.
+pub const TURNS_IN_A_ROW: u32 = 32;
+
+/// A copy between two of its calls. It keeps what it read and couldn't write yet; the buffer that it
+/// reads into is lent. Contracts see what it has to do next.
+#[derive(Drop)]
+pub struct Copying<A: Allocator = Global> {
+    kept: Kept<A>,
+    at_end: bool,
+}
+
+impl<A: Allocator> Model for Copying<A> {
+    ghost use Rattle.relay_core.specs.Passing.{Rest, rest_of};
+
+    ghost Value = { Rest };
+
+    ghost view = { λ c. rest_of c.at_end c.kept };
+}
+
+impl<A: Allocator> Copying<A> {
+    /// A copy before its first call. It takes all the memory that it will ever have.
+    pub fn new(alloc: A) -> Result<Copying<A>, OutOfMemory>
+        ensures { IfOk result (λ copying. copying ≡ Bytes []) }
+    {
+        let kept = Kept::new(alloc)?;
+        Ok(Copying {
+            kept,
+            at_end: false,
+        })
+    }
+
+    /// Goes on until the gate says "not yet", the copy ends, or others are to have their turn. The
+    /// share is credited what each write reported, at once. After an end it isn't resumed.
+    pub fn resume<G: PollGate, L: Ledger, R: Wait>(
+        &mut self,
+        rt: &R,
+        gate: &mut G,
+        book: &Mutex<Book<L>>,
+        share: &mut Share<L>,
+        buf: &mut [u8],
+    ) -> Step
+        requires room { 0 < length buf.old }
+        requires fits { length buf.old ≤ 16384 }
+        ensures again { result ≡ Step.Again → IsPassing G.takes (G.tells gate.old)
+            (G.tells gate.new) share.old share.new self.old self.new 32 32 }
+        ensures waits { IfWaits result (λ _. IsPassing G.takes (G.tells gate.old)
+            (G.tells gate.new) share.old share.new self.old self.new 0 32) }
+        ensures blocked { IfWaits result (G.blocked gate.new) }
+        ensures next { IfWaits result (λ dir. dir ≡ next_dir self.new) }
+        ensures ended { IfEnded result (λ ended. IsPassed G.takes (G.tells gate.old)
+            (G.tells gate.new) share.old share.new self.old ended 32) }
+    {
+        for _turn in 0..TURNS_IN_A_ROW {
+            match self.turn(rt, gate, book, share, buf) {
+                Ok(()) => {}
+                Err(step) => return step,
+            }
+        }
+        Step::Again
+    }
+
+    // What is to be done next.
+    fn turn<G: PollGate, L: Ledger, R: Wait>(
+        &mut self,
+        rt: &R,
+        gate: &mut G,
+        book: &Mutex<Book<L>>,
+        share: &mut Share<L>,
+        buf: &mut [u8],
+    ) -> Result<(), Step>
+        requires room { 0 < length buf.old }
+        requires fits { length buf.old ≤ 16384 }
+        ensures passing { IfOk result (λ _. IsPassing G.takes (G.tells gate.old) (G.tells gate.new)
+            share.old share.new self.old self.new 1 1) }
+        ensures stopped { IfErr result (IsStop (next_dir self.new) (G.blocked gate.new)
+            (IsPassing G.takes (G.tells gate.old) (G.tells gate.new) share.old share.new
+            self.old self.new 0 1)
+            (λ ended. IsPassed G.takes (G.tells gate.old) (G.tells gate.new) share.old share.new
+            self.old ended 1)) }
+    {
+        if self.at_end {
+            return Err(close_once(gate));
+        }
+        if self.kept.is_empty() {
+            return self.begin(rt, gate, book, share, buf);
+        }
+        self.go_on(rt, gate, book, share)
+    }
+
+    // A write of what is kept. What isn't taken stays kept.
+    fn go_on<G: PollGate, L: Ledger, R: Wait>(
+        &mut self,
+        rt: &R,
+        gate: &mut G,
+        book: &Mutex<Book<L>>,
+        share: &mut Share<L>,
+    ) -> Result<(), Step>
+        requires some { 0 < length (unwritten self.old) }
+        ensures passing { IfOk result (λ _. IsPassing G.takes (G.tells gate.old) (G.tells gate.new)
+            share.old share.new self.old self.new 1 0) }
+        ensures stopped { IfErr result (IsStop (next_dir self.new) (G.blocked gate.new)
+            (IsPassing G.takes (G.tells gate.old) (G.tells gate.new) share.old share.new
+            self.old self.new 0 0)
+            (λ ended. IsPassed G.takes (G.tells gate.old) (G.tells gate.new) share.old share.new
+            self.old ended 0)) }
+    {
+        match offer(rt, gate, book, share, self.kept.as_slice()) {
+            Ok(count) => {
+                self.kept.advance(count);
+                Ok(())
+            }
+            Err(step) => Err(step),
+        }
+    }
+
+    // A read, and a write of what it gave.
+    fn begin<G: PollGate, L: Ledger, R: Wait>(
+        &mut self,
+        rt: &R,
+        gate: &mut G,
+        book: &Mutex<Book<L>>,
+        share: &mut Share<L>,
+        buf: &mut [u8],
+    ) -> Result<(), Step>
+        requires room { 0 < length buf.old }
+        requires fits { length buf.old ≤ 16384 }
+        requires nothing { self.old ≡ Bytes [] }
+        ensures passing { IfOk result (λ _. IsPassing G.takes (G.tells gate.old) (G.tells gate.new)
+            share.old share.new self.old self.new 1 1) }
+        ensures stopped { IfErr result (IsStop (next_dir self.new) (G.blocked gate.new)
+            (IsPassing G.takes (G.tells gate.old) (G.tells gate.new) share.old share.new
+            self.old self.new 0 1)
+            (λ ended. IsPassed G.takes (G.tells gate.old) (G.tells gate.new) share.old share.new
+            self.old ended 1)) }
+    {
+        match read_once(gate, buf) {
+            Ok(Some(count)) => self.pass(rt, gate, book, share, &buf[..count]),
+            Ok(None) => {
+                self.at_end = true;
+                Ok(())
+            }
+            Err(step) => Err(step),
+        }
+    }
+
+    // The first write of bytes that were read. What isn't taken is kept.
+    fn pass<G: PollGate, L: Ledger, R: Wait>(
+        &mut self,
+        rt: &R,
+        gate: &mut G,
+        book: &Mutex<Book<L>>,
+        share: &mut Share<L>,
+        bytes: &[u8],
+    ) -> Result<(), Step>
+        requires some { 0 < length bytes.now }
+        requires fits { length bytes.now ≤ 16384 }
+        requires nothing { self.old ≡ Bytes [] }
+        ensures passing { IfOk result (λ _. IsPassing G.takes (G.tells gate.old) (G.tells gate.new)
+            share.old share.new (Bytes bytes.now) self.new 1 0) }
+        ensures stopped { IfErr result (IsStop (next_dir self.new) (G.blocked gate.new)
+            (IsPassing G.takes (G.tells gate.old) (G.tells gate.new) share.old share.new
+            (Bytes bytes.now) self.new 0 0)
+            (λ ended. IsPassed G.takes (G.tells gate.old) (G.tells gate.new) share.old share.new
+            (Bytes bytes.now) ended 0)) }
+    {
+        match offer(rt, gate, book, share, bytes) {
+            Ok(count) => {
+                self.kept.keep(&bytes[count..]);
+                Ok(())
+            }
+            Err(step) => {
+                self.kept.keep(bytes);
+                Err(step)
+            }
+        }
+    }
+}
