@@ -30,11 +30,26 @@ IsHoldFault t (why.Table refusal) = Refuses t refusal
 IsHoldFault t (why.Device kind) = HasRoom t × (kind ≡ Other)
 IsHoldFault t why.OutOfMemory = HasRoom t
 
+-- a descriptor isn't made of a socket: the system or the memory refused
+abbrev pub IsOpenFault : HoldFault → Type 0
+IsOpenFault (why.Table refusal) = ⊥
+IsOpenFault (why.Device kind) = kind ≡ Other
+IsOpenFault why.OutOfMemory = Unit {0}
+
 -- a socket is held under this id, and the open handle is on the descriptor of the table's new entry
 pub record IsHeld {T X R W A : Type 0} (cell_in : T → PollCell) (old new : Table T) (id : ℕ)
     (handle : FdHandle X R W A) : Type 0 where
   pub next : id ≡ old.next_id
   pub key : key_of handle ≡ id
+  pub unclosed : saw_closed handle ≡ false
+  pub added : HoldsNext cell_in old new (cell_of handle)
+
+-- a socket is held under this id, and the open handle is on the descriptor of the table's new entry,
+-- whose key is a token of a loop
+pub record IsHeldUnder {T X R W A : Type 0} (cell_in : T → PollCell) (old new : Table T) (token id : ℕ)
+    (handle : FdHandle X R W A) : Type 0 where
+  pub next : id ≡ old.next_id
+  pub key : key_of handle ≡ token
   pub unclosed : saw_closed handle ≡ false
   pub added : HoldsNext cell_in old new (cell_of handle)
 

@@ -5,4 +5,9 @@ pub mod PollTimeout
 pub mod Poller
 pub mod Holding
 pub mod Alarms
+pub mod LoopToken
+pub mod Agenda
+pub mod Told
+pub mod Tasks
+pub mod EventLoop
 pub mod Laws

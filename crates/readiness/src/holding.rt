@@ -1,13 +1,14 @@
-//! Holding a socket: a descriptor is made of it, which stands in a table under the token by which a
-//! poller tells of it, and whose timers find it by its id.
+//! Making a descriptor of a socket: for a table, where it stands under the token by which a poller tells
+//! of it and whose timers find it by its id, or for a task of a loop, by the loop's token.
 
 ghost use Rattle.std.specs.Prelude.{◌≡◌, false, IfOk, IfErr, OnErr};
 ghost use Rattle.std.specs.Arc.{arc_value};
 ghost use Rattle.conntable.specs.Refusals.{HasRoom};
-ghost use Rattle.fd_descriptor.specs.FdHandle.{key_of, cell_of, saw_closed};
+ghost use Rattle.fd_descriptor.specs.FdHandle.{key_of, cell_of, saw_closed, IsFirst};
 ghost use Rattle.rwloops.specs.declared.outcome.DevKind.{DevKind};
 ghost use Rattle.readiness.specs.declared.holding.HoldFault.{HoldFault};
 ghost use Rattle.readiness.specs.Holding.{HoldsNext, IsHeld, IsHoldFault, IsNotHeld, entry_cell};
+ghost use Rattle.readiness.specs.Holding.{IsHeldUnder, IsOpenFault};
 
 use crate::poller::{HasCell, Poller};
 use crate::resources::{ListenRes, NoWrites, ReadHalf, SockRes, WriteHalf};
@@ -142,7 +143,52 @@ impl Socket<ListenRes> for Listen {
 }
 
 impl<A: Allocator> Poller<A> {
-    // Holds a socket of either kind.
+    // Makes a descriptor of a socket of either kind, whose token and key are this one.
+    fn open_socket<X: Resource, S: Socket<X>>(
+        &self,
+        alloc: Global,
+        socket: S,
+        token: u64,
+        key: u64,
+    ) -> Result<FdHandle<X>, HoldFault>
+        ensures first { IfOk result (IsFirst key) }
+        ensures why { IfErr result IsOpenFault }
+    {
+        let mut socket = socket;
+        socket.register_at(self, token)?;
+        let (read, write) = socket.halves(alloc)?;
+        Ok(FdHandle::open(alloc, read, write, key)?)
+    }
+
+    /// Makes a descriptor of a connection, for a loop's task: the poller tells of it under this token, and
+    /// its timers have the token for their key. Where anything is refused the socket is dropped, which
+    /// closes it; the fault is `Device` or `OutOfMemory`.
+    pub fn open(
+        &self,
+        alloc: Global,
+        sock: Sock,
+        token: u64,
+    ) -> Result<FdHandle<SockRes>, HoldFault>
+        ensures first { IfOk result (IsFirst token) }
+        ensures why { IfErr result IsOpenFault }
+    {
+        self.open_socket(alloc, sock, token, token)
+    }
+
+    /// Makes a descriptor of a listener, as `open` does of a connection.
+    pub fn open_listener(
+        &self,
+        alloc: Global,
+        listen: Listen,
+        token: u64,
+    ) -> Result<FdHandle<ListenRes>, HoldFault>
+        ensures first { IfOk result (IsFirst token) }
+        ensures why { IfErr result IsOpenFault }
+    {
+        self.open_socket(alloc, listen, token, token)
+    }
+
+    // Holds a socket of either kind, under its entry's token with the entry's id for its key.
     fn hold_socket<X: Resource, S: Socket<X>, T: Holds<X>, B: Allocator + Copy>(
         &self,
         alloc: Global,
@@ -153,11 +199,24 @@ impl<A: Allocator> Poller<A> {
             IsHeld T.cell_in table.old table.new held.0 held.1) }
         ensures refused { IfErr result (IsNotHeld table.old table.new) }
     {
-        let mut socket = socket;
         let (id, token) = table.vacant()?;
-        socket.register_at(self, token)?;
-        let (read, write) = socket.halves(alloc)?;
-        enter(table, FdHandle::open(alloc, read, write, id)?)
+        enter(table, self.open_socket(alloc, socket, token, id)?)
+    }
+
+    // Holds a socket of either kind under a token of a loop.
+    fn hold_socket_under<X: Resource, S: Socket<X>, T: Holds<X>, B: Allocator + Copy>(
+        &self,
+        alloc: Global,
+        table: &mut ConnTable<T, B>,
+        socket: S,
+        token: u64,
+    ) -> Result<(u64, FdHandle<X>), HoldFault>
+        ensures held { IfOk result (λ held.
+            IsHeldUnder T.cell_in table.old table.new token held.0 held.1) }
+        ensures refused { IfErr result (IsNotHeld table.old table.new) }
+    {
+        let _ = table.vacant()?;
+        enter(table, self.open_socket(alloc, socket, token, token)?)
     }
 
     /// Holds a connection: turns with this table tell its descriptor from now on, and the descriptor's
@@ -188,5 +247,36 @@ impl<A: Allocator> Poller<A> {
         ensures refused { IfErr result (IsNotHeld table.old table.new) }
     {
         self.hold_socket(alloc, table, listen)
+    }
+
+    /// Holds a connection in a table, as `hold` does, for a loop's task: the poller tells of it under this
+    /// token of the loop, and the token is the descriptor's key. Its id is the table's.
+    pub fn hold_under<T: Holds<SockRes>, B: Allocator + Copy>(
+        &self,
+        alloc: Global,
+        table: &mut ConnTable<T, B>,
+        sock: Sock,
+        token: u64,
+    ) -> Result<(u64, FdHandle<SockRes>), HoldFault>
+        ensures held { IfOk result (λ held.
+            IsHeldUnder T.cell_in table.old table.new token held.0 held.1) }
+        ensures refused { IfErr result (IsNotHeld table.old table.new) }
+    {
+        self.hold_socket_under(alloc, table, sock, token)
+    }
+
+    /// Holds a listener in a table, as `hold_under` does a connection.
+    pub fn hold_listener_under<T: Holds<ListenRes>, B: Allocator + Copy>(
+        &self,
+        alloc: Global,
+        table: &mut ConnTable<T, B>,
+        listen: Listen,
+        token: u64,
+    ) -> Result<(u64, FdHandle<ListenRes>), HoldFault>
+        ensures held { IfOk result (λ held.
+            IsHeldUnder T.cell_in table.old table.new token held.0 held.1) }
+        ensures refused { IfErr result (IsNotHeld table.old table.new) }
+    {
+        self.hold_socket_under(alloc, table, listen, token)
     }
 }

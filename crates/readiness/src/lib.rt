@@ -7,27 +7,40 @@
 #![tactic(auto)]
 
 mod addr;
+mod agenda;
 mod batch;
+mod door;
+mod event_loop;
 mod heard;
 mod holding;
 pub mod laws;
+mod loop_token;
 mod open;
 mod poll_timeout;
 mod poller;
 mod resources;
+mod resuming;
 mod sock;
 mod system_error;
+mod tasks;
 mod timer_alarms;
+mod told;
 
 pub use addr::Addr;
+pub use agenda::{Step, Why, step_of_event, step_of_timer};
 pub use batch::{Ev, MAX_EVENTS, Ready, batch_of};
+pub use door::{Door, DoorAlarms};
+pub use event_loop::EventLoop;
 pub use holding::{Held, HoldFault, Holds};
+pub use loop_token::{LAST_SERIAL, MAX_PLACES, Place, Side};
 pub use open::{connect, listen};
-pub use poll_timeout::{MAX_WAIT_MS, wait_ms};
+pub use poll_timeout::{MAX_WAIT_MS, sleep_ms, wait_ms};
 pub use poller::{HasCell, Poller};
 pub use resources::{ListenRes, NoWrites, ReadHalf, SockRes, WriteHalf};
 pub use sock::{Listen, Sock};
+pub use tasks::{Host, NoPlace, Turn};
 pub use timer_alarms::TimerAlarms;
+pub use told::MAX_TOLD;
 
 // What callers of the above speak of, so that they need this crate alone.
 pub use conntable::{ConnTable, Refusal};

@@ -1,6 +1,6 @@
 //! How long a poll may wait.
 
-ghost use Rattle.readiness.specs.PollTimeout.{IsWait};
+ghost use Rattle.readiness.specs.PollTimeout.{IsWait, IsSleep};
 
 /// The longest that a poll waits, in milliseconds.
 pub const MAX_WAIT_MS: u64 = 1_000;
@@ -19,4 +19,12 @@ pub fn wait_ms(now: u64, next: Option<u64>) -> u64
             .div_ceil(NANOS_IN_A_MILLI)
             .min(MAX_WAIT_MS),
     }
+}
+
+/// The milliseconds that a loop may sleep from `now`: none where there is something to do already, and
+/// else as [`wait_ms`] says.
+pub fn sleep_ms(now: u64, next: Option<u64>, has_more: bool) -> u64
+    ensures { IsSleep now next has_more result }
+{
+    if has_more { 0 } else { wait_ms(now, next) }
 }

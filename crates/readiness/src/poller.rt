@@ -143,6 +143,20 @@ impl<A: Allocator> Poller<A> {
         self.heard.hear(&mut self.poll, MAX_WAIT_MS)
     }
 
+    /// Waits until anything is ready, also the waker, at most so many milliseconds.
+    pub(crate) fn hear(&mut self, ms: u64) -> Result<(), Fault>
+        ensures faults { IfErr result (λ fault. fault ≡ Fault.Device DevKind.Other) }
+    {
+        self.heard.hear(&mut self.poll, ms)
+    }
+
+    /// What the last wait said.
+    pub(crate) fn events(&self) -> &[Ev]
+        ensures few { length result.now ≤ 256 }
+    {
+        self.heard.evs()
+    }
+
     /// One turn: ticks what is due at `now`, then waits once for the system, at most until the next
     /// moment, and tells the entries what is ready.
     ///

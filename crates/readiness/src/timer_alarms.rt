@@ -13,7 +13,7 @@ use std::sync::{Arc, Mutex, Wait};
 use stream_base::{Dir, OutOfMemory};
 
 // Whether a moment comes before those of all timers, so that the poller may sleep past it.
-fn comes_first<A: Allocator>(timers: &Timers<A>, at: u64) -> bool
+pub(crate) fn comes_first<A: Allocator>(timers: &Timers<A>, at: u64) -> bool
     ensures { result ≡ true ↔ ComesFirst timers.now at }
 {
     match timers.next() {
@@ -22,7 +22,7 @@ fn comes_first<A: Allocator>(timers: &Timers<A>, at: u64) -> bool
     }
 }
 
-fn arm_in<A: Allocator + Copy>(
+pub(crate) fn arm_in<A: Allocator + Copy>(
     timers: &mut Timers<A>,
     key: u64,
     dirs: Dirs,
@@ -38,7 +38,7 @@ fn arm_in<A: Allocator + Copy>(
     }
 }
 
-fn disarm_in<A: Allocator>(timers: &mut Timers<A>, key: u64, dirs: Dirs)
+pub(crate) fn disarm_in<A: Allocator>(timers: &mut Timers<A>, key: u64, dirs: Dirs)
     ensures { timers.new ≡ disarmed_for dirs timers.old key }
 {
     match dirs {

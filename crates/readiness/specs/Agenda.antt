@@ -1,0 +1,33 @@
+-- What a turn resumes, and in which order.
+use Rattle.std.specs.Prelude.{ℕ, List, ◌++◌, map}
+use Rattle.stream_base.specs.declared.direction.Dir.{Dir}
+use Rattle.readiness.specs.Batch.{read_ready, write_ready}
+use Rattle.readiness.specs.LoopToken.{side_in}
+use Rattle.readiness.specs.declared.batch.Ev.{Ev}
+use Rattle.readiness.specs.declared.agenda.Step.{Step}
+use Rattle.readiness.specs.declared.agenda.Why.{Why}
+use Rattle.readiness.specs.declared.agenda.Why.TheVariants.{Ready, Due, Told, Again}
+
+-- an event resumes the task of its token, with the side in the token and what it makes ready
+abbrev pub event_step : Ev → Step
+event_step event = record {
+  token = event.token;
+  why = Ready (side_in event.token) (read_ready event) (write_ready event);
+}
+
+-- a timer resumes the task whose token is its key
+abbrev pub due_step : ℕ → Dir → ℕ → Step
+due_step key dir now = record { token = key; why = Due (side_in key) dir now }
+
+-- a task that was named is resumed
+abbrev pub told_step : ℕ → Step
+told_step token = record { token = token; why = Told }
+
+-- a task that gave way is resumed
+abbrev pub again_step : ℕ → Step
+again_step token = record { token = token; why = Again }
+
+-- each event's task in order, then each that was named, then each that gave way
+abbrev pub steps_of : List Ev → List ℕ → List ℕ → List Step
+steps_of events told gave_way =
+    map event_step events ++ (map told_step told ++ map again_step gave_way)

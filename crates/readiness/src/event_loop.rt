@@ -1,0 +1,208 @@
+//! An event loop: one thread that resumes tasks, by what its own poller, its own timers and other
+//! threads tell. Why no wake-up is lost stands at the door.
+
+ghost use Rattle.std.specs.Prelude.{◌≡◌, ◌≢◌, ◌⊎◌, ◌+◌, ℕ, None, IfOk, OnOk, IfErr, OnErr, IsOk};
+ghost use Rattle.rwloops.specs.declared.fault.Fault.{Fault};
+ghost use Rattle.rwloops.specs.declared.outcome.DevKind.{DevKind};
+ghost use Rattle.readiness.specs.Tasks.{HasPlace, SameTasks, IsPut, RefusesPlace};
+ghost use Rattle.readiness.specs.Tasks.{task_in, next_place, next_serial, task_count};
+ghost use Rattle.std.specs.Arc.{arc_value};
+ghost use Rattle.readiness.specs.LoopToken.{place_in};
+ghost use Rattle.readiness.specs.EventLoop.{tasks_of, door_in, poller_of, waker_behind};
+ghost use Rattle.readiness.specs.Poller.{waker_of};
+
+use crate::agenda::{Agenda, Why, step_of_timer};
+use crate::door::Door;
+use crate::loop_token::Place;
+use crate::poller::Poller;
+use crate::tasks::{Host, NoPlace, Tasks};
+use crate::told::MAX_TOLD;
+use rwloops::Fault;
+use std::alloc::{Allocator, Global};
+use std::mem;
+use std::net::Net;
+use std::sync::{Arc, Wait};
+use stream_base::OutOfMemory;
+
+/// An event loop: its tasks by places, its poller, and its door.
+#[derive(Drop)]
+pub struct EventLoop<T, A: Allocator = Global> {
+    alloc: A,
+    poller: Poller<A>,
+    door: Arc<Door<A>, A>,
+    tasks: Tasks<T, A>,
+    // Those that gave way in the turn before, and those that were told: for one turn.
+    round: Vec<u64, A>,
+    told: Vec<u64, A>,
+}
+
+impl<T, A: Allocator + Copy> EventLoop<T, A> {
+    /// A loop without tasks.
+    pub fn new<R: Net>(rt: &R, alloc: A) -> Result<EventLoop<T, A>, Fault>
+        ensures none { IfOk result (λ made. (token : ℕ) → task_in (tasks_of made) token ≡ None) }
+        ensures waker { IfOk result (λ made.
+            waker_behind (door_in made) ≡ waker_of (poller_of made)) }
+        ensures faults { IfErr result (λ fault. (fault ≡ Fault.OutOfMemory)
+            ⊎ (fault ≡ Fault.Device DevKind.Other)) }
+    {
+        let poller = Poller::new(rt, alloc)?;
+        let Ok(waker) = poller.waker() else {
+            return Err(Fault::OutOfMemory);
+        };
+        let Ok(door) = Door::new(alloc, waker) else {
+            return Err(Fault::OutOfMemory);
+        };
+        let Ok(door) = Arc::new(alloc, door) else {
+            return Err(Fault::OutOfMemory);
+        };
+        let Ok(told) = Vec::with_capacity(alloc, MAX_TOLD) else {
+            return Err(Fault::OutOfMemory);
+        };
+        Ok(EventLoop {
+            alloc,
+            poller,
+            door,
+            tasks: Tasks::new(alloc),
+            round: Vec::new(alloc),
+            told,
+        })
+    }
+
+    /// Makes room for one task more, and gives the place that `put` gives next: its descriptors are
+    /// registered under the place's tokens. It tests `Full`, then `SerialsSpent`.
+    pub fn vacant(&mut self) -> Result<Place, NoPlace>
+        ensures place { IfOk result (λ place. place ≡ next_place (tasks_of self.new)) }
+        ensures room { OnOk result (HasPlace (tasks_of self.new)) }
+        ensures unused { IfOk result (λ place. (token : ℕ) →
+            place_in token ≡ place_in place.first → task_in (tasks_of self.new) token ≡ None) }
+        ensures kept { SameTasks (tasks_of self.old) (tasks_of self.new) }
+        ensures why { IfErr result (RefusesPlace (tasks_of self.old)) }
+    {
+        let place = self.tasks.vacant()?;
+        if self
+            .round
+            .reserve(self.tasks.len().saturating_add(1))
+            .is_err()
+        {
+            return Err(NoPlace::OutOfMemory);
+        }
+        Ok(place)
+    }
+
+    /// Hands all tasks to the host, at the end of a loop.
+    pub fn end_all<H: Host<Task = T>>(&mut self, host: &mut H)
+    where
+        T: Drop,
+        ensures none { (token : ℕ) → task_in (tasks_of self.new) token ≡ None }
+        ensures serial { next_serial (tasks_of self.new) ≡ next_serial (tasks_of self.old) }
+    {
+        self.tasks.end_all(self.alloc, host);
+    }
+}
+
+impl<T, A: Allocator> EventLoop<T, A> {
+    /// The poller, with which the descriptors of tasks are registered, under the tokens of their places.
+    pub fn poller(&self) -> &Poller<A>
+        ensures own { result.now ≡ poller_of self.now }
+    {
+        &self.poller
+    }
+
+    /// The door, for other threads and for alarms. It takes no memory; refused is only a door that is
+    /// held too often.
+    pub fn door(&self) -> Result<Arc<Door<A>, A>, OutOfMemory>
+        ensures own { IfOk result (λ door. arc_value door ≡ door_in self.now) }
+    {
+        match Arc::try_clone(&self.door) {
+            Ok(door) => Ok(door),
+            Err(_) => Err(OutOfMemory),
+        }
+    }
+
+    /// How many tasks there are.
+    pub fn len(&self) -> usize
+        ensures { result ≡ task_count (tasks_of self.now) }
+    {
+        self.tasks.len()
+    }
+
+    /// Puts a task into the place that `vacant` gave last, which is refused only without such a call. It
+    /// takes no memory. The task waits for its first event; where it is to go on by itself, `again` has
+    /// it do so.
+    pub fn put(&mut self, task: T) -> Result<Place, T>
+        ensures given { IfOk result (λ place. place ≡ next_place (tasks_of self.old)) }
+        ensures put { IfOk result (λ place. IsPut (tasks_of self.old) (tasks_of self.new) place task) }
+        ensures serial { OnOk result
+            (next_serial (tasks_of self.new) ≡ next_serial (tasks_of self.old) + 1) }
+        ensures returned { IfErr result (λ other. other ≡ task) }
+        ensures kept { OnErr result (SameTasks (tasks_of self.old) (tasks_of self.new)) }
+        ensures placed { HasPlace (tasks_of self.old) → IsOk result }
+    {
+        self.tasks.put(task)
+    }
+
+    /// Takes out the task that a token names, if it names one, for who ends it from outside.
+    pub fn take(&mut self, token: u64) -> Option<T>
+        ensures task { result ≡ task_in (tasks_of self.old) token }
+        ensures gone { task_in (tasks_of self.new) token ≡ None }
+        ensures others { (other : ℕ) → place_in other ≢ place_in token →
+            task_in (tasks_of self.new) other ≡ task_in (tasks_of self.old) other }
+        ensures serial { next_serial (tasks_of self.new) ≡ next_serial (tasks_of self.old) }
+    {
+        self.tasks.take(token)
+    }
+
+    /// Has the task that a token names be resumed in the next turn, as one that gave way.
+    pub fn again(&mut self, token: u64)
+        ensures kept { SameTasks (tasks_of self.old) (tasks_of self.new) }
+    {
+        self.tasks.give_way(token);
+    }
+
+    /// One turn: resumes the tasks whose timers are due at `now`, waits once for the system, at most
+    /// until the next moment, and not at all where a task gave way or was named, and resumes the task of
+    /// each event, then those that were named, then, each once, those that gave way before this turn.
+    ///
+    /// `now` is in nanoseconds of the clock of the deadlines, read just before the call. A turn takes no
+    /// memory.
+    pub fn turn<R: Wait, H: Host<Task = T>>(
+        &mut self,
+        rt: &R,
+        now: u64,
+        host: &mut H,
+    ) -> Result<(), Fault>
+        ensures faults { IfErr result (λ fault. fault ≡ Fault.Device DevKind.Other) }
+    {
+        let all_again = self.tasks.begin_round(&mut self.round);
+        for (key, dir) in self.door.due(rt, now).as_slice() {
+            self.tasks.resume(rt, host, step_of_timer(*key, *dir, now));
+        }
+        let gave_way = all_again || !self.round.is_empty() || self.tasks.gave_way();
+        let heard = self.poller.hear(self.door.may_sleep(rt, now, gave_way));
+        self.door.has_slept();
+        heard?;
+        let all_told = self.door.take_told(rt, &mut self.told);
+        self.resume_round(rt, host);
+        if all_told {
+            self.tasks.resume_all(rt, host, Why::Told);
+        }
+        if all_again {
+            self.tasks.resume_all(rt, host, Why::Again);
+        }
+        Ok(())
+    }
+
+    // Has the tasks go on of the events, those that were told, and those that gave way.
+    fn resume_round<R: Wait, H: Host<Task = T>>(&mut self, rt: &R, host: &mut H) {
+        let agenda = Agenda {
+            events: self.poller.events(),
+            told: self.told.as_slice(),
+            gave_way: self.round.as_slice(),
+        };
+        for number in 0..agenda.len() {
+            if let Some(step) = agenda.step(number) {
+                self.tasks.resume(rt, host, step);
+            }
+        }
+    }
+}

@@ -1,0 +1,205 @@
+//! The tasks of a loop by their places, and those that gave way.
+//!
+//! A token names the task at its place only if that has the token's serial. A task that gave way has
+//! its token in `again` once; a token whose task is gone is passed over when its turn comes.
+
+ghost use Rattle.std.specs.Prelude.{◌≡◌, ◌≢◌, ◌+◌, ℕ, None, IfOk, OnOk, IfErr, OnErr, IfNone};
+ghost use Rattle.std.specs.Prelude.{IsOk, is_some};
+ghost use Rattle.readiness.specs.Tasks.{task_in, next_place, next_serial, HasPlace, SameTasks};
+ghost use Rattle.readiness.specs.Tasks.{IsPut, RefusesPlace, HasNumbers, task_count};
+ghost use Rattle.readiness.specs.LoopToken.{place_in};
+
+use crate::agenda::Why;
+use crate::loop_token::{LAST_SERIAL, MAX_PLACES, Place, Side, place_for, place_of, serial_of};
+use fd_descriptor::PollCell;
+use slab::Slab;
+use std::alloc::Allocator;
+
+/// What a task did that was resumed.
+#[derive(Clone, Copy, Debug, PartialEq, Eq, Drop)]
+pub enum Turn {
+    /// Its last try would block. It is resumed by an event, a due timer, or who names it.
+    Waits,
+    /// It can go on, and gave way to others: it is resumed once in the next turn.
+    Again,
+    /// It has ended.
+    Over,
+}
+
+/// What a program does with the tasks of a loop.
+pub trait Host {
+    /// A task.
+    type Task;
+
+    /// The cell of the descriptor on this side of a task, where it has one, so that due timers tick it.
+    fn cell<'a>(&self, task: &'a Self::Task, side: Side) -> Option<&'a PollCell>;
+
+    /// Has a task go on, and says what came of it. It must not wait.
+    ///
+    /// A task answers `Waits` only after a try that would block, since the poller tells edges. It bounds
+    /// what it does at a time, and answers `Again` where it could do more.
+    fn resume(&mut self, task: &mut Self::Task, why: Why) -> Turn;
+
+    /// Takes a task that has ended, whose place is free again.
+    fn over(&mut self, task: Self::Task);
+}
+
+/// Why a loop has no place more.
+#[derive(Clone, Copy, Debug, PartialEq, Eq, Drop)]
+pub enum NoPlace {
+    /// It has 65,536 tasks.
+    Full,
+    /// The last serial was given.
+    SerialsSpent,
+    /// Memory was refused.
+    OutOfMemory,
+}
+
+/// A task in its place.
+#[derive(Drop)]
+pub(crate) struct Slot<T> {
+    pub(crate) serial: u64,
+    /// Whether it gave way, so that its token is in the list.
+    pub(crate) gave_way: bool,
+    pub(crate) task: T,
+}
+
+/// The tasks.
+#[derive(Drop)]
+pub(crate) struct Tasks<T, A: Allocator> {
+    pub(crate) slots: Slab<Slot<T>, A>,
+    next_serial: u64,
+    pub(crate) again: Vec<u64, A>,
+    /// Whether all tasks come again, since a token found no room in `again`.
+    pub(crate) all_again: bool,
+}
+
+impl<T, A: Allocator + Copy> Tasks<T, A> {
+    /// No task, with room for none.
+    pub(crate) fn new(alloc: A) -> Tasks<T, A>
+        ensures none { (token : ℕ) → task_in result token ≡ None }
+    {
+        Tasks {
+            slots: Slab::new(alloc),
+            next_serial: 1,
+            again: Vec::new(alloc),
+            all_again: false,
+        }
+    }
+
+    /// Makes room for one task more, and gives the place that `put` gives next.
+    pub(crate) fn vacant(&mut self) -> Result<Place, NoPlace>
+        ensures place { IfOk result (λ place. place ≡ next_place self.new) }
+        ensures room { OnOk result (HasPlace self.new) }
+        ensures unused { IfOk result (λ place. (token : ℕ) →
+            place_in token ≡ place_in place.first → task_in self.new token ≡ None) }
+        ensures kept { SameTasks self.old self.new }
+        ensures numbers { OnOk result (HasNumbers self.old) }
+        ensures why { IfErr result (RefusesPlace self.old) }
+    {
+        let place = self.slots.vacant_key();
+        if place >= MAX_PLACES {
+            return Err(NoPlace::Full);
+        }
+        if self.next_serial > LAST_SERIAL {
+            return Err(NoPlace::SerialsSpent);
+        }
+        let tasks = self.slots.len().saturating_add(1);
+        if self.slots.reserve(1).is_err() || self.again.reserve(tasks).is_err() {
+            return Err(NoPlace::OutOfMemory);
+        }
+        Ok(place_for(place, self.next_serial))
+    }
+}
+
+impl<T, A: Allocator> Tasks<T, A> {
+    /// Puts a task into the place that `vacant` gave last. It takes no memory.
+    pub(crate) fn put(&mut self, task: T) -> Result<Place, T>
+        ensures given { IfOk result (λ place. place ≡ next_place self.old) }
+        ensures put { IfOk result (λ place. IsPut self.old self.new place task) }
+        ensures serial { OnOk result (next_serial self.new ≡ next_serial self.old + 1) }
+        ensures returned { IfErr result (λ other. other ≡ task) }
+        ensures kept { OnErr result (SameTasks self.old self.new) }
+        ensures placed { HasPlace self.old → IsOk result }
+    {
+        let place = self.slots.vacant_key();
+        let serial = self.next_serial;
+        let has_room = self.slots.len() < self.slots.capacity();
+        if place >= MAX_PLACES || serial > LAST_SERIAL || !has_room {
+            return Err(task);
+        }
+        self.next_serial = serial + 1;
+        let _ = self.slots.insert_reserved(Slot {
+            serial,
+            gave_way: false,
+            task,
+        });
+        Ok(place_for(place, serial))
+    }
+
+    /// How many tasks there are.
+    pub(crate) fn len(&self) -> usize
+        ensures { result ≡ task_count self.now }
+    {
+        self.slots.len()
+    }
+
+    fn is_named(&self, token: u64) -> bool
+        ensures { result ≡ is_some (task_in self.now token) }
+    {
+        match self.slots.get(place_of(token)) {
+            Some(slot) => slot.serial == serial_of(token),
+            None => false,
+        }
+    }
+
+    /// Takes out the task that a token names.
+    pub(crate) fn take(&mut self, token: u64) -> Option<T>
+        ensures task { result ≡ task_in self.old token }
+        ensures gone { task_in self.new token ≡ None }
+        ensures others { (other : ℕ) → place_in other ≢ place_in token →
+            task_in self.new other ≡ task_in self.old other }
+        ensures serial { next_serial self.new ≡ next_serial self.old }
+        ensures unknown { IfNone result (self.new ≡ self.old) }
+    {
+        if !self.is_named(token) {
+            return None;
+        }
+        let Slot {
+            serial: _,
+            gave_way: _,
+            task,
+        } = self.slots.remove(place_of(token));
+        Some(task)
+    }
+
+    // Says of the task that a token names whether it gave way, and tells whether it was said before, or
+    // there is no such task.
+    fn mark(&mut self, token: u64, gave_way: bool) -> bool
+        ensures kept { SameTasks self.old self.new }
+    {
+        if let Some(slot) = self.slots.get_mut(place_of(token)) {
+            if slot.serial == serial_of(token) && slot.gave_way != gave_way {
+                slot.gave_way = gave_way;
+                return false;
+            }
+        }
+        true
+    }
+
+    /// Has the task that a token names come again in the next turn, once.
+    pub(crate) fn give_way(&mut self, token: u64)
+        ensures kept { SameTasks self.old self.new }
+    {
+        if !self.mark(token, true) && self.again.push(token).is_err() {
+            self.all_again = true;
+        }
+    }
+
+    /// The task that a token names comes now.
+    pub(crate) fn come(&mut self, token: u64)
+        ensures kept { SameTasks self.old self.new }
+    {
+        let _ = self.mark(token, false);
+    }
+}
