@@ -11,8 +11,6 @@ pub mod command;
 pub mod desk;
 pub mod dialogue;
 pub mod end;
-#[cfg(test)]
-pub mod fake_desk;
 pub mod line_answer;
 pub mod reply;
 pub mod reply_bytes;

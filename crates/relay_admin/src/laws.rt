@@ -1,8 +1,11 @@
 //! Laws of the grammars and of the transcripts, in the words of an operator. The bodies are empty.
 
-ghost use Rattle.std.specs.Prelude.{◌≡◌};
+ghost use Rattle.std.specs.Prelude.{◌≡◌, ◌∷◌, ◌++◌, [], codes};
 ghost use Rattle.relay_admin.specs.declared.admin.command.TheConstants.{MAX_DEADLINE_MS, MAX_ID};
 ghost use Rattle.relay_admin.specs.declared.admin.dialogue.TheConstants.{MAX_LINES, MAX_LINE_BYTES};
+ghost use Rattle.relay_admin.specs.declared.admin.reply_text.TheConstants.{BAD_COMMAND, BUSY, CLOSED};
+ghost use Rattle.relay_admin.specs.declared.admin.reply_text.TheConstants.{DONE, DRAINING};
+ghost use Rattle.relay_admin.specs.declared.admin.reply_text.TheConstants.{NO_SUCH_CONNECTION, OUT_OF_MEMORY};
 ghost use Rattle.relay_admin.specs.declared.rules.addr.TheConstants.{MAX_PATH_BYTES};
 ghost use Rattle.relay_admin.specs.declared.rules.file.TheConstants.{MAX_BYTES, MAX_RULES};
 ghost use Rattle.relay_admin.specs.declared.rules.rule.TheConstants.{MAX_IDLE_MS, MAX_NAME_BYTES};
@@ -44,4 +47,16 @@ pub fn the_limits_of_a_session_in_figures()
     ensures line_bytes { MAX_LINE_BYTES ≡ 64 }
     ensures id { MAX_ID ≡ 4503599627370494 }
     ensures deadline_ms { MAX_DEADLINE_MS ≡ 86400000 }
+{}
+
+/// The replies that are always the same, in words, each with its line feed. The definitions follow the
+/// code's texts, so that this alone says which they are.
+pub fn the_fixed_replies_in_words()
+    ensures done { DONE.now ≡ codes "ok" ++ 10 ∷ [] }
+    ensures bad_command { BAD_COMMAND.now ≡ codes "error 400 bad command" ++ 10 ∷ [] }
+    ensures unknown { NO_SUCH_CONNECTION.now ≡ codes "error 404 no such connection" ++ 10 ∷ [] }
+    ensures closed { CLOSED.now ≡ codes "error 409 closed" ++ 10 ∷ [] }
+    ensures draining { DRAINING.now ≡ codes "error 409 draining" ++ 10 ∷ [] }
+    ensures busy { BUSY.now ≡ codes "error 409 busy" ++ 10 ∷ [] }
+    ensures no_memory { OUT_OF_MEMORY.now ≡ codes "error 507 out of memory" ++ 10 ∷ [] }
 {}

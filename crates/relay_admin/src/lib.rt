@@ -10,7 +10,7 @@ mod text;
 pub use admin::command::Command;
 pub use admin::desk::{Desk, DeskAnswer};
 pub use admin::end::{AdminEnd, AdminFault};
-pub use admin::reply::reply_of;
+pub use admin::reply::{reply_in, reply_of};
 pub use admin::session::{serve_admin, serve_on};
 pub use rules::addr::Addr;
 pub use rules::file::{MAX_BYTES, Rules, RulesFault};

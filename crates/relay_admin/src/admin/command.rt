@@ -125,6 +125,3 @@ fn arguments_of(text: &[u8]) -> Option<Arguments>
         }
     }
 }
-
-#[cfg(test)]
-mod tests;

@@ -150,6 +150,3 @@ impl Dialogue {
         }
     }
 }
-
-#[cfg(test)]
-mod tests;

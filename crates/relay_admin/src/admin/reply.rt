@@ -24,8 +24,12 @@ pub fn reply_of(
     reply_in(alloc, answer)
 }
 
-/// The reply to an answer, in memory of this allocator.
-fn reply_in<A: Allocator + Copy>(alloc: A, answer: &DeskAnswer) -> Result<Vec<u8, A>, OutOfMemory>
+/// The reply to an answer, with its line feed, in memory of this allocator. The only fault is want of
+/// memory.
+pub fn reply_in<A: Allocator + Copy>(
+    alloc: A,
+    answer: &DeskAnswer,
+) -> Result<Vec<u8, A>, OutOfMemory>
     ensures { IfOk result (λ reply. reply.items ≡ reply_text (answer_of answer.now)) }
 {
     match answer {
@@ -80,6 +84,3 @@ fn made_or_refused<A: Allocator>(made: Result<Vec<u8, A>, OutOfMemory>) -> Reply
         Err(_) => Reply::Fixed(OUT_OF_MEMORY),
     }
 }
-
-#[cfg(test)]
-mod tests;

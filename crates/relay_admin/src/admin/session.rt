@@ -8,7 +8,7 @@ ghost use Rattle.relay_admin.specs.admin.Devices.{ComesOf, IsFlushedUnlessCut};
 use crate::admin::desk::Desk;
 use crate::admin::dialogue::{Dialogue, Step};
 use crate::admin::end::{AdminEnd, AdminFault};
-use std::alloc::Global;
+use std::alloc::{Allocator, Global};
 use std::io::{Read, Write};
 use stream_base::reader_source::ReaderSource;
 use stream_base::sink::Sink;
@@ -17,11 +17,12 @@ use stream_base::writer_sink::WriterSink;
 
 /// Answers the lines of a source up to its end, or to a line that ends the session. A line of more
 /// than 64 bytes ends it at its 65th byte; no read is made after the line that ends it, nor after
-/// line 65,536. Each reply is written and flushed before the next read. Memory is taken for a reply
-/// to `Ids` or `Totals` alone, and freed before the next line; where it is refused, the reply is
-/// `error 507 out of memory`, and the session goes on.
-pub fn serve_on<S: Source, K: Sink, D: Desk>(
+/// line 65,536. Each reply is written and flushed before the next read. A reply to `Ids` or `Totals`
+/// alone takes memory, of `memory`, and frees it before the next line; where it is refused, the reply
+/// is `error 507 out of memory`, and the session goes on. The desk may take memory of `alloc`.
+pub fn serve_on<A: Allocator + Copy, S: Source, K: Sink, D: Desk>(
     alloc: Global,
+    memory: A,
     source: &mut S,
     sink: &mut K,
     desk: &mut D,
@@ -56,12 +57,12 @@ pub fn serve_on<S: Source, K: Sink, D: Desk>(
             Err(_) => return Err(AdminFault::Read),
         };
         if n == 0 {
-            return match dialogue.finish(alloc, alloc, sink, desk) {
+            return match dialogue.finish(alloc, memory, sink, desk) {
                 Ok(end) => Ok(end),
                 Err(_) => Err(AdminFault::Write),
             };
         }
-        match dialogue.answer_lines(alloc, alloc, sink, desk) {
+        match dialogue.answer_lines(alloc, memory, sink, desk) {
             Step::GoesOn => {}
             Step::Ended(end) => return Ok(end),
             Step::CutOff => return Err(AdminFault::Write),
@@ -69,7 +70,7 @@ pub fn serve_on<S: Source, K: Sink, D: Desk>(
     }
 }
 
-/// `serve_on` over a reader and a writer of std's. What they answer at a fault tells no cause in
+/// `serve_on` over a reader and a writer of std's, with replies in memory of `alloc`. What they answer at a fault tells no cause in
 /// proofs; that is said of `serve_on`. The clauses stand here again, since the words for what is left
 /// and what is written are those of other traits.
 pub fn serve_admin<R: Read, W: Write, D: Desk>(
@@ -89,8 +90,5 @@ pub fn serve_admin<R: Read, W: Write, D: Desk>(
 {
     let mut source = ReaderSource::new(reader);
     let mut sink = WriterSink::new(writer);
-    serve_on(alloc, &mut source, &mut sink, desk)
+    serve_on(alloc, alloc, &mut source, &mut sink, desk)
 }
-
-#[cfg(test)]
-mod tests;

@@ -145,6 +145,3 @@ fn has_listen(rules: &[Rule], rule: &Rule) -> bool
     }
     false
 }
-
-#[cfg(test)]
-mod tests;

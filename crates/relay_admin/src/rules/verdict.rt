@@ -112,6 +112,3 @@ pub fn check_status<W: Write>(text: &[u8], writer: &mut W) -> u8
         Err(_) => 3,
     }
 }
-
-#[cfg(test)]
-mod tests;

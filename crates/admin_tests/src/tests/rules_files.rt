@@ -1,8 +1,7 @@
 //! Whole rules files and their verdicts.
 
-use super::*;
-use crate::rules::addr::Addr;
 use arrayvec::ArrayString;
+use relay_admin::{Addr, Rule, Rules, RulesFault};
 use std::prelude::HostRuntime;
 use std::test::Fail;
 

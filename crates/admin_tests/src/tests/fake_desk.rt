@@ -2,20 +2,20 @@
 
 ghost use Rattle.std.specs.Prelude.{None};
 
-use crate::admin::desk::{Desk, DeskAnswer};
+use relay_admin::{Desk, DeskAnswer};
 use std::alloc::Global;
 
 /// A desk with these ids and totals, which counts its questions. Its connection 1 can be drained.
 #[derive(Drop)]
-pub(crate) struct FakeDesk {
-    pub(crate) ids: &'static [u64],
-    pub(crate) totals: (u64, u64),
-    pub(crate) asked: u64,
+pub(super) struct FakeDesk {
+    pub(super) ids: &'static [u64],
+    pub(super) totals: (u64, u64),
+    pub(super) asked: u64,
     is_drained: bool,
 }
 
 impl FakeDesk {
-    pub(crate) fn new() -> FakeDesk {
+    pub(super) fn new() -> FakeDesk {
         FakeDesk {
             ids: &[1, 2],
             totals: (12, 0),

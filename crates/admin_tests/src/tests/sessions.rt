@@ -1,11 +1,11 @@
 //! Whole sessions: replies, ends, and devices that are slow, short or broken.
 
-use super::*;
-use crate::admin::fake_desk::FakeDesk;
+use crate::tests::fake_desk::FakeDesk;
+use relay_admin::{AdminEnd, AdminFault, serve_admin};
 use std::alloc::Global;
 use std::cell::Cell;
 use std::io;
-use std::io::Cursor;
+use std::io::{Cursor, Read, Write};
 use std::prelude::HostRuntime;
 use std::process::Abort;
 

@@ -1,8 +1,9 @@
 //! A session whose replies find no memory.
 
-use super::*;
-use crate::admin::fake_desk::FakeDesk;
+use crate::tests::fake_desk::FakeDesk;
 use linked_list_allocator::LocalHeap;
+use relay_admin::{AdminEnd, serve_on};
+use std::alloc::Global;
 use std::prelude::HostRuntime;
 use std::test::Fail;
 use stream_base::reader_source::ReaderSource;
@@ -17,27 +18,29 @@ const NO_IDS: &str = "error 507 out of memory\ntotals up 12 down 0\nok\nok\n";
 
 const NEITHER: &str = "error 507 out of memory\nerror 507 out of memory\nok\nok\n";
 
+/// What a session of these lines replies where its replies take memory of this heap, if it ends by
+/// `quit` after three questions.
+fn replies_on(alloc: Global, heap: &LocalHeap) -> Option<Vec<u8>> {
+    let mut text = b"list\ntotals\nclose 1\nquit\n".as_slice();
+    let mut source = ReaderSource::new(&mut text);
+    let mut replies = Vec::new(alloc);
+    let mut sink = WriterSink::new(&mut replies);
+    let mut desk = FakeDesk::new();
+    desk.ids = &[1001, 1002, 1003, 1004, 1005, 1006];
+    let end = serve_on(alloc, heap, &mut source, &mut sink, &mut desk);
+    if end == Ok(AdminEnd::Quit) && desk.asked == 3 {
+        return Some(replies);
+    }
+    None
+}
+
 #[test]
 fn refused_memory_is_replied_and_the_session_goes_on(rt: HostRuntime) -> Result<(), Fail> {
     let mut refused = 0u32;
     for units in 1..100usize {
         let heap = LocalHeap::new(rt.alloc(), units * 16)?;
-        let mut out = Vec::new(rt.alloc());
-        let mut desk = FakeDesk::new();
-        desk.ids = &[1001, 1002, 1003, 1004, 1005, 1006];
-        let mut dialogue = Dialogue::new();
-        let mut text = b"list\ntotals\nclose 1\nquit\n".as_slice();
-        let mut source = ReaderSource::new(&mut text);
-        let read = dialogue.lines.fill(&mut source);
-        assert_eq!(rt; read, Ok(25), "{units} units");
-        let mut sink = WriterSink::new(&mut out);
-        let quit = match dialogue.answer_lines(rt.alloc(), &heap, &mut sink, &mut desk) {
-            Step::Ended(AdminEnd::Quit) => true,
-            _ => false,
-        };
-        assert!(rt; quit, "{units} units");
-        assert_eq!(rt; desk.asked, 3, "{units} units");
-        let replies = out.as_slice();
+        let replies = replies_on(rt.alloc(), &heap).ok_or("it ends otherwise")?;
+        let replies = replies.as_slice();
         if replies == BOTH.as_bytes() {
             assert!(rt; refused > 2, "{refused} refusals");
             return Ok(());

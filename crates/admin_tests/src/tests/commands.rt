@@ -1,6 +1,6 @@
 //! Lines and the commands that they spell.
 
-use super::*;
+use relay_admin::Command;
 use std::prelude::HostRuntime;
 
 #[test]

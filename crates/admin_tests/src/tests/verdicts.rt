@@ -1,7 +1,7 @@
 //! The lines and statuses of the rules file's format, and writers that take less than a line.
 
-use super::check_status;
 use arrayvec::ArrayVec;
+use relay_admin::check_status;
 
 const WEB: &str = "relay web tcp:127.0.0.1:8080 unix:/tmp/a.sock 5000\n";
 

@@ -1,7 +1,7 @@
 //! Replies as they are printed.
 
-use super::*;
 use linked_list_allocator::LocalHeap;
+use relay_admin::{Command, DeskAnswer, reply_in, reply_of};
 use std::prelude::HostRuntime;
 use std::process::Abort;
 use std::test::Fail;
