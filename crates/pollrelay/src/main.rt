@@ -8,7 +8,7 @@ mod status;
 use crate::fault::{Fault, NO_MEMORY};
 use crate::job::{Job, job_of};
 use crate::status::trace_status;
-use relay::{serve, text_of};
+use relay::{Loops, serve, text_of};
 use relay_admin::check_status;
 use relay_ledger::PARTS;
 use std::alloc::Global;
@@ -60,10 +60,27 @@ fn main(rt: HostRuntime) -> ExitCode {
             ExitCode::from(status)
         }
         Ok(Some(Job::Check { rules })) => check_file(&rt, rules.as_str()),
-        Ok(Some(Job::Serve { rules, admin })) => {
+        Ok(
+            Some(
+                Job::Serve {
+                    rules,
+                    admin,
+                    loops,
+                },
+            ),
+        ) => {
             let (up, down) = (Blank::new(PARTS), Blank::new(PARTS));
+            let loops = loops.unwrap_or_else(|| Loops::by_processors(&rt));
             let mut output = rt.stdout();
-            match serve::<Brand, Brand, HostRuntime, _>(rt, &rules, &admin, up, down, &mut output) {
+            match serve::<Brand, Brand, HostRuntime, _>(
+                rt,
+                &rules,
+                &admin,
+                loops,
+                up,
+                down,
+                &mut output,
+            ) {
                 Ok(()) => ExitCode::from(0),
                 Err(fault) => told(&rt, Fault::Relay(fault)),
             }

@@ -4,7 +4,7 @@ use crate::fault::{Fault, NO_MEMORY};
 use crate::job::{Job, job_of};
 use crate::status::trace_status;
 use arrayvec::ArrayString;
-use relay::ServeFault;
+use relay::{Loops, ServeFault};
 use std::alloc::Global;
 use std::io::{Cursor, ErrorKind, Read, Result, Write};
 use std::prelude::HostRuntime;
@@ -258,25 +258,39 @@ fn checked(alloc: Global, rules: &str) -> Option<Job> {
     Some(Job::Check { rules })
 }
 
-fn served(alloc: Global, rules: &str, admin: &str) -> Option<Job> {
+fn served(alloc: Global, rules: &str, admin: &str, loops: Option<Loops>) -> Option<Job> {
     let rules = String::from_str(alloc, rules).ok()?;
     let admin = String::from_str(alloc, admin).ok()?;
-    Some(Job::Serve { rules, admin })
+    Some(Job::Serve {
+        rules,
+        admin,
+        loops,
+    })
 }
 
 #[test]
 fn a_command_is_taken_with_its_options(rt: HostRuntime) {
     let alloc = rt.alloc();
     let check = checked(alloc, "F");
-    let serve = served(alloc, "F", "/a b");
+    let serve = served(alloc, "F", "/a b", None);
+    let on_one = served(alloc, "F", "/a b", Loops::of(1));
+    let on_most = served(alloc, "F", "/a b", Loops::of(64));
     let check_none = checked(alloc, "");
-    let rows: [(&[&str], &Option<Job>); 7] = [
+    let rows: [(&[&str], &Option<Job>); 9] = [
         (&[], &Some(Job::Trace)),
         (&["trace"], &Some(Job::Trace)),
         (&["check", "--rules", "F"], &check),
         (&["check", "--rules=F"], &check),
         (&["serve", "--rules", "F", "--admin", "/a b"], &serve),
         (&["serve", "--admin=/a b", "--rules", "F"], &serve),
+        (
+            &["serve", "--loops", "1", "--rules", "F", "--admin", "/a b"],
+            &on_one,
+        ),
+        (
+            &["serve", "--rules", "F", "--admin", "/a b", "--loops=64"],
+            &on_most,
+        ),
         (&["check", "--rules", ""], &check_none),
     ];
     for (words, job) in rows {
@@ -287,7 +301,7 @@ fn a_command_is_taken_with_its_options(rt: HostRuntime) {
 
 #[test]
 fn no_other_words_are_taken(rt: HostRuntime) {
-    let refused: [&[&str]; 23] = [
+    let refused: [&[&str]; 31] = [
         &["check"],
         &["check", "F"],
         &["check", "--rules"],
@@ -299,6 +313,22 @@ fn no_other_words_are_taken(rt: HostRuntime) {
         &["serve", "--rules", "F"],
         &["serve", "--admin", "A"],
         &["serve", "--rules", "F", "--admin", "A", "--", "x"],
+        &["serve", "--rules", "F", "--admin", "A", "--loops"],
+        &["serve", "--rules", "F", "--admin", "A", "--loops", ""],
+        &["serve", "--rules", "F", "--admin", "A", "--loops", "0"],
+        &["serve", "--rules", "F", "--admin", "A", "--loops", "65"],
+        &["serve", "--rules", "F", "--admin", "A", "--loops", "04"],
+        &["serve", "--rules", "F", "--admin", "A", "--loops", "+4"],
+        &[
+            "serve",
+            "--rules",
+            "F",
+            "--admin",
+            "A",
+            "--loops=4",
+            "--loops=4",
+        ],
+        &["check", "--rules", "F", "--loops", "4"],
         &["--rules", "F", "check"],
         &["frob"],
         &["--help"],

@@ -1,6 +1,6 @@
 pub mod Addr
 pub mod Desk
-pub mod Entry
+pub mod Loops
 pub mod Output
 pub mod ServeFault
 pub mod Session

@@ -1,64 +1,231 @@
-//! The accept thread of a rule.
+//! Accepting by a rule, as a task of the main thread's loop: it goes on when its listener may be ready,
+//! and delivers to the loops.
 
+ghost use Rattle.std.specs.Prelude.{⊤};
+
+use crate::clock::Moments;
+use crate::closing::Closer;
 use crate::shared::{Accepted, Shared};
-use fd_descriptor::FdHandle;
-use readiness::{ListenRes, Sock};
-use relay_core::{AcceptEnded, AcceptGate, accept_worker};
+use deadline_core::Dirs;
+use fd_descriptor::{Alarms, FdHandle, PollCell, ReadUnderWay};
+use readiness::{DoorAlarms, Host, ListenRes, Place, Side, Sock, Turn, Why};
+use relay_core::{AcceptEnded, AcceptStep, Accepting, PollAcceptGate};
 use rwloops::Fault;
 use std::sync::ledger::Ledger;
 use std::sync::{Arc, Wait};
-use std::thread::sleep;
-use std::time::{Clock, Duration};
 
-/// A rule's listener: its id, and a handle.
+const NANOS_PER_MS: u64 = 1_000_000;
+
+/// A rule's listener, as its task has it. The handle isn't there exactly while an accept is under way.
 #[derive(Drop)]
-pub(crate) struct RuleListener {
+pub(crate) struct RuleListener<R: Wait + Copy> {
     pub(crate) id: u64,
-    pub(crate) handle: FdHandle<ListenRes>,
+    pub(crate) cell: Arc<PollCell>,
+    pub(crate) handle: Option<FdHandle<ListenRes>>,
+    pub(crate) under_way: Option<ReadUnderWay<ListenRes, R>>,
 }
 
-/// Accepts from a rule's listener, and delivers into the relay's inbox.
-#[derive(Drop)]
-pub(crate) struct RuleGate<U: Ledger, D: Ledger, R: Wait + Clock + Drop> {
-    pub(crate) rt: R,
-    pub(crate) listener: RuleListener,
-    pub(crate) rule: usize,
-    pub(crate) shared: Arc<Shared<U, D>>,
-}
-
-impl<U: Ledger, D: Ledger, R: Wait + Clock + Drop> AcceptGate for RuleGate<U, D, R> {
-    type T = Sock;
-
-    ghost tells = { λ _ _. ⊥ };
-
-    fn accept(&mut self) -> Result<Sock, Fault> {
-        self.listener.handle.accept(&self.rt)
+impl<R: Wait + Copy> RuleListener<R> {
+    // Begins an accept, where none is under way.
+    fn begin(&mut self, rt: R) -> Result<(), Fault> {
+        if self.under_way.is_some() {
+            return Ok(());
+        }
+        let Some(handle) = self.handle.take() else {
+            return Err(Fault::Closed);
+        };
+        match handle.begin_read(rt) {
+            Ok(accept) => {
+                self.under_way = Some(accept);
+                Ok(())
+            }
+            Err((handle, fault)) => {
+                self.handle = Some(handle);
+                Err(fault)
+            }
+        }
     }
 
-    // A socket that the inbox has no memory for is dropped.
+    // Ends the accept that is under way.
+    fn end(&mut self) {
+        if let Some(accept) = self.under_way.take() {
+            self.handle = Some(accept.end());
+        }
+    }
+
+    fn poll_accept(&mut self, rt: R) -> Option<Result<Sock, Fault>> {
+        if let Err(fault) = self.begin(rt) {
+            return Some(Err(fault));
+        }
+        let Some(accept) = &mut self.under_way else {
+            return Some(Err(Fault::Closed));
+        };
+        let answer = accept.try_accept()?;
+        self.end();
+        Some(answer)
+    }
+}
+
+// Accepts from a rule's listener, and delivers to the loops.
+#[derive(Drop)]
+struct RuleGate<'a, U: Ledger, D: Ledger, R: Wait + Copy> {
+    rt: R,
+    rule: usize,
+    listener: &'a mut RuleListener<R>,
+    shared: &'a Shared<U, D>,
+}
+
+impl<'a, U: Ledger, D: Ledger, R: Wait + Copy> PollAcceptGate for RuleGate<'a, U, D, R> {
+    type T = Sock;
+
+    // What a listener gave can't be told.
+    ghost tells = { λ _ _. ⊥ };
+
+    ghost blocked = { λ _. ⊤ };
+
+    fn poll_accept(&mut self) -> Option<Result<Sock, Fault>> {
+        self.listener.poll_accept(self.rt)
+    }
+
     fn deliver(&mut self, taken: Sock) {
         let accepted = Accepted {
             sock: taken,
             rule: self.rule,
         };
-        let _ = self.shared.inbox.lock(&self.rt).push(accepted);
-        self.shared.wake();
-    }
-
-    fn pause(&mut self, ms: u64) {
-        sleep(&self.rt, Duration::from_millis(ms));
+        self.shared.deliver(&self.rt, accepted);
     }
 }
 
-/// Accepts by a rule until its listener is closed or drained, or fails too often. A drained listener is
-/// then closed: else its clients would wait in the system's queue, and nobody would come for them.
-pub(crate) fn serve_rule<U, D, R>(rt: &R, gate: &mut RuleGate<U, D, R>)
+// Has a task accept by its rule.
+fn accept_on<'a, U: Ledger, D: Ledger, R: Wait + Copy>(
+    rt: R,
+    rule: usize,
+    listener: &'a mut RuleListener<R>,
+    shared: &'a Shared<U, D>,
+    accepting: &mut Accepting,
+) -> AcceptStep {
+    accepting.resume(&mut RuleGate {
+        rt,
+        rule,
+        listener,
+        shared,
+    })
+}
+
+/// Accepts by a rule until its listener is closed or drained, or fails too often.
+#[derive(Drop)]
+pub(crate) struct RuleTask<R: Wait + Copy> {
+    pub(crate) rule: usize,
+    pub(crate) place: Place,
+    pub(crate) listener: RuleListener<R>,
+    pub(crate) accepting: Accepting,
+    /// The end of its pause, where it pauses.
+    pub(crate) paused_until: Option<u64>,
+}
+
+/// What the main thread has beside its accept tasks.
+#[derive(Drop)]
+pub(crate) struct AcceptHost<U: Ledger, D: Ledger, R: Wait + Copy, C: Moments> {
+    pub(crate) rt: R,
+    pub(crate) clock: C,
+    pub(crate) shared: Arc<Shared<U, D>>,
+    /// A moment to which no alarm could be armed, since memory was refused.
+    pub(crate) unarmed: Option<u64>,
+}
+
+impl<U: Ledger, D: Ledger, R: Wait + Copy, C: Moments> AcceptHost<U, D, R, C> {
+    // Has a task pause: its timer has the second token of its place, which no descriptor has.
+    fn pause(&mut self, task: &mut RuleTask<R>, ms: u64) {
+        let now = self.clock.now();
+        let until = now.saturating_add(ms.saturating_mul(NANOS_PER_MS));
+        task.paused_until = Some(until);
+        let armed = match Arc::try_clone(&self.shared.main) {
+            Ok(door) => {
+                let alarms = DoorAlarms::new(self.rt, door);
+                alarms.arm(task.place.second, Dirs::Read, until).is_ok()
+            }
+            Err(_) => false,
+        };
+        if !armed {
+            self.unarmed = Some(until);
+        }
+    }
+
+    // Whether a task is in its pause still.
+    fn is_paused(&self, task: &mut RuleTask<R>) -> bool {
+        match task.paused_until {
+            Some(until) if self.clock.now() < until => true,
+            _ => {
+                task.paused_until = None;
+                false
+            }
+        }
+    }
+
+    /// Whether a pause is over whose alarm couldn't be armed.
+    pub(crate) fn takes_unarmed(&mut self) -> bool {
+        match self.unarmed {
+            Some(until) if self.clock.now() >= until => {
+                self.unarmed = None;
+                true
+            }
+            _ => false,
+        }
+    }
+}
+
+impl<U, D, R, C> Host for AcceptHost<U, D, R, C>
 where
     U: Ledger,
     D: Ledger,
-    R: Wait + Clock + Drop,
+    R: Wait + Copy,
+    C: Moments,
 {
-    if accept_worker(rt, gate) == AcceptEnded::Draining {
-        gate.shared.close(rt, gate.listener.id);
+    type Task = RuleTask<R>;
+
+    fn cell<'a>(&self, task: &'a RuleTask<R>, side: Side) -> Option<&'a PollCell> {
+        match side {
+            Side::First => Some(&*task.listener.cell),
+            Side::Second => None,
+        }
+    }
+
+    fn resume(&mut self, task: &mut RuleTask<R>, _why: Why) -> Turn {
+        if self.is_paused(task) {
+            return Turn::Waits;
+        }
+        let step = accept_on(
+            self.rt,
+            task.rule,
+            &mut task.listener,
+            &*self.shared,
+            &mut task.accepting,
+        );
+        match step {
+            AcceptStep::Waits => Turn::Waits,
+            AcceptStep::Again => Turn::Again,
+            AcceptStep::Pauses(ms) => {
+                self.pause(task, ms);
+                Turn::Waits
+            }
+            AcceptStep::Ended(ended) => {
+                self.end(&task.listener, ended);
+                Turn::Over
+            }
+        }
+    }
+
+    fn over(&mut self, task: RuleTask<R>) {
+        drop(task);
+    }
+}
+
+impl<U: Ledger, D: Ledger, R: Wait + Copy, C: Moments> AcceptHost<U, D, R, C> {
+    // A drained listener is closed: else its clients would wait in the system's queue, and nobody would
+    // come for them.
+    fn end(&self, listener: &RuleListener<R>, ended: AcceptEnded) {
+        if ended == AcceptEnded::Draining {
+            self.shared.close(&self.rt, listener.id, Closer::ItsLoop);
+        }
     }
 }

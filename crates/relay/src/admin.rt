@@ -28,7 +28,7 @@ const SESSION_TOKEN: u64 = 2;
 
 /// The admin socket with its poller.
 #[derive(Drop)]
-pub(crate) struct Door {
+pub(crate) struct AdminDoor {
     pub(crate) listener: Listen,
     pub(crate) poller: Arc<Mutex<Poller>>,
 }

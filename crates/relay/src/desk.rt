@@ -4,7 +4,8 @@ ghost use Rattle.std.specs.Prelude.{◌≡◌, None};
 ghost use Rattle.relay.specs.Desk.{desk_answer};
 
 use crate::clock::Moments;
-use crate::entry::Handle;
+use crate::closing::Closer;
+use crate::entry::{Handle, Owner};
 use crate::shared::Shared;
 use deadline_core::Deadline;
 use relay_admin::{Desk, DeskAnswer};
@@ -41,21 +42,27 @@ impl<'a, U: Ledger, D: Ledger, R: Wait + Copy, C: Moments> RelayDesk<'a, U, D, R
         RelayDesk { rt, clock, shared }
     }
 
-    // A handle of its own on the connection or listener with this id, so that the table's lock is
-    // given back before a deadline is set or it is drained.
-    fn handle(&self, id: u64) -> Result<Handle, DeskAnswer> {
+    // A handle of its own on the connection or listener with this id, with whose it is, so that the
+    // table's lock is given back before a deadline is set or it is drained.
+    fn handle(&self, id: u64) -> Result<(Handle, Owner), DeskAnswer> {
         let table = self.shared.table.lock(&self.rt);
         let Some(entry) = table.by_id(id) else {
             return Err(DeskAnswer::Unknown);
         };
         match entry.share(&self.rt) {
-            Ok(handle) => Ok(handle),
+            Ok(shared) => Ok(shared),
             Err(fault) => Err(answer_of(Err(fault))),
         }
     }
 
-    fn set_deadline(&self, handle: &mut Handle, after_ms: Option<u32>) -> DeskAnswer {
-        let Some(alarms) = self.shared.alarms(self.rt) else {
+    // Sets a deadline, and has the task that waits for the descriptor look at it.
+    fn set_deadline(
+        &self,
+        handle: &mut Handle,
+        owner: &Owner,
+        after_ms: Option<u32>,
+    ) -> DeskAnswer {
+        let Some(alarms) = owner.alarms(self.rt) else {
             return DeskAnswer::NoMemory;
         };
         let now = self.clock.now();
@@ -63,7 +70,9 @@ impl<'a, U: Ledger, D: Ledger, R: Wait + Copy, C: Moments> RelayDesk<'a, U, D, R
             Some(ms) => Deadline::At(idle_deadline(now, ms)),
             None => Deadline::Never,
         };
-        answer_of(handle.set_deadline(&self.rt, deadline, now, &alarms))
+        let answer = answer_of(handle.set_deadline(&self.rt, deadline, now, &alarms));
+        owner.tell(&self.rt);
+        answer
     }
 }
 
@@ -85,7 +94,7 @@ impl<'a, U: Ledger, D: Ledger, R: Wait + Copy, C: Moments> Desk for RelayDesk<'a
     }
 
     fn close(&mut self, id: u64) -> DeskAnswer {
-        match self.shared.close(&self.rt, id) {
+        match self.shared.close(&self.rt, id, Closer::Another) {
             Some(done) => answer_of(done),
             None => DeskAnswer::Unknown,
         }
@@ -93,14 +102,14 @@ impl<'a, U: Ledger, D: Ledger, R: Wait + Copy, C: Moments> Desk for RelayDesk<'a
 
     fn drain(&mut self, id: u64) -> DeskAnswer {
         match self.handle(id) {
-            Ok(mut handle) => answer_of(handle.drain(&self.rt)),
+            Ok((mut handle, _)) => answer_of(handle.drain(&self.rt)),
             Err(answer) => answer,
         }
     }
 
     fn deadline(&mut self, _alloc: Global, id: u64, after_ms: Option<u32>) -> DeskAnswer {
         match self.handle(id) {
-            Ok(mut handle) => self.set_deadline(&mut handle, after_ms),
+            Ok((mut handle, owner)) => self.set_deadline(&mut handle, &owner, after_ms),
             Err(answer) => answer,
         }
     }

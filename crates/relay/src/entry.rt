@@ -1,13 +1,11 @@
 //! What stands in the relay's table.
 
-ghost use Rattle.std.specs.Prelude.{◌≡◌, ⊤};
-ghost use Rattle.std.specs.Arc.{arc_value};
-ghost use Rattle.relay.specs.Entry.{entry_cell};
+ghost use Rattle.std.specs.Prelude.{⊤};
 
-use crate::closing::Closes;
-use deadline_core::Deadline;
-use fd_descriptor::{Alarms, FdHandle, PollCell};
-use readiness::{HasCell, Holds, ListenRes, SockRes};
+use crate::closing::{Closer, Closes};
+use deadline_core::{Deadline, Dirs};
+use fd_descriptor::{Alarms, AtEviction, FdHandle, Nobody};
+use readiness::{Door, DoorAlarms, ListenRes, SockRes};
 use rwloops::Fault;
 use std::sync::{Arc, Mutex, Wait};
 
@@ -26,10 +24,10 @@ impl Handle {
         }
     }
 
-    fn close<R: Wait>(&mut self, rt: &R) -> Result<(), Fault> {
+    fn close<R: Wait, E: AtEviction>(&mut self, rt: &R, told: &E) -> Result<(), Fault> {
         match self {
-            Handle::Conn(handle) => handle.close(rt),
-            Handle::Listener(handle) => handle.close(rt),
+            Handle::Conn(handle) => handle.close_telling(rt, told),
+            Handle::Listener(handle) => handle.close_telling(rt, told),
         }
     }
 
@@ -54,43 +52,73 @@ impl Handle {
     }
 }
 
-/// A connection or a listener: its cell, which the poller tells, and a handle that the desk takes
-/// shares of and that whoever takes the entry out closes.
+/// The task that has a descriptor: the door of its loop, and the token by which the loop knows it.
+#[derive(Drop)]
+pub(crate) struct Owner {
+    pub(crate) door: Arc<Door>,
+    pub(crate) token: u64,
+}
+
+impl Owner {
+    /// Has the task look at its descriptor: what it is to see is there before.
+    pub(crate) fn tell<R: Wait>(&self, rt: &R) {
+        self.door.tell(rt, self.token);
+    }
+
+    /// The same once more. It takes no memory.
+    pub(crate) fn again(&self) -> Option<Owner> {
+        let door = Arc::try_clone(&self.door).ok()?;
+        let token = self.token;
+        Some(Owner { door, token })
+    }
+
+    /// Where deadlines ask to be told of their moments. It takes no memory.
+    pub(crate) fn alarms<R: Wait + Copy>(&self, rt: R) -> Option<DoorAlarms<R>> {
+        let door = Arc::try_clone(&self.door).ok()?;
+        Some(DoorAlarms::new(rt, door))
+    }
+}
+
+/// Tells the task that its descriptor is closing.
+#[derive(Clone, Copy)]
+struct Telling<'a, R: Wait> {
+    rt: &'a R,
+    owner: &'a Owner,
+}
+
+impl<'a, R: Wait> AtEviction for Telling<'a, R> {
+    fn evicted(&self) {
+        self.owner.tell(self.rt);
+    }
+}
+
+/// A connection's side or a listener: whose it is, and a handle that the desk takes shares of and that
+/// whoever takes the entry out closes.
 #[derive(Drop)]
 pub(crate) struct Entry {
-    cell: Arc<PollCell>,
     handle: Mutex<Handle>,
-}
-
-impl HasCell for Entry {
-    ghost cell_in = { entry_cell };
-
-    fn cell(&self) -> &PollCell {
-        &*self.cell
-    }
-}
-
-impl Holds<SockRes> for Entry {
-    fn holding(cell: Arc<PollCell>, handle: FdHandle<SockRes>) -> Entry
-        ensures tells { entry_cell result ≡ arc_value cell }
-    {
-        let handle = Mutex::new(Handle::Conn(handle));
-        Entry { cell, handle }
-    }
-}
-
-impl Holds<ListenRes> for Entry {
-    fn holding(cell: Arc<PollCell>, handle: FdHandle<ListenRes>) -> Entry
-        ensures tells { entry_cell result ≡ arc_value cell }
-    {
-        let handle = Mutex::new(Handle::Listener(handle));
-        Entry { cell, handle }
-    }
+    owner: Owner,
 }
 
 impl Entry {
-    pub(crate) fn share<R: Wait>(&self, rt: &R) -> Result<Handle, Fault> {
-        self.handle.lock(rt).share()
+    pub(crate) fn new(handle: Handle, owner: Owner) -> Entry {
+        Entry {
+            handle: Mutex::new(handle),
+            owner,
+        }
+    }
+
+    /// Where its deadlines ask to be told of their moments. It takes no memory.
+    pub(crate) fn alarms<R: Wait + Copy>(&self, rt: R) -> Option<DoorAlarms<R>> {
+        self.owner.alarms(rt)
+    }
+
+    /// A handle of its own, and whose task is to be told of what is done by it.
+    pub(crate) fn share<R: Wait>(&self, rt: &R) -> Result<(Handle, Owner), Fault> {
+        let Some(owner) = self.owner.again() else {
+            return Err(Fault::OutOfMemory);
+        };
+        Ok((self.handle.lock(rt).share()?, owner))
     }
 }
 
@@ -98,7 +126,18 @@ impl Closes for Entry {
     // What other threads did to the handle before isn't known.
     ghost tells = { λ _ _. ⊤ };
 
-    fn close<R: Wait>(self, rt: &R) -> Result<(), Fault> {
-        self.handle.lock(rt).close(rt)
+    fn close<R: Wait + Copy>(&mut self, rt: &R, by: Closer) -> Result<(), Fault> {
+        let owner = &self.owner;
+        let mut handle = self.handle.lock(rt);
+        match by {
+            Closer::ItsLoop => handle.close(rt, &Nobody),
+            Closer::Another => handle.close(rt, &Telling { rt, owner }),
+        }
+    }
+
+    fn disarm<R: Wait + Copy>(self, rt: &R) {
+        if let Some(alarms) = self.owner.alarms(*rt) {
+            alarms.disarm(self.owner.token, Dirs::Both);
+        }
     }
 }

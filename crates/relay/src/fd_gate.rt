@@ -1,12 +1,9 @@
 //! What a worker copies through: two descriptors, of which one is read and the other written.
 
-ghost use Rattle.std.specs.Prelude.{◌≡◌, ◌+◌, ◌*◌, ◌-◌, ◌^◌, ℕ, min, Some, None, IfSome, IfNone};
-ghost use Rattle.deadline_core.specs.declared.deadline.Deadline.{Deadline};
-
 use crate::clock::Moments;
-use deadline_core::Deadline;
+use crate::idle_time::IdleTime;
 use fd_descriptor::{Alarms, FdHandle, HalfClose, Resource};
-use relay_core::{CopyGate, idle_deadline};
+use relay_core::CopyGate;
 use rwloops::{Fault, TryRead, TryWrite, WriteFault};
 use std::sync::Wait;
 
@@ -16,9 +13,8 @@ use std::sync::Wait;
 #[derive(Drop)]
 pub struct FdGate<X: Resource, R, C, A> {
     rt: R,
-    clock: C,
+    idle: IdleTime<C>,
     alarms: A,
-    idle_ms: Option<u32>,
     source: FdHandle<X>,
     target: FdHandle<X>,
 }
@@ -35,27 +31,15 @@ impl<X: Resource, R: Wait, C: Moments, A: Alarms> FdGate<X, R, C, A> {
     ) -> FdGate<X, R, C, A> {
         FdGate {
             rt,
-            clock,
+            idle: IdleTime::new(clock, idle_ms),
             alarms,
-            idle_ms,
             source,
             target,
         }
     }
 
-    // The moment now, and the deadline of a call that begins now; none without an idle time.
-    fn next_deadline(&self) -> Option<(u64, Deadline)>
-        ensures none { IfNone result (self.now.idle_ms ≡ None) }
-        ensures idle { IfSome result (λ r. (ms : ℕ) × (self.now.idle_ms ≡ Some ms)
-            × (r.1 ≡ Deadline.At (min (r.0 + ms * 1000000) (2 ^ 64 - 1)))) }
-    {
-        let idle_ms = self.idle_ms?;
-        let now = self.clock.now();
-        Some((now, Deadline::At(idle_deadline(now, idle_ms))))
-    }
-
     fn time_the_read(&mut self) -> Result<(), Fault> {
-        match self.next_deadline() {
+        match self.idle.next_deadline() {
             Some((now, deadline)) => {
                 self.source
                     .set_read_deadline(&self.rt, deadline, now, &self.alarms)
@@ -65,7 +49,7 @@ impl<X: Resource, R: Wait, C: Moments, A: Alarms> FdGate<X, R, C, A> {
     }
 
     fn time_the_write(&mut self) -> Result<(), Fault> {
-        match self.next_deadline() {
+        match self.idle.next_deadline() {
             Some((now, deadline)) => {
                 self.target
                     .set_write_deadline(&self.rt, deadline, now, &self.alarms)

@@ -1,11 +1,10 @@
-//! The relay: it accepts connections by rules, connects each to its target, copies both ways on two
-//! threads, counts the bytes, and is steered through an admin socket.
+//! The relay: it accepts connections by rules, connects each to its target, copies both ways, counts
+//! the bytes, and is steered through an admin socket.
 //!
 //! | Thread | What it does |
 //! |---|---|
-//! | main | turns the poller, sets pairs up, joins those that ended |
-//! | one for each rule | accepts, and puts the sockets into the inbox |
-//! | two for each pair | copy, one each way |
+//! | main | accepts by all rules, on a loop of its own |
+//! | one for each loop | sets its connections up, and copies each way of each |
 //! | admin | serves sessions, one after the other, over a poller of its own |
 #![tactic(auto)]
 
@@ -14,11 +13,14 @@ mod admin;
 mod bound_paths;
 mod clock;
 mod closing;
+mod connection;
 mod desk;
 mod ending;
 mod entry;
 mod fault;
 mod fd_gate;
+mod idle_time;
+mod loops;
 mod opening;
 mod pair;
 mod relay;
@@ -27,13 +29,15 @@ mod saying;
 mod serving;
 mod set_up;
 mod shared;
+mod task_gate;
 mod threads;
 mod turns;
 
 pub use clock::{Moments, RelayClock};
-pub use closing::{Closes, close_by_id};
+pub use closing::{Closer, Closes, close_by_id};
 pub use fault::ServeFault;
 pub use fd_gate::FdGate;
+pub use loops::{Loops, MAX_LOOPS};
 pub use pair::{AtEnd, CopyOf, Done, Worker, start_pair};
 pub use rules_file::text_of;
 pub use serving::serve;

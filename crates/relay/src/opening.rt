@@ -3,31 +3,46 @@
 ghost use Rattle.std.specs.Prelude.{◌≡◌};
 ghost use Rattle.relay.specs.Addr.{socket_address};
 
-use crate::accepting::RuleListener;
-use crate::admin::Door;
+use crate::accepting::{RuleListener, RuleTask};
+use crate::admin::AdminDoor;
 use crate::bound_paths::BoundPaths;
-use crate::entry::Entry;
+use crate::entry::{Entry, Handle, Owner};
 use crate::fault::ServeFault;
+use crate::loops::{ConnLoop, Loops};
+use crate::shared::{Home, Route};
 use crate::threads::Unstarted;
 use arrayvec::ArrayString;
 use conntable::ConnTable;
-use readiness::{Addr, HoldFault, Poller, Waker, listen};
+use fd_descriptor::FdHandle;
+use readiness::{Addr, EventLoop, HoldFault, ListenRes, Place, Poller, Waker, listen};
 use relay_admin::Rule;
+use relay_core::Accepting;
 use std::alloc::Global;
 use std::fs::Files;
 use std::net::Net;
-use std::sync::{Arc, Mutex};
+use std::sync::ledger::Ledger;
+use std::sync::{Arc, Mutex, Wait};
+use std::time::Clock;
 
 /// The token of the admin socket with its own poller.
 const DOOR_TOKEN: u64 = 1;
 
+/// The loop that accepts, with its tasks, and what they are found by.
+#[derive(Drop)]
+pub(crate) struct Acceptors<R: Wait + Copy> {
+    pub(crate) tasks: EventLoop<RuleTask<R>>,
+    /// The tokens of the tasks.
+    pub(crate) tokens: Vec<u64>,
+    pub(crate) routes: Vec<Route>,
+    pub(crate) table: ConnTable<Entry>,
+}
+
 /// A relay's sockets, with what they are found by.
 #[derive(Drop)]
-pub(crate) struct Opened {
-    pub(crate) poller: Poller,
-    pub(crate) waker: Arc<Waker>,
-    pub(crate) table: ConnTable<Entry>,
-    pub(crate) unstarted: Unstarted,
+pub(crate) struct Opened<U: Ledger, D: Ledger, R: Wait + Clock + Copy> {
+    pub(crate) acceptors: Acceptors<R>,
+    pub(crate) homes: Vec<Home>,
+    pub(crate) unstarted: Unstarted<U, D, R>,
 }
 
 /// The same address in the terms of sockets.
@@ -51,23 +66,93 @@ fn poller<R: Net>(rt: &R, alloc: Global) -> Result<(Poller, Arc<Waker>), ServeFa
     }
 }
 
-// Listens for a rule, under the table's next id.
-fn open_listener<R: Net + Files>(
-    rt: &R,
-    alloc: Global,
-    poller: &Poller,
-    table: &mut ConnTable<Entry>,
-    rule: &Rule,
-    bound: &mut BoundPaths<'_>,
-) -> Result<RuleListener, ServeFault> {
-    let Ok(socket) = listen(rt, &address_of(&rule.listen)) else {
-        return Err(ServeFault::Listen(rule.name));
-    };
-    bound.note_listener();
-    match poller.hold_listener(alloc, table, socket) {
-        Ok((id, handle)) => Ok(RuleListener { id, handle }),
-        Err(HoldFault::Device(_)) => Err(ServeFault::Device),
-        Err(HoldFault::Table(_) | HoldFault::OutOfMemory) => Err(ServeFault::Memory),
+fn event_loop<T, R: Net>(rt: &R, alloc: Global) -> Result<EventLoop<T>, ServeFault> {
+    match EventLoop::new(rt, alloc) {
+        Ok(tasks) => Ok(tasks),
+        Err(fault) => Err(ServeFault::of_poller(fault)),
+    }
+}
+
+// What is refused for want of memory, or by a table of which nothing but memory can be short yet.
+fn need<T>(given: Option<T>) -> Result<T, ServeFault> {
+    match given {
+        Some(value) => Ok(value),
+        None => Err(ServeFault::Memory),
+    }
+}
+
+impl<R: Wait + Copy> Acceptors<R> {
+    // No task.
+    fn new<N: Net>(rt: &N, alloc: Global) -> Result<Acceptors<R>, ServeFault> {
+        Ok(Acceptors {
+            tasks: event_loop(rt, alloc)?,
+            tokens: Vec::new(alloc),
+            routes: Vec::new(alloc),
+            table: ConnTable::new(alloc),
+        })
+    }
+
+    // A descriptor of a listener, which stands in the table.
+    fn hold(&mut self, handle: FdHandle<ListenRes>, place: Place) -> Option<RuleListener<R>> {
+        let mut handle = handle;
+        let owner = Owner {
+            door: self.tasks.door().ok()?,
+            token: place.first,
+        };
+        let cell = handle.cell().ok()?;
+        let entry = Entry::new(Handle::Listener(handle.share().ok()?), owner);
+        let (id, _) = self.table.insert(entry).ok()?;
+        Some(RuleListener {
+            id,
+            cell,
+            handle: Some(handle),
+            under_way: None,
+        })
+    }
+
+    // Puts the task of a rule into its place.
+    fn put(&mut self, rule: &Rule, place: Place, listener: RuleListener<R>) -> Option<()> {
+        let task = RuleTask {
+            rule: self.tokens.len(),
+            place,
+            listener,
+            accepting: Accepting::new(),
+            paused_until: None,
+        };
+        let route = Route {
+            target: address_of(&rule.target),
+            idle_ms: rule.idle,
+        };
+        self.tokens.push(place.first).ok()?;
+        self.routes.push(route).ok()?;
+        self.tasks.put(task).ok()?;
+        Some(())
+    }
+
+    // Listens for a rule, under the table's next id.
+    fn listen<N: Net + Files>(
+        &mut self,
+        rt: &N,
+        alloc: Global,
+        rule: &Rule,
+        bound: &mut BoundPaths<'_>,
+    ) -> Result<(), ServeFault> {
+        let Ok(socket) = listen(rt, &address_of(&rule.listen)) else {
+            return Err(ServeFault::Listen(rule.name));
+        };
+        bound.note_listener();
+        let place = need(self.tasks.vacant().ok())?;
+        let handle = match self
+            .tasks
+            .poller()
+            .open_listener(alloc, socket, place.first)
+        {
+            Ok(handle) => handle,
+            Err(HoldFault::Device(_)) => return Err(ServeFault::Device),
+            Err(_) => return Err(ServeFault::Memory),
+        };
+        let listener = need(self.hold(handle, place))?;
+        need(self.put(rule, place, listener))
     }
 }
 
@@ -78,7 +163,7 @@ fn open_door<R: Net + Files>(
     poller: Poller,
     path: &str,
     bound: &mut BoundPaths<'_>,
-) -> Result<Door, ServeFault> {
+) -> Result<AdminDoor, ServeFault> {
     if path.is_empty() {
         return Err(ServeFault::Admin);
     }
@@ -96,35 +181,48 @@ fn open_door<R: Net + Files>(
         return Err(ServeFault::Memory);
     };
     let listener = socket;
-    Ok(Door { listener, poller })
+    Ok(AdminDoor { listener, poller })
+}
+
+// So many loops without a connection, and what others reach them by.
+fn open_loops<U: Ledger, D: Ledger, R: Wait + Net + Clock + Copy>(
+    rt: &R,
+    alloc: Global,
+    loops: Loops,
+) -> Result<(Vec<ConnLoop<U, D, R>>, Vec<Home>), ServeFault> {
+    let mut all = Vec::new(alloc);
+    let mut homes = Vec::new(alloc);
+    for _ in 0..loops.count {
+        let tasks = event_loop(rt, alloc)?;
+        let door = need(tasks.door().ok())?;
+        need(homes.push(Home::new(door, Vec::new(alloc))).ok())?;
+        need(all.push(tasks).ok())?;
+    }
+    Ok((all, homes))
 }
 
 /// Opens all of a relay's sockets. After a fault none of them is left, and `bound` says which paths
 /// are.
-pub(crate) fn open<R: Net + Files>(
+pub(crate) fn open<U: Ledger, D: Ledger, R: Wait + Net + Files + Clock + Copy>(
     rt: &R,
     alloc: Global,
     rules: &[Rule],
     admin: &str,
+    loops: Loops,
     bound: &mut BoundPaths<'_>,
-) -> Result<Opened, ServeFault> {
-    let (main_poller, waker) = poller(rt, alloc)?;
+) -> Result<Opened<U, D, R>, ServeFault> {
+    let mut acceptors = Acceptors::new(rt, alloc)?;
     let (door_poller, door_waker) = poller(rt, alloc)?;
-    let mut table = ConnTable::new(alloc);
-    let mut listeners = Vec::new(alloc);
+    let (loops, homes) = open_loops(rt, alloc, loops)?;
     for rule in rules {
-        let listener = open_listener(rt, alloc, &main_poller, &mut table, rule, bound)?;
-        if listeners.push(listener).is_err() {
-            return Err(ServeFault::Memory);
-        }
+        acceptors.listen(rt, alloc, rule, bound)?;
     }
     let door = open_door(rt, alloc, door_poller, admin, bound)?;
     Ok(Opened {
-        poller: main_poller,
-        waker,
-        table,
+        acceptors,
+        homes,
         unstarted: Unstarted {
-            listeners,
+            loops,
             door,
             door_waker,
         },

@@ -4,91 +4,114 @@ ghost use Rattle.std.specs.Prelude.{◌≡◌, ◌⊎◌, Err, OnOk, IfErr};
 ghost use Rattle.relay_ledger.specs.declared.book.TheConstants.{PARTS};
 ghost use Rattle.relay.specs.Output.{WritesBothLines, SaysItListens};
 ghost use Rattle.relay.specs.ServeFault.{IsRunFault};
+ghost use Rattle.relay.specs.declared.fault.ServeFault.{ServeFault};
 
-use crate::accepting::RuleListener;
-use crate::admin::Door;
+use crate::accepting::AcceptHost;
+use crate::admin::AdminDoor;
 use crate::bound_paths::BoundPaths;
+use crate::clock::RelayClock;
 use crate::entry::Entry;
 use crate::fault::ServeFault;
-use crate::opening::{Opened, open};
+use crate::loops::{ConnLoop, Loops};
+use crate::opening::{Acceptors, Opened, open};
 use crate::relay::Relay;
 use crate::rules_file::rules_in;
 use crate::saying::{say_listening, say_totals};
-use crate::shared::Shared;
+use crate::shared::{Home, Route, Shared};
 use crate::threads::{Helpers, Unstarted};
 use conntable::ConnTable;
-use deadline_core::Timers;
-use readiness::Waker;
+use readiness::Door;
 use relay_admin::Rule;
 use relay_ledger::Book;
 use std::alloc::{AllocError, Global};
 use std::fs::Files;
 use std::io::Write;
-use std::net::Net;
-use std::sync::atomic::{AtomicBool, AtomicU64};
+use std::net::{Net, TcpListener, TcpStream};
+use std::sync::atomic::AtomicBool;
 use std::sync::ledger::{Blank, Ledger};
 use std::sync::{Arc, Mutex, Wait};
 use std::thread::Threads;
 use std::time::{Clock, Instant};
 
-// What the threads share, over an opened relay's table.
+// What the threads share, over an opened relay's acceptors.
 fn shared_of<U: Ledger, D: Ledger>(
     alloc: Global,
     table: ConnTable<Entry>,
-    waker: Arc<Waker>,
+    routes: Vec<Route>,
+    main: Arc<Door>,
+    homes: Vec<Home>,
     up: Book<U>,
     down: Book<D>,
 ) -> Result<Arc<Shared<U, D>>, AllocError> {
-    let timers = Arc::new(alloc, Mutex::new(Timers::new(alloc)))?;
-    let up = Arc::new(alloc, Mutex::new(up))?;
-    let down = Arc::new(alloc, Mutex::new(down))?;
     let shared = Shared {
         table: Mutex::new(table),
-        timers,
-        inbox: Mutex::new(Vec::new(alloc)),
-        up,
-        down,
-        waker,
-        ended: AtomicU64::new(0),
+        routes,
+        main,
+        homes,
+        up: Mutex::new(up),
+        down: Mutex::new(down),
         stop: AtomicBool::new(false),
     };
     let shared = Arc::new(alloc, shared)?;
     Ok(shared)
 }
 
+// The relay over what was opened.
+fn relay_over<'a, U: Ledger, D: Ledger, R: Wait + Clock + Copy>(
+    alloc: Global,
+    rules: &'a [Rule],
+    start: Instant,
+    acceptors: Acceptors<R>,
+    homes: Vec<Home>,
+    up: Book<U>,
+    down: Book<D>,
+) -> Result<Relay<'a, U, D, R>, ServeFault> {
+    let Acceptors {
+        tasks,
+        tokens,
+        routes,
+        table,
+    } = acceptors;
+    let Ok(main) = tasks.door() else {
+        return Err(ServeFault::Memory);
+    };
+    let Ok(shared) = shared_of(alloc, table, routes, main, homes, up, down) else {
+        return Err(ServeFault::Memory);
+    };
+    Ok(Relay {
+        alloc,
+        rules,
+        start,
+        tasks,
+        tokens,
+        shared,
+    })
+}
+
 // Opens the relay's sockets, and gives it what its threads share.
-fn opened<'a, U: Ledger, D: Ledger, R: Net + Files + Clock>(
+fn opened<'a, U: Ledger, D: Ledger, R: Wait + Net + Files + Clock + Copy>(
     rt: &R,
     alloc: Global,
     rules: &'a [Rule],
     admin: &str,
+    loops: Loops,
     up: Book<U>,
     down: Book<D>,
     bound: &mut BoundPaths<'_>,
-) -> Result<(Relay<'a, U, D>, Unstarted), ServeFault> {
+) -> Result<(Relay<'a, U, D, R>, Arc<Shared<U, D>>, Unstarted<U, D, R>), ServeFault> {
     let Ok(start) = Instant::now(rt) else {
         return Err(ServeFault::Device);
     };
     let Opened {
-        poller,
-        waker,
-        table,
+        acceptors,
+        homes,
         unstarted,
-    } = open(rt, alloc, rules, admin, bound)?;
-    let Ok(shared) = shared_of(alloc, table, waker, up, down) else {
-        return Err(ServeFault::Memory);
-    };
-    let relay = Relay {
-        alloc,
-        rules,
-        start,
-        poller,
-        shared,
-        pairs: Vec::new(alloc),
-        taken: Vec::new(alloc),
-        seen_ended: 0,
-    };
-    Ok((relay, unstarted))
+    } = open(rt, alloc, rules, admin, loops, bound)?;
+    let relay = relay_over(alloc, rules, start, acceptors, homes, up, down)?;
+    match Arc::try_clone(&relay.shared) {
+        Ok(shared) => Ok((relay, shared, unstarted)),
+        Err(_) => Err(ServeFault::Memory),
+    }
 }
 
 // Says that a relay listens whose threads were started.
@@ -108,23 +131,30 @@ fn tell_start<W: Write>(
 // Starts the relay's threads, says that it listens, and runs it until it is stopped. The threads are
 // started first, so that nothing which is refused after the line ends it.
 fn start_and_run<U, D, R, W: Write>(
-    rt: R,
-    relay: &mut Relay<'_, U, D>,
+    relay: &mut Relay<'_, U, D, R>,
+    host: &mut AcceptHost<U, D, R, RelayClock<R>>,
     helpers: &mut Helpers,
-    listeners: Vec<RuleListener>,
-    door: Door,
+    loops: Vec<ConnLoop<U, D, R>>,
+    door: AdminDoor,
     writer: &mut W,
 ) -> Result<(), ServeFault>
 where
     U: Ledger + Send + Sync + 'static,
     D: Ledger + Send + Sync + 'static,
-    R: Wait + Threads + Net + Clock + Copy + Send + Sync + 'static,
+    R: Wait
+        + Threads
+        + Net<Listener = TcpListener, Stream = TcpStream>
+        + Clock
+        + Copy
+        + Send
+        + Sync
+        + 'static,
     ensures said { OnOk result (SaysItListens (W.contents writer.old) (W.contents writer.new)) }
     ensures faults { IfErr result (λ fault. IsRunFault fault) }
 {
-    let started = helpers.start(rt, relay, listeners, door);
+    let started = helpers.start(host.rt, relay, loops, door);
     tell_start(started, relay.rules.len() as u64, writer)?;
-    relay.turn_until_stop(rt)
+    relay.turn_until_stop(host)
 }
 
 // The totals of a relay that ran well, or else why it didn't.
@@ -144,26 +174,40 @@ fn totals_after(
 // An opened relay to its end, whatever comes.
 fn run_to_the_end<U, D, R, W: Write>(
     rt: R,
-    relay: Relay<'_, U, D>,
-    unstarted: Unstarted,
+    relay: Relay<'_, U, D, R>,
+    shared: Arc<Shared<U, D>>,
+    unstarted: Unstarted<U, D, R>,
     writer: &mut W,
 ) -> Result<(u64, u64), ServeFault>
 where
     U: Ledger + Send + Sync + 'static,
     D: Ledger + Send + Sync + 'static,
-    R: Wait + Threads + Net + Clock + Copy + Send + Sync + 'static,
+    R: Wait
+        + Threads
+        + Net<Listener = TcpListener, Stream = TcpStream>
+        + Clock
+        + Copy
+        + Send
+        + Sync
+        + 'static,
     ensures said { OnOk result (SaysItListens (W.contents writer.old) (W.contents writer.new)) }
     ensures faults { IfErr result (λ fault. IsRunFault fault) }
 {
     let mut relay = relay;
     let Unstarted {
-        listeners,
+        loops,
         door,
         door_waker,
     } = unstarted;
     let mut helpers = Helpers::none(relay.alloc, door_waker);
-    let ran = start_and_run(rt, &mut relay, &mut helpers, listeners, door, writer);
-    let gathered = relay.end(&rt, helpers);
+    let mut host = AcceptHost {
+        rt,
+        clock: RelayClock::new(rt, relay.start),
+        shared,
+        unarmed: None,
+    };
+    let ran = start_and_run(&mut relay, &mut host, &mut helpers, loops, door, writer);
+    let gathered = relay.end(host, helpers);
     totals_after(ran, gathered)
 }
 
@@ -173,6 +217,7 @@ fn relayed<U, D, R, W: Write>(
     alloc: Global,
     rules: &[Rule],
     admin: &str,
+    loops: Loops,
     up: Book<U>,
     down: Book<D>,
     writer: &mut W,
@@ -180,22 +225,30 @@ fn relayed<U, D, R, W: Write>(
 where
     U: Ledger + Send + Sync + 'static,
     D: Ledger + Send + Sync + 'static,
-    R: Wait + Threads + Net + Clock + Files + Copy + Send + Sync + 'static,
+    R: Wait
+        + Threads
+        + Net<Listener = TcpListener, Stream = TcpStream>
+        + Clock
+        + Files
+        + Copy
+        + Send
+        + Sync
+        + 'static,
     ensures said { OnOk result (SaysItListens (W.contents writer.old) (W.contents writer.new)) }
     ensures unwritten { IfErr result (λ fault. IsRunFault fault
         ⊎ (W.contents writer.new ≡ W.contents writer.old)) }
 {
     let mut bound = BoundPaths::new(rules, admin);
-    let totals = match opened(&rt, alloc, rules, admin, up, down, &mut bound) {
-        Ok((relay, unstarted)) => run_to_the_end(rt, relay, unstarted, writer),
+    let totals = match opened(&rt, alloc, rules, admin, loops, up, down, &mut bound) {
+        Ok((relay, shared, unstarted)) => run_to_the_end(rt, relay, shared, unstarted, writer),
         Err(refused) => Err(refused),
     };
     bound.remove_all(&rt);
     totals
 }
 
-/// Runs a relay by the rules file at the path `rules`, with its admin socket at the path `admin`,
-/// until an admin session says stop. It writes `listening N` once all sockets are open, and at the end
+/// Runs a relay by the rules file at the path `rules`, with its admin socket at the path `admin`, on
+/// so many loops, until an admin session says stop. It writes `listening N` once all sockets are open, and at the end
 /// `up U down D`, the bytes copied to the targets and to the clients. A fault at the start is the
 /// first of: the rules file can't be read, its rules are bad, the poller, the listeners in the rules'
 /// order, the admin socket. Whatever comes, no thread, no socket and no path that it bound is left.
@@ -203,6 +256,7 @@ pub fn serve<U, D, R, W: Write>(
     rt: R,
     rules: &String,
     admin: &String,
+    loops: Loops,
     up: Blank,
     down: Blank,
     writer: &mut W,
@@ -210,7 +264,16 @@ pub fn serve<U, D, R, W: Write>(
 where
     U: Ledger + Send + Sync + 'static,
     D: Ledger + Send + Sync + 'static,
-    R: Wait + Threads + Net + Clock + Files + AllocGlobal + Copy + Send + Sync + 'static,
+    R: Wait
+        + Threads
+        + Net<Listener = TcpListener, Stream = TcpStream>
+        + Clock
+        + Files
+        + AllocGlobal
+        + Copy
+        + Send
+        + Sync
+        + 'static,
     requires up_name { up.name ≡ U.name }
     requires up_parts { up.parts ≡ U.parts }
     requires up_all { up.parts ≡ PARTS }
@@ -230,6 +293,7 @@ where
         alloc,
         rules.as_slice(),
         admin.as_str(),
+        loops,
         up,
         down,
         writer,

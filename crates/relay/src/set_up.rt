@@ -1,140 +1,197 @@
-//! Setting a pair up for an accepted socket.
+//! Setting a connection up for an accepted socket.
 
 ghost use Rattle.std.specs.Prelude.{◌≡◌, []};
 
 use crate::clock::RelayClock;
-use crate::fd_gate::FdGate;
-use crate::opening::address_of;
-use crate::pair::{settle, start_pair};
-use crate::relay::{LivePair, Relay};
-use crate::shared::{Accepted, PairEnd, PairState};
-use fd_descriptor::FdHandle;
-use readiness::{Sock, SockRes, TimerAlarms, connect};
-use relay_core::{InsertedSides, has_room_for_pair};
+use crate::closing::Closer;
+use crate::connection::{ConnSide, Connection, WayCopy, settle};
+use crate::entry::{Entry, Handle, Owner};
+use crate::idle_time::IdleTime;
+use crate::loops::{ConnLoop, LoopHost};
+use crate::shared::Accepted;
+use crate::task_gate::TaskGate;
+use fd_descriptor::{FdHandle, PollCell};
+use readiness::{DoorAlarms, Poller, Sock, SockRes, connect};
+use relay_core::{Copying, InsertedSides, PairTasks, Step, Way};
+use relay_ledger::{Book, CarriedShare};
+use std::alloc::Global;
 use std::net::Net;
 use std::sync::ledger::Ledger;
-use std::sync::{Arc, Wait};
-use std::thread::Threads;
+use std::sync::{Arc, Mutex, Wait};
 use std::time::Clock;
+use stream_base::Dir;
 
-/// One side of a pair that stands in the table: its id, and a handle.
+/// A side that isn't in the table yet: its descriptor, by the handles that each holder gets.
 #[derive(Drop)]
-struct Side {
-    id: u64,
-    handle: FdHandle<SockRes>,
+struct NewSide {
+    cell: Arc<PollCell>,
+    reader: FdHandle<SockRes>,
+    writer: FdHandle<SockRes>,
+    entry: Entry,
 }
 
-impl<'a, U, D> Relay<'a, U, D>
-where
-    U: Ledger + Send + Sync + 'static,
-    D: Ledger + Send + Sync + 'static,
-{
-    fn add_side<R: Wait>(&self, rt: &R, sock: Sock) -> Option<Side> {
-        let mut table = self.shared.table.lock(rt);
-        let (id, handle) = self.poller.hold(self.alloc, &mut *table, sock).ok()?;
-        Some(Side { id, handle })
-    }
+// A descriptor of a socket, of which the poller tells under this token, and whose alarms have it.
+fn new_side(alloc: Global, poller: &Poller, sock: Sock, owner: Owner) -> Option<NewSide> {
+    let mut reader = poller.open(alloc, sock, owner.token).ok()?;
+    let cell = reader.cell().ok()?;
+    let writer = reader.share().ok()?;
+    let handle = reader.share().ok()?;
+    let entry = Entry::new(Handle::Conn(handle), owner);
+    Some(NewSide {
+        cell,
+        reader,
+        writer,
+        entry,
+    })
+}
 
-    fn end_of<R: Wait + Drop>(&self, rt: R, state: &Arc<PairState>) -> Option<PairEnd<U, D, R>> {
-        let shared = Arc::try_clone(&self.shared).ok()?;
-        let state = Arc::try_clone(state).ok()?;
-        Some(PairEnd { rt, shared, state })
-    }
+// A pair of which both reads are under way. Its sides were just registered, so that the poller tells
+// of what is there already.
+fn reading_tasks() -> PairTasks {
+    let mut tasks = PairTasks::new();
+    tasks.note(Way::Up, &Step::Waits(Dir::Read));
+    tasks.note(Way::Down, &Step::Waits(Dir::Read));
+    tasks
+}
 
-    fn gate<R>(
+// A share of the book.
+fn opened<L: Ledger, R: Wait>(rt: &R, book: &Mutex<Book<L>>) -> Option<CarriedShare<L>> {
+    match book.lock(rt).open_share() {
+        Ok(share) => Some(CarriedShare::new(share)),
+        Err(_) => None,
+    }
+}
+
+impl<U: Ledger, D: Ledger, R: Wait + Net + Clock + Copy> LoopHost<U, D, R> {
+    // A way whose first read is under way, without a share.
+    fn way<L: Ledger>(
         &self,
-        rt: R,
+        alarms: DoorAlarms<R>,
         idle_ms: Option<u32>,
         source: FdHandle<SockRes>,
         target: FdHandle<SockRes>,
-    ) -> Option<FdGate<SockRes, R, RelayClock<R>, TimerAlarms<R>>>
-    where
-        R: Wait + Clock + Copy,
-    {
-        let clock = RelayClock::new(rt, self.start);
-        let alarms = self.shared.alarms(rt)?;
-        Some(FdGate::new(rt, clock, alarms, idle_ms, source, target))
+    ) -> Option<WayCopy<L, R>> {
+        let idle = IdleTime::new(RelayClock::new(self.rt, self.start), idle_ms);
+        let mut gate = TaskGate::new(self.rt, idle, alarms, source, target);
+        gate.begin_read().ok()?;
+        let copying = Copying::new(self.alloc).ok()?;
+        Some(WayCopy {
+            gate,
+            copying,
+            share: None,
+        })
     }
 
-    // Starts both workers. A worker without its other is ended and joined.
-    fn start<R>(&mut self, rt: R, client: Side, target: Side, idle_ms: Option<u32>) -> Option<()>
-    where
-        R: Wait + Threads + Clock + Copy + Send + Sync + 'static,
+    // Puts both sides into the table, one right after the other.
+    fn insert_sides(
+        &self,
+        client: Entry,
+        target: Entry,
+        inserted: &mut InsertedSides,
+    ) -> Option<(u64, u64)>
+        requires none_inserted { inserted.old ≡ [] }
     {
-        let state = Arc::new(self.alloc, PairState::new(client.id, target.id)).ok()?;
-        let up_book = Arc::try_clone(&self.shared.up).ok()?;
-        let down_book = Arc::try_clone(&self.shared.down).ok()?;
-        let up_end = self.end_of(rt, &state)?;
-        let down_end = self.end_of(rt, &state)?;
-        let (mut client, mut target) = (client.handle, target.handle);
-        let to_client = client.share().ok()?;
-        let to_target = target.share().ok()?;
-        let up = self.gate(rt, idle_ms, client, to_target)?;
-        let down = self.gate(rt, idle_ms, target, to_client)?;
-        match start_pair(rt, up, down, up_book, down_book, up_end, down_end) {
-            Ok((up, down)) => {
-                let (up, down) = (up.forget_promise(), down.forget_promise());
-                self.pairs.push(LivePair { up, down, state }).ok()
-            }
-            Err(started) => {
-                if let Some(up) = started {
-                    state.close(&rt, &self.shared);
-                    settle(&rt, &self.shared.up, up.join(&rt));
-                }
+        let mut table = self.shared.table.lock(&self.rt);
+        let (client, _) = table.insert(client).ok()?;
+        inserted.insert(client);
+        let (target, _) = table.insert(target).ok()?;
+        inserted.insert(target);
+        Some((client, target))
+    }
+
+    // A share of each book, or of none.
+    fn open_shares(&self) -> Option<(CarriedShare<U>, CarriedShare<D>)> {
+        let up = opened(&self.rt, &self.shared.up)?;
+        match opened(&self.rt, &self.shared.down) {
+            Some(down) => Some((up, down)),
+            None => {
+                settle(&self.rt, &self.shared.up, Some(up));
                 None
             }
         }
     }
 
-    // Room for the pair's joins, so that neither its end nor the relay's takes memory.
-    fn make_room(&mut self) -> Option<()> {
-        if !has_room_for_pair(self.pairs.len()) {
-            return None;
-        }
-        self.pairs.reserve(1).ok()
-    }
-
-    // Connects to the target, and puts both sides into the table.
-    fn connect_sides<R>(
-        &mut self,
-        rt: R,
-        accepted: Accepted,
+    // Begins the reads of both ways, and puts both sides into the table. The shares come last, so that
+    // none has to be given back.
+    fn join_sides(
+        &self,
+        client: NewSide,
+        target: NewSide,
+        idle_ms: Option<u32>,
         inserted: &mut InsertedSides,
-    ) -> Option<()>
-    where
-        R: Wait + Threads + Net + Clock + Copy + Send + Sync + 'static,
+    ) -> Option<Connection<U, D, R>>
         requires none_inserted { inserted.old ≡ [] }
     {
-        let rule = self.rules.get(accepted.rule)?;
-        let idle_ms = rule.idle;
-        let target = connect(&rt, &address_of(&rule.target)).ok()?;
-        let client = self.add_side(&rt, accepted.sock)?;
-        inserted.insert(client.id);
-        let target = self.add_side(&rt, target)?;
-        inserted.insert(target.id);
-        self.start(rt, client, target, idle_ms)
+        let up_alarms = client.entry.alarms(self.rt)?;
+        let down_alarms = target.entry.alarms(self.rt)?;
+        let mut up = self.way(up_alarms, idle_ms, client.reader, target.writer)?;
+        let mut down = self.way(down_alarms, idle_ms, target.reader, client.writer)?;
+        let (client_id, target_id) = self.insert_sides(client.entry, target.entry, inserted)?;
+        let (up_share, down_share) = self.open_shares()?;
+        up.share = Some(up_share);
+        down.share = Some(down_share);
+        Some(Connection {
+            client: ConnSide {
+                id: client_id,
+                cell: client.cell,
+            },
+            target: ConnSide {
+                id: target_id,
+                cell: target.cell,
+            },
+            tasks: reading_tasks(),
+            up,
+            down,
+        })
+    }
+
+    // Connects to the target, and makes a connection of both sockets.
+    fn connect_sides(
+        &self,
+        tasks: &mut ConnLoop<U, D, R>,
+        accepted: Accepted,
+        inserted: &mut InsertedSides,
+    ) -> Option<Connection<U, D, R>>
+        requires none_inserted { inserted.old ≡ [] }
+    {
+        let route = self.shared.routes.get(accepted.rule)?;
+        let target = connect(&self.rt, &route.target).ok()?;
+        let place = tasks.vacant().ok()?;
+        let first = Owner {
+            door: tasks.door().ok()?,
+            token: place.first,
+        };
+        let second = Owner {
+            door: tasks.door().ok()?,
+            token: place.second,
+        };
+        let client = new_side(self.alloc, tasks.poller(), accepted.sock, first)?;
+        let target = new_side(self.alloc, tasks.poller(), target, second)?;
+        self.join_sides(client, target, route.idle_ms, inserted)
     }
 
     // Takes out and closes what a set-up that failed had inserted.
-    fn undo<R: Wait>(&self, rt: &R, inserted: InsertedSides) {
+    fn undo(&self, inserted: InsertedSides) {
         let mut inserted = inserted;
         while let Some(id) = inserted.undo() {
-            self.shared.close(rt, id);
+            self.shared.close(&self.rt, id, Closer::ItsLoop);
         }
     }
 
-    /// Sets a pair up. An accepted socket beyond the most pairs is dropped, and one whose setting up
-    /// is refused, of which nothing is left.
-    pub(crate) fn set_up<R>(&mut self, rt: R, accepted: Accepted)
-    where
-        R: Wait + Threads + Net + Clock + Copy + Send + Sync + 'static,
-    {
-        if self.make_room().is_none() {
-            return;
-        }
+    /// Sets a connection up. An accepted socket whose setting up is refused is dropped, and nothing is
+    /// left of it.
+    pub(crate) fn set_up(&self, tasks: &mut ConnLoop<U, D, R>, accepted: Accepted) -> Option<()> {
         let mut inserted = InsertedSides::none();
-        if self.connect_sides(rt, accepted, &mut inserted).is_none() {
-            self.undo(&rt, inserted);
+        let Some(connection) = self.connect_sides(tasks, accepted, &mut inserted) else {
+            self.undo(inserted);
+            return None;
+        };
+        match tasks.put(connection) {
+            Ok(_) => Some(()),
+            Err(connection) => {
+                connection.end(&self.rt, &self.shared);
+                None
+            }
         }
     }
 }

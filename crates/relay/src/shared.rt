@@ -1,20 +1,28 @@
 //! What the relay's threads share.
 //!
-//! Locks are held for a few steps, and taken in this order: the table's, an entry's or a cell's, the
-//! timers'. The inbox's and the books' are held alone.
+//! Locks are held for a few steps, and taken in this order: the table's, an entry's or a cell's, a
+//! door's. The inboxes' and the books' are held alone.
 
-use crate::closing::close_by_id;
+use crate::closing::{Closer, close_by_id};
 use crate::entry::Entry;
-use crate::pair::AtEnd;
+use crate::loops::MAX_LOOPS;
+use arrayvec::ArrayVec;
 use conntable::ConnTable;
-use deadline_core::Timers;
-use readiness::{Sock, TimerAlarms, Waker};
-use relay_core::{Ended, end_closes_pair};
+use readiness::{Addr, Door, Sock};
+use relay_core::{has_room_for_pair, loop_of};
 use relay_ledger::Book;
 use rwloops::Fault;
+use std::mem;
 use std::sync::atomic::{AtomicBool, AtomicU64, Ordering};
 use std::sync::ledger::Ledger;
 use std::sync::{Arc, Mutex, Wait};
+
+/// Where a rule's clients are taken to.
+#[derive(Drop)]
+pub(crate) struct Route {
+    pub(crate) target: Addr,
+    pub(crate) idle_ms: Option<u32>,
+}
 
 /// An accepted socket, with the place of its rule.
 #[derive(Drop)]
@@ -23,96 +31,97 @@ pub(crate) struct Accepted {
     pub(crate) rule: usize,
 }
 
+/// What others reach a loop by.
+#[derive(Drop)]
+pub(crate) struct Home {
+    pub(crate) door: Arc<Door>,
+    inbox: Mutex<Vec<Accepted>>,
+    /// How many connections it has, those in its inbox among them.
+    connections: AtomicU64,
+}
+
+impl Home {
+    pub(crate) fn new(door: Arc<Door>, inbox: Vec<Accepted>) -> Home {
+        Home {
+            door,
+            inbox: Mutex::new(inbox),
+            connections: AtomicU64::new(0),
+        }
+    }
+
+    // Delivers an accepted socket. One that the inbox has no memory for is dropped.
+    fn deliver<R: Wait>(&self, rt: &R, accepted: Accepted) {
+        self.connections.fetch_add(1, Ordering::SeqCst);
+        if self.inbox.lock(rt).push(accepted).is_err() {
+            self.note_end();
+        }
+        self.door.wake();
+    }
+
+    /// One of its connections is no more, or was never set up.
+    pub(crate) fn note_end(&self) {
+        self.connections.fetch_sub(1, Ordering::SeqCst);
+    }
+
+    /// Changes the inbox for this list, which is empty.
+    pub(crate) fn give_all<R: Wait>(&self, rt: &R, taken: &mut Vec<Accepted>) {
+        mem::swap(&mut *self.inbox.lock(rt), taken);
+    }
+}
+
 #[derive(Drop)]
 pub(crate) struct Shared<U: Ledger, D: Ledger> {
     pub(crate) table: Mutex<ConnTable<Entry>>,
-    pub(crate) timers: Arc<Mutex<Timers>>,
-    pub(crate) inbox: Mutex<Vec<Accepted>>,
-    pub(crate) up: Arc<Mutex<Book<U>>>,
-    pub(crate) down: Arc<Mutex<Book<D>>>,
-    pub(crate) waker: Arc<Waker>,
-    /// How many pairs have ended; the main thread looks for them where it has changed.
-    pub(crate) ended: AtomicU64,
+    /// Each rule's, in the rules' order.
+    pub(crate) routes: Vec<Route>,
+    /// The door of the main thread's loop, which accepts.
+    pub(crate) main: Arc<Door>,
+    /// The loops', by their places.
+    pub(crate) homes: Vec<Home>,
+    pub(crate) up: Mutex<Book<U>>,
+    pub(crate) down: Mutex<Book<D>>,
     pub(crate) stop: AtomicBool,
 }
 
 impl<U: Ledger, D: Ledger> Shared<U, D> {
-    /// Has the main thread look at the inbox, at who ended and at `stop`: whatever it is to see is
-    /// there before.
-    pub(crate) fn wake(&self) {
-        let _ = self.waker.wake();
-    }
-
-    /// Where deadlines ask to be told of their moments. It takes no memory.
-    pub(crate) fn alarms<R: Wait + Drop>(&self, rt: R) -> Option<TimerAlarms<R>> {
-        let timers = Arc::try_clone(&self.timers).ok()?;
-        let waker = Arc::try_clone(&self.waker).ok()?;
-        Some(TimerAlarms::new(rt, timers, waker))
+    /// Delivers an accepted socket to the loop with the fewest connections. One beyond the most pairs
+    /// is dropped. The main thread alone delivers.
+    pub(crate) fn deliver<R: Wait>(&self, rt: &R, accepted: Accepted) {
+        let mut counts = ArrayVec::<u64, MAX_LOOPS>::new();
+        let mut all = 0u64;
+        for home in self.homes.iter() {
+            let count = home.connections.load(Ordering::SeqCst);
+            all = all.saturating_add(count);
+            let _ = counts.try_push(count);
+        }
+        if counts.is_empty() || !has_room_for_pair(all as usize) {
+            return;
+        }
+        if let Some(home) = self.homes.get(loop_of(counts.as_slice())) {
+            home.deliver(rt, accepted);
+        }
     }
 
     /// Closes the connection or listener with this id; `None` says that another did.
-    pub(crate) fn close<R: Wait>(&self, rt: &R, id: u64) -> Option<Result<(), Fault>> {
-        close_by_id(rt, &self.table, &self.timers, id)
+    pub(crate) fn close<R: Wait + Copy>(
+        &self,
+        rt: &R,
+        id: u64,
+        by: Closer,
+    ) -> Option<Result<(), Fault>> {
+        close_by_id(rt, &self.table, id, by)
     }
 
-    /// Tells the main thread that no more turns are wanted.
+    /// Tells the main thread and all loops that no more turns are wanted.
     pub(crate) fn stop(&self) {
         self.stop.store(true, Ordering::SeqCst);
-        self.wake();
+        self.main.wake();
+        for home in self.homes.iter() {
+            home.door.wake();
+        }
     }
 
     pub(crate) fn is_stopped(&self) -> bool {
         self.stop.load(Ordering::SeqCst)
-    }
-}
-
-/// The ids of a pair's sides, and how many of its workers run.
-#[derive(Drop)]
-pub(crate) struct PairState {
-    pub(crate) client: u64,
-    pub(crate) target: u64,
-    pub(crate) left: AtomicU64,
-}
-
-impl PairState {
-    pub(crate) fn new(client: u64, target: u64) -> PairState {
-        let left = AtomicU64::new(2);
-        PairState {
-            client,
-            target,
-            left,
-        }
-    }
-
-    pub(crate) fn close<U: Ledger, D: Ledger, R: Wait>(&self, rt: &R, shared: &Shared<U, D>) {
-        shared.close(rt, self.client);
-        shared.close(rt, self.target);
-    }
-
-    pub(crate) fn has_ended(&self) -> bool {
-        self.left.load(Ordering::SeqCst) == 0
-    }
-}
-
-/// What a worker does last: it closes the pair where that is due, and the last of both tells the main
-/// thread. A pair is marked as ended before the count of those that ended rises, and that before the
-/// main thread is woken: so a main thread that saw the count sees which they are.
-#[derive(Drop)]
-pub(crate) struct PairEnd<U: Ledger, D: Ledger, R: Wait + Drop> {
-    pub(crate) rt: R,
-    pub(crate) shared: Arc<Shared<U, D>>,
-    pub(crate) state: Arc<PairState>,
-}
-
-impl<U: Ledger, D: Ledger, R: Wait + Drop> AtEnd for PairEnd<U, D, R> {
-    fn ended(&self, ended: Ended) {
-        let running = self.state.left.fetch_sub(1, Ordering::SeqCst);
-        if end_closes_pair(&ended, running) {
-            self.state.close(&self.rt, &self.shared);
-        }
-        if running < 2 {
-            self.shared.ended.fetch_add(1, Ordering::SeqCst);
-            self.shared.wake();
-        }
     }
 }

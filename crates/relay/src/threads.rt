@@ -1,54 +1,38 @@
-//! The accept threads and the admin thread.
+//! The loops' threads and the admin thread.
 
 ghost use Rattle.std.specs.Prelude.{◌≡◌, IfErr};
 ghost use Rattle.relay.specs.declared.fault.ServeFault.{ServeFault};
 
-use crate::accepting::{RuleGate, RuleListener, serve_rule};
-use crate::admin::{AdminGate, Door, DoorWaits, serve_sessions};
+use crate::admin::{AdminDoor, AdminGate, DoorWaits, serve_sessions};
 use crate::clock::RelayClock;
 use crate::fault::ServeFault;
+use crate::loops::{ConnLoop, Lot, run_loop};
 use crate::pair::STACK_BYTES;
 use crate::relay::Relay;
 use readiness::Waker;
 use relay_core::AcceptGate;
 use std::alloc::Global;
+use std::net::{Net, TcpListener, TcpStream};
 use std::sync::ledger::Ledger;
 use std::sync::{Arc, Wait};
 use std::thread::{Builder, JoinHandle, Threads};
 use std::time::Clock;
 
-/// What the threads beside the main one and the workers are started with.
+/// What the threads beside the main one are started with.
 #[derive(Drop)]
-pub(crate) struct Unstarted {
-    /// Each rule's listener, in the rules' order.
-    pub(crate) listeners: Vec<RuleListener>,
-    pub(crate) door: Door,
+pub(crate) struct Unstarted<U: Ledger, D: Ledger, R: Wait + Clock + Copy> {
+    /// The loops, by their places.
+    pub(crate) loops: Vec<ConnLoop<U, D, R>>,
+    pub(crate) door: AdminDoor,
     pub(crate) door_waker: Arc<Waker>,
 }
 
-/// The threads beside the main one and the workers, as far as they were started.
+/// The threads beside the main one, as far as they were started.
 #[derive(Drop)]
 pub(crate) struct Helpers {
-    acceptors: Vec<JoinHandle<()>>,
+    loops: Vec<JoinHandle<Result<(), ServeFault>>>,
     admin: Option<JoinHandle<()>>,
     door_waker: Arc<Waker>,
-}
-
-fn spawn_acceptor<U, D, R>(rt: R, gate: RuleGate<U, D, R>) -> Result<JoinHandle<()>, ServeFault>
-where
-    U: Ledger + Send + Sync + 'static,
-    D: Ledger + Send + Sync + 'static,
-    R: Wait + Threads + Clock + Copy + Send + Sync + 'static,
-    ensures faults { IfErr result (λ fault. fault ≡ ServeFault.Memory) }
-{
-    let job = move || {
-        let mut gate = gate;
-        serve_rule(&rt, &mut gate)
-    };
-    match Builder::new().stack_size(STACK_BYTES).spawn(&rt, job) {
-        Ok(join) => Ok(join),
-        Err(_) => Err(ServeFault::Memory),
-    }
 }
 
 fn spawn_admin<G, R>(rt: R, gate: G) -> Result<JoinHandle<()>, ServeFault>
@@ -67,51 +51,106 @@ where
     }
 }
 
+fn spawn_loop<U, D, R>(
+    rt: R,
+    lot: Lot<U, D, R>,
+) -> Result<JoinHandle<Result<(), ServeFault>>, ServeFault>
+where
+    U: Ledger + Send + Sync + 'static,
+    D: Ledger + Send + Sync + 'static,
+    R: Wait
+        + Threads
+        + Net<Listener = TcpListener, Stream = TcpStream>
+        + Clock
+        + Copy
+        + Send
+        + Sync
+        + 'static,
+    ensures faults { IfErr result (λ fault. fault ≡ ServeFault.Memory) }
+{
+    let job = move || run_loop(rt, lot);
+    match Builder::new().stack_size(STACK_BYTES).spawn(&rt, job) {
+        Ok(join) => Ok(join),
+        Err(_) => Err(ServeFault::Memory),
+    }
+}
+
 impl Helpers {
     pub(crate) fn none(alloc: Global, door_waker: Arc<Waker>) -> Helpers {
         Helpers {
-            acceptors: Vec::new(alloc),
+            loops: Vec::new(alloc),
             admin: None,
             door_waker,
         }
     }
 
-    /// Starts an accept thread for each rule, and the admin thread. After a fault those that were
-    /// started run on.
-    pub(crate) fn start<U, D, R>(
+    // Starts the loops. After a fault those that were started run on.
+    fn start_loops<U, D, R>(
         &mut self,
         rt: R,
-        relay: &Relay<'_, U, D>,
-        listeners: Vec<RuleListener>,
-        door: Door,
+        relay: &Relay<'_, U, D, R>,
+        loops: Vec<ConnLoop<U, D, R>>,
     ) -> Result<(), ServeFault>
     where
         U: Ledger + Send + Sync + 'static,
         D: Ledger + Send + Sync + 'static,
-        R: Wait + Threads + Clock + Copy + Send + Sync + 'static,
+        R: Wait
+            + Threads
+            + Net<Listener = TcpListener, Stream = TcpStream>
+            + Clock
+            + Copy
+            + Send
+            + Sync
+            + 'static,
         ensures faults { IfErr result (λ fault. fault ≡ ServeFault.Memory) }
     {
-        if self.acceptors.reserve(listeners.len()).is_err() {
+        if self.loops.reserve(loops.len()).is_err() {
             return Err(ServeFault::Memory);
         }
-        let mut rule = 0usize;
-        for listener in listeners {
+        let mut home = 0usize;
+        for tasks in loops {
             let Ok(shared) = Arc::try_clone(&relay.shared) else {
                 return Err(ServeFault::Memory);
             };
-            let gate = RuleGate {
-                rt,
-                listener,
-                rule,
+            let lot = Lot {
+                alloc: relay.alloc,
+                start: relay.start,
+                home,
                 shared,
+                tasks,
             };
-            let _ = self.acceptors.push(spawn_acceptor(rt, gate)?);
-            rule = rule.saturating_add(1);
+            let _ = self.loops.push(spawn_loop(rt, lot)?);
+            home = home.saturating_add(1);
         }
+        Ok(())
+    }
+
+    /// Starts the loops and the admin thread. After a fault those that were started run on.
+    pub(crate) fn start<U, D, R>(
+        &mut self,
+        rt: R,
+        relay: &Relay<'_, U, D, R>,
+        loops: Vec<ConnLoop<U, D, R>>,
+        door: AdminDoor,
+    ) -> Result<(), ServeFault>
+    where
+        U: Ledger + Send + Sync + 'static,
+        D: Ledger + Send + Sync + 'static,
+        R: Wait
+            + Threads
+            + Net<Listener = TcpListener, Stream = TcpStream>
+            + Clock
+            + Copy
+            + Send
+            + Sync
+            + 'static,
+        ensures faults { IfErr result (λ fault. fault ≡ ServeFault.Memory) }
+    {
+        self.start_loops(rt, relay, loops)?;
         let Ok(shared) = Arc::try_clone(&relay.shared) else {
             return Err(ServeFault::Memory);
         };
-        let Door { listener, poller } = door;
+        let AdminDoor { listener, poller } = door;
         let gate = AdminGate {
             alloc: relay.alloc,
             listener,
@@ -127,18 +166,26 @@ impl Helpers {
         let _ = self.door_waker.wake();
     }
 
-    /// Waits for all of them. The accept threads end once their listeners are closed or drained.
-    pub(crate) fn join<R: Threads>(self, rt: &R) {
+    /// Waits for all of them. A loop's fault is the relay's.
+    pub(crate) fn join<R: Threads>(self, rt: &R) -> Result<(), ServeFault>
+        ensures faults { IfErr result (λ fault. fault ≡ ServeFault.Device) }
+    {
         let Helpers {
-            acceptors,
+            loops,
             admin,
             door_waker: _,
         } = self;
         if let Some(admin) = admin {
             admin.join(rt);
         }
-        for acceptor in acceptors {
-            acceptor.join(rt);
+        let mut turned = true;
+        for one in loops {
+            turned = one.join(rt).is_ok() && turned;
+        }
+        if turned {
+            Ok(())
+        } else {
+            Err(ServeFault::Device)
         }
     }
 }

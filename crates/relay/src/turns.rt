@@ -1,86 +1,43 @@
-//! The main thread's turns: what the poller and the clock say, who ended, who was accepted.
+//! The main thread's turns: it accepts by all rules.
 
 ghost use Rattle.std.specs.Prelude.{IfErr};
 ghost use Rattle.relay.specs.ServeFault.{IsRunFault};
 
+use crate::accepting::AcceptHost;
 use crate::clock::{Moments, RelayClock};
 use crate::fault::ServeFault;
-use crate::pair::settle;
-use crate::relay::{LivePair, Relay};
-use std::mem;
-use std::net::Net;
+use crate::relay::Relay;
 use std::sync::Wait;
-use std::sync::atomic::Ordering;
 use std::sync::ledger::Ledger;
-use std::thread::Threads;
 use std::time::Clock;
 
-impl<'a, U, D> Relay<'a, U, D>
-where
-    U: Ledger + Send + Sync + 'static,
-    D: Ledger + Send + Sync + 'static,
-{
-    /// Waits for both workers, which have ended or are about to, and settles their shares.
-    pub(crate) fn join<R: Wait + Threads>(&self, rt: &R, pair: LivePair<U, D>) {
-        let LivePair { up, down, state: _ } = pair;
-        settle(rt, &self.shared.up, up.join(rt));
-        settle(rt, &self.shared.down, down.join(rt));
-    }
-
-    // Joins the pairs that have ended, where some did since the last look.
-    fn join_ended<R: Wait + Threads>(&mut self, rt: &R) {
-        let ended = self.shared.ended.load(Ordering::SeqCst);
-        if ended == self.seen_ended {
-            return;
+impl<'a, U: Ledger, D: Ledger, R: Wait + Clock + Copy> Relay<'a, U, D, R> {
+    // Has all accept tasks go on.
+    fn accept_again(&mut self) {
+        for token in self.tokens.iter() {
+            self.tasks.again(*token);
         }
-        self.seen_ended = ended;
-        let mut place = 0;
-        for _ in 0..self.pairs.len() {
-            if place >= self.pairs.len() {
-                return;
-            }
-            if self.pairs[place].state.has_ended() {
-                let pair = self.pairs.swap_remove(place);
-                self.join(rt, pair);
-            } else {
-                place += 1;
-            }
-        }
-    }
-
-    // Sets up what the accept threads delivered. The inbox is held for the exchange alone.
-    fn empty_inbox<R>(&mut self, rt: R)
-    where
-        R: Wait + Threads + Net + Clock + Copy + Send + Sync + 'static,
-    {
-        let mut taken = mem::replace(&mut self.taken, Vec::new(self.alloc));
-        mem::swap(&mut *self.shared.inbox.lock(&rt), &mut taken);
-        for accepted in taken.drain(..) {
-            self.set_up(rt, accepted);
-        }
-        self.taken = taken;
     }
 
     /// Turns until an admin session says stop, or the poller fails.
-    pub(crate) fn turn_until_stop<R>(&mut self, rt: R) -> Result<(), ServeFault>
-    where
-        R: Wait + Threads + Net + Clock + Copy + Send + Sync + 'static,
+    pub(crate) fn turn_until_stop(
+        &mut self,
+        host: &mut AcceptHost<U, D, R, RelayClock<R>>,
+    ) -> Result<(), ServeFault>
         ensures faults { IfErr result (λ fault. IsRunFault fault) }
     {
-        let clock = RelayClock::new(rt, self.start);
+        let rt = host.rt;
+        self.accept_again();
         for _ in rt.forever() {
-            let now = clock.now();
-            let turned = self
-                .poller
-                .turn(&rt, now, &self.shared.table, &self.shared.timers);
-            if let Err(fault) = turned {
+            if let Err(fault) = self.tasks.turn(&rt, host.clock.now(), host) {
                 return Err(ServeFault::of_poller(fault));
             }
             if self.shared.is_stopped() {
                 return Ok(());
             }
-            self.join_ended(&rt);
-            self.empty_inbox(rt);
+            if host.takes_unarmed() {
+                self.accept_again();
+            }
         }
         unreachable!()
     }

@@ -16,13 +16,14 @@ macro_rules! holds {
 mod closing;
 mod draining;
 mod echo;
+mod loops;
 mod most_pairs;
 mod pairs;
 mod start_faults;
 mod steering;
 mod watch;
 
-use relay::{ServeFault, serve};
+use relay::{Loops, ServeFault, serve};
 use relay_ledger::PARTS;
 use std::alloc::Global;
 use std::fs::Files;
@@ -119,15 +120,44 @@ impl Said {
     }
 }
 
-/// A relay from its start to its end.
-fn served<R>(rt: R, rules: &String, admin: &String) -> Said
+/// A relay from its start to its end, on so many loops.
+fn served_on<R>(rt: R, rules: &String, admin: &String, loops: u64) -> Said
 where
-    R: Wait + Threads + Net + Clock + Files + AllocGlobal + Copy + Send + Sync + 'static,
+    R: Wait
+        + Threads
+        + Net<Listener = TcpListener, Stream = TcpStream>
+        + Clock
+        + Files
+        + Abort
+        + AllocGlobal
+        + Copy
+        + Send
+        + Sync
+        + 'static,
 {
+    let loops = Loops::of(loops).expect(&rt, "loops");
     let (up, down) = (Blank::new(PARTS), Blank::new(PARTS));
     let mut text = Vec::new(rt.alloc());
-    let done = serve::<Brand, Brand, R, _>(rt, rules, admin, up, down, &mut text);
+    let done = serve::<Brand, Brand, R, _>(rt, rules, admin, loops, up, down, &mut text);
     Said { done, text }
+}
+
+/// A relay from its start to its end, on two loops.
+fn served<R>(rt: R, rules: &String, admin: &String) -> Said
+where
+    R: Wait
+        + Threads
+        + Net<Listener = TcpListener, Stream = TcpStream>
+        + Clock
+        + Files
+        + Abort
+        + AllocGlobal
+        + Copy
+        + Send
+        + Sync
+        + 'static,
+{
+    served_on(rt, rules, admin, 2)
 }
 
 /// A relay on a thread of its own.

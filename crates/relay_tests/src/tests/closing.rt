@@ -7,7 +7,7 @@ use super::comes;
 use super::watch::Watch;
 use conntable::ConnTable;
 use deadline_core::Timers;
-use relay::{Closes, close_by_id};
+use relay::{Closer, Closes, close_by_id};
 use rwloops::Fault;
 use std::process::Abort;
 use std::sync::atomic::{AtomicU64, Ordering};
@@ -15,6 +15,10 @@ use std::sync::{Arc, Mutex, Wait};
 use std::thread;
 use std::thread::{JoinHandle, Threads};
 use std::time::Clock;
+use stream_base::Dir;
+
+/// The key of the entry's alarm.
+const KEY: u64 = 1;
 
 /// What an entry and the thread that looks on tell each other.
 #[derive(Drop)]
@@ -23,22 +27,29 @@ struct Marks {
     looked: AtomicU64,
 }
 
-/// An entry whose close ends once somebody has looked into the table meanwhile.
+/// An entry whose close ends once somebody has looked into the table meanwhile, with an alarm.
 #[derive(Drop)]
 struct Looked<R: Clock + Drop> {
     clock: R,
     marks: Arc<Marks>,
+    timers: Arc<Mutex<Timers>>,
 }
 
 impl<C: Clock + Drop> Closes for Looked<C> {
     ghost tells = { λ _ _. ⊤ };
 
-    fn close<R: Wait>(self, _rt: &R) -> Result<(), Fault> {
+    fn close<R: Wait + Copy>(&mut self, _rt: &R, by: Closer) -> Result<(), Fault> {
         self.marks.closing.fetch_add(1, Ordering::SeqCst);
-        if comes(&self.clock, &self.marks.looked) {
+        if comes(&self.clock, &self.marks.looked) && by == Closer::Another {
             return Ok(());
         }
         Err(Fault::DeadlineExceeded)
+    }
+
+    fn disarm<R: Wait + Copy>(self, rt: &R) {
+        let mut timers = self.timers.lock(rt);
+        timers.disarm(KEY, Dir::Read);
+        timers.disarm(KEY, Dir::Write);
     }
 }
 
@@ -46,7 +57,7 @@ impl<C: Clock + Drop> Closes for Looked<C> {
 #[derive(Drop)]
 struct World<R: Clock + Drop> {
     table: Mutex<ConnTable<Looked<R>>>,
-    timers: Mutex<Timers>,
+    timers: Arc<Mutex<Timers>>,
     marks: Arc<Marks>,
 }
 
@@ -61,6 +72,13 @@ impl<C: Clock + Drop> World<C> {
     }
 }
 
+/// Timers with an alarm.
+fn armed_timers<R: Abort + AllocGlobal>(rt: &R) -> Arc<Mutex<Timers>> {
+    let mut timers = Timers::new(rt.alloc());
+    timers.arm_both(KEY, 7).expect(rt, "timers");
+    Arc::new(rt.alloc(), Mutex::new(timers)).expect(rt, "timers")
+}
+
 /// A table with one such entry, whose id is 1, and an alarm of its own.
 fn world_of_one<R: Clock + Abort + AllocGlobal + Copy + Drop>(rt: R) -> Arc<World<R>> {
     let marks = Marks {
@@ -68,17 +86,17 @@ fn world_of_one<R: Clock + Abort + AllocGlobal + Copy + Drop>(rt: R) -> Arc<Worl
         looked: AtomicU64::new(0),
     };
     let marks = Arc::new(rt.alloc(), marks).expect(&rt, "marks");
+    let timers = armed_timers(&rt);
     let entry = Looked {
         clock: rt,
         marks: Arc::try_clone(&marks).expect(&rt, "marks"),
+        timers: Arc::try_clone(&timers).expect(&rt, "timers"),
     };
     let mut table = ConnTable::new(rt.alloc());
-    let (id, _) = table.insert(entry).ok().expect(&rt, "insert");
-    let mut timers = Timers::new(rt.alloc());
-    timers.arm_both(id, 7).expect(&rt, "timers");
+    let _ = table.insert(entry);
     let world = World {
         table: Mutex::new(table),
-        timers: Mutex::new(timers),
+        timers,
         marks,
     };
     Arc::new(rt.alloc(), world).expect(&rt, "world")
@@ -97,8 +115,8 @@ fn an_entry_is_closed_outside_the_tables_lock(rt: HostRuntime) {
     let watch = Watch::start(rt, rt.alloc());
     let world = world_of_one(rt);
     let looking = start_looking(rt, &world);
-    let closed = close_by_id(&rt, &world.table, &world.timers, 1);
-    let again = close_by_id(&rt, &world.table, &world.timers, 1);
+    let closed = close_by_id(&rt, &world.table, 1, Closer::Another);
+    let again = close_by_id(&rt, &world.table, 1, Closer::Another);
     holds!(rt; looking.join(&rt));
     holds!(rt; closed == Some(Ok(())));
     holds!(rt; again.is_none());

@@ -5,7 +5,8 @@ use super::{Place, is_there, own_path, served, write_empty};
 use arrayvec::ArrayString;
 use relay::ServeFault;
 use std::fs::Files;
-use std::net::Net;
+use std::net::{Net, TcpListener, TcpStream};
+use std::process::Abort;
 use std::sync::Wait;
 use std::thread::Threads;
 use std::time::Clock;
@@ -17,7 +18,17 @@ fn fault_of_listening(name: &str) -> Option<ServeFault> {
 /// Whether a relay is refused for this fault, and writes nothing.
 fn is_refused<R>(rt: R, rules: &String, admin: &String, fault: ServeFault) -> bool
 where
-    R: Wait + Threads + Net + Clock + Files + AllocGlobal + Copy + Send + Sync + 'static,
+    R: Wait
+        + Threads
+        + Net<Listener = TcpListener, Stream = TcpStream>
+        + Clock
+        + Files
+        + Abort
+        + AllocGlobal
+        + Copy
+        + Send
+        + Sync
+        + 'static,
 {
     served(rt, rules, admin).is(Err(fault), "")
 }

@@ -1,4 +1,4 @@
-use Rattle.relay_tests.proofs.tests.served.Given as goal
+use Rattle.relay_tests.proofs.tests.served_on.Given as goal
 
 abbrev pub ghosts-serve-U-Ledger : goal.ghosts-serve-U-Ledger
 ghosts-serve-U-Ledger g a = record { name = a.up.name; parts = a.up.parts }

@@ -1,0 +1,32 @@
+//! The idle time of a rule, and the deadlines that come of it.
+
+ghost use Rattle.std.specs.Prelude.{◌≡◌, ◌+◌, ◌*◌, ◌-◌, ◌^◌, ℕ, min, Some, None, IfSome, IfNone};
+ghost use Rattle.deadline_core.specs.declared.deadline.Deadline.{Deadline};
+
+use crate::clock::Moments;
+use deadline_core::Deadline;
+use relay_core::idle_deadline;
+
+/// An idle time in milliseconds, or none, by this clock.
+#[derive(Drop)]
+pub(crate) struct IdleTime<C> {
+    clock: C,
+    idle_ms: Option<u32>,
+}
+
+impl<C: Moments> IdleTime<C> {
+    pub(crate) fn new(clock: C, idle_ms: Option<u32>) -> IdleTime<C> {
+        IdleTime { clock, idle_ms }
+    }
+
+    /// The moment now, and the deadline of a call that begins now; none without an idle time.
+    pub(crate) fn next_deadline(&self) -> Option<(u64, Deadline)>
+        ensures none { IfNone result (self.now.idle_ms ≡ None) }
+        ensures idle { IfSome result (λ r. (ms : ℕ) × (self.now.idle_ms ≡ Some ms)
+            × (r.1 ≡ Deadline.At (min (r.0 + ms * 1000000) (2 ^ 64 - 1)))) }
+    {
+        let idle_ms = self.idle_ms?;
+        let now = self.clock.now();
+        Some((now, Deadline::At(idle_deadline(now, idle_ms))))
+    }
+}

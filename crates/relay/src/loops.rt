@@ -1,0 +1,191 @@
+//! The loops: each a thread that resumes the tasks of its connections.
+
+ghost use Rattle.std.specs.Prelude.{◌≡◌, ◌<◌, ◌≤◌, option_map};
+ghost use Rattle.relay.specs.Loops.{loop_count};
+
+use crate::clock::{Moments, RelayClock};
+use crate::connection::Connection;
+use crate::fault::ServeFault;
+use crate::shared::{Accepted, Home, Shared};
+use fd_descriptor::PollCell;
+use readiness::{EventLoop, Host, Side, Turn, Why};
+use relay_core::{BUFFER_BYTES, PairNext};
+use std::alloc::Global;
+use std::mem;
+use std::net::{Net, TcpListener, TcpStream};
+use std::sync::ledger::Ledger;
+use std::sync::{Arc, Wait};
+use std::thread::{Threads, available_parallelism};
+use std::time::{Clock, Instant};
+
+/// The most loops of a relay. This project's own rule.
+pub const MAX_LOOPS: usize = 64;
+
+/// The most loops that a relay has by default.
+const MOST_BY_DEFAULT: usize = 8;
+
+/// How many loops a relay has: 1 to 64.
+#[derive(Clone, Copy, Debug, PartialEq, Eq, Drop)]
+pub struct Loops {
+    pub count: usize,
+    ghost some: { 0 < count },
+    ghost most: { count ≤ 64 },
+}
+
+impl Loops {
+    /// So many; none where that is 0 or more than 64. The clause has the figure itself, so that a
+    /// constant of another value is refused.
+    pub fn of(count: u64) -> Option<Loops>
+        ensures { option_map (λ loops. loops.count) result ≡ loop_count count }
+    {
+        if count == 0 || count > MAX_LOOPS as u64 {
+            return None;
+        }
+        Some(Loops {
+            count: count as usize,
+        })
+    }
+
+    /// As many as threads run at once on this machine, at most 8; one where that can't be told.
+    pub fn by_processors<R: Threads>(rt: &R) -> Loops
+        ensures { result.count ≤ 8 }
+    {
+        match available_parallelism(rt) {
+            Ok(count) => Loops {
+                count: count.get().min(MOST_BY_DEFAULT),
+            },
+            Err(_) => Loops { count: 1 },
+        }
+    }
+}
+
+/// A loop that has connections.
+pub(crate) type ConnLoop<U, D, R> = EventLoop<Connection<U, D, R>>;
+
+/// What a loop's thread has beside its tasks.
+#[derive(Drop)]
+pub(crate) struct LoopHost<U: Ledger, D: Ledger, R: Wait + Clock + Copy> {
+    pub(crate) rt: R,
+    pub(crate) alloc: Global,
+    pub(crate) start: Instant,
+    /// The place of its home.
+    pub(crate) home: usize,
+    pub(crate) shared: Arc<Shared<U, D>>,
+    /// The accepted sockets that are being set up, an empty list between turns: it and the inbox
+    /// change places, so that a turn takes no memory for a list.
+    taken: Vec<Accepted>,
+    /// It is lent to each task while that goes on.
+    buf: [u8; BUFFER_BYTES],
+}
+
+impl<U: Ledger, D: Ledger, R: Wait + Clock + Copy> Host for LoopHost<U, D, R> {
+    type Task = Connection<U, D, R>;
+
+    fn cell<'a>(&self, task: &'a Connection<U, D, R>, side: Side) -> Option<&'a PollCell> {
+        Some(task.cell(side))
+    }
+
+    fn resume(&mut self, task: &mut Connection<U, D, R>, why: Why) -> Turn {
+        match task.go_on(&self.rt, &self.shared, why, &mut self.buf) {
+            PairNext::Waits => Turn::Waits,
+            PairNext::Again => Turn::Again,
+            PairNext::Closes => Turn::Over,
+        }
+    }
+
+    fn over(&mut self, task: Connection<U, D, R>) {
+        task.end(&self.rt, &self.shared);
+        self.note_end();
+    }
+}
+
+impl<U: Ledger, D: Ledger, R: Wait + Clock + Copy> LoopHost<U, D, R> {
+    fn home(&self) -> Option<&Home> {
+        self.shared.homes.get(self.home)
+    }
+
+    // One of its connections is no more, or was never set up.
+    fn note_end(&self) {
+        if let Some(home) = self.home() {
+            home.note_end();
+        }
+    }
+
+    fn take_inbox(&self, taken: &mut Vec<Accepted>) {
+        if let Some(home) = self.home() {
+            home.give_all(&self.rt, taken);
+        }
+    }
+}
+
+impl<U: Ledger, D: Ledger, R: Wait + Net + Clock + Copy> LoopHost<U, D, R> {
+    // Sets up what was delivered. The inbox is held for the exchange alone.
+    fn empty_inbox(&mut self, tasks: &mut ConnLoop<U, D, R>) {
+        let mut taken = mem::replace(&mut self.taken, Vec::new(self.alloc));
+        self.take_inbox(&mut taken);
+        for accepted in taken.drain(..) {
+            if self.set_up(tasks, accepted).is_none() {
+                self.note_end();
+            }
+        }
+        self.taken = taken;
+    }
+
+    // Turns until the relay stops, or the poller fails.
+    fn turn_until_stop(&mut self, tasks: &mut ConnLoop<U, D, R>) -> Result<(), ServeFault> {
+        let rt = self.rt;
+        let clock = RelayClock::new(rt, self.start);
+        for _ in rt.forever() {
+            if let Err(fault) = tasks.turn(&rt, clock.now(), self) {
+                return Err(ServeFault::of_poller(fault));
+            }
+            if self.shared.is_stopped() {
+                return Ok(());
+            }
+            self.empty_inbox(tasks);
+        }
+        unreachable!()
+    }
+}
+
+/// What a loop is started with.
+#[derive(Drop)]
+pub(crate) struct Lot<U: Ledger, D: Ledger, R: Wait + Clock + Copy> {
+    pub(crate) alloc: Global,
+    pub(crate) start: Instant,
+    pub(crate) home: usize,
+    pub(crate) shared: Arc<Shared<U, D>>,
+    pub(crate) tasks: ConnLoop<U, D, R>,
+}
+
+/// A loop from its first turn to its end. One whose poller fails stops the relay.
+pub(crate) fn run_loop<U, D, R>(rt: R, lot: Lot<U, D, R>) -> Result<(), ServeFault>
+where
+    U: Ledger,
+    D: Ledger,
+    R: Wait + Net<Listener = TcpListener, Stream = TcpStream> + Clock + Copy,
+{
+    let Lot {
+        alloc,
+        start,
+        home,
+        shared,
+        tasks,
+    } = lot;
+    let mut tasks = tasks;
+    let mut host = LoopHost {
+        rt,
+        alloc,
+        start,
+        home,
+        shared,
+        taken: Vec::new(alloc),
+        buf: [0; BUFFER_BYTES],
+    };
+    let turned = host.turn_until_stop(&mut tasks);
+    tasks.end_all(&mut host);
+    if turned.is_err() {
+        host.shared.stop();
+    }
+    turned
+}

@@ -1,0 +1,193 @@
+//! What a task copies through: two descriptors, of which one is read and the other written, by calls
+//! that give way where they would wait.
+
+ghost use Rattle.std.specs.Prelude.{◌≤◌, ⊤, length};
+ghost use Rattle.rwloops.specs.TryNow.{IsPartOf};
+
+use crate::clock::Moments;
+use crate::idle_time::IdleTime;
+use fd_descriptor::{Alarms, FdHandle, ReadUnderWay, WriteUnderWay};
+use readiness::SockRes;
+use relay_core::PollGate;
+use rwloops::{Fault, Progress, WriteFault};
+use std::sync::Wait;
+
+/// Reads from `source` and writes to `target`. A call that would wait stays under way, with its half's
+/// lock, and goes on when it is made again: a drain lets it end. With an idle time each read and each
+/// write first sets the deadline of its own direction to that long from when it begins; where that is
+/// refused it is the answer, of a write with count 0.
+///
+/// A handle isn't there exactly while its call is under way.
+#[derive(Drop)]
+pub(crate) struct TaskGate<R: Wait + Copy, C, A> {
+    rt: R,
+    idle: IdleTime<C>,
+    alarms: A,
+    source: Option<FdHandle<SockRes>>,
+    target: Option<FdHandle<SockRes>>,
+    reading: Option<ReadUnderWay<SockRes, R>>,
+    writing: Option<WriteUnderWay<SockRes, R>>,
+}
+
+impl<R: Wait + Copy, C: Moments, A: Alarms> TaskGate<R, C, A> {
+    /// A gate with this idle time.
+    pub(crate) fn new(
+        rt: R,
+        idle: IdleTime<C>,
+        alarms: A,
+        source: FdHandle<SockRes>,
+        target: FdHandle<SockRes>,
+    ) -> TaskGate<R, C, A> {
+        TaskGate {
+            rt,
+            idle,
+            alarms,
+            source: Some(source),
+            target: Some(target),
+            reading: None,
+            writing: None,
+        }
+    }
+
+    /// Begins a read, where none is under way.
+    pub(crate) fn begin_read(&mut self) -> Result<(), Fault> {
+        if self.reading.is_some() {
+            return Ok(());
+        }
+        let Some(source) = &mut self.source else {
+            return Err(Fault::Closed);
+        };
+        if let Some((now, deadline)) = self.idle.next_deadline() {
+            source.set_read_deadline(&self.rt, deadline, now, &self.alarms)?;
+        }
+        let Some(handle) = self.source.take() else {
+            return Err(Fault::Closed);
+        };
+        match handle.begin_read(self.rt) {
+            Ok(reading) => {
+                self.reading = Some(reading);
+                Ok(())
+            }
+            Err((handle, fault)) => {
+                self.source = Some(handle);
+                Err(fault)
+            }
+        }
+    }
+
+    // Begins a write or a shut, where none is under way.
+    fn begin_write(&mut self) -> Result<(), Fault> {
+        if self.writing.is_some() {
+            return Ok(());
+        }
+        let Some(handle) = self.target.take() else {
+            return Err(Fault::Closed);
+        };
+        match handle.begin_write(self.rt) {
+            Ok(writing) => {
+                self.writing = Some(writing);
+                Ok(())
+            }
+            Err((handle, fault)) => {
+                self.target = Some(handle);
+                Err(fault)
+            }
+        }
+    }
+
+    // Sets the deadline of a write that is about to begin.
+    fn time_the_write(&mut self) -> Result<(), Fault> {
+        if self.writing.is_some() {
+            return Ok(());
+        }
+        let Some(target) = &mut self.target else {
+            return Err(Fault::Closed);
+        };
+        match self.idle.next_deadline() {
+            Some((now, deadline)) => {
+                target.set_write_deadline(&self.rt, deadline, now, &self.alarms)
+            }
+            None => Ok(()),
+        }
+    }
+
+    fn end_read(&mut self) {
+        if let Some(reading) = self.reading.take() {
+            self.source = Some(reading.end());
+        }
+    }
+
+    fn end_write(&mut self) {
+        if let Some(writing) = self.writing.take() {
+            self.target = Some(writing.end());
+        }
+    }
+
+    // Begins a write, where none is under way, and tries it.
+    fn try_write(&mut self, bytes: &[u8]) -> Progress
+        ensures part { IsPartOf (length bytes.now) result }
+    {
+        let begun = match self.time_the_write() {
+            Ok(()) => self.begin_write(),
+            Err(fault) => Err(fault),
+        };
+        match (begun, &mut self.writing) {
+            (Ok(()), Some(writing)) => writing.try_write(bytes),
+            (Ok(()), None) => Progress::Failed(WriteFault {
+                fault: Fault::Closed,
+                count: 0,
+            }),
+            (Err(fault), _) => Progress::Failed(WriteFault { fault, count: 0 }),
+        }
+    }
+}
+
+impl<R, C, A> PollGate for TaskGate<R, C, A>
+where
+    R: Wait + Copy,
+    C: Moments,
+    A: Alarms,
+{
+    // What a socket carried can't be told.
+    ghost tells = { λ _ _. ⊥ };
+
+    ghost takes = { λ offered count. count ≤ offered };
+
+    ghost blocked = { λ _ _. ⊤ };
+
+    fn poll_read(&mut self, buf: &mut [u8]) -> Option<Result<usize, Fault>> {
+        if let Err(fault) = self.begin_read() {
+            return Some(Err(fault));
+        }
+        let Some(reading) = &mut self.reading else {
+            return Some(Err(Fault::Closed));
+        };
+        let answer = reading.try_read(buf)?;
+        self.end_read();
+        Some(answer)
+    }
+
+    // A write of which a part was taken stays under way: the rest is offered to the same call.
+    fn poll_write(&mut self, bytes: &[u8]) -> Option<Result<usize, WriteFault>> {
+        let answer = match self.try_write(bytes) {
+            Progress::Part(0) => return None,
+            Progress::Part(count) => return Some(Ok(count)),
+            Progress::Whole => Ok(bytes.len()),
+            Progress::Failed(failed) => Err(failed),
+        };
+        self.end_write();
+        Some(answer)
+    }
+
+    fn poll_close_write(&mut self) -> Option<Result<(), Fault>> {
+        if let Err(fault) = self.begin_write() {
+            return Some(Err(fault));
+        }
+        let Some(writing) = &mut self.writing else {
+            return Some(Err(Fault::Closed));
+        };
+        let answer = writing.try_shut()?;
+        self.end_write();
+        Some(answer)
+    }
+}
