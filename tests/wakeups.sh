@@ -152,35 +152,62 @@ exit
 # harmless | descriptor | -DREADERS=1 -DWRITERS=1 -DARRIVALS=1 -DCLOSERS=1 -DCLOSES_UNDER_THE_TABLES_LOCK | a close waits with the table's lock held
 # harmless | descriptor | -DREADERS=1 -DSETTERS=1 -DPOLLS_UNTIL_THE_MOMENT_BEFORE_ITS_TICKS | a poll waits until the moment that was the next before the ticks
 #
-# The relay's hand-overs.
-# sound | relay | -DNOTHING_IS_REFUSED -DPEERS_ONLY_BREAK | a connection, and stop at any time
-# sound | relay | -DSTOP_ONCE_QUIET | a connection, a set-up that is refused at any place, and what then stands
-# sound | relay | -DSTOP_ONCE_QUIET -DCONNS=2 | two connections, one pair
-# sound | relay | -DSTOP_ONCE_QUIET -DCLOSES=1 -DPEERS_ONLY_BREAK | a connection, and `close ID` of any id
-# sound | relay | -DSTOP_ONCE_QUIET -DLATE_LISTENER | a listener whose deadline passes and is lifted
-# sound | relay | -DSTOP_ONCE_QUIET -DACCEPT_GIVES_UP | an accept thread that gives up
-# sound | relay | -DSTOP_ONCE_QUIET -DPOLLER_FAILS -DPEERS_ONLY_BREAK | a poller that fails at any turn
-# sound | relay | -DSTOP_ONCE_QUIET -DDRAINS=1 | a connection, and `drain ID` of any id
-# sound | relay | -DSTOP_ONCE_QUIET -DDRAINS=1 -DCONNS=2 -DNOTHING_IS_REFUSED -DPEERS_ONLY_BREAK | two connections, and a drain of any id
-# sound | relay | -DNOTHING_IS_REFUSED -DPEERS_ONLY_BREAK -DDRAINS=1 | a drain, and stop at any time
-# fails | relay | -DSTOP_ONCE_QUIET -DCONNS=2 -DNOTHING_IS_REFUSED -DPEERS_ONLY_BREAK -DDRAINS=1 -DDRAINED_LISTENER_STAYS_OPEN | a drained listener stays open once its accept thread has ended
-# fails | relay | -DSTOP_ONCE_QUIET -DDELIVERY_WAKES_NOBODY | an accept thread delivers and wakes nobody
-# fails | relay | -DSTOP_ONCE_QUIET -DDELIVERY_WAKES_BEFORE_IT_PUSHES | an accept thread wakes before it delivers
-# fails | relay | -DSTOP_ONCE_QUIET -DLATE_LISTENER -DACCEPT_ENDS_AT_THE_FIRST_FAULT | a deadline ends an accept thread for good
-# fails | relay | -DSTOP_ONCE_QUIET -DCONNS=2 -DNOTHING_IS_REFUSED -DPEERS_ONLY_BREAK -DINBOX_IS_CLEARED_AFTER_IT_WAS_READ | the inbox is read in one hold of its lock and cleared in another
-# fails | relay | -DSTOP_ONCE_QUIET -DCONNS=2 -DNOTHING_IS_REFUSED -DPEERS_ONLY_BREAK -DMAIN_FORGETS_WAKES_AFTER_ITS_LOOK | the main thread forgets wakes after it looked
-# fails | relay | -DSTOP_ONCE_QUIET -DFAULT_LEAVES_THE_OTHER_WORKER | a worker that ends by a fault leaves the other one waiting
-# fails | relay | -DSTOP_ONCE_QUIET -DPAIR_IS_CLOSED_ONLY_BY_A_FAULT | a pair that ended by both ends of file stays in the table
-# fails | relay | -DSTOP_ONCE_QUIET -DPAIR_END_WAKES_NOBODY | a pair's end wakes nobody
-# fails | relay | -DSTOP_ONCE_QUIET -DPAIR_END_WAKES_BEFORE_IT_COUNTS | a pair's end wakes before it is counted
-# fails | relay | -DSTOP_ONCE_QUIET -DCONNS=2 -DPAIRS=2 -DNOTHING_IS_REFUSED -DPEERS_ONLY_BREAK -DENDED_IS_COUNTED_BEFORE_THE_PAIR_HAS | an end is counted before the pair is marked as ended
-# fails | relay | -DSTOP_ONCE_QUIET -DCONNS=2 -DPAIRS=2 -DNOTHING_IS_REFUSED -DPEERS_ONLY_BREAK -DENDED_IS_NOTED_AFTER_THE_WALK | the main thread notes the count of ends after it looked for them
-# fails | relay | -DSTOP_ONCE_QUIET -DUNDO_LEAVES_THE_CLIENT | a set-up that failed leaves the client's side
-# fails | relay | -DSTOP_ONCE_QUIET -DLONE_WORKER_IS_JOINED_BEFORE_ITS_PAIR_CLOSES | a worker without its other is joined before its pair is closed
-# fails | relay | -DSTOP_ONCE_QUIET -DWORKER_THAT_NEVER_RAN_IS_JOINED | a worker that never ran is joined
-# fails | relay | -DSTOP_ONCE_QUIET -DSTOP_WAKES_NOBODY | a session's stop wakes nobody
-# fails | relay | -DSTOP_ONCE_QUIET -DSTOP_WAKES_BEFORE_IT_IS_SAID | a session's stop wakes before it is said
-# fails | relay | -DSTOP_ONCE_QUIET -DPOLLER_FAILS -DEND_WAKES_NO_ADMIN | the end wakes no admin thread
-# fails | relay | -DSTOP_ONCE_QUIET -DPOLLER_FAILS -DADMIN_IS_WOKEN_BEFORE_STOP_IS_SET | the admin thread is woken before stop is set
-# fails | relay | -DSTOP_ONCE_QUIET -DPOLLER_FAILS -DADMIN_LOOKS_NOT_AT_STOP | a woken admin thread doesn't look whether the relay has stopped
-# fails | relay | -DSTOP_ONCE_QUIET -DEND_JOINS_BEFORE_IT_CLOSES | the end joins the accept threads before it closes their listeners
+# The relay on event loops.
+# sound | loops | -DNOTHING_IS_REFUSED | a connection, and stop at any time
+# sound | loops | -DSTOP_ONCE_QUIET | a connection, a set-up that is refused at any place, and what then stands
+# sound | loops | -DSTOP_ONCE_QUIET -DNOTHING_IS_REFUSED -DEVENTS=2 | a connection whose peers do two things
+# sound | loops | -DSTOP_ONCE_QUIET -DNOTHING_IS_REFUSED -DCONNS=2 -DEVENTS=0 | two connections in one loop
+# sound | loops | -DSTOP_ONCE_QUIET -DNOTHING_IS_REFUSED -DCONNS=2 -DLOOPS=2 -DEVENTS=0 | two connections, handed to any of two loops
+# sound | loops | -DSTOP_ONCE_QUIET -DCLOSES=1 | a connection, and `close ID` of any id
+# sound | loops | -DNOTHING_IS_REFUSED -DCLOSES=1 -DEVENTS=0 | `close ID`, and stop at any time
+# sound | loops | -DSTOP_ONCE_QUIET -DNOTHING_IS_REFUSED -DCLOSES=2 -DEVENTS=0 | two commands `close ID`
+# sound | loops | -DSTOP_ONCE_QUIET -DNOTHING_IS_REFUSED -DCLOSES=1 -DCONNS=2 -DEVENTS=0 | two connections, and `close ID` of any id
+# sound | loops | -DSTOP_ONCE_QUIET -DNOTHING_IS_REFUSED -DDRAINS=1 | a connection, and `drain ID` of any id
+# sound | loops | -DSTOP_ONCE_QUIET -DNOTHING_IS_REFUSED -DSETTINGS=1 -DEVENTS=0 | a connection, and a deadline from outside
+# sound | loops | -DSTOP_ONCE_QUIET -DNOTHING_IS_REFUSED -DSETTINGS=2 -DEVENTS=0 -DLAST_MOMENT=0 | a deadline that is replaced or lifted
+# sound | loops | -DSTOP_ONCE_QUIET -DNOTHING_IS_REFUSED -DSETTINGS=1 -DCLOSES=1 -DEVENTS=0 -DLAST_MOMENT=0 | a deadline and a close
+# sound | loops | -DNOTHING_IS_REFUSED -DSETTINGS=1 -DEVENTS=0 -DLAST_MOMENT=0 | a deadline, and stop at any time
+# sound | loops | -DSTOP_ONCE_QUIET -DNOTHING_IS_REFUSED -DLOOP_FAILS | a poller that fails at any turn
+# sound | loops | -DSTOP_ONCE_QUIET -DNOTHING_IS_REFUSED -DLOOP_FAILS -DLOOPS=2 -DEVENTS=0 | one of two loops fails
+# sound | loops | -DSTOP_ONCE_QUIET -DNOTHING_IS_REFUSED -DMAIN_FAILS | the main thread's poller fails at any turn
+# sound | loops | -DSTOP_ONCE_QUIET -DNOTHING_IS_REFUSED -DACCEPT_FAILS_FOR_A_TIME | accepts that fail for a time
+# harmless | loops | -DSTOP_ONCE_QUIET -DNOTHING_IS_REFUSED -DCLOSES=1 -DCONNS=2 -DEVENTS=0 -DNAME_OUTLIVES_ITS_TASK | the name of a task that has ended names the next one in its place
+# fails | loops | -DSTOP_ONCE_QUIET -DNOTHING_IS_REFUSED -DEDGES_BEFORE_THE_POLL_ARE_FORGOTTEN | edges that come after a try that would block are forgotten before the poll
+# fails | loops | -DSTOP_ONCE_QUIET -DNOTHING_IS_REFUSED -DEVENTS=3 -DTASK_THAT_WROTE_WAITS_WITHOUT_A_TRY | a task that wrote waits for the next bytes without a try
+# fails | loops | -DSTOP_ONCE_QUIET -DNOTHING_IS_REFUSED -DLOOP_SLEEPS_OVER_WHO_GAVE_WAY | a loop sleeps though a task gave way
+# fails | loops | -DSTOP_ONCE_QUIET -DNOTHING_IS_REFUSED -DCONNS=2 -DEVENTS=0 -DMAIN_SLEEPS_OVER_AN_ACCEPT_THAT_GAVE_WAY | the main thread sleeps though its accept task gave way
+# fails | loops | -DSTOP_ONCE_QUIET -DNOTHING_IS_REFUSED -DEVENTS=0 -DLOOP_SAYS_THAT_IT_SLEEPS_AFTER_ITS_LOOKS | a loop says that it sleeps after its last look at who was named
+# fails | loops | -DSTOP_ONCE_QUIET -DNOTHING_IS_REFUSED -DEVENTS=0 -DLOOP_LOOKS_NOT_ONCE_MORE | a loop that said that it sleeps looks at nobody's naming any more
+# fails | loops | -DSTOP_ONCE_QUIET -DNOTHING_IS_REFUSED -DEVENTS=0 -DHAND_OVER_CALLS_NOBODY | a socket is handed over and nobody called
+# fails | loops | -DSTOP_ONCE_QUIET -DNOTHING_IS_REFUSED -DEVENTS=0 -DHAND_OVER_CALLS_BEFORE_IT_PUSHES | a loop is called before the socket is handed over
+# fails | loops | -DSTOP_ONCE_QUIET -DNOTHING_IS_REFUSED -DEVENTS=0 -DHAND_OVER_WAKES_AND_NAMES_NOBODY | a hand-over wakes a loop that sleeps, and leaves no name for one that is about to
+# fails | loops | -DSTOP_ONCE_QUIET -DNOTHING_IS_REFUSED -DCLOSES=1 -DEVENTS=0 -DLOOP_IS_WOKEN_BEFORE_A_TASK_IS_NAMED | a closer wakes the loop before it names the task
+# fails | loops | -DSTOP_ONCE_QUIET -DNOTHING_IS_REFUSED -DCLOSES=1 -DEVENTS=0 -DLOOP_IS_WOKEN_AND_NO_TASK_NAMED | a closer wakes the loop and names no task
+# fails | loops | -DSTOP_ONCE_QUIET -DNOTHING_IS_REFUSED -DCLOSES=1 -DEVENTS=0 -DTASK_IS_NAMED_AND_NO_LOOP_WOKEN | a closer names the task and wakes no loop
+# fails | loops | -DSTOP_ONCE_QUIET -DNOTHING_IS_REFUSED -DCLOSES=1 -DEVENTS=0 -DLOOP_IS_TOLD_BEFORE_THE_EVICTION | a closer names the task before it evicts
+# fails | loops | -DSTOP_ONCE_QUIET -DNOTHING_IS_REFUSED -DCLOSES=1 -DEVENTS=0 -DLOOP_IS_TOLD_AFTER_THE_WAIT | a closer waits for the last user before it names the task
+# fails | loops | -DSTOP_ONCE_QUIET -DNOTHING_IS_REFUSED -DCLOSES=1 -DEVENTS=0 -DNAMES_ARE_TAKEN_AFTER_THE_TURN | the names are cleared after the named tasks went on, so that a close while one runs isn't seen
+# fails | loops | -DSTOP_ONCE_QUIET -DNOTHING_IS_REFUSED -DLOOP_CLOSES_BEFORE_ITS_CALLS_END | a loop closes a pair before the calls that it has under way end
+# fails | loops | -DSTOP_ONCE_QUIET -DNOTHING_IS_REFUSED -DPAIR_THAT_ENDED_LEAVES_ITS_TARGET | a pair that ended leaves its target open
+# fails | loops | -DSTOP_ONCE_QUIET -DEVENTS=0 -DUNDO_LEAVES_THE_CLIENT | a set-up that failed leaves the client's side
+# fails | loops | -DSTOP_ONCE_QUIET -DEVENTS=0 -DUNDO_CLOSES_BEFORE_ITS_CALLS_END | a set-up that failed closes before the calls that it has begun end
+# fails | loops | -DSTOP_ONCE_QUIET -DNOTHING_IS_REFUSED -DSETTINGS=1 -DCLOSES=1 -DEVENTS=0 -DLAST_MOMENT=0 -DCLOSE_LEAVES_THE_ALARMS | a close leaves the alarms
+# fails | loops | -DSTOP_ONCE_QUIET -DNOTHING_IS_REFUSED -DSETTINGS=1 -DEVENTS=0 -DDEADLINE_NAMES_NOBODY -DALARM_WAKES_NO_LOOP | a deadline from outside wakes no loop that sleeps
+# fails | loops | -DSTOP_ONCE_QUIET -DNOTHING_IS_REFUSED -DSETTINGS=1 -DEVENTS=0 -DDEADLINE_NAMES_NOBODY -DALARM_WAKES_THE_LOOP_BEFORE_IT_ARMS | a deadline wakes the loop before it is armed
+# fails | loops | -DSTOP_ONCE_QUIET -DNOTHING_IS_REFUSED -DSETTINGS=1 -DEVENTS=0 -DDEADLINE_NAMES_NOBODY | a deadline that has passed when it is set names no task
+# fails | loops | -DSTOP_ONCE_QUIET -DNOTHING_IS_REFUSED -DSETTINGS=1 -DEVENTS=0 -DTASK_IS_NAMED_BEFORE_THE_DEADLINE | a task is named before its deadline is set
+# fails | loops | -DSTOP_ONCE_QUIET -DNOTHING_IS_REFUSED -DSETTINGS=1 -DEVENTS=0 -DTICK_RESUMES_NOBODY | a due timer ticks the cell and resumes no task
+# fails | loops | -DSTOP_ONCE_QUIET -DNOTHING_IS_REFUSED -DDRAINS=1 -DEVENTS=0 -DDRAIN_EVICTS | a drain ends the call under way
+# fails | loops | -DSTOP_ONCE_QUIET -DNOTHING_IS_REFUSED -DDRAINS=1 -DEVENTS=1 -DCALL_ENDS_AT_EACH_WAIT | a call gives its half's lock back while it waits, so that a drain ends it
+# fails | loops | -DSTOP_ONCE_QUIET -DNOTHING_IS_REFUSED -DDRAINS=1 -DCONNS=2 -DEVENTS=0 -DDRAINED_LISTENER_STAYS_OPEN | a drained listener stays open once its accept task has ended
+# fails | loops | -DSTOP_ONCE_QUIET -DNOTHING_IS_REFUSED -DACCEPT_FAILS_FOR_A_TIME -DEVENTS=0 -DACCEPT_ENDS_AT_THE_FIRST_FAULT | a fault ends an accept task for good
+# fails | loops | -DSTOP_ONCE_QUIET -DNOTHING_IS_REFUSED -DACCEPT_FAILS_FOR_A_TIME -DEVENTS=0 -DPAUSE_IS_NO_TIMER | nothing ends the pause of an accept task
+# fails | loops | -DSTOP_ONCE_QUIET -DNOTHING_IS_REFUSED -DEVENTS=0 -DSTOP_WAKES_BEFORE_IT_IS_SAID | stop wakes before it is said
+# fails | loops | -DSTOP_ONCE_QUIET -DNOTHING_IS_REFUSED -DEVENTS=0 -DSTOP_CALLS_NO_MAIN | stop wakes no main thread
+# fails | loops | -DSTOP_ONCE_QUIET -DNOTHING_IS_REFUSED -DEVENTS=0 -DSTOP_CALLS_NO_LOOP | stop wakes no loop
+# fails | loops | -DSTOP_ONCE_QUIET -DNOTHING_IS_REFUSED -DLOOPS=2 -DEVENTS=0 -DSTOP_CALLS_THE_FIRST_LOOP_ALONE | stop wakes one loop of two
+# fails | loops | -DSTOP_ONCE_QUIET -DNOTHING_IS_REFUSED -DEVENTS=0 -DEND_WAITS_BEFORE_ITS_ACCEPT_ENDS | the end closes the listener with its own accept under way
+# fails | loops | -DSTOP_ONCE_QUIET -DNOTHING_IS_REFUSED -DEVENTS=0 -DEND_JOINS_NOBODY | the end joins nobody
+# fails | loops | -DSTOP_ONCE_QUIET -DNOTHING_IS_REFUSED -DEVENTS=0 -DLOOP_FAILS -DEND_WAKES_NO_ADMIN | the end wakes no admin thread
+# fails | loops | -DSTOP_ONCE_QUIET -DNOTHING_IS_REFUSED -DEVENTS=0 -DMAIN_FAILS -DADMIN_IS_WOKEN_BEFORE_STOP_IS_SET | the admin thread is woken before stop is set
+# fails | loops | -DSTOP_ONCE_QUIET -DNOTHING_IS_REFUSED -DEVENTS=0 -DLOOP_FAILS -DADMIN_LOOKS_NOT_AT_STOP | a woken admin thread doesn't look whether the relay has stopped
