@@ -4,16 +4,15 @@
 #
 #     sh examples/first_connection.sh
 #
-# It needs the Rattle kit's rt on the path, and python3. The first time every crate is proved, which takes a while;
-# later it takes seconds. POLLRELAY names a program that is built already.
+# It needs the Rattle kit's rt on the path, and python3. The first time every crate is proved, which takes minutes, and
+# tells how far it is; later it takes seconds. POLLRELAY names a program that is built already.
 set -eu
 cd "$(dirname "$0")/.."
 
 program=${POLLRELAY:-$PWD/crates/pollrelay/out/pollrelay}
 if [ -z "${POLLRELAY:-}" ]; then
-    command -v rt >/dev/null || { echo "rt isn't on the path"; exit 1; }
-    echo "Proving and building: cd crates/pollrelay && rt run < stdin"
-    (cd crates/pollrelay && rt run <stdin >/dev/null)
+    echo "Proving and building: python3 tools/build.py pollrelay"
+    python3 tools/build.py pollrelay
 fi
 
 scratch=$(mktemp -d)

@@ -4,8 +4,12 @@ model, with its functions, that docs/wake-ups.md names.
 
 A row of a table that promises something names, in its last cell, functions, followed by the clauses that each of them
 has, as `Timers::arm`, `arm_both` `armed`, `unchanged`; items are parted by semicolons, and what definitions a clause
-cites stands in brackets. The crates are those of the heading above, or of the paths. Prints a line for each name that
-is missing, and `N passed, M failed`.
+cites stands in brackets. The crates are those of the heading above, or of the paths. After a function each plain word is a
+clause that this function has, or another function; a definition isn't taken for one.
+
+What is promised is to be of use: a row names a function that a program's `main` comes to by calls, or one of a module
+`laws`, or else says `library call`. Calls are found by name, so that a name which two functions share counts for both.
+Prints a line for each name that is missing, for each row that names no such function, and `N passed, M failed`.
 """
 import pathlib
 import re
@@ -15,6 +19,8 @@ ROOT = pathlib.Path(__file__).resolve().parent.parent
 HEADS = ("Function and clause", "Contract that carries it", "Clause")
 FN = re.compile(r"^( *)(?:pub(?:\([a-z]+\))? )?(?:const )?(?:unsafe )?fn (\w+)")
 OWNER = re.compile(r"^(?:pub(?:\([a-z]+\))? )?(impl|trait)\b(.*)")
+PROGRAMS = ("pollrelay", "echo_server", "loop_echo_server")
+WORD = re.compile(r"[A-Za-z_]\w*")
 ITEM = re.compile(r"^\s*(?:pub(?:\([a-z]+\))? )?(?:struct|enum|trait|const|type|mod) (\w+)", re.M)
 # (a definition; an indented line without one of these words is a field of a record)
 FACT = re.compile(r"^(?: *(?:pub )?(?:abbrev|data|record) (?:pub )?|pub |)([A-Za-z_]\w*)\b[^\n]*?:", re.M)
@@ -24,27 +30,30 @@ class Crate:
     """The functions of a crate, each with the names of its clauses, and its other names."""
 
     def __init__(self, folder):
-        self.functions, self.names = {}, set()
+        self.functions, self.names, self.laws, self.calls = {}, set(), set(), {}
         for file in sorted(folder.glob("src/**/*.rt")):
             if "tests" not in file.relative_to(folder).parts and file.stem != "tests":
-                self.read_source(file.read_text())
+                self.read_source(file.read_text(), file.stem == "laws")
         for file in folder.glob("specs/**/*.antt"):
             self.names |= set(FACT.findall(file.read_text()))
 
-    def read_source(self, text):
+    def read_source(self, text, are_laws=False):
         self.names |= set(ITEM.findall(text))
-        owner, clauses = "", None
+        owner, clauses, body = "", None, set()
         for line in text.splitlines():
             block, head = OWNER.match(line), FN.match(line)
             if block:
                 owner, clauses = owner_of(block[2]), None
             elif head:
                 owner = owner if head[1] else ""
-                clauses = set()
+                clauses, body = set(), self.calls.setdefault(head[2], set())
+                self.laws |= {head[2]} if are_laws else set()
                 for key in {head[2], f"{owner}::{head[2]}" if owner else head[2]}:
                     self.functions.setdefault(key, []).append(clauses)
             elif clauses is not None:
                 clauses |= set(re.findall(r"\b(?:ensures|requires)\*? (\w+) \{", line))
+                # (a comment and a clause call nothing)
+                body |= set(WORD.findall(re.sub(r"//.*|\b(?:ensures|requires)\b.*", "", line)))
 
     def has(self, name):
         return name in self.functions or name in self.names
@@ -59,7 +68,7 @@ def owner_of(text):
 
 
 def rows_of(text):
-    """Each last cell of a table of promises, with its line and the crates of the heading above it."""
+    """The cells of each row of a table of promises, with its line and the crates of the heading above it."""
     named, inside = [], False
     for number, line in enumerate(text.splitlines(), 1):
         if line.startswith("#"):
@@ -71,7 +80,21 @@ def rows_of(text):
             if any(it in HEADS for it in cells):
                 inside = True
             elif inside and not set(line) <= set("|- "):
-                yield number, named, cells[1]
+                yield number, named, cells[:2]
+
+
+def called_by_programs(crates):
+    """The names of all functions that the programs' `main` comes to."""
+    known = {}
+    for crate in crates.values():
+        for name, body in crate.calls.items():
+            known.setdefault(name, set()).update(body)
+    ahead, found = [crates[it].calls.get("main", set()) for it in PROGRAMS if it in crates], set()
+    while ahead:
+        fresh = {it for it in ahead.pop() if it in known} - found
+        found |= fresh
+        ahead += [known[it] for it in fresh]
+    return found
 
 
 class Row:
@@ -79,7 +102,7 @@ class Row:
 
     def __init__(self, crates, named):
         self.all, self.crates = crates, [crates[it] for it in named if it in crates] or list(crates.values())
-        self.missing, self.seen = [], 0
+        self.missing, self.seen, self.functions = [], 0, set()
 
     def read(self, cell):
         for item in re.split(r";", cell):
@@ -95,14 +118,17 @@ class Row:
     def read_item(self, tokens):
         group, after_clause = [], False
         for token in tokens:
-            if self.is_clause(token, group):
+            self.functions |= {"laws"} & set(token.split("::"))
+            found = self.bodies(token)
+            # (what begins an item is a function, where one of the crates has that name)
+            if self.is_clause(token, group) and (group or not found):
                 after_clause = True
                 continue
-            found = self.bodies(token)
             # (after a function a plain word is a clause or another function)
-            if found is None or not found and group and token.islower() and "_" not in token:
+            if found is None or not found and group and re.fullmatch(r"[a-z_0-9]+", token):
                 self.missing.append(token)
             elif found:
+                self.functions.add(token.split("::")[-1])
                 group = found if after_clause else group + found
                 after_clause = False
 
@@ -128,13 +154,16 @@ class Row:
 
 
 def check(text, crates):
-    """The missing names, each with its line, and how many names were looked up."""
-    missing, seen = [], 0
-    for number, named, cell in rows_of(text):
-        row = Row(crates, named).read(cell)
+    """The missing names, each with its line, how many names were looked up, and the lines of rows that no program keeps."""
+    missing, seen, unused = [], 0, []
+    useful = called_by_programs(crates).union(*(it.laws for it in crates.values()), {"laws"})
+    for number, named, row_text in rows_of(text):
+        row = Row(crates, named).read(row_text[-1])
         seen += row.seen
         missing += [(number, it) for it in row.missing]
-    return missing, seen
+        if not row.functions & useful and "library call" not in " ".join(row_text):
+            unused.append(number)
+    return missing, seen, unused
 
 
 def steps_of(models):
@@ -166,10 +195,12 @@ def main():
     crates = {it.name: Crate(it) for it in sorted((ROOT / "crates").iterdir()) if it.is_dir()}
     failed = passed = 0
     for name in ("README.md", "docs/guarantees.md"):
-        missing, seen = check((ROOT / name).read_text(), crates)
+        missing, seen, unused = check((ROOT / name).read_text(), crates)
         for number, token in missing:
             print(f"{name}:{number}: nothing is called `{token}`, or no function before it has that clause")
-        failed, passed = failed + len(missing), passed + seen - len(missing)
+        for number in unused:
+            print(f"{name}:{number}: names no function that a program calls, and no law, and doesn't say `library call`")
+        failed, passed = failed + len(missing) + len(unused), passed + seen - len(missing)
     missing, seen = check_models(
         (ROOT / "docs/wake-ups.md").read_text(), steps_of((ROOT / "models").iterdir()), source_of)
     for number, token in missing:

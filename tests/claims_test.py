@@ -24,22 +24,51 @@ pub fn next() -> u64
 {
     0
 }
+
+pub fn unused() -> u64
+    ensures field_of_none { result ≡ 0 }
+{
+    // arm
+    next()
+}
 """
-FACTS = "abbrev pub IsArmed : ℕ → Type 0\n  pub field : ℕ\n"
+LAWS = """
+pub fn time_passes()
+    ensures later { 0 < 1 }
+{}
+"""
+PROGRAM = """
+fn main() {
+    begin();
+}
+
+fn begin() {
+    Timers::new().arm(next());
+}
+"""
+FACTS = "abbrev pub IsArmed : ℕ → Type 0\n  pub field : ℕ\nabbrev pub armed_at : ℕ → ℕ\n"
 
 
 class Claims(unittest.TestCase):
     def setUp(self):
         with tempfile.TemporaryDirectory() as room:
-            folder = pathlib.Path(room) / "timing"
-            for name, text in (("src/lib.rt", SOURCE), ("specs/Facts.antt", FACTS)):
-                (folder / name).parent.mkdir(parents=True)
-                (folder / name).write_text(text)
-            self.crates = {"timing": claims.Crate(folder)}
+            texts = (("timing/src/lib.rt", SOURCE), ("timing/src/laws.rt", LAWS), ("timing/specs/Facts.antt", FACTS),
+                     ("pollrelay/src/main.rt", PROGRAM))
+            for name, text in texts:
+                file = pathlib.Path(room) / name
+                file.parent.mkdir(parents=True, exist_ok=True)
+                file.write_text(text)
+            self.crates = {it: claims.Crate(pathlib.Path(room) / it) for it in ("timing", "pollrelay")}
+
+    def checked(self, cell, promise="it arms"):
+        text = f"## Timers (`timing`)\n\n| Promise | Function and clause |\n|---|---|\n| {promise} | {cell} |\n"
+        return claims.check(text, self.crates)
 
     def missing(self, cell):
-        text = f"## Timers (`timing`)\n\n| Promise | Function and clause |\n|---|---|\n| it arms | {cell} |\n"
-        return [name for _, name in claims.check(text, self.crates)[0]]
+        return [name for _, name in self.checked(cell)[0]]
+
+    def lines_of_no_use(self, *row):
+        return self.checked(*row)[2]
 
     def test_names_that_are_there_pass(self):
         self.assertEqual(self.missing("`Timers::arm` `armed`, `lends` (`IsArmed`); `next` `least`"), [])
@@ -52,6 +81,25 @@ class Claims(unittest.TestCase):
 
     def test_a_clause_that_one_of_two_calls_lacks_is_told(self):
         self.assertEqual(self.missing("`Timers::arm`, `next` `armed`"), ["armed"])
+
+    def test_a_definition_is_no_clause_of_a_call(self):
+        self.assertEqual(self.missing("`next` `armed_at`"), ["armed_at"])
+        self.assertEqual(self.missing("`next` (`armed_at`)"), [])
+
+    def test_a_function_that_a_program_comes_to_is_of_use(self):
+        self.assertEqual(self.lines_of_no_use("`next` `least`"), [])
+        self.assertEqual(self.lines_of_no_use("`unused` `field_of_none`; `Timers::arm` `armed`"), [])
+
+    def test_a_row_of_functions_that_no_program_comes_to_is_told(self):
+        self.assertEqual(self.lines_of_no_use("`unused` `field_of_none`"), [5])
+
+    def test_a_row_of_definitions_alone_is_told(self):
+        self.assertEqual(self.lines_of_no_use("`IsArmed`"), [5])
+
+    def test_a_law_and_a_library_call_say_what_they_are(self):
+        self.assertEqual(self.lines_of_no_use("`laws::time_passes` `later`"), [])
+        self.assertEqual(self.lines_of_no_use("`time_passes` `later`"), [])
+        self.assertEqual(self.lines_of_no_use("`unused` `field_of_none`", "it arms (a library call)"), [])
 
     def test_a_definition_that_is_not_there_is_told(self):
         self.assertEqual(self.missing("`next` `least` (`IsLeast`, `field`)"), ["IsLeast", "field"])

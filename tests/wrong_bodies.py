@@ -1,12 +1,16 @@
 """Tries the wrong bodies of `crates/NAME/wrong-bodies/*.edit`: each has to be refused at a goal of the function that it names.
 
-    python3 tests/wrong_bodies.py [NAME..]      those of the named crates, or of all
+    python3 tests/wrong_bodies.py [NAME..]            those of the named crates, or of all, that have no receipt, and a
+                                                      sample of those that have one (`receipts.py`)
+    python3 tests/wrong_bodies.py --write [NAME..]    the same, and writes the receipts of what was refused
+    python3 tests/wrong_bodies.py --all [NAME..]      every one, and writes their receipts anew
 
 An edit is written as those of `must-fail/`, with one line more, `refused: FUNCTION`, the name as a check prints it. Edits
 of different functions are tried in one check of the functions that they name. What isn't refused there is tried with fewer
-beside it, and alone at last. The last line is `N passed, M failed`.
+beside it, and alone at last. The last line is `N passed, M failed`, of those that were tried.
 """
 
+import argparse
 import os
 import re
 import sys
@@ -18,8 +22,8 @@ from concurrent.futures import ThreadPoolExecutor
 from functools import partial
 
 import checker
-
-Edit = namedtuple("Edit", "crate name refused pairs")
+import receipts
+from edits import applied_together, apply, bodies, edits_of, packed
 
 # What became of an edit: whether it was refused as it has to be, and what was said.
 Verdict = namedtuple("Verdict", "is_refused why")
@@ -29,103 +33,6 @@ UNREADABLE = re.compile(r"is not in scope|has no field|is no name|operand is mis
 
 printing = threading.Lock()
 started = time.monotonic()
-
-
-def read_edit(crate_name, path):
-    """Reads an edit: its pairs of a file's path, the text that stands there once, and the text that takes its place."""
-    refused, pairs, file, old = "", [], "", None
-    with open(path, encoding="utf-8") as text:
-        for line in text.read().split("\n"):
-            key, _, said = line.partition(":")
-            if key == "new" and old is not None:
-                pairs.append((file, old, said.removeprefix(" ")))
-                old = None
-            elif key == "file":
-                file = said.strip()
-            elif key == "refused":
-                refused = said.strip()
-            elif key == "old":
-                old = said.removeprefix(" ")
-    return Edit(crate_name, os.path.basename(path).removesuffix(".edit"), refused, tuple(pairs))
-
-
-def edits_of(crate):
-    folder = f"{crate.folder}/wrong-bodies"
-    return [read_edit(crate.name, f"{folder}/{it}") for it in sorted(os.listdir(folder))]
-
-
-def apply(edit, read):
-    """The texts with the edit, by path, where `read` gives a file's text; or a reason why it doesn't apply."""
-    texts = {}
-    if not edit.pairs or not edit.refused:
-        return None, "it has no pair of `old:` and `new:`, or no line `refused:`"
-    for path, old, new in edit.pairs:
-        try:
-            text = texts[path] if path in texts else read(path)
-        except OSError:
-            return None, f"there is no file {path}"
-        if text.count(old) != 1:
-            return None, f"an `old:` text stands in {path} {text.count(old)} times, and not once"
-        texts[path] = text.replace(old, new)
-    return texts, None
-
-
-def body_around(text, at):
-    """The function whose body has the place `at`, as its line and name, by the layout that `rt fmt` gives; or None."""
-    lines = text[:at].split("\n")
-    for number in range(len(lines) - 1, -1, -1):
-        head = re.match(r"( *)(?:pub(?:\([^)]*\))? )?(?:const |unsafe )*fn (\w+)", lines[number])
-        if head:
-            indent, name = head.groups()
-            first, *others = lines[number:-1] or [""]
-            begins = first.endswith("{") or any(it.endswith("{") and it.startswith((f"{indent}{{", f"{indent})")) for it in others)
-            return (number, name) if begins and f"{indent}}}" not in others else None
-    return None
-
-
-def place_of(text, old, new):
-    """A place in what an edit changes. A line that is only added to is changed behind its end, as where a body begins."""
-    end = text.index(old) + len(old)
-    return end + 1 if new.startswith(old) and text[end : end + 1] == "\n" else end - 1
-
-
-def bodies(edit, read):
-    """The functions whose bodies the edit changes, each as its file, line and name; or None where it changes anything else."""
-    found = set()
-    for path, old, new in edit.pairs:
-        text = read(path)
-        body = body_around(text, place_of(text, old, new)) if path.startswith("src/") else None
-        if body is None:
-            return None
-        found.add((path, *body))
-    return found
-
-
-def applied_together(edits, read):
-    """The texts with all of these edits, by path, or None where one keeps another from applying."""
-    texts = {}
-    for edit in edits:
-        more, why = apply(edit, lambda path: texts[path] if path in texts else read(path))
-        if why:
-            return None
-        texts.update(more)
-    return texts
-
-
-def packed(edits, read):
-    """Batches of edits: in a batch no two change one function or are refused at one, and what is no body stands alone."""
-    batches = []
-    for edit in edits:
-        takes = bodies(edit, read)
-        takes = takes and takes | {edit.refused}
-        for taken, batch in batches:
-            if takes and taken and not takes & taken and applied_together([*batch, edit], read):
-                taken.update(takes)
-                batch.append(edit)
-                break
-        else:
-            batches.append((takes, [edit]))
-    return [batch for _, batch in batches]
 
 
 def own_goal(function, text):
@@ -218,23 +125,27 @@ def try_batch(batch, check, read):
 
 
 class CrateRun:
-    """The edits of a crate as they are tried: those that failed, and the processor seconds so far."""
+    """The edits of a crate: which are to be tried, which were refused or failed, and the processor seconds so far."""
 
-    def __init__(self, crate):
+    def __init__(self, crate, standing):
         self.crate, self.edits = crate, edits_of(crate)
-        self.passed, self.failed, self.seconds = 0, [], 0
+        self.digests = {it: standing.of_body(crate, it.name) for it in self.edits}
+        self.to_try, self.sampled, self.tried = self.edits, set(), 0
+        self.refused, self.failed, self.seconds = [], [], 0
 
     def read(self, path):
         with open(f"{self.crate.folder}/{path}", encoding="utf-8") as file:
             return file.read()
 
+    def with_receipt(self, known):
+        return [it for it in self.edits if known.get(f"{it.crate}/{it.name}") == self.digests[it]]
+
     def tell(self, edit, verdict, seconds=0):
-        if verdict.is_refused:
-            self.passed += 1
-        else:
-            self.failed.append(f"{self.crate.name}/{edit.name}")
-        count = f"{self.passed + len(self.failed)} of {len(self.edits)}"
+        (self.refused if verdict.is_refused else self.failed).append(edit)
+        count = f"{len(self.refused) + len(self.failed)} of {len(self.to_try)}"
         state = f"refused, {edit.refused}" if verdict.is_refused else "FAILED"
+        if not verdict.is_refused and edit in self.sampled:
+            state += ", though its receipt says that it is refused"
         minutes, rest = divmod(int(time.monotonic() - started), 60)
         with printing:
             where = f"{minutes}:{rest:02} {self.crate.name} {count}, {edit.name}"
@@ -247,7 +158,7 @@ class CrateRun:
         return run
 
     def try_all(self):
-        wrong = {it: apply(it, self.read)[1] for it in self.edits}
+        wrong = {it: apply(it, self.read)[1] for it in self.to_try}
         for edit, why in wrong.items():
             if why:
                 self.tell(edit, Verdict(False, f"it doesn't apply: {why}"))
@@ -257,26 +168,72 @@ class CrateRun:
                     self.tell(*told)
 
 
-def main(names):
-    runs = [CrateRun(it) for it in checker.crates() if os.path.isdir(f"{it.folder}/wrong-bodies")]
-    runs = [it for it in runs if not names or it.crate.name in names]
-    unknown = set(names) - {it.crate.name for it in runs}
-    if unknown:
-        print(f"no crate with wrong bodies: {', '.join(sorted(unknown))}")
-        return 2
+def pass_over(runs, chosen_by):
+    """Takes out of each run what has a receipt, save the sample, and says how many have one and how many of these are tried."""
+    known = receipts.read()
+    stand = {run.crate.name: run.with_receipt(known) for run in runs}
+    batches = [batch for run in runs for batch in packed(stand[run.crate.name], run.read)]
+    sampled = set(receipts.sample(batches, chosen_by))
+    for run in runs:
+        passed_over = set(stand[run.crate.name]) - sampled
+        run.sampled = sampled & set(run.edits)
+        run.to_try = [it for it in run.edits if it not in passed_over]
+    return sum(map(len, stand.values())), len(sampled)
+
+
+def write_receipts(runs):
+    """Keeps the receipts of the other crates, and of these what was refused now or still stands."""
+    kept = receipts.read()
+    own = {run.crate.name for run in runs}
+    found = {body: it for body, it in kept.items() if body.partition("/")[0] not in own}
+    for run in runs:
+        passed_over = [it for it in run.with_receipt(kept) if it not in run.to_try]
+        found |= {f"{it.crate}/{it.name}": run.digests[it] for it in [*passed_over, *run.refused]}
+    receipts.write(found)
+
+
+def try_all(runs):
+    """Tries the edits of all runs, the longest first. Says whether their crates are proved, without which none is tried."""
+    runs = [it for it in runs if it.to_try]
     if not all([checker.prove(it.crate) for it in runs]):
-        print("a crate is not proved, so a refusal would say nothing of the edit\n0 passed, 1 failed")
-        return 1
-    runs.sort(key=lambda it: -len(it.edits))
+        return False
+    runs.sort(key=lambda it: -len(it.to_try))
     with ThreadPoolExecutor(checker.lanes()) as pool:
         for _ in pool.map(CrateRun.try_all, runs):
             pass
     for it in runs:
-        print(f"{it.crate.name}: {len(it.edits)} tried in {it.seconds:.0f} s of processor time")
-    failed = [name for it in runs for name in it.failed]
+        print(f"{it.crate.name}: {len(it.to_try)} tried in {it.seconds:.0f} s of processor time")
+    return True
+
+
+def arguments(words):
+    found = argparse.ArgumentParser(description="Tries the wrong bodies of the named crates, or of all.")
+    found.add_argument("names", nargs="*", metavar="NAME")
+    found.add_argument("--all", action="store_true", help="every one, and write their receipts")
+    found.add_argument("--write", action="store_true", help="write the receipts of what was refused")
+    return found.parse_args(words)
+
+
+def main(words):
+    given, crates = arguments(words), checker.crates()
+    standing = receipts.Standing(receipts.judges())
+    chosen = [it for it in crates if os.path.isdir(f"{it.folder}/wrong-bodies")]
+    runs = [CrateRun(it, standing) for it in chosen if it.name in (given.names or [it.name])]
+    unknown = set(given.names) - {it.crate.name for it in runs}
+    if unknown:
+        print(f"no crate with wrong bodies: {', '.join(sorted(unknown))}")
+        return 2
+    stand, sampled = (0, 0) if given.all else pass_over(runs, receipts.seed(crates, standing))
+    if not try_all(runs):
+        print("a crate is not proved, so a refusal would say nothing of the edit\n0 passed, 1 failed")
+        return 1
+    if given.all or given.write:
+        write_receipts(runs)
+    failed = [f"{it.crate}/{it.name}" for run in runs for it in run.failed]
     if failed:
         print(f"FAILED: {' '.join(failed)}")
-    print(f"{sum(it.passed for it in runs)} passed, {len(failed)} failed")
+    print(f"{stand - sampled} taken from receipts; of {stand} that have one, {sampled} were tried all the same")
+    print(f"{sum(len(it.refused) for it in runs)} passed, {len(failed)} failed")
     return 1 if failed else 0
 
 

@@ -3,8 +3,9 @@
 import unittest
 
 import checker
+import edits
 import wrong_bodies
-from wrong_bodies import Edit
+from edits import Edit
 
 SOURCE = """\
 const LIMIT: u64 = 8;
@@ -66,34 +67,34 @@ def alone(edit, run):
 class Edits(unittest.TestCase):
     def test_an_edit_whose_old_text_is_gone_or_stands_twice_does_not_apply(self):
         for old, times in (("x + 9", 0), ("low(", 3)):
-            texts, why = wrong_bodies.apply(LOW._replace(pairs=(("src/lib.rt", old, "y"),)), read)
+            texts, why = edits.apply(LOW._replace(pairs=(("src/lib.rt", old, "y"),)), read)
             self.assertIsNone(texts)
             self.assertIn(f"{times} times", why)
 
     def test_an_edit_of_no_file_or_that_names_no_function_does_not_apply(self):
-        self.assertIn("no file", wrong_bodies.apply(LOW._replace(pairs=(("src/gone.rt", "a", "b"),)), read)[1])
-        self.assertIn("refused:", wrong_bodies.apply(LOW._replace(refused=""), read)[1])
+        self.assertIn("no file", edits.apply(LOW._replace(pairs=(("src/gone.rt", "a", "b"),)), read)[1])
+        self.assertIn("refused:", edits.apply(LOW._replace(refused=""), read)[1])
 
     def test_a_body_is_told_from_what_stands_round_it(self):
         for text, name in (("x + 0", "low"), ("low(x)", "high"), ("low(2)", "other")):
-            self.assertEqual(wrong_bodies.body_around(SOURCE, SOURCE.index(text))[1], name)
+            self.assertEqual(edits.body_around(SOURCE, SOURCE.index(text))[1], name)
         for text in ("LIMIT", "result ≡", "impl", "&self,"):
-            self.assertIsNone(wrong_bodies.body_around(SOURCE, SOURCE.index(text)), text)
+            self.assertIsNone(edits.body_around(SOURCE, SOURCE.index(text)), text)
 
     def test_edits_of_one_function_and_of_no_body_stand_in_batches_of_their_own(self):
         again = LOW._replace(name="low_adds_more")
-        self.assertEqual(wrong_bodies.packed([LOW, HIGH, again, LIMITED], read), [[LOW, HIGH], [again], [LIMITED]])
+        self.assertEqual(edits.packed([LOW, HIGH, again, LIMITED], read), [[LOW, HIGH], [again], [LIMITED]])
 
     def test_what_is_put_behind_the_head_of_a_function_is_of_its_body(self):
         head = "    fn other(&self) -> u64 {"
         first = OTHER._replace(pairs=(("src/lib.rt", head, head + " low(3);"),))
-        self.assertEqual(wrong_bodies.packed([LOW, first], read), [[LOW, first]])
+        self.assertEqual(edits.packed([LOW, first], read), [[LOW, first]])
         changed = OTHER._replace(pairs=(("src/lib.rt", head, "    fn other(&mut self) -> u64 {"),))
-        self.assertEqual(wrong_bodies.packed([LOW, changed], read), [[LOW], [changed]])
+        self.assertEqual(edits.packed([LOW, changed], read), [[LOW], [changed]])
 
     def test_an_edit_that_another_keeps_from_applying_stands_in_another_batch(self):
         twice = HIGH._replace(pairs=(("src/lib.rt", "low(x) + 1", "low(2)"),))
-        self.assertEqual(wrong_bodies.packed([twice, OTHER], read), [[twice], [OTHER]])
+        self.assertEqual(edits.packed([twice, OTHER], read), [[twice], [OTHER]])
 
 
 class Verdicts(unittest.TestCase):
