@@ -32,9 +32,11 @@ def said_of(errors):
     return said, said != errors
 
 
-def start_fault(fault):
-    """What is wrong with a relay that didn't start."""
+def start_fault(fault, may_lose_lines=0):
+    """What is wrong with a relay that didn't start. Where two lines may be lost, that of the fault may be one of them."""
     said, _ = said_of(fault.errors)
+    if may_lose_lines > 1 and not said:
+        said = "relay fault: device\n"
     wrong = []
     if fault.is_hung:
         wrong.append(f"it neither starts nor ends: {fault.said!r}")
@@ -109,7 +111,7 @@ class Run:
         if not quiet:
             self.wrong.append(f"threads and descriptors {(self.relay.threads(), self.relay.descriptors())}, at rest {rest}")
 
-    def serve_and_stop(self, rest, size, may_lose_its_line):
+    def serve_and_stop(self, rest, size, may_lose_lines):
         """Clients, sessions, the ends of the clients, others after them, drains, and the stop while those stand."""
         desk = Desk(self.relay, self.misses, self.tries)
         self.open_each()
@@ -123,7 +125,7 @@ class Run:
             self.expect_rest(rest)
         self.open_each()
         self.drain(desk)
-        self.stop(desk, may_lose_its_line)
+        self.stop(desk, may_lose_lines)
         for it in self.standing:
             it.close()
 
@@ -136,11 +138,16 @@ class Run:
         if wanting := [it for it in self.misses.names if it.startswith("'drain ")]:
             self.wrong.append(f"a drain wanted memory: {wanting}")
 
-    def stop(self, desk, may_lose_its_line=False):
-        """Says stop, and looks at the relay's end. A last line that can't be written is status 3."""
+    def stop(self, desk, may_lose_lines=0):
+        """Says stop, and looks at the relay's end. A last line that can't be written is status 3, and a second one that can't is
+        that of the fault."""
+        before = len(self.misses.names)
         reply = desk.ask("stop")
         desk.drop()
-        if reply != "ok":
+        if reply != "ok" and len(self.misses.names) > before:
+            # It is carried out, and its reply was lost: one session, though later tries find nobody.
+            del self.misses.names[before + 1 :]
+        elif reply != "ok":
             self.wrong.append(f"stop was answered {reply!r}")
         if not self.relay.ends_within(STOP_SECONDS):
             self.wrong.append("the relay doesn't end")
@@ -148,7 +155,7 @@ class Run:
         last = self.relay.process.stdout.read().decode()
         end = self.relay.process.returncode, said_of(self.relay.errors())[0], last
         is_right = end[:2] == (0, "") and self.ledger.holds(totals_of(last))
-        if not is_right and not (may_lose_its_line and end == (3, "relay fault: device\n", "")):
+        if not is_right and end not in [(3, "relay fault: device\n", ""), (3, "", "")][:may_lose_lines]:
             self.wrong.append(f"it ended with {end}, and what arrived is {self.ledger}")
         if self.relay.sockets():
             self.wrong.append(f"it left {self.relay.sockets()}")
@@ -170,17 +177,17 @@ def rest_of(targets, env):
     return rest
 
 
-def single_run(targets, env, rest, seed, before=(), most=1, size=20_000, may_lose_its_line=False):
+def single_run(targets, env, rest, seed, before=(), most=1, size=20_000, may_lose_lines=0):
     """A run in which calls fail, at most so many of them noticed: what came of it, whether one failed, and what is wrong."""
     run = Run(targets, free_port(), random.Random(seed), most)
     targets.drain()
     try:
         relay = Relay(targets.rules(run.port), env=env, before=before)
     except StartFault as fault:
-        return f"the start: {said_of(fault.errors)[0].strip()}", said_of(fault.errors)[1], start_fault(fault)
+        return f"the start: {said_of(fault.errors)[0].strip()}", said_of(fault.errors)[1], start_fault(fault, may_lose_lines)
     with relay:
         run.relay = relay
-        run.serve_and_stop(rest, size, may_lose_its_line)
+        run.serve_and_stop(rest, size, may_lose_lines)
         has_failed = said_of(relay.errors())[1]
     if rest is not None and len(run.misses.names) > (most if has_failed else 0):
         run.wrong.append(f"too much was dropped: {run.misses.names}")

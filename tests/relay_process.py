@@ -117,15 +117,16 @@ class StartFault(RuntimeError):
 class Relay:
     """A relay that serves a text of rules until stop() or the end of the with block. `{folder}` in the rules is its own folder.
 
-    With an environment of its own its standard error is kept, for errors(). `before` are words ahead of the program's, as of a tracer.
+    With an environment of its own its standard error is kept, for errors(). `before` are words ahead of the program's, as of a
+    tracer, and `options` are added to those of `serve`.
     """
 
-    def __init__(self, rules, program=PROGRAM, descriptors=DESCRIPTORS, env=None, before=()):
+    def __init__(self, rules, program=PROGRAM, descriptors=DESCRIPTORS, env=None, before=(), options=()):
         self.folder = tempfile.mkdtemp(prefix="relay-")
         self.admin = f"{self.folder}/admin.sock"
         with open(f"{self.folder}/rules", "w", encoding="ascii") as file:
             file.write(rules.replace("{folder}", self.folder))
-        words = [*before, program, "serve", "--rules", f"{self.folder}/rules", "--admin", self.admin]
+        words = [*before, program, "serve", "--rules", f"{self.folder}/rules", "--admin", self.admin, *options]
         self.kept_errors = None if env is None else open(f"{self.folder}/errors", "ab")
         self.process = subprocess.Popen(
             words, stdin=subprocess.DEVNULL, stdout=subprocess.PIPE, stderr=self.kept_errors,
@@ -178,6 +179,15 @@ class Relay:
 
     def threads(self):
         return len(os.listdir(f"/proc/{self.process.pid}/task"))
+
+    def nanoseconds(self):
+        """The processor time of each of its threads."""
+        task = f"/proc/{self.process.pid}/task"
+        times = []
+        for thread in os.listdir(task):
+            with open(f"{task}/{thread}/schedstat", encoding="ascii") as file:
+                times.append(int(file.read().split()[0]))
+        return times
 
     def descriptors(self):
         return len(os.listdir(f"/proc/{self.process.pid}/fd"))

@@ -22,6 +22,9 @@ UNKNOWN = b"error 404 no such connection\n"
 DRAINING = b"error 409 draining\n"
 RULE = "relay {} tcp:127.0.0.1:{} tcp:127.0.0.1:9 never\n"
 MOST_LINES = 65_536
+# The bytes of a stream, and the processor time that a thread which copied one has taken at least.
+STREAM = 64 << 20
+BUSY_NS = 10_000_000
 
 
 def run(words, stdin=subprocess.DEVNULL, stdout=subprocess.PIPE, before=None):
@@ -53,6 +56,9 @@ def command_lines(checks, folder):
         ["-h"], ["help"], ["-V"], [""], ["--"], ["trace", "trace"], ["check", pipe], ["check", "--rules"],
         ["check", "--rules", pipe, "x"], ["check", "--rules", pipe, "--rules", pipe], ["check", "--admin", pipe],
         ["serve"], ["serve", "--admin", "/a"], ["serve", "--rules", pipe, "--admin"],
+        ["serve", "--rules", pipe, "--admin", "/a", "--loops"], ["serve", "--rules", pipe, "--admin", "/a", "--loops", "0"],
+        ["serve", "--rules", pipe, "--admin", "/a", "--loops", "65"], ["serve", "--rules", pipe, "--admin", "/a", "--loops=02"],
+        ["serve", "--rules", pipe, "--admin", "/a", "--loops", "2", "--loops", "2"], ["check", "--rules", pipe, "--loops", "2"],
         ["serve", "--rules", pipe, "--admin", "/a", "x"], ["trace", "--rules", pipe], [b"\xff"], ["check", "--rules", b"\xff"],
     ]
     for words in refused:
@@ -389,9 +395,38 @@ def sample_metrics(checks, folder):
             checks.expect("metrics: other files", ["relay.prom"], os.listdir(folder))
 
 
+def spread(checks, _):
+    """Each of two loops copies for one of two streams, and for all connections there are two threads beside the loops."""
+    accepts, target = listener()
+    port = free_port()
+    with accepts, Relay(f"relay one tcp:127.0.0.1:{port} {target} never\n", options=("--loops", "2")) as relay:
+        pairs = []
+        for _ in range(40):
+            client = connect(f"tcp:127.0.0.1:{port}")
+            client.sendall(b"x")
+            taken, _ = accepts.accept()
+            taken.recv(1)
+            pairs.append((client, taken))
+        checks.expect("spread: threads", 4, relay.threads())
+        before = sorted(relay.nanoseconds())
+        for client, taken in pairs[-2:]:
+            sending = threading.Thread(target=client.sendall, args=(bytes(STREAM),))
+            sending.start()
+            left = STREAM
+            while left > 0:
+                left -= len(taken.recv(min(left, 1 << 20)))
+            sending.join()
+        grown = [now - then for now, then in zip(sorted(relay.nanoseconds()), before)]
+        busy = sum(one > BUSY_NS for one in grown)
+        checks.expect(f"spread: threads that copied, of {grown}", 2, busy)
+        for pair in pairs:
+            for sock in pair:
+                sock.close()
+
+
 STAGES = [
     command_lines, verdicts, outputs, start_faults, poller_fault, refused_paths, admin_sessions, stopped_and_gone,
-    no_rule, sample_rules, sample_sessions, sample_metrics,
+    no_rule, sample_rules, sample_sessions, sample_metrics, spread,
 ]
 
 

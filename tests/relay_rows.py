@@ -168,22 +168,39 @@ def deadlines(checks, is_small):
 
 def lifted(checks, _):
     """`never` takes a deadline away, and a read or write of a rule with an idle time sets its own."""
-    with Served("never", 400) as served:
+    with Served("never", 1_000) as served:
         client, target = served.open(0)
         passes(client, target)
         served.relay.ask("deadline 3 300")
         checks.expect("deadline: never", "ok", served.relay.ask("deadline 3 never"))
         time.sleep(0.6)
         checks.holds("deadline: lifted", passes(client, target), "the connection ended")
-        client, target = served.open(1)
-        passes(client, target)
-        ids = served.relay.ids()[-2:]
-        for id in ids:
-            served.relay.ask(f"deadline {id} never")
-        time.sleep(0.9)
-        checks.holds("idle: lifted by the admin session", passes(client, target), "the connection ended")
-        took = seconds_until_end(client, 3)
-        checks.holds("idle: set again by the next read", took is not None and 0.3 <= took <= 0.9, f"{took} s for 0.4 s")
+        found = None
+        for _ in range(10):
+            found = lifted_idle(served, 1, 1.0) if found is None else found
+        lived, least, most = found or (False, 0, None)
+        checks.holds("idle: lifted by the admin session", lived, f"the connection ended: {found}; None is a machine too slow to tell")
+        is_so = most is not None and least >= 1.0 and most <= 2.5
+        checks.holds("idle: set again by the next read", is_so, f"after {most} s or more, and {least} s or less, for 1 s")
+
+
+def lifted_idle(served, at, idle_seconds):
+    """Whether a connection outlives the idle time that the admin session lifts; and how long after the next byte it ends, from
+    that byte's arrival and from its send. None where the machine was too slow to lift the idle time before it had passed."""
+    client, target = served.open(at)
+    began = time.monotonic()
+    passes(client, target)
+    # The next read of each way begins, and sets the idle time again, a moment after its byte.
+    time.sleep(0.2)
+    for id in served.relay.ids()[-2:]:
+        served.relay.ask(f"deadline {id} never")
+    if time.monotonic() - began > 0.9 * idle_seconds:
+        return None
+    time.sleep(1.5 * idle_seconds)
+    sent = time.monotonic()
+    lived = passes(client, target)
+    took = seconds_until_end(client, 5)
+    return lived, time.monotonic() - sent, took
 
 
 def goes_on(served, at, idle_seconds):

@@ -86,8 +86,9 @@ class Faults:
         """One run in which such calls fail; whether one did."""
         env = {"LD_PRELOAD": self.library, "FAIL_CALL": call, "FAIL_WITH": str(getattr(errno, error) if error else 0)}
         env |= {f"FAIL_{key.upper()}": str(value) for key, value in more.items()}
-        loses = call == "write" and error != ""
-        came, was_failed, wrong = single_run(self.targets, env, self.rest, seed, most=most, size=SIZE, may_lose_its_line=loses)
+        # Of several writes that fail in a row one may be that of the line which says so.
+        loses = (2 if most > 1 else 1) if call == "write" and error else 0
+        came, was_failed, wrong = single_run(self.targets, env, self.rest, seed, most=most, size=SIZE, may_lose_lines=loses)
         if was_failed:
             self.hit[call] += 1
             self.kinds[kind_of(came)] += 1
@@ -108,8 +109,6 @@ def bursts(faults):
     for call, errors in ERRORS.items():
         if faults.takes(call):
             for error in errors.split():
-                if (call, error) == ("write", "EIO"):
-                    continue  # the line on standard error would be lost, too
                 for number in (1, 2, 4, 8, 16, 32):
                     if not faults.run("bursts", call, error, BURST, number, at=number, times=BURST):
                         break

@@ -1,7 +1,7 @@
 #!/usr/bin/env python3
 """Measures pollrelay beside the relays that operators use today, in turn, on the loopback.
 
-    python3 bench/relay/run.py [--rounds 5] [--seconds 2] [--only NAME,..] [--small]
+    python3 bench/relay/run.py [--rounds 5] [--seconds 2] [--only NAME,..] [--plot FILE] [--small]
 
 A round starts each relay once, with the first one changing from round to round, runs all rows through it, and stops it. One
 load generator (load.c) is both the clients and the target and compares the counts of both ends. POLLRELAY names another
@@ -18,6 +18,8 @@ import subprocess
 import sys
 import tempfile
 import time
+
+import plot
 
 HERE = os.path.dirname(os.path.abspath(__file__))
 sys.path.insert(0, f"{HERE}/../../tests")
@@ -259,13 +261,21 @@ def is_rate(row):
     return row.endswith("/s")
 
 
+def values_by_row(results):
+    """For each row what each relay came to, round by round."""
+    rows = dict.fromkeys(row for name, lives in results.items() if name != "direct" for life in lives for row in life)
+    return {row: {name: [life[row] for life in lives if row in life] for name, lives in results.items()} for row in rows}
+
+
+def medians_of(values):
+    return {name: statistics.median(found) for name, found in values.items() if found}
+
+
 def table(results):
     """Medians, least and greatest of each row, with the ratio of medians to the best peer's."""
-    rows = dict.fromkeys(row for name, lives in results.items() if name != "direct" for life in lives for row in life)
-    for row in rows:
+    for row, values in values_by_row(results).items():
         print(f"\n{row} ({'higher' if is_rate(row) else 'lower'} is better)")
-        values = {name: [life[row] for life in lives if row in life] for name, lives in results.items()}
-        medians = {name: statistics.median(found) for name, found in values.items() if found}
+        medians = medians_of(values)
         peers = {name: it for name, it in medians.items() if name in PEERS}
         best = (max if is_rate(row) else min)(peers, key=peers.get) if peers else None
         for name, median in medians.items():
@@ -315,6 +325,7 @@ def main():
     words.add_argument("--idle-seconds", type=float, default=5)
     words.add_argument("--idle", type=int, default=500)
     words.add_argument("--only", default=",".join(["pollrelay", *PEERS, *OTHERS]))
+    words.add_argument("--plot", metavar="FILE", help="also draws the rows as an SVG in FILE")
     words.add_argument("--small", action="store_true", help="one round of 0.2 s a row: whether it runs")
     chosen = words.parse_args()
     if chosen.small:
@@ -337,6 +348,9 @@ def main():
                     print(f"FAILED {wrong[-1]}", file=sys.stderr, flush=True)
     print(f"\n{chosen.rounds} rounds of {chosen.seconds} s a row, interleaved: median, least to greatest, ratio to the best of {', '.join(PEERS)}")
     table(results)
+    if chosen.plot:
+        drawn = {row: medians_of(values) for row, values in values_by_row(results).items() if not row.startswith("longest")}
+        written(chosen.plot, plot.picture(drawn, PEERS, is_rate))
     print(f"\n{len(wrong)} rows failed", *wrong, sep="\n")
     return 1 if wrong else 0
 
