@@ -6,8 +6,9 @@ It needs the kit's rt on the path. What stands in out/ of this text already isn'
 says how far it is; the first crate that isn't proved ends it with what the prover said, and status 1.
 
 A lane is a check that is under way: one a processor, as far as free memory holds them. First come those with the most
-above them. The crates wait for each other in a long chain, and the check that most others wait for shares its proofs
-among some processes, its jobs; another has one, since each process loads the libraries below anew.
+above them. A check shares its proofs among some processes, its jobs. Each loads the libraries below anew, so it has as
+many as processors are free, and one at least; but the crates wait for each other in a long chain, and a check that the
+end of this chain waits for has the most.
 
 Libraries hold their statements alone, as those of `rt ci` do, and nothing is kept in out/incremental: that leaves out
 a third of the processor time. But `rt check` wants libraries with their proofs, and would build them all again. With
@@ -53,9 +54,8 @@ def bytes_of(jobs):
 
 
 def lines_above(crate, crates):
-    """The lines of code of the longest chain of crates that ends in this one, each above the next."""
-    above = [lines_above(it, crates) for it in crates if crate in it.deps]
-    return crate.count(rb"\n") + max(above, default=0)
+    """The lines of code of the longest chain of crates that are above this one, each above the next."""
+    return max((it.count(rb"\n") + lines_above(it, crates) for it in crates if crate in it.deps), default=0)
 
 
 def clock(seconds):
@@ -144,7 +144,7 @@ class Build:
         self.above = {it.name: lines_above(it, crates) for it in crates}
         left = [it for it in crates if not stands(it, cuts)]
         is_over = crates[-1].is_program and crates[-1] not in left
-        self.left = [] if is_over else sorted(left, key=lambda it: -self.above[it.name])
+        self.left = [] if is_over else sorted(left, key=lambda it: -self.above[it.name] - it.count(rb"\n"))
         self.done = self.total - len(self.left)
 
     def say(self, text):
@@ -158,10 +158,14 @@ class Build:
             room = self.memory - sum(bytes_of(it.jobs) for it in self.running)
             if self.running and (len(self.running) >= self.lanes or room < BYTES_OF_A_CHECK):
                 return
-            is_first = all(self.above[crate.name] >= self.above[it.crate.name] for it in self.running)
-            most = min(self.jobs, 1 + int(max(0, room - BYTES_OF_A_CHECK) / BYTES_OF_A_JOB))
             self.left.remove(crate)
-            self.running.append(Check(crate, self.cuts, most if is_first else 1))
+            self.running.append(Check(crate, self.cuts, self.jobs_of(crate, room)))
+
+    def jobs_of(self, crate, room):
+        most = min(self.jobs, 1 + int(max(0, room - BYTES_OF_A_CHECK) / BYTES_OF_A_JOB))
+        if all(self.above[crate.name] >= self.above[it.crate.name] for it in self.running):
+            return most
+        return max(1, min(most, self.lanes - sum(it.jobs for it in self.running)))
 
     def look(self):
         """Takes in the checks that have ended. Gives the first that failed, or None."""
