@@ -2,13 +2,14 @@
 """Checks that each call, clause, fact and file that README.md and docs/guarantees.md name is there, and each step of a
 model, with its functions, that docs/wake-ups.md names.
 
-A row of a table that promises something names, in its last cell, functions, followed by the clauses that each of them
+A row of a table that promises something names, in its second cell, functions, followed by the clauses that each of them
 has, as `Timers::arm`, `arm_both` `armed`, `unchanged`; items are parted by semicolons, and what definitions a clause
 cites stands in brackets. The crates are those of the heading above, or of the paths. After a function each plain word is a
 clause that this function has, or another function; a definition isn't taken for one.
 
 What is promised is to be of use: a row names a function that a program's `main` comes to by calls, or one of a module
-`laws`, or else says `library call`. Calls are found by name, so that a name which two functions share counts for both.
+`laws`, or else says `library call`, or in its last cell that it is tested. Calls are found by name, so that a name which
+two functions share counts for both.
 Prints a line for each name that is missing, for each row that names no such function, and `N passed, M failed`.
 """
 import pathlib
@@ -80,7 +81,7 @@ def rows_of(text):
             if any(it in HEADS for it in cells):
                 inside = True
             elif inside and not set(line) <= set("|- "):
-                yield number, named, cells[:2]
+                yield number, named, cells
 
 
 def called_by_programs(crates):
@@ -158,10 +159,11 @@ def check(text, crates):
     missing, seen, unused = [], 0, []
     useful = called_by_programs(crates).union(*(it.laws for it in crates.values()), {"laws"})
     for number, named, row_text in rows_of(text):
-        row = Row(crates, named).read(row_text[-1])
+        row = Row(crates, named).read(row_text[1])
         seen += row.seen
         missing += [(number, it) for it in row.missing]
-        if not row.functions & useful and "library call" not in " ".join(row_text):
+        is_tested = row_text[-1].startswith("tested") and row.seen
+        if not row.functions & useful and "library call" not in " ".join(row_text) and not is_tested:
             unused.append(number)
     return missing, seen, unused
 
