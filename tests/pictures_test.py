@@ -1,5 +1,5 @@
 """The pictures in docs/pictures are those that examples/trace_picture.py draws of the sample scripts, and it refuses what
-is no run.
+is no run; that of the crates is what tools/crate_picture.py draws of crates.txt.
 
     python3 tests/pictures_test.py
 """
@@ -31,6 +31,12 @@ def is_current(picture, name):
         return drawn(f"{SCRIPTS}/{name}.script", f"{SCRIPTS}/{name}.expected").stdout == kept.read()
 
 
+def is_of_these_crates():
+    command = [sys.executable, f"{ROOT}/tools/crate_picture.py"]
+    with open(f"{ROOT}/docs/pictures/crates.svg", encoding="utf-8") as kept:
+        return subprocess.run(command, capture_output=True, text=True).stdout == kept.read()
+
+
 def is_refused(script, answers):
     with tempfile.TemporaryDirectory() as folder:
         for name, text in (("script", script), ("answers", answers)):
@@ -42,6 +48,7 @@ def is_refused(script, answers):
 
 def main():
     rows = [(f"the picture {it} is current", is_current(it, name)) for it, name in PICTURES.items()]
+    rows.append(("the picture of the crates is current", is_of_these_crates()))
     rows += [(f"refused: {it}", is_refused(*texts)) for it, texts in UNFIT.items()]
     for row in (it for it, well in rows if not well):
         print("FAILED:", row)

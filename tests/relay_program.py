@@ -53,8 +53,9 @@ def command_lines(checks, folder):
     script = write(f"{folder}/script", "1 incref\n")
     refused = [
         ["--help"], ["check"], ["frob"], ["serve", "--rules", pipe], ["trace", "x"],
-        ["-h"], ["help"], ["-V"], [""], ["--"], ["trace", "trace"], ["check", pipe], ["check", "--rules"],
-        ["check", "--rules", pipe, "x"], ["check", "--rules", pipe, "--rules", pipe], ["check", "--admin", pipe],
+        ["-h"], ["help"], ["-V"], [""], ["--", "trace"], ["--", "--"], ["trace", "--", "x"], ["trace", "trace"], ["check", pipe], ["check", "--rules"],
+        ["check", "--rules", pipe, "x"], ["check", "--rules", pipe, "--", "x"], ["check", "--rules", "--", pipe],
+        ["check", "--", "--rules", pipe], ["check", "--rules", pipe, "--rules", pipe], ["check", "--admin", pipe],
         ["serve"], ["serve", "--admin", "/a"], ["serve", "--rules", pipe, "--admin"],
         ["serve", "--rules", pipe, "--admin", "/a", "--loops"], ["serve", "--rules", pipe, "--admin", "/a", "--loops", "0"],
         ["serve", "--rules", pipe, "--admin", "/a", "--loops", "65"], ["serve", "--rules", pipe, "--admin", "/a", "--loops=02"],
@@ -65,11 +66,12 @@ def command_lines(checks, folder):
         with open(script, "rb") as stdin:
             checks.expect(f"words {words}", (2, b"", b"bad command line\n"), run(words, stdin))
             checks.expect(f"words {words}: what was read", 0, os.lseek(stdin.fileno(), 0, os.SEEK_CUR))
-    for words in ([], ["trace"]):
+    for words in ([], ["trace"], ["--"], ["trace", "--"]):
         with open(script, "rb") as stdin:
             checks.expect(f"words {words}", (0, b"held 0000000000000008 0 0 -\n", b""), run(words, stdin))
     rules = write(f"{folder}/empty", "")
     checks.expect("words check --rules=F", (0, b"rules 0\n", b""), run(["check", f"--rules={rules}"]))
+    checks.expect("words check --rules F --", (0, b"rules 0\n", b""), run(["check", "--rules", rules, "--"]))
 
 
 def many_rules(count):

@@ -1,15 +1,9 @@
 //! `pollrelay`: a relay of TCP and Unix-socket connections; it also runs trace scripts of the lock word.
 #![tactic(auto)]
 
-mod fault;
-mod job;
-mod status;
-
-use crate::fault::{Fault, NO_MEMORY};
-use crate::job::{Job, job_of};
-use crate::status::trace_status;
 use relay::{Loops, serve, text_of};
 use relay_admin::check_status;
+use relay_command::{Fault, Job, NO_MEMORY, job_of, trace_status};
 use relay_ledger::PARTS;
 use std::alloc::Global;
 use std::fs::Files;
@@ -89,6 +83,3 @@ fn main(rt: HostRuntime) -> ExitCode {
         Err(_) => told(&rt, NO_MEMORY),
     }
 }
-
-#[cfg(test)]
-mod tests;

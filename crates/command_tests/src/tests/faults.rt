@@ -1,0 +1,38 @@
+//! Each fault's line and status.
+
+use arrayvec::ArrayString;
+use relay::ServeFault;
+use relay_command::{Fault, NO_MEMORY};
+use std::alloc::Global;
+use std::prelude::HostRuntime;
+
+/// Whether a fault has this line and this status.
+fn is_told(alloc: Global, fault: Fault, line: &str, status: u8) -> bool {
+    let text = format!(in alloc; "{fault}");
+    text.is_ok_and(|text| text.as_str() == line) && fault.status() == status
+}
+
+fn is_listening_told(alloc: Global, name: &str, line: &str, status: u8) -> bool {
+    match ArrayString::from(name) {
+        Ok(name) => is_told(alloc, Fault::Relay(ServeFault::Listen(name)), line, status),
+        Err(_) => false,
+    }
+}
+
+#[test]
+fn each_fault_has_its_line_and_status(rt: HostRuntime) {
+    for (fault, line, status) in [
+        (Fault::BadCommandLine, "bad command line", 2),
+        (Fault::TraceRead, "trace fault: read", 3),
+        (Fault::TraceWrite, "trace fault: write", 3),
+        (Fault::TraceMemory, "trace fault: memory", 3),
+        (Fault::Relay(ServeFault::RulesFile), "cannot read rules", 3),
+        (Fault::Relay(ServeFault::Admin), "cannot listen admin", 3),
+        (Fault::Relay(ServeFault::Device), "relay fault: device", 3),
+        (NO_MEMORY, "relay fault: memory", 3),
+    ] {
+        assert!(&rt; is_told(rt.alloc(), fault, line, status), "{line}");
+    }
+    let is_told = is_listening_told(rt.alloc(), "web-1", "cannot listen web-1", 3);
+    assert!(&rt; is_told, "cannot listen web-1");
+}

@@ -1,0 +1,116 @@
+-- What the words of the command line ask for.
+use Rattle.std.specs.Prelude.{ℕ, Bool, true, false, List, [], ◌∷◌, Option, Some, None, codes, if◌then◌else◌}
+use Rattle.std.specs.Prelude.{◌-◌, length, option_map, slice_get, take, unwrap_or}
+use Rattle.std.specs.Option.{option_and_then, option_map_or}
+use Rattle.std.specs.List.{list_any}
+use Rattle.std.specs.Str.{bytes_eq}
+use Rattle.std.specs.String.{string_bytes}
+use Rattle.clap.specs.Walk.{Row, Rule, Text, first_of}
+use Rattle.clap.specs.Simple.{App, new_app, new_rule, subcommand_of, with_rule, with_subcommand}
+use Rattle.clap.specs.Faults.{fault_of}
+use Rattle.clap.specs.Kinds.{Kinds}
+use Rattle.clap.specs.declared.builder.action.ArgAction.TheVariants.{Set}
+use Rattle.stream_base.specs.Decimal.{number_of}
+use Rattle.relay.specs.Loops.{loop_count}
+use Rattle.relay_command.specs.declared.job.Job.{Job}
+use Rattle.relay_command.specs.declared.job.Job.TheVariants as job
+
+-- a job with its texts, and how many loops a relay is asked for
+pub data Asked : Type 0 where
+  Trace : Asked
+  Check : (rules : Text) → Asked
+  Serve : (rules admin : Text) → (loops : Option ℕ) → Asked
+
+abbrev pub asked_of : Job → Asked
+asked_of job.Trace = Trace
+asked_of (job.Check rules) = Check (string_bytes rules)
+asked_of (job.Serve rules admin loops) =
+    Serve (string_bytes rules) (string_bytes admin) (option_map (λ l. l.count) loops)
+
+-- an option that has to be there, with one value
+abbrev pub required_option : Text → Rule
+required_option name =
+    record (new_rule name) { long = Some name; action = Some Set; required = true }
+
+-- an option that may be left out, with one value
+abbrev pub optional_option : Text → Rule
+optional_option name = record (new_rule name) { long = Some name; action = Some Set }
+
+abbrev pub check_app : App
+check_app = with_rule (new_app (codes "check")) (required_option (codes "rules"))
+
+abbrev pub serve_app : App
+serve_app =
+    with_rule
+    (with_rule (with_rule (new_app (codes "serve")) (required_option (codes "rules")))
+    (required_option (codes "admin")))
+    (optional_option (codes "loops"))
+
+-- the program as `clap` sees it: three commands, and no name ahead of the words
+abbrev pub program : App
+program =
+    let bare = new_app (codes "pollrelay") in
+    let named = record bare { top = record bare.top { no_binary_name = true } } in
+    with_subcommand
+    (with_subcommand (with_subcommand named (new_app (codes "trace")).top) check_app.top)
+    serve_app.top
+
+-- the value of an option
+abbrev pub value_of : Text → List Row → Text
+value_of id rows = unwrap_or (first_of id rows) []
+
+-- the loops that a text asks for, if it spells a number of them
+abbrev pub loops_in : Text → Option ℕ
+loops_in text = option_and_then loop_count (number_of text)
+
+-- the loops that an option asks for, which may be left out; none where its text asks for none
+abbrev pub loops_given : Option Text → Option (Option ℕ)
+loops_given None = Some None
+loops_given (Some text) = option_map Some (loops_in text)
+
+-- the job of `serve` with its options, or none
+abbrev pub served_job : List Row → Option Asked
+served_job rows =
+    option_map (Serve (value_of (codes "rules") rows) (value_of (codes "admin") rows))
+    (loops_given (first_of (codes "loops") rows))
+
+-- the job of a command with its options, or none
+abbrev pub named_job : Text → List Row → Option Asked
+named_job name rows =
+    if bytes_eq name (codes "trace") then Some Trace
+    else if bytes_eq name (codes "check") then Some (Check (value_of (codes "rules") rows))
+    else if bytes_eq name (codes "serve") then served_job rows
+    else None
+
+-- the job of what a command line holds: no command stands for `trace`
+abbrev pub found_job : Option (Text × List Row) → Option Asked
+found_job None = Some Trace
+found_job (Some p) = named_job p.0 p.1
+
+-- a command line with a fault asks for nothing
+abbrev pub unless_faulty : Kinds → Option Asked → Option Asked
+unless_faulty [] asked = asked
+unless_faulty (fault ∷ others) asked = None
+
+-- the word that ends the options
+abbrev pub is_end : Text → Bool
+is_end word = bytes_eq word (codes "--")
+
+-- the words without a `--` at their end
+abbrev pub options_of : List Text → List Text
+options_of words =
+    let last = length words - 1 in
+    if option_map_or is_end (slice_get words last) false then take last words else words
+
+-- a word follows the end of the options: an operand
+abbrev pub has_operand : List Text → Bool
+has_operand words = list_any is_end (options_of words)
+
+-- the job of words among which no `--` is: those of a command line without a fault
+abbrev pub job_of_options : List Text → Option Asked
+job_of_options options =
+    unless_faulty (fault_of program options) (found_job (subcommand_of program options))
+
+-- the job that words ask for; no command has an operand
+abbrev pub job_asked : List Text → Option Asked
+job_asked words = if has_operand words then None else job_of_options (options_of words)

@@ -1,0 +1,52 @@
+//! What the program says on standard error, and its exit status for it.
+
+ghost use Rattle.std.specs.Prelude.{◌≡◌};
+ghost use Rattle.relay_command.specs.ExitStatus.{status_of_fault, fault_of_trace};
+
+use lockword_script::TraceFault;
+use relay::ServeFault;
+use thiserror::Error;
+
+/// Why the program ends without doing its job. The texts are the lines on standard error.
+#[derive(Clone, Copy, Debug, PartialEq, Eq, Drop, Error)]
+pub enum Fault {
+    #[error("bad command line")]
+    BadCommandLine,
+    #[error("trace fault: read")]
+    TraceRead,
+    #[error("trace fault: write")]
+    TraceWrite,
+    #[error("trace fault: memory")]
+    TraceMemory,
+    /// A relay doesn't run, or a rules file can't be read.
+    #[error("{0}")]
+    Relay(ServeFault),
+}
+
+/// Memory was refused while the command line was read.
+pub const NO_MEMORY: Fault = Fault::Relay(ServeFault::Memory);
+
+impl Fault {
+    /// The exit status: 2 for a command line, 3 for a device or memory.
+    pub fn status(self) -> u8
+        ensures { result ≡ status_of_fault self }
+    {
+        match self {
+            Fault::BadCommandLine => 2,
+            Fault::TraceRead | Fault::TraceWrite | Fault::TraceMemory => 3,
+            Fault::Relay(ServeFault::BadRules(_)) => 1,
+            Fault::Relay(_) => 3,
+        }
+    }
+
+    /// The fault of the program that a fault of its trace is.
+    pub fn of_trace(fault: TraceFault) -> Fault
+        ensures { result ≡ fault_of_trace fault }
+    {
+        match fault {
+            TraceFault::Read => Fault::TraceRead,
+            TraceFault::Write => Fault::TraceWrite,
+            TraceFault::OutOfMemory => Fault::TraceMemory,
+        }
+    }
+}
