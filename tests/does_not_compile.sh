@@ -1,6 +1,6 @@
 #!/bin/sh
-# Uses of the lock word's values that the compiler refuses. Each line below that ends in `// refused: CODE` has to be
-# refused with that code, and no other line with any. It proves nothing and takes about half a minute.
+# Uses of the lock word's values, and of calls under way, that the compiler refuses. Each line below that ends in
+# `// refused: CODE` has to be refused with that code, and no other line with any. It proves nothing and takes about a minute.
 set -eu
 root=$(cd "$(dirname "$0")/.." && pwd)
 work=$(mktemp -d)
@@ -8,12 +8,13 @@ trap 'rm -rf "$work"' EXIT
 mkdir -p "$work/crates/misuse/src" "$work/crates/misuse/specs" "$work/crates/misuse/proofs"
 touch "$work/crates/misuse/specs/Lib.antt" "$work/crates/misuse/proofs/Lib.antt"
 cp "$root/HANDLES" "$work/"
-for crate in stream_base lockword_core lockword; do
+below='stream_base lockword_core lockword fdmutex deadline_core rwloops fd_descriptor'
+for crate in $below; do
     (cd "$root/crates" && tar --exclude=out --exclude=must-fail --exclude=wrong-bodies -cf - "$crate") | tar -C "$work/crates" -xf -
 done
 {
-    grep -E '^(stream_base|lockword_core|lockword)[ :]' "$root/crates.txt"
-    echo 'misuse: stream_base lockword'
+    grep -E "^($(echo "$below" | tr ' ' '|'))[ :]" "$root/crates.txt"
+    echo 'misuse: stream_base lockword rwloops fd_descriptor'
 } > "$work/crates.txt"
 cd "$work/crates/misuse"
 
@@ -114,6 +115,57 @@ use std::sync::Mutex;
 
 pub fn try_with_a_mutex_around_the_state(state: &Mutex<u64>) -> u64 {
     *state.lock() // refused: mismatched-argument-count
+}
+END
+
+refuses 'a call under way after its end' << 'END'
+//! A call under way goes into its end, which gives the handle back; while it is under way the handle is gone, and the half
+//! stays under its lock.
+#![tactic(auto)]
+
+use fd_descriptor::{Fault, FdHandle, Progress, ReadUnderWay, Resource, TryRead, TryWrite, WriteUnderWay};
+use std::sync::Wait;
+
+pub fn try_after_the_end<X: Resource, T: Wait + Copy>(
+    mut reading: ReadUnderWay<X, T>,
+    buf: &mut [u8],
+) -> (FdHandle<X>, Option<Result<usize, Fault>>)
+where
+    X::R: TryRead,
+{
+    let handle = reading.end();
+    let answer = reading.try_read(buf); // refused: borrow-e0382
+    (handle, answer)
+}
+
+pub fn try_after_it_was_let_go<X: Resource, T: Wait + Copy>(
+    mut writing: WriteUnderWay<X, T>,
+    bytes: &[u8],
+) -> Progress
+where
+    X::W: TryWrite,
+{
+    drop(writing);
+    writing.try_write(bytes) // refused: borrow-e0382
+}
+
+pub fn ended_twice<X: Resource, T: Wait + Copy>(reading: ReadUnderWay<X, T>) -> (FdHandle<X>, FdHandle<X>) {
+    let first = reading.end();
+    let second = reading.end(); // refused: borrow-e0382
+    (first, second)
+}
+
+pub fn handle_while_its_call_is_under_way<X: Resource, T: Wait + Copy>(
+    rt: T,
+    mut handle: FdHandle<X>,
+    buf: &mut [u8],
+) -> Result<usize, Fault>
+where
+    X::R: TryRead,
+{
+    let begun = handle.begin_read(rt);
+    drop(begun);
+    handle.read(&rt, buf) // refused: borrow-e0382
 }
 END
 

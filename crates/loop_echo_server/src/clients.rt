@@ -1,7 +1,7 @@
 //! What clients hear that say something. They know nothing of the server's crates: they have readers and
 //! writers of the standard library.
 
-ghost use Rattle.std.specs.Prelude.{◌≡◌};
+ghost use Rattle.std.specs.Prelude.{◌≡◌, ◌≤◌};
 ghost use Rattle.std.specs.Io.KnownBytes.{Consumes, IsAtEnd};
 ghost use Rattle.loop_echo_server.specs.declared.clients.Seen.{Seen};
 
@@ -24,12 +24,13 @@ pub enum Seen {
 }
 
 /// How many clients heard what.
-#[derive(Clone, Copy, Debug, PartialEq, Eq, Default, Drop)]
+#[derive(Clone, Copy, Debug, PartialEq, Eq, Drop)]
 pub struct Heard {
     /// Their own words.
     pub own: u32,
     /// Their own words, and then the end.
     pub end: u32,
+    ghost fewer: { end ≤ own },
 }
 
 /// The words of the client with this number, which no other client says.
@@ -67,15 +68,20 @@ fn says<N: Net>(net: &N, addr: SocketAddr, client: u32) -> Option<N::Stream> {
 }
 
 impl Heard {
+    // Nobody was heard yet.
+    fn none() -> Heard {
+        Heard { own: 0, end: 0 }
+    }
+
     fn with(self, seen: Seen) -> Heard {
-        let mut heard = self;
-        if seen != Seen::NoEcho {
-            heard.own = heard.own.saturating_add(1);
+        let own = self.own.saturating_add((seen != Seen::NoEcho) as u32);
+        match seen {
+            Seen::EchoAndEnd => Heard {
+                own,
+                end: self.end.saturating_add(1),
+            },
+            _ => Heard { own, end: self.end },
         }
-        if seen == Seen::EchoAndEnd {
-            heard.end = heard.end.saturating_add(1);
-        }
-        heard
     }
 }
 
@@ -89,7 +95,7 @@ pub fn play<N: Net>(net: &N, alloc: Global, port: u16, clients: u32) -> Heard {
             let _ = streams.push((client, stream));
         }
     }
-    let mut heard = Heard::default();
+    let mut heard = Heard::none();
     for (client, stream) in streams {
         let mut stream = stream;
         heard = heard.with(hear(&mut stream, &words_of(client)));

@@ -1,9 +1,10 @@
 //! A server: an event loop with a task for the listener and one for each client.
 
-ghost use Rattle.std.specs.Prelude.{◌≡◌, IfSome, IfErr};
+ghost use Rattle.std.specs.Prelude.{◌≡◌, IfSome, IfOk, IfErr};
+ghost use Rattle.std.specs.Arc.{arc_value};
 ghost use Rattle.rwloops.specs.declared.fault.Fault.{Fault};
 ghost use Rattle.rwloops.specs.declared.outcome.DevKind.{DevKind};
-ghost use Rattle.loop_echo_server.specs.Server.{idle_of};
+ghost use Rattle.loop_echo_server.specs.Server.{idle_of, door_behind};
 
 use crate::task::{Accepted, Client, Listener, MOST_AT_ONCE};
 use fd_descriptor::{Alarms, Dirs, Fault, OutOfMemory, PollCell};
@@ -147,7 +148,9 @@ impl<R: Wait + Net + Files + Clock + Copy + Drop> Server<R> {
     }
 
     /// By which others wake the loop.
-    pub fn door(&self) -> Result<Arc<Door>, OutOfMemory> {
+    pub fn door(&self) -> Result<Arc<Door>, OutOfMemory>
+        ensures own { IfOk result (λ door. arc_value door ≡ door_behind self.now) }
+    {
         self.tasks.door()
     }
 

@@ -1,5 +1,14 @@
 //! The tasks of a server: its listener, and its clients.
 
+ghost use Rattle.std.specs.Prelude.{◌≡◌, true, Err, IfSome};
+ghost use Rattle.fd_descriptor.specs.Entry.{IsEntry};
+ghost use Rattle.fd_descriptor.specs.FdHandle.{saw_closed};
+ghost use Rattle.fd_descriptor.specs.HandleCalls.{SetsDeadline};
+ghost use Rattle.fd_descriptor.specs.UnderWay.{IsBegunWith};
+ghost use Rattle.readiness.specs.declared.tasks.Turn.{Turn};
+ghost use Rattle.rwloops.specs.declared.fault.Fault.{Fault};
+ghost use Rattle.loop_echo_server.specs.Task.{accepted_of, kept_bytes};
+
 use fd_descriptor::{Deadline, Fault, FdHandle, PollCell, Progress, ReadUnderWay, WriteUnderWay};
 use readiness::{DoorAlarms, ListenRes, Sock, SockRes, Turn};
 use std::alloc::Global;
@@ -27,20 +36,31 @@ pub enum Accepted {
     Refused,
 }
 
+impl Accepted {
+    // What came of an accept that was tried.
+    fn of(tried: Option<Result<Sock, Fault>>) -> Accepted
+        ensures { result ≡ accepted_of tried }
+    {
+        match tried {
+            None => Accepted::Nobody,
+            Some(Ok(sock)) => Accepted::Took(sock),
+            Some(Err(_)) => Accepted::Refused,
+        }
+    }
+}
+
 impl<R: Wait + Copy + Drop> Listener<R> {
-    /// Begins to accept.
-    pub fn begin(rt: R, handle: FdHandle<ListenRes>) -> Option<Listener<R>> {
+    /// Begins to accept: the first that it takes is the first who comes.
+    pub fn begin(rt: R, handle: FdHandle<ListenRes>) -> Option<Listener<R>>
+        ensures begun { IfSome result (λ listener. IsBegunWith handle listener.accepting) }
+    {
         let accepting = handle.begin_read(rt).ok()?;
         Some(Listener { accepting })
     }
 
     /// Accepts a connection, if one waits.
     pub fn accept(&mut self) -> Accepted {
-        match self.accepting.try_accept() {
-            None => Accepted::Nobody,
-            Some(Ok(sock)) => Accepted::Took(sock),
-            Some(Err(_)) => Accepted::Refused,
-        }
+        Accepted::of(self.accepting.try_accept())
     }
 }
 
@@ -67,7 +87,9 @@ enum Given {
 
 impl<R: Wait + Copy + Drop> Client<R> {
     /// Begins to read and to write.
-    pub fn begin(rt: R, alloc: Global, handle: FdHandle<SockRes>) -> Option<Client<R>> {
+    pub fn begin(rt: R, alloc: Global, handle: FdHandle<SockRes>) -> Option<Client<R>>
+        ensures nothing { IfSome result (λ client. kept_bytes client ≡ 0) }
+    {
         let mut handle = handle;
         let buf = vec![in alloc; 0u8; BUFFER_BYTES].ok()?;
         let cell = handle.cell().ok()?;
@@ -91,7 +113,9 @@ impl<R: Wait + Copy + Drop> Client<R> {
         until: u64,
         now: u64,
         alarms: &DoorAlarms<R>,
-    ) -> Result<(), Fault> {
+    ) -> Result<(), Fault>
+        ensures entry { IsEntry SetsDeadline self.old.handle self.new.handle result }
+    {
         self.handle
             .set_deadline(rt, Deadline::At(until), now, alarms)
     }
@@ -116,9 +140,11 @@ impl<R: Wait + Copy + Drop> Client<R> {
 
     /// Gives back what comes, as far as it doesn't wait, but only so much at once that others have their
     /// turn. It says what came of it, and whether anything was read.
-    pub fn echo(&mut self) -> (Turn, bool) {
+    pub fn echo(&mut self) -> (Turn, bool)
+        ensures gave_way { result.0 ≡ Turn.Again → result.1 ≡ true }
+    {
         let mut has_read = false;
-        for _ in 0..MOST_AT_ONCE {
+        for _round in 0..MOST_AT_ONCE {
             match self.give_back() {
                 Given::All => {}
                 Given::Waits => return (Turn::Waits, has_read),
@@ -138,7 +164,9 @@ impl<R: Wait + Copy + Drop> Client<R> {
     }
 
     /// Ends the calls that are under way, and then closes, so that the close waits for nobody.
-    pub fn close(self, rt: &R) -> Result<(), Fault> {
+    pub fn close(self, rt: &R) -> Result<(), Fault>
+        ensures closed { saw_closed self.handle ≡ true → result ≡ Err Fault.Closed }
+    {
         let Client {
             handle,
             reading,

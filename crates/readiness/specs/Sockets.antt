@@ -38,3 +38,7 @@ module _ {A : Type 0} where
   -- what the connection came to, where a shut has to tell it
   abbrev pub failure_of : WriteHalf A → Option DevKind
   failure_of half = half.failed
+
+  -- a write has shown that the half's connection is made
+  abbrev pub known_made : WriteHalf A → Bool
+  known_made half = half.made

@@ -17,7 +17,7 @@
 //! loop has waited, before the program looks: what was there before that is seen by this look, and what
 //! comes later sets it again. All accesses of both flags are `SeqCst`.
 
-ghost use Rattle.std.specs.Prelude.{◌≡◌, IfOk};
+ghost use Rattle.std.specs.Prelude.{◌≡◌, true, IfOk};
 ghost use Rattle.std.specs.Arc.{arc_value};
 ghost use Rattle.readiness.specs.EventLoop.{door_of, waker_behind};
 
@@ -86,7 +86,9 @@ impl<A: Allocator> Door<A> {
     }
 
     /// How long the loop may sleep now, which is about to unless a task gave way.
-    pub(crate) fn may_sleep<R: Wait>(&self, rt: &R, now: u64, gave_way: bool) -> u64 {
+    pub(crate) fn may_sleep<R: Wait>(&self, rt: &R, now: u64, gave_way: bool) -> u64
+        ensures awake { gave_way ≡ true → result ≡ 0 }
+    {
         self.sleeps.store(true, Ordering::SeqCst);
         let is_woken = self.woken.load(Ordering::SeqCst);
         let is_told = !self.told.lock(rt).is_empty();

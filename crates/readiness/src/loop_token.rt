@@ -9,7 +9,7 @@
 //! The serial above, 140,737,488,355,327, is never given, so the greatest `u64`, which is the waker's,
 //! is no token.
 
-ghost use Rattle.std.specs.Prelude.{◌≡◌, ◌<◌, ◌≤◌};
+ghost use Rattle.std.specs.Prelude.{◌≡◌, ◌<◌, ◌≤◌, ◌+◌, ◌^◌, ℕ};
 ghost use Rattle.readiness.specs.LoopToken.{token_of, place_in, serial_in, side_in, place_at};
 
 /// How many places a loop has at most.
@@ -52,6 +52,15 @@ pub(crate) fn place_for(place: usize, serial: u64) -> Place
         first,
         second: first + 1,
     }
+}
+
+/// The token of a poller's waker, which no side of a place has.
+pub(crate) fn waker_token() -> u64
+    ensures greatest { result + 1 ≡ 2 ^ 64 }
+    ensures unused { (place serial : ℕ) → place < 65536 → serial ≤ 140737488355326
+        → (place_at place serial).second < result }
+{
+    u64::MAX
 }
 
 /// The number of the place in a token.

@@ -11,6 +11,7 @@ ghost use Rattle.readiness.specs.Poller.{waker_of};
 
 use crate::batch::{Ev, batch_of};
 use crate::heard::Heard;
+use crate::loop_token::waker_token;
 use crate::poll_timeout::{MAX_WAIT_MS, wait_ms};
 use crate::sock::{Listen, Sock};
 use conntable::ConnTable;
@@ -99,7 +100,7 @@ impl<A: Allocator> Poller<A> {
         let Ok(heard) = Heard::new(alloc) else {
             return Err(Fault::OutOfMemory);
         };
-        let Ok(waker) = Waker::new(poll.registry(), Token(usize::MAX)) else {
+        let Ok(waker) = Waker::new(poll.registry(), Token(waker_token() as usize)) else {
             return Err(DEVICE);
         };
         let Ok(waker) = Arc::new(alloc, waker) else {

@@ -1,14 +1,16 @@
 //! The halves of sockets, and what a descriptor makes of them. A socket is closed when its last half
 //! is dropped.
 
-ghost use Rattle.std.specs.Prelude.{◌≡◌, Ok, None, IfOk};
-ghost use Rattle.readiness.specs.Sockets.{read_from, written_to, failure_of};
+ghost use Rattle.std.specs.Prelude.{◌≡◌, ◌<◌, Ok, None, IfOk, true, false, length};
+ghost use Rattle.readiness.specs.Sockets.{read_from, written_to, failure_of, known_made};
+ghost use Rattle.rwloops.specs.Outcome.{IsCountWithin, count_in};
 
 use crate::sock::{Listen, Sock};
 use crate::system_error::{accepted_of, kind_of, outcome_of};
 use fd_descriptor::{HalfClose, Resource};
 use rwloops::{AcceptOutcome, DevKind, Outcome, TryAccept, TryRead, TryWrite};
 use std::alloc::{Allocator, Global};
+use std::io;
 use std::io::{Read, Write};
 use std::net::Shutdown;
 use std::sync::Arc;
@@ -26,6 +28,8 @@ pub struct WriteHalf<A: Allocator = Global> {
     sock: Arc<Sock, A>,
     // What the connection came to, where it was learnt before the half was shut.
     failed: Option<DevKind>,
+    // Whether a write has shown that the connection is made. It is never unset.
+    made: bool,
 }
 
 impl Sock {
@@ -34,6 +38,7 @@ impl Sock {
         ensures read { IfOk result (λ halves. read_from halves.0 ≡ self) }
         ensures written { IfOk result (λ halves. written_to halves.1 ≡ self) }
         ensures unfailed { IfOk result (λ halves. failure_of halves.1 ≡ None) }
+        ensures unmade { IfOk result (λ halves. known_made halves.1 ≡ false) }
     {
         let sock = Arc::new(alloc, self)?;
         let other = Arc::try_clone(&sock)?;
@@ -42,6 +47,7 @@ impl Sock {
             WriteHalf {
                 sock: other,
                 failed: None,
+                made: false,
             },
         ))
     }
@@ -69,8 +75,12 @@ impl<A: Allocator> TryRead for ReadHalf<A> {
 impl<A: Allocator> TryWrite for WriteHalf<A> {
     ghost tells = { λ _ _. ⊥ };
 
-    fn try_write(&mut self, bytes: &[u8]) -> Outcome {
-        outcome_of(match &*self.sock {
+    fn try_write(&mut self, bytes: &[u8]) -> Outcome
+        ensures within { IsCountWithin (length bytes.now) result }
+        ensures made { 0 < count_in result → known_made self.new ≡ true }
+        ensures kept { count_in result ≡ 0 → known_made self.new ≡ known_made self.old }
+    {
+        let outcome = outcome_of(match &*self.sock {
             Sock::Tcp(stream) => {
                 let mut writer = stream;
                 writer.write(bytes)
@@ -79,15 +89,22 @@ impl<A: Allocator> TryWrite for WriteHalf<A> {
                 let mut writer = stream;
                 writer.write(bytes)
             }
-        })
+        });
+        if let Outcome::Count(1..) = outcome {
+            self.made = true;
+        }
+        outcome
     }
 }
 
 impl<A: Allocator> HalfClose for WriteHalf<A> {
     // A socket without a peer is being connected, or was and failed. A write of no byte would block
-    // in the one state, and in the other it takes the system's error, which `shut` tells.
-    fn is_connecting(&mut self) -> bool {
-        if self.sock.is_connected() {
+    // in the one state, and in the other it takes the system's error, which `shut` tells. One that
+    // took a byte had a peer, so the system isn't asked.
+    fn is_connecting(&mut self) -> bool
+        ensures made { known_made self.old ≡ true → result ≡ false }
+    {
+        if self.made || self.sock.is_connected() {
             return false;
         }
         match self.try_write(&[]) {
@@ -110,7 +127,18 @@ impl<A: Allocator> HalfClose for WriteHalf<A> {
         };
         match done {
             Ok(()) => Ok(()),
-            Err(error) => Err(kind_of(&error)),
+            Err(error) => Err(self.end_of(&error)),
+        }
+    }
+}
+
+impl<A: Allocator> WriteHalf<A> {
+    // What a connection came to that can't be shut, with this error: the system's own error of it,
+    // where it has one still.
+    fn end_of(&mut self, error: &io::Error) -> DevKind {
+        match self.try_write(&[]) {
+            Outcome::Broken(kind) => kind,
+            _ => kind_of(error),
         }
     }
 }

@@ -25,6 +25,7 @@ mod loop_threads;
 mod loops;
 mod many_clients;
 mod memory;
+mod moments;
 mod open_files;
 mod paths;
 mod waiting;

@@ -1,4 +1,6 @@
 pub mod Addr
+pub mod Connection
+pub mod Deadlines
 pub mod Desk
 pub mod Loops
 pub mod Output

@@ -1,7 +1,8 @@
 //! Accepting by a rule, as a task of the main thread's loop: it goes on when its listener may be ready,
 //! and delivers to the loops.
 
-ghost use Rattle.std.specs.Prelude.{⊤};
+ghost use Rattle.std.specs.Prelude.{◌≡◌, ⊤, true, false, None};
+ghost use Rattle.relay.specs.Connection.{turn_of};
 
 use crate::clock::Moments;
 use crate::closing::Closer;
@@ -9,12 +10,10 @@ use crate::shared::{Accepted, Shared};
 use deadline_core::Dirs;
 use fd_descriptor::{Alarms, FdHandle, PollCell, ReadUnderWay};
 use readiness::{DoorAlarms, Host, ListenRes, Place, Side, Sock, Turn, Why};
-use relay_core::{AcceptEnded, AcceptStep, Accepting, PollAcceptGate};
+use relay_core::{AcceptEnded, AcceptStep, Accepting, PollAcceptGate, has_come, pause_end};
 use rwloops::Fault;
 use std::sync::ledger::Ledger;
 use std::sync::{Arc, Wait};
-
-const NANOS_PER_MS: u64 = 1_000_000;
 
 /// A rule's listener, as its task has it. The handle isn't there exactly while an accept is under way.
 #[derive(Drop)]
@@ -96,6 +95,17 @@ impl<'a, U: Ledger, D: Ledger, R: Wait + Copy> PollAcceptGate for RuleGate<'a, U
     }
 }
 
+// What the loop does with an accept task after this step.
+fn turn_after(step: &AcceptStep) -> Turn
+    ensures { result ≡ turn_of step.now }
+{
+    match step {
+        AcceptStep::Waits | AcceptStep::Pauses(_) => Turn::Waits,
+        AcceptStep::Again => Turn::Again,
+        AcceptStep::Ended(_) => Turn::Over,
+    }
+}
+
 // Has a task accept by its rule.
 fn accept_on<'a, U: Ledger, D: Ledger, R: Wait + Copy>(
     rt: R,
@@ -136,8 +146,7 @@ pub(crate) struct AcceptHost<U: Ledger, D: Ledger, R: Wait + Copy, C: Moments> {
 impl<U: Ledger, D: Ledger, R: Wait + Copy, C: Moments> AcceptHost<U, D, R, C> {
     // Has a task pause: its timer has the second token of its place, which no descriptor has.
     fn pause(&mut self, task: &mut RuleTask<R>, ms: u64) {
-        let now = self.clock.now();
-        let until = now.saturating_add(ms.saturating_mul(NANOS_PER_MS));
+        let until = pause_end(self.clock.now(), ms);
         task.paused_until = Some(until);
         let armed = match Arc::try_clone(&self.shared.main) {
             Ok(door) => {
@@ -152,25 +161,29 @@ impl<U: Ledger, D: Ledger, R: Wait + Copy, C: Moments> AcceptHost<U, D, R, C> {
     }
 
     // Whether a task is in its pause still.
-    fn is_paused(&self, task: &mut RuleTask<R>) -> bool {
-        match task.paused_until {
-            Some(until) if self.clock.now() < until => true,
-            _ => {
-                task.paused_until = None;
-                false
-            }
+    fn is_paused(&self, task: &mut RuleTask<R>) -> bool
+        ensures over { result ≡ false → task.new.paused_until ≡ None }
+        ensures kept { result ≡ true → task.new ≡ task.old }
+        ensures pauses { task.old.paused_until ≡ None → result ≡ false }
+    {
+        if task.paused_until.is_some() && !has_come(task.paused_until, self.clock.now()) {
+            return true;
         }
+        task.paused_until = None;
+        false
     }
 
     /// Whether a pause is over whose alarm couldn't be armed.
-    pub(crate) fn takes_unarmed(&mut self) -> bool {
-        match self.unarmed {
-            Some(until) if self.clock.now() >= until => {
-                self.unarmed = None;
-                true
-            }
-            _ => false,
+    pub(crate) fn takes_unarmed(&mut self) -> bool
+        ensures taken { result ≡ true → self.new.unarmed ≡ None }
+        ensures kept { result ≡ false → self.new.unarmed ≡ self.old.unarmed }
+        ensures none { self.old.unarmed ≡ None → result ≡ false }
+    {
+        if !has_come(self.unarmed, self.clock.now()) {
+            return false;
         }
+        self.unarmed = None;
+        true
     }
 }
 
@@ -202,17 +215,11 @@ where
             &mut task.accepting,
         );
         match step {
-            AcceptStep::Waits => Turn::Waits,
-            AcceptStep::Again => Turn::Again,
-            AcceptStep::Pauses(ms) => {
-                self.pause(task, ms);
-                Turn::Waits
-            }
-            AcceptStep::Ended(ended) => {
-                self.end(&task.listener, ended);
-                Turn::Over
-            }
+            AcceptStep::Pauses(ms) => self.pause(task, ms),
+            AcceptStep::Ended(ended) => self.end(&task.listener, ended),
+            AcceptStep::Waits | AcceptStep::Again => {}
         }
+        turn_after(&step)
     }
 
     fn over(&mut self, task: RuleTask<R>) {
@@ -224,7 +231,7 @@ impl<U: Ledger, D: Ledger, R: Wait + Copy, C: Moments> AcceptHost<U, D, R, C> {
     // A drained listener is closed: else its clients would wait in the system's queue, and nobody would
     // come for them.
     fn end(&self, listener: &RuleListener<R>, ended: AcceptEnded) {
-        if ended == AcceptEnded::Draining {
+        if ended.leaves_a_listener_to_close() {
             self.shared.close(&self.rt, listener.id, Closer::ItsLoop);
         }
     }

@@ -3,7 +3,9 @@
 
 ghost use Rattle.std.specs.Prelude.{◌≡◌};
 ghost use Rattle.std.specs.Result.{result_ok};
-ghost use Rattle.relay.specs.Session.{told_to_session};
+ghost use Rattle.relay_core.specs.AcceptTrace.{IsAccepting};
+ghost use Rattle.relay_core.specs.declared.accepting.AcceptEnded.{AcceptEnded};
+ghost use Rattle.relay.specs.Session.{told_of_read, told_to_session};
 
 use crate::clock::Moments;
 use crate::desk::RelayDesk;
@@ -12,7 +14,7 @@ use deadline_core::Refusal;
 use fd_descriptor::HalfClose;
 use readiness::{Listen, Poller, ReadHalf, Sock, WriteHalf};
 use relay_admin::{AdminEnd, serve_admin};
-use relay_core::{AcceptEnded, AcceptGate, accept_worker};
+use relay_core::{AcceptGate, accept_worker};
 use rwloops::{Fault, Waits, WriteFault};
 use std::alloc::Global;
 use std::io;
@@ -69,6 +71,18 @@ impl<U: Ledger, D: Ledger, R: Wait + Copy> Waits for DoorWaits<U, D, R> {
     }
 }
 
+// What a session is told of a read. One that failed isn't the end: the line that it broke off would be
+// carried out.
+fn told_of_read(read: Result<usize, Fault>) -> io::Result<usize>
+    ensures { result_ok result ≡ told_of_read read }
+{
+    match read {
+        Ok(count) => Ok(count),
+        Err(Fault::EndOfFile) => Ok(0),
+        Err(_) => Err(ErrorKind::Other.into()),
+    }
+}
+
 #[derive(Drop)]
 struct SessionReader<U: Ledger, D: Ledger, R: Wait + Copy> {
     half: ReadHalf,
@@ -101,11 +115,7 @@ struct SessionWriter<U: Ledger, D: Ledger, R: Wait + Copy> {
 impl<U: Ledger, D: Ledger, R: Wait + Copy> Read for SessionReader<U, D, R> {
     fn read(&mut self, buf: &mut [u8]) -> io::Result<usize> {
         let rt = self.waits.rt;
-        match rwloops::read(&rt, &mut self.half, buf, &mut self.waits) {
-            Ok(count) => Ok(count),
-            Err(Fault::EndOfFile) => Ok(0),
-            Err(_) => Err(ErrorKind::Other.into()),
-        }
+        told_of_read(rwloops::read(&rt, &mut self.half, buf, &mut self.waits))
     }
 }
 
@@ -191,9 +201,11 @@ where
 
 /// Serves sessions until the relay stops. However many accepts in a row fail, it goes on: without it
 /// nobody could stop the relay.
-pub(crate) fn serve_sessions<G: AcceptGate, R: Wait>(rt: &R, gate: &mut G) {
+pub(crate) fn serve_sessions<G: AcceptGate, R: Wait>(rt: &R, gate: &mut G)
+    ensures { (before : G) × IsAccepting (G.tells before) (G.tells gate.new) AcceptEnded.Closed }
+{
     for _ in rt.forever() {
-        if accept_worker(rt, gate) == AcceptEnded::Closed {
+        if !accept_worker(rt, gate).lets_it_begin_again() {
             return;
         }
     }

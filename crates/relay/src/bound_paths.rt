@@ -1,5 +1,7 @@
 //! The Unix paths that a relay bound.
 
+ghost use Rattle.std.specs.Prelude.{◌≡◌, ◌+◌, ◌-◌, ◌^◌, min, true, false};
+
 use relay_admin::{Addr, Rule};
 use std::fs;
 use std::fs::Files;
@@ -16,7 +18,10 @@ pub(crate) struct BoundPaths<'a> {
 
 impl<'a> BoundPaths<'a> {
     /// Nothing is bound yet, neither of these rules nor this path.
-    pub(crate) fn new(rules: &'a [Rule], admin: &'a str) -> BoundPaths<'a> {
+    pub(crate) fn new(rules: &'a [Rule], admin: &'a str) -> BoundPaths<'a>
+        ensures no_listener { result.listeners ≡ 0 }
+        ensures no_admin { result.admin_is_bound ≡ false }
+    {
         BoundPaths {
             rules,
             admin,
@@ -26,11 +31,17 @@ impl<'a> BoundPaths<'a> {
     }
 
     /// One rule more, in their order, has its listener.
-    pub(crate) fn note_listener(&mut self) {
+    pub(crate) fn note_listener(&mut self)
+        ensures more { self.new.listeners ≡ min (self.old.listeners + 1) (2 ^ 64 - 1) }
+        ensures admin { self.new.admin_is_bound ≡ self.old.admin_is_bound }
+    {
         self.listeners = self.listeners.saturating_add(1);
     }
 
-    pub(crate) fn note_admin(&mut self) {
+    pub(crate) fn note_admin(&mut self)
+        ensures bound { self.new.admin_is_bound ≡ true }
+        ensures listeners { self.new.listeners ≡ self.old.listeners }
+    {
         self.admin_is_bound = true;
     }
 

@@ -1,5 +1,11 @@
 //! A connection: a value that belongs to one loop, from its set-up to its end.
 
+ghost use Rattle.std.specs.Prelude.{◌≡◌, ◌↔◌, true};
+ghost use Rattle.relay_core.specs.PairTasks.{HasToClose, MayGoOn};
+ghost use Rattle.relay_core.specs.declared.pair_tasks.PairNext.{PairNext};
+ghost use Rattle.relay_core.specs.declared.ways.Way.{Way};
+ghost use Rattle.relay.specs.Connection.{GoesOn, side_of_pair};
+
 use crate::clock::RelayClock;
 use crate::closing::Closer;
 use crate::shared::Shared;
@@ -69,6 +75,15 @@ pub(crate) struct ConnSide {
     pub(crate) cell: Arc<PollCell>,
 }
 
+impl ConnSide {
+    pub(crate) fn new(id: u64, cell: Arc<PollCell>) -> ConnSide
+        ensures id { result.id ≡ id }
+        ensures cell { result.cell ≡ cell }
+    {
+        ConnSide { id, cell }
+    }
+}
+
 /// A connection: both its sides, how far its ways are, and the ways.
 #[derive(Drop)]
 pub(crate) struct Connection<U: Ledger, D: Ledger, R: Wait + Clock + Copy> {
@@ -80,7 +95,9 @@ pub(crate) struct Connection<U: Ledger, D: Ledger, R: Wait + Clock + Copy> {
 }
 
 // A side in the words of pairs: the client's has the first token of its place.
-fn pair_side(side: Side) -> relay_core::Side {
+fn pair_side(side: Side) -> relay_core::Side
+    ensures { result ≡ side_of_pair side }
+{
     match side {
         Side::First => relay_core::Side::Client,
         Side::Second => relay_core::Side::Target,
@@ -97,13 +114,16 @@ impl<U: Ledger, D: Ledger, R: Wait + Clock + Copy> Connection<U, D, R> {
     }
 
     // Which ways go on by what its loop heard.
-    fn ways(&self, why: Why) -> Ways {
+    fn ways(&self, why: Why) -> Ways
+        ensures up { result.up ≡ true ↔ GoesOn self.now.tasks why Way.Up }
+        ensures down { result.down ≡ true ↔ GoesOn self.now.tasks why Way.Down }
+    {
         match why {
             Why::Ready { side, read, write } => self.tasks.woken_by(pair_side(side), read, write),
-            Why::Due { side, dir, now: _ } => {
-                self.tasks
-                    .woken_by(pair_side(side), dir == Dir::Read, dir == Dir::Write)
-            }
+            Why::Due { side, dir, now: _ } => match dir {
+                Dir::Read => self.tasks.woken_by(pair_side(side), true, false),
+                Dir::Write => self.tasks.woken_by(pair_side(side), false, true),
+            },
             Why::Told => self.tasks.not_over(),
             Why::Again => self.tasks.ready(),
         }
@@ -116,18 +136,23 @@ impl<U: Ledger, D: Ledger, R: Wait + Clock + Copy> Connection<U, D, R> {
         shared: &Shared<U, D>,
         why: Why,
         buf: &mut [u8; BUFFER_BYTES],
-    ) -> PairNext {
+    ) -> PairNext
+        ensures closes { result ≡ PairNext.Closes ↔ HasToClose self.new.tasks }
+        ensures again { result ≡ PairNext.Again ↔ MayGoOn self.new.tasks }
+        ensures up { (GoesOn self.old.tasks why Way.Up → ⊥) → self.new.tasks.up ≡ self.old.tasks.up }
+        ensures down { (GoesOn self.old.tasks why Way.Down → ⊥)
+            → self.new.tasks.down ≡ self.old.tasks.down }
+    {
         let ways = self.ways(why);
-        let mut next = PairNext::Waits;
         if ways.up {
             let step = self.up.go_on(rt, &shared.up, buf);
-            next = self.tasks.note(Way::Up, &step);
+            self.tasks.note(Way::Up, &step);
         }
-        if ways.down && next != PairNext::Closes {
+        if ways.down && self.tasks.next() != PairNext::Closes {
             let step = self.down.go_on(rt, &shared.down, buf);
-            next = self.tasks.note(Way::Down, &step);
+            self.tasks.note(Way::Down, &step);
         }
-        next
+        self.tasks.next()
     }
 
     /// Ends it. First its calls under way end, so that no close waits for them; then both sides are

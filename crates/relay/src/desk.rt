@@ -1,13 +1,17 @@
 //! What an admin session asks, over the relay's table and books.
 
-ghost use Rattle.std.specs.Prelude.{◌≡◌, None};
+ghost use Rattle.std.specs.Prelude.{◌≡◌, None, IfSome, IfNone};
+ghost use Rattle.relay_admin.specs.declared.admin.desk.DeskAnswer.{DeskAnswer};
+ghost use Rattle.deadline_core.specs.declared.deadline.Dirs.{Dirs};
+ghost use Rattle.relay.specs.Deadlines.{asked_deadline};
 ghost use Rattle.relay.specs.Desk.{desk_answer};
 
 use crate::clock::Moments;
 use crate::closing::Closer;
 use crate::entry::{Handle, Owner};
 use crate::shared::Shared;
-use deadline_core::Deadline;
+use deadline_core::{Deadline, Dirs};
+use fd_descriptor::Setting;
 use relay_admin::{Desk, DeskAnswer};
 use relay_core::idle_deadline;
 use rwloops::Fault;
@@ -35,6 +39,31 @@ fn answer_of(done: Result<(), Fault>) -> DeskAnswer
         Err(Fault::Draining) => DeskAnswer::Draining,
         Err(_) => DeskAnswer::Closed,
     }
+}
+
+// The same of a close by an id, which is unknown where another took its entry out.
+fn answer_of_close(done: Option<Result<(), Fault>>) -> DeskAnswer
+    ensures known { IfSome done (λ answer. result ≡ desk_answer answer) }
+    ensures unknown { IfNone done (result ≡ DeskAnswer.Unknown) }
+{
+    match done {
+        Some(done) => answer_of(done),
+        None => DeskAnswer::Unknown,
+    }
+}
+
+// What a session asks a descriptor for: a deadline in both directions, so many milliseconds from now, or
+// none.
+fn asked_setting(now: u64, after_ms: Option<u32>) -> Setting
+    ensures both { result.dirs ≡ Dirs.Both }
+    ensures deadline { result.deadline ≡ asked_deadline now after_ms }
+    ensures now { result.now ≡ now }
+{
+    let deadline = match after_ms {
+        Some(ms) => Deadline::At(idle_deadline(now, ms)),
+        None => Deadline::Never,
+    };
+    Setting::new(Dirs::Both, deadline, now)
 }
 
 impl<'a, U: Ledger, D: Ledger, R: Wait + Copy, C: Moments> RelayDesk<'a, U, D, R, C> {
@@ -65,12 +94,8 @@ impl<'a, U: Ledger, D: Ledger, R: Wait + Copy, C: Moments> RelayDesk<'a, U, D, R
         let Some(alarms) = owner.alarms(self.rt) else {
             return DeskAnswer::NoMemory;
         };
-        let now = self.clock.now();
-        let deadline = match after_ms {
-            Some(ms) => Deadline::At(idle_deadline(now, ms)),
-            None => Deadline::Never,
-        };
-        let answer = answer_of(handle.set_deadline(&self.rt, deadline, now, &alarms));
+        let setting = asked_setting(self.clock.now(), after_ms);
+        let answer = answer_of(handle.set(&self.rt, &alarms, setting));
         owner.tell(&self.rt);
         answer
     }
@@ -94,10 +119,7 @@ impl<'a, U: Ledger, D: Ledger, R: Wait + Copy, C: Moments> Desk for RelayDesk<'a
     }
 
     fn close(&mut self, id: u64) -> DeskAnswer {
-        match self.shared.close(&self.rt, id, Closer::Another) {
-            Some(done) => answer_of(done),
-            None => DeskAnswer::Unknown,
-        }
+        answer_of_close(self.shared.close(&self.rt, id, Closer::Another))
     }
 
     fn drain(&mut self, id: u64) -> DeskAnswer {

@@ -1,10 +1,13 @@
 //! What stands in the relay's table.
 
-ghost use Rattle.std.specs.Prelude.{⊤};
+ghost use Rattle.std.specs.Prelude.{◌≡◌, ⊤, IfSome, IfOk};
+ghost use Rattle.std.specs.Arc.{arc_value};
+ghost use Rattle.readiness.specs.EventLoop.{door_of};
 
 use crate::closing::{Closer, Closes};
-use deadline_core::{Deadline, Dirs};
-use fd_descriptor::{Alarms, AtEviction, FdHandle, Nobody};
+use crate::setting::set_by;
+use deadline_core::Dirs;
+use fd_descriptor::{Alarms, AtEviction, FdHandle, Nobody, Setting};
 use readiness::{Door, DoorAlarms, ListenRes, SockRes};
 use rwloops::Fault;
 use std::sync::{Arc, Mutex, Wait};
@@ -38,16 +41,15 @@ impl Handle {
         }
     }
 
-    pub(crate) fn set_deadline<R: Wait, A: Alarms>(
+    pub(crate) fn set<R: Wait, A: Alarms>(
         &mut self,
         rt: &R,
-        deadline: Deadline,
-        now: u64,
         alarms: &A,
+        setting: Setting,
     ) -> Result<(), Fault> {
         match self {
-            Handle::Conn(handle) => handle.set_deadline(rt, deadline, now, alarms),
-            Handle::Listener(handle) => handle.set_deadline(rt, deadline, now, alarms),
+            Handle::Conn(handle) => set_by(rt, handle, alarms, setting),
+            Handle::Listener(handle) => set_by(rt, handle, alarms, setting),
         }
     }
 }
@@ -66,14 +68,19 @@ impl Owner {
     }
 
     /// The same once more. It takes no memory.
-    pub(crate) fn again(&self) -> Option<Owner> {
+    pub(crate) fn again(&self) -> Option<Owner>
+        ensures token { IfSome result (λ other. other.token ≡ self.now.token) }
+        ensures door { IfSome result (λ other. arc_value other.door ≡ arc_value self.now.door) }
+    {
         let door = Arc::try_clone(&self.door).ok()?;
         let token = self.token;
         Some(Owner { door, token })
     }
 
     /// Where deadlines ask to be told of their moments. It takes no memory.
-    pub(crate) fn alarms<R: Wait + Copy>(&self, rt: R) -> Option<DoorAlarms<R>> {
+    pub(crate) fn alarms<R: Wait + Copy>(&self, rt: R) -> Option<DoorAlarms<R>>
+        ensures own { IfSome result (λ alarms. door_of alarms ≡ arc_value self.now.door) }
+    {
         let door = Arc::try_clone(&self.door).ok()?;
         Some(DoorAlarms::new(rt, door))
     }
@@ -101,20 +108,19 @@ pub(crate) struct Entry {
 }
 
 impl Entry {
-    pub(crate) fn new(handle: Handle, owner: Owner) -> Entry {
+    pub(crate) fn new(handle: Handle, owner: Owner) -> Entry
+        ensures { result.owner ≡ owner }
+    {
         Entry {
             handle: Mutex::new(handle),
             owner,
         }
     }
 
-    /// Where its deadlines ask to be told of their moments. It takes no memory.
-    pub(crate) fn alarms<R: Wait + Copy>(&self, rt: R) -> Option<DoorAlarms<R>> {
-        self.owner.alarms(rt)
-    }
-
     /// A handle of its own, and whose task is to be told of what is done by it.
-    pub(crate) fn share<R: Wait>(&self, rt: &R) -> Result<(Handle, Owner), Fault> {
+    pub(crate) fn share<R: Wait>(&self, rt: &R) -> Result<(Handle, Owner), Fault>
+        ensures owner { IfOk result (λ shared. shared.1.token ≡ self.now.owner.token) }
+    {
         let Some(owner) = self.owner.again() else {
             return Err(Fault::OutOfMemory);
         };

@@ -2,10 +2,13 @@
 
 ghost use Rattle.std.specs.Prelude.{◌≡◌, ◌+◌, ◌*◌, ◌-◌, ◌^◌, ℕ, min, Some, None, IfSome, IfNone};
 ghost use Rattle.deadline_core.specs.declared.deadline.Deadline.{Deadline};
+ghost use Rattle.relay.specs.Deadlines.{dirs_of};
 
 use crate::clock::Moments;
-use deadline_core::Deadline;
+use deadline_core::{Deadline, Dirs};
+use fd_descriptor::Setting;
 use relay_core::idle_deadline;
+use stream_base::Dir;
 
 /// An idle time in milliseconds, or none, by this clock.
 #[derive(Drop)]
@@ -15,7 +18,9 @@ pub(crate) struct IdleTime<C> {
 }
 
 impl<C: Moments> IdleTime<C> {
-    pub(crate) fn new(clock: C, idle_ms: Option<u32>) -> IdleTime<C> {
+    pub(crate) fn new(clock: C, idle_ms: Option<u32>) -> IdleTime<C>
+        ensures { result.idle_ms ≡ idle_ms }
+    {
         IdleTime { clock, idle_ms }
     }
 
@@ -28,5 +33,20 @@ impl<C: Moments> IdleTime<C> {
         let idle_ms = self.idle_ms?;
         let now = self.clock.now();
         Some((now, Deadline::At(idle_deadline(now, idle_ms))))
+    }
+
+    /// The same as what its descriptor is asked: a deadline for the call's own direction alone.
+    pub(crate) fn next_setting(&self, dir: Dir) -> Option<Setting>
+        ensures none { IfNone result (self.now.idle_ms ≡ None) }
+        ensures own { IfSome result (λ setting. setting.dirs ≡ dirs_of dir) }
+        ensures idle { IfSome result (λ setting. (ms : ℕ) × (self.now.idle_ms ≡ Some ms)
+            × (setting.deadline ≡ Deadline.At (min (setting.now + ms * 1000000) (2 ^ 64 - 1)))) }
+    {
+        let (now, deadline) = self.next_deadline()?;
+        let dirs = match dir {
+            Dir::Read => Dirs::Read,
+            Dir::Write => Dirs::Write,
+        };
+        Some(Setting::new(dirs, deadline, now))
     }
 }

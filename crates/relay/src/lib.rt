@@ -11,6 +11,7 @@
 mod accepting;
 mod admin;
 mod bound_paths;
+mod bounds;
 mod clock;
 mod closing;
 mod connection;
@@ -28,6 +29,7 @@ mod rules_file;
 mod saying;
 mod serving;
 mod set_up;
+mod setting;
 mod shared;
 mod task_gate;
 mod threads;

@@ -1,6 +1,8 @@
 //! The loops: each a thread that resumes the tasks of its connections.
 
-ghost use Rattle.std.specs.Prelude.{◌≡◌, ◌<◌, ◌≤◌, option_map};
+ghost use Rattle.std.specs.Prelude.{◌≡◌, ◌<◌, ◌≤◌, ◌↔◌, option_map};
+ghost use Rattle.readiness.specs.declared.tasks.Turn.{Turn};
+ghost use Rattle.relay_core.specs.PairTasks.{HasToClose, MayGoOn};
 ghost use Rattle.relay.specs.Loops.{loop_count};
 
 use crate::clock::{Moments, RelayClock};
@@ -85,7 +87,10 @@ impl<U: Ledger, D: Ledger, R: Wait + Clock + Copy> Host for LoopHost<U, D, R> {
         Some(task.cell(side))
     }
 
-    fn resume(&mut self, task: &mut Connection<U, D, R>, why: Why) -> Turn {
+    fn resume(&mut self, task: &mut Connection<U, D, R>, why: Why) -> Turn
+        ensures over { result ≡ Turn.Over ↔ HasToClose task.new.tasks }
+        ensures again { result ≡ Turn.Again ↔ MayGoOn task.new.tasks }
+    {
         match task.go_on(&self.rt, &self.shared, why, &mut self.buf) {
             PairNext::Waits => Turn::Waits,
             PairNext::Again => Turn::Again,

@@ -9,6 +9,7 @@ ghost use Rattle.relay.specs.declared.fault.ServeFault.{ServeFault};
 use crate::accepting::AcceptHost;
 use crate::admin::AdminDoor;
 use crate::bound_paths::BoundPaths;
+use crate::bounds::{RelayRuntime, SharedLedger};
 use crate::clock::RelayClock;
 use crate::entry::Entry;
 use crate::fault::ServeFault;
@@ -139,16 +140,9 @@ fn start_and_run<U, D, R, W: Write>(
     writer: &mut W,
 ) -> Result<(), ServeFault>
 where
-    U: Ledger + Send + Sync + 'static,
-    D: Ledger + Send + Sync + 'static,
-    R: Wait
-        + Threads
-        + Net<Listener = TcpListener, Stream = TcpStream>
-        + Clock
-        + Copy
-        + Send
-        + Sync
-        + 'static,
+    U: SharedLedger,
+    D: SharedLedger,
+    R: RelayRuntime,
     ensures said { OnOk result (SaysItListens (W.contents writer.old) (W.contents writer.new)) }
     ensures faults { IfErr result (λ fault. IsRunFault fault) }
 {
@@ -180,16 +174,9 @@ fn run_to_the_end<U, D, R, W: Write>(
     writer: &mut W,
 ) -> Result<(u64, u64), ServeFault>
 where
-    U: Ledger + Send + Sync + 'static,
-    D: Ledger + Send + Sync + 'static,
-    R: Wait
-        + Threads
-        + Net<Listener = TcpListener, Stream = TcpStream>
-        + Clock
-        + Copy
-        + Send
-        + Sync
-        + 'static,
+    U: SharedLedger,
+    D: SharedLedger,
+    R: RelayRuntime,
     ensures said { OnOk result (SaysItListens (W.contents writer.old) (W.contents writer.new)) }
     ensures faults { IfErr result (λ fault. IsRunFault fault) }
 {
@@ -223,17 +210,9 @@ fn relayed<U, D, R, W: Write>(
     writer: &mut W,
 ) -> Result<(u64, u64), ServeFault>
 where
-    U: Ledger + Send + Sync + 'static,
-    D: Ledger + Send + Sync + 'static,
-    R: Wait
-        + Threads
-        + Net<Listener = TcpListener, Stream = TcpStream>
-        + Clock
-        + Files
-        + Copy
-        + Send
-        + Sync
-        + 'static,
+    U: SharedLedger,
+    D: SharedLedger,
+    R: RelayRuntime + Files,
     ensures said { OnOk result (SaysItListens (W.contents writer.old) (W.contents writer.new)) }
     ensures unwritten { IfErr result (λ fault. IsRunFault fault
         ⊎ (W.contents writer.new ≡ W.contents writer.old)) }
@@ -252,6 +231,7 @@ where
 /// `up U down D`, the bytes copied to the targets and to the clients. A fault at the start is the
 /// first of: the rules file can't be read, its rules are bad, the poller, the listeners in the rules'
 /// order, the admin socket. Whatever comes, no thread, no socket and no path that it bound is left.
+// (its bounds are spelt out: a program that calls it over `RelayRuntime` isn't covered by the prover)
 pub fn serve<U, D, R, W: Write>(
     rt: R,
     rules: &String,

@@ -1,6 +1,11 @@
 //! Setting a connection up for an accepted socket.
 
-ghost use Rattle.std.specs.Prelude.{◌≡◌, []};
+ghost use Rattle.std.specs.Prelude.{◌≡◌, [], length, Some, IfSome};
+ghost use Rattle.std.specs.Arc.{arc_value};
+ghost use Rattle.stream_base.specs.declared.direction.Dir.{Dir};
+ghost use Rattle.fd_descriptor.specs.CellKey.{key_of_cell};
+ghost use Rattle.fd_descriptor.specs.FdHandle.{key_of};
+ghost use Rattle.relay_core.specs.declared.pair_tasks.Standing.{Standing};
 
 use crate::clock::RelayClock;
 use crate::closing::Closer;
@@ -21,33 +26,51 @@ use std::sync::{Arc, Mutex, Wait};
 use std::time::Clock;
 use stream_base::Dir;
 
-/// A side that isn't in the table yet: its descriptor, by the handles that each holder gets.
+/// A side that isn't in the table yet: its descriptor, by the handles that each holder gets, and its
+/// alarms, none of which is armed.
 #[derive(Drop)]
-struct NewSide {
+struct NewSide<R: Wait + Copy> {
     cell: Arc<PollCell>,
     reader: FdHandle<SockRes>,
     writer: FdHandle<SockRes>,
+    alarms: DoorAlarms<R>,
     entry: Entry,
 }
 
 // A descriptor of a socket, of which the poller tells under this token, and whose alarms have it.
-fn new_side(alloc: Global, poller: &Poller, sock: Sock, owner: Owner) -> Option<NewSide> {
+fn new_side<R: Wait + Copy>(
+    rt: R,
+    alloc: Global,
+    poller: &Poller,
+    sock: Sock,
+    owner: Owner,
+) -> Option<NewSide<R>>
+    ensures key { IfSome result (λ side. key_of side.reader ≡ owner.token) }
+    ensures writer { IfSome result (λ side. key_of side.writer ≡ owner.token) }
+    ensures cell { IfSome result (λ side. key_of_cell (arc_value side.cell) ≡ owner.token) }
+    ensures owner { IfSome result (λ side. side.entry.owner ≡ owner) }
+{
     let mut reader = poller.open(alloc, sock, owner.token).ok()?;
     let cell = reader.cell().ok()?;
     let writer = reader.share().ok()?;
     let handle = reader.share().ok()?;
+    let alarms = owner.alarms(rt)?;
     let entry = Entry::new(Handle::Conn(handle), owner);
     Some(NewSide {
         cell,
         reader,
         writer,
+        alarms,
         entry,
     })
 }
 
 // A pair of which both reads are under way. Its sides were just registered, so that the poller tells
 // of what is there already.
-fn reading_tasks() -> PairTasks {
+fn reading_tasks() -> PairTasks
+    ensures up { result.up ≡ Standing.Waits Dir.Read }
+    ensures down { result.down ≡ Standing.Waits Dir.Read }
+{
     let mut tasks = PairTasks::new();
     tasks.note(Way::Up, &Step::Waits(Dir::Read));
     tasks.note(Way::Down, &Step::Waits(Dir::Read));
@@ -63,14 +86,20 @@ fn opened<L: Ledger, R: Wait>(rt: &R, book: &Mutex<Book<L>>) -> Option<CarriedSh
 }
 
 impl<U: Ledger, D: Ledger, R: Wait + Net + Clock + Copy> LoopHost<U, D, R> {
-    // A way whose first read is under way, without a share.
+    // A way whose first read is under way, without a share. With an idle time that read arms an alarm,
+    // which is disarmed with its side's entry: so both sides were inserted before.
     fn way<L: Ledger>(
         &self,
+        inserted: &InsertedSides,
         alarms: DoorAlarms<R>,
         idle_ms: Option<u32>,
         source: FdHandle<SockRes>,
         target: FdHandle<SockRes>,
-    ) -> Option<WayCopy<L, R>> {
+    ) -> Option<WayCopy<L, R>>
+        requires both { length inserted.now ≡ 2 }
+        ensures target { IfSome result (λ way. way.gate.target ≡ Some target) }
+        ensures idle { IfSome result (λ way. way.gate.idle.idle_ms ≡ idle_ms) }
+    {
         let idle = IdleTime::new(RelayClock::new(self.rt, self.start), idle_ms);
         let mut gate = TaskGate::new(self.rt, idle, alarms, source, target);
         gate.begin_read().ok()?;
@@ -90,6 +119,7 @@ impl<U: Ledger, D: Ledger, R: Wait + Net + Clock + Copy> LoopHost<U, D, R> {
         inserted: &mut InsertedSides,
     ) -> Option<(u64, u64)>
         requires none_inserted { inserted.old ≡ [] }
+        ensures both { IfSome result (λ _. length inserted.new ≡ 2) }
     {
         let mut table = self.shared.table.lock(&self.rt);
         let (client, _) = table.insert(client).ok()?;
@@ -111,34 +141,44 @@ impl<U: Ledger, D: Ledger, R: Wait + Net + Clock + Copy> LoopHost<U, D, R> {
         }
     }
 
-    // Begins the reads of both ways, and puts both sides into the table. The shares come last, so that
-    // none has to be given back.
+    // Puts both sides into the table, and then begins the reads of both ways. The shares come last, so
+    // that none has to be given back.
     fn join_sides(
         &self,
-        client: NewSide,
-        target: NewSide,
+        client: NewSide<R>,
+        target: NewSide<R>,
         idle_ms: Option<u32>,
         inserted: &mut InsertedSides,
     ) -> Option<Connection<U, D, R>>
         requires none_inserted { inserted.old ≡ [] }
+        ensures up { IfSome result (λ c. c.up.gate.target ≡ Some target.writer) }
+        ensures down { IfSome result (λ c. c.down.gate.target ≡ Some client.writer) }
+        ensures up_idle { IfSome result (λ c. c.up.gate.idle.idle_ms ≡ idle_ms) }
+        ensures down_idle { IfSome result (λ c. c.down.gate.idle.idle_ms ≡ idle_ms) }
+        ensures client { IfSome result (λ c. c.client.cell ≡ client.cell) }
+        ensures target { IfSome result (λ c. c.target.cell ≡ target.cell) }
     {
-        let up_alarms = client.entry.alarms(self.rt)?;
-        let down_alarms = target.entry.alarms(self.rt)?;
-        let mut up = self.way(up_alarms, idle_ms, client.reader, target.writer)?;
-        let mut down = self.way(down_alarms, idle_ms, target.reader, client.writer)?;
         let (client_id, target_id) = self.insert_sides(client.entry, target.entry, inserted)?;
+        let mut up = self.way(
+            inserted,
+            client.alarms,
+            idle_ms,
+            client.reader,
+            target.writer,
+        )?;
+        let mut down = self.way(
+            inserted,
+            target.alarms,
+            idle_ms,
+            target.reader,
+            client.writer,
+        )?;
         let (up_share, down_share) = self.open_shares()?;
         up.share = Some(up_share);
         down.share = Some(down_share);
         Some(Connection {
-            client: ConnSide {
-                id: client_id,
-                cell: client.cell,
-            },
-            target: ConnSide {
-                id: target_id,
-                cell: target.cell,
-            },
+            client: ConnSide::new(client_id, client.cell),
+            target: ConnSide::new(target_id, target.cell),
             tasks: reading_tasks(),
             up,
             down,
@@ -165,8 +205,8 @@ impl<U: Ledger, D: Ledger, R: Wait + Net + Clock + Copy> LoopHost<U, D, R> {
             door: tasks.door().ok()?,
             token: place.second,
         };
-        let client = new_side(self.alloc, tasks.poller(), accepted.sock, first)?;
-        let target = new_side(self.alloc, tasks.poller(), target, second)?;
+        let client = new_side(self.rt, self.alloc, tasks.poller(), accepted.sock, first)?;
+        let target = new_side(self.rt, self.alloc, tasks.poller(), target, second)?;
         self.join_sides(client, target, route.idle_ms, inserted)
     }
 

@@ -9,7 +9,7 @@ use crate::loops::MAX_LOOPS;
 use arrayvec::ArrayVec;
 use conntable::ConnTable;
 use readiness::{Addr, Door, Sock};
-use relay_core::{has_room_for_pair, loop_of};
+use relay_core::place_of_pair;
 use relay_ledger::Book;
 use rwloops::Fault;
 use std::mem;
@@ -94,10 +94,10 @@ impl<U: Ledger, D: Ledger> Shared<U, D> {
             all = all.saturating_add(count);
             let _ = counts.try_push(count);
         }
-        if counts.is_empty() || !has_room_for_pair(all as usize) {
+        let Some(place) = place_of_pair(counts.as_slice(), all as usize) else {
             return;
-        }
-        if let Some(home) = self.homes.get(loop_of(counts.as_slice())) {
+        };
+        if let Some(home) = self.homes.get(place) {
             home.deliver(rt, accepted);
         }
     }

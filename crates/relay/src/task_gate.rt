@@ -1,16 +1,18 @@
 //! What a task copies through: two descriptors, of which one is read and the other written, by calls
 //! that give way where they would wait.
 
-ghost use Rattle.std.specs.Prelude.{◌≤◌, ⊤, length};
+ghost use Rattle.std.specs.Prelude.{◌≡◌, ◌≤◌, ⊤, length, true, Some, None, OnOk, is_some};
 ghost use Rattle.rwloops.specs.TryNow.{IsPartOf};
 
 use crate::clock::Moments;
 use crate::idle_time::IdleTime;
+use crate::setting::set_by;
 use fd_descriptor::{Alarms, FdHandle, ReadUnderWay, WriteUnderWay};
 use readiness::SockRes;
 use relay_core::PollGate;
 use rwloops::{Fault, Progress, WriteFault};
 use std::sync::Wait;
+use stream_base::Dir;
 
 /// Reads from `source` and writes to `target`. A call that would wait stays under way, with its half's
 /// lock, and goes on when it is made again: a drain lets it end. With an idle time each read and each
@@ -37,7 +39,11 @@ impl<R: Wait + Copy, C: Moments, A: Alarms> TaskGate<R, C, A> {
         alarms: A,
         source: FdHandle<SockRes>,
         target: FdHandle<SockRes>,
-    ) -> TaskGate<R, C, A> {
+    ) -> TaskGate<R, C, A>
+        ensures source { result.source ≡ Some source }
+        ensures target { result.target ≡ Some target }
+        ensures idle { result.idle ≡ idle }
+    {
         TaskGate {
             rt,
             idle,
@@ -50,15 +56,20 @@ impl<R: Wait + Copy, C: Moments, A: Alarms> TaskGate<R, C, A> {
     }
 
     /// Begins a read, where none is under way.
-    pub(crate) fn begin_read(&mut self) -> Result<(), Fault> {
+    pub(crate) fn begin_read(&mut self) -> Result<(), Fault>
+        ensures begun { OnOk result (is_some self.new.reading ≡ true) }
+        ensures target { self.new.target ≡ self.old.target }
+        ensures writing { self.new.writing ≡ self.old.writing }
+        ensures idle { self.new.idle ≡ self.old.idle }
+    {
         if self.reading.is_some() {
             return Ok(());
         }
         let Some(source) = &mut self.source else {
             return Err(Fault::Closed);
         };
-        if let Some((now, deadline)) = self.idle.next_deadline() {
-            source.set_read_deadline(&self.rt, deadline, now, &self.alarms)?;
+        if let Some(setting) = self.idle.next_setting(Dir::Read) {
+            set_by(&self.rt, source, &self.alarms, setting)?;
         }
         let Some(handle) = self.source.take() else {
             return Err(Fault::Closed);
@@ -76,7 +87,11 @@ impl<R: Wait + Copy, C: Moments, A: Alarms> TaskGate<R, C, A> {
     }
 
     // Begins a write or a shut, where none is under way.
-    fn begin_write(&mut self) -> Result<(), Fault> {
+    fn begin_write(&mut self) -> Result<(), Fault>
+        ensures begun { OnOk result (is_some self.new.writing ≡ true) }
+        ensures source { self.new.source ≡ self.old.source }
+        ensures reading { self.new.reading ≡ self.old.reading }
+    {
         if self.writing.is_some() {
             return Ok(());
         }
@@ -96,28 +111,38 @@ impl<R: Wait + Copy, C: Moments, A: Alarms> TaskGate<R, C, A> {
     }
 
     // Sets the deadline of a write that is about to begin.
-    fn time_the_write(&mut self) -> Result<(), Fault> {
+    fn time_the_write(&mut self) -> Result<(), Fault>
+        ensures source { self.new.source ≡ self.old.source }
+        ensures reading { self.new.reading ≡ self.old.reading }
+        ensures writing { self.new.writing ≡ self.old.writing }
+    {
         if self.writing.is_some() {
             return Ok(());
         }
         let Some(target) = &mut self.target else {
             return Err(Fault::Closed);
         };
-        match self.idle.next_deadline() {
-            Some((now, deadline)) => {
-                target.set_write_deadline(&self.rt, deadline, now, &self.alarms)
-            }
+        match self.idle.next_setting(Dir::Write) {
+            Some(setting) => set_by(&self.rt, target, &self.alarms, setting),
             None => Ok(()),
         }
     }
 
-    fn end_read(&mut self) {
+    fn end_read(&mut self)
+        ensures ended { self.new.reading ≡ None }
+        ensures target { self.new.target ≡ self.old.target }
+        ensures writing { self.new.writing ≡ self.old.writing }
+    {
         if let Some(reading) = self.reading.take() {
             self.source = Some(reading.end());
         }
     }
 
-    fn end_write(&mut self) {
+    fn end_write(&mut self)
+        ensures ended { self.new.writing ≡ None }
+        ensures source { self.new.source ≡ self.old.source }
+        ensures reading { self.new.reading ≡ self.old.reading }
+    {
         if let Some(writing) = self.writing.take() {
             self.target = Some(writing.end());
         }
@@ -126,6 +151,8 @@ impl<R: Wait + Copy, C: Moments, A: Alarms> TaskGate<R, C, A> {
     // Begins a write, where none is under way, and tries it.
     fn try_write(&mut self, bytes: &[u8]) -> Progress
         ensures part { IsPartOf (length bytes.now) result }
+        ensures source { self.new.source ≡ self.old.source }
+        ensures reading { self.new.reading ≡ self.old.reading }
     {
         let begun = match self.time_the_write() {
             Ok(()) => self.begin_write(),

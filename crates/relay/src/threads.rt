@@ -4,6 +4,7 @@ ghost use Rattle.std.specs.Prelude.{◌≡◌, IfErr};
 ghost use Rattle.relay.specs.declared.fault.ServeFault.{ServeFault};
 
 use crate::admin::{AdminDoor, AdminGate, DoorWaits, serve_sessions};
+use crate::bounds::{RelayRuntime, SharedLedger};
 use crate::clock::RelayClock;
 use crate::fault::ServeFault;
 use crate::loops::{ConnLoop, Lot, run_loop};
@@ -12,7 +13,6 @@ use crate::relay::Relay;
 use readiness::Waker;
 use relay_core::AcceptGate;
 use std::alloc::Global;
-use std::net::{Net, TcpListener, TcpStream};
 use std::sync::ledger::Ledger;
 use std::sync::{Arc, Wait};
 use std::thread::{Builder, JoinHandle, Threads};
@@ -56,16 +56,9 @@ fn spawn_loop<U, D, R>(
     lot: Lot<U, D, R>,
 ) -> Result<JoinHandle<Result<(), ServeFault>>, ServeFault>
 where
-    U: Ledger + Send + Sync + 'static,
-    D: Ledger + Send + Sync + 'static,
-    R: Wait
-        + Threads
-        + Net<Listener = TcpListener, Stream = TcpStream>
-        + Clock
-        + Copy
-        + Send
-        + Sync
-        + 'static,
+    U: SharedLedger,
+    D: SharedLedger,
+    R: RelayRuntime,
     ensures faults { IfErr result (λ fault. fault ≡ ServeFault.Memory) }
 {
     let job = move || run_loop(rt, lot);
@@ -92,16 +85,9 @@ impl Helpers {
         loops: Vec<ConnLoop<U, D, R>>,
     ) -> Result<(), ServeFault>
     where
-        U: Ledger + Send + Sync + 'static,
-        D: Ledger + Send + Sync + 'static,
-        R: Wait
-            + Threads
-            + Net<Listener = TcpListener, Stream = TcpStream>
-            + Clock
-            + Copy
-            + Send
-            + Sync
-            + 'static,
+        U: SharedLedger,
+        D: SharedLedger,
+        R: RelayRuntime,
         ensures faults { IfErr result (λ fault. fault ≡ ServeFault.Memory) }
     {
         if self.loops.reserve(loops.len()).is_err() {
@@ -134,16 +120,9 @@ impl Helpers {
         door: AdminDoor,
     ) -> Result<(), ServeFault>
     where
-        U: Ledger + Send + Sync + 'static,
-        D: Ledger + Send + Sync + 'static,
-        R: Wait
-            + Threads
-            + Net<Listener = TcpListener, Stream = TcpStream>
-            + Clock
-            + Copy
-            + Send
-            + Sync
-            + 'static,
+        U: SharedLedger,
+        D: SharedLedger,
+        R: RelayRuntime,
         ensures faults { IfErr result (λ fault. fault ≡ ServeFault.Memory) }
     {
         self.start_loops(rt, relay, loops)?;

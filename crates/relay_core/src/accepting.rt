@@ -1,6 +1,7 @@
 //! The worker that accepts: it delivers what it accepted, and waits between faults.
 
-ghost use Rattle.std.specs.Prelude.{◌≡◌, ◌<◌, ◌*◌, min, List, ◌∷◌};
+ghost use Rattle.std.specs.Prelude.{◌≡◌, ◌≢◌, ◌<◌, ◌*◌, ◌↔◌, min, true, List, ◌∷◌};
+ghost use Rattle.relay_core.specs.declared.accepting.AcceptEnded.{AcceptEnded};
 ghost use Rattle.relay_core.specs.AcceptTrace.{AcceptCall, Accepted, Delivered, Paused, IsAccepting};
 
 use crate::accept_task::{AcceptStep, Accepting};
@@ -49,6 +50,25 @@ pub enum AcceptEnded {
     Draining,
     /// One fault more came in a row than `MAX_FAULTS_IN_A_ROW`; it is the last of them.
     TooManyFaults(Fault),
+}
+
+impl AcceptEnded {
+    /// Whether the listener is still to be closed: a drained one, since its clients would wait in the
+    /// system's queue, and nobody would come for them. One that fails too often stays for an admin
+    /// session.
+    pub fn leaves_a_listener_to_close(self) -> bool
+        ensures { result ≡ true ↔ self ≡ AcceptEnded.Draining }
+    {
+        self == AcceptEnded::Draining
+    }
+
+    /// Whether the accept worker is to begin again, as the admin socket's: without it nobody could stop
+    /// the relay, however many accepts in a row failed.
+    pub fn lets_it_begin_again(self) -> bool
+        ensures { result ≡ true ↔ self ≢ AcceptEnded.Closed }
+    {
+        self != AcceptEnded::Closed
+    }
 }
 
 /// The pause after a fault, by the pause before it, in milliseconds: 5 after the first fault in a

@@ -1,6 +1,6 @@
 //! A worker's buffers, which lie on the stack of its thread.
 
-ghost use Rattle.std.specs.Prelude.{IfSome, IfNone};
+ghost use Rattle.std.specs.Prelude.{◌≡◌, length, IfSome, IfNone};
 ghost use Rattle.relay_core.specs.CopyTrace.{IsCopied, IsCopiedSoFar};
 
 use crate::copying::{Ended, copy_until_full, copy_worker};
@@ -32,6 +32,13 @@ pub fn copy_by_need<G: CopyGate, L: Ledger, R: Wait>(
     }
 }
 
+// The clause has the figure itself, so that a constant of another value is refused.
+fn first_buffer() -> [u8; FIRST_BUFFER_BYTES]
+    ensures { length result ≡ 1024 }
+{
+    [0u8; FIRST_BUFFER_BYTES]
+}
+
 // Each buffer is in a frame of its own, so that the pages of the larger one don't lie within the
 // other's.
 #[inline(never)]
@@ -46,7 +53,7 @@ fn copy_small<G: CopyGate, L: Ledger, R: Wait>(
     ensures so_far { IfNone result (
         IsCopiedSoFar (G.tells gate.old) (G.tells gate.new) share.old share.new) }
 {
-    let mut buf = [0u8; FIRST_BUFFER_BYTES];
+    let mut buf = first_buffer();
     copy_until_full(rt, gate, book, share, &mut buf)
 }
 

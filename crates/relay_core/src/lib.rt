@@ -26,11 +26,11 @@ pub use accepting::{AcceptEnded, AcceptGate, MAX_FAULTS_IN_A_ROW, accept_worker,
 pub use buffers::{BUFFER_BYTES, FIRST_BUFFER_BYTES, copy_by_need};
 pub use copying::{Ended, copy_worker};
 pub use gate::CopyGate;
-pub use idle::idle_deadline;
+pub use idle::{has_come, idle_deadline, pause_end};
 pub use pair::{InsertedSides, MAX_PAIRS, end_closes_pair, has_room_for_pair};
 pub use pair_tasks::{PairNext, PairTasks, Standing, Ways};
 pub use passing::Step;
-pub use placing::loop_of;
+pub use placing::{loop_of, place_of_pair};
 pub use poll_accept::PollAcceptGate;
 pub use poll_gate::PollGate;
 pub use resuming::{Copying, TURNS_IN_A_ROW};

@@ -132,8 +132,8 @@ impl PairTasks {
         self.next()
     }
 
-    // What follows where the ways stand so.
-    fn next(&self) -> PairNext
+    /// What follows where the ways stand so.
+    pub fn next(&self) -> PairNext
         ensures closes { result ≡ PairNext.Closes ↔ HasToClose self.now }
         ensures again { result ≡ PairNext.Again ↔ MayGoOn self.now }
     {

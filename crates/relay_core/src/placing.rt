@@ -1,7 +1,9 @@
 //! Which loop a connection goes to.
 
-ghost use Rattle.std.specs.Prelude.{◌<◌, length};
+ghost use Rattle.std.specs.Prelude.{◌≡◌, ◌<◌, ◌≤◌, ◌⊎◌, [], length, IfSome, IfNone};
 ghost use Rattle.relay_core.specs.Placing.{IsFirstLeast};
+
+use crate::pair::has_room_for_pair;
 
 /// Of loops with so many connections each, the one with the fewest, and the first of those that have
 /// equally few. This project's own rule.
@@ -16,4 +18,17 @@ pub fn loop_of(counts: &[u64]) -> usize
         }
     }
     fewest
+}
+
+/// Where one connection more goes, beside so many on each loop and so many on all: to none where as
+/// many stand as may at once, or where there is no loop.
+pub fn place_of_pair(counts: &[u64], all: usize) -> Option<usize>
+    ensures none { IfNone result ((512 ≤ all) ⊎ (counts.now ≡ [])) }
+    ensures room { IfSome result (λ place. all < 512) }
+    ensures least { IfSome result (IsFirstLeast counts.now) }
+{
+    if counts.is_empty() || !has_room_for_pair(all) {
+        return None;
+    }
+    Some(loop_of(counts))
 }

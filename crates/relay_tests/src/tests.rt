@@ -19,6 +19,7 @@ mod echo;
 mod loops;
 mod most_pairs;
 mod pairs;
+mod stalls;
 mod start_faults;
 mod steering;
 mod watch;

@@ -132,7 +132,7 @@ pub(super) fn puts<R: Abort>(rt: &R, tasks: &mut CountingLoop, task: Counting) -
 }
 
 /// A task with a descriptor on this socket, on the second side.
-fn on_second_side<R: Abort>(
+pub(super) fn on_second_side<R: Abort>(
     rt: &R,
     alloc: Global,
     tasks: &mut CountingLoop,

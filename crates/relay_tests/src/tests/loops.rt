@@ -28,7 +28,7 @@ const OTHERS: usize = 63;
 const TURNS_OF_EACH: usize = 20;
 
 /// A pair through which a byte went each way.
-fn talking_pair(
+pub(super) fn talking_pair(
     rt: &HostRuntime,
     listener: &TcpListener,
     port: u16,
@@ -233,7 +233,7 @@ fn pairs_of(
 }
 
 /// Sends until the connection is gone.
-fn sends(alloc: Global, client: TcpStream) -> bool {
+pub(super) fn sends(alloc: Global, client: TcpStream) -> bool {
     let mut client = client;
     let Ok(bytes) = vec![in alloc; 7u8; 65_536] else {
         return false;
@@ -247,7 +247,7 @@ fn sends(alloc: Global, client: TcpStream) -> bool {
 }
 
 /// Takes all bytes until the connection is gone, and gives how many they were.
-fn takes(alloc: Global, peer: TcpStream) -> u64 {
+pub(super) fn takes(alloc: Global, peer: TcpStream) -> u64 {
     let mut peer = peer;
     let mut all = 0u64;
     let Ok(mut buf) = vec![in alloc; 0u8; 65_536] else {

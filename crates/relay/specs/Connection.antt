@@ -1,0 +1,42 @@
+-- Which ways of a connection go on, and what its loop does then.
+use Rattle.std.specs.Prelude.{◌≡◌, ◌≢◌, true, false}
+use Rattle.stream_base.specs.declared.direction.Dir.TheVariants as dir
+use Rattle.readiness.specs.declared.agenda.Why.{Why}
+use Rattle.readiness.specs.declared.agenda.Why.TheVariants as why
+use Rattle.readiness.specs.declared.loop_token.Side.{Side as LoopSide}
+use Rattle.readiness.specs.declared.loop_token.Side.TheVariants.{First, Second}
+use Rattle.readiness.specs.declared.tasks.Turn.{Turn}
+use Rattle.readiness.specs.declared.tasks.Turn.TheVariants as turn
+use Rattle.relay_core.specs.declared.accept_task.AcceptStep.{AcceptStep}
+use Rattle.relay_core.specs.declared.accept_task.AcceptStep.TheVariants as step
+use Rattle.relay_core.specs.declared.ways.Side.{Side}
+use Rattle.relay_core.specs.declared.ways.Side.TheVariants.{Client, Target}
+use Rattle.relay_core.specs.declared.ways.Way.{Way}
+use Rattle.relay_core.specs.declared.pair_tasks.PairTasks.{PairTasks}
+use Rattle.relay_core.specs.declared.pair_tasks.Standing.TheVariants.{Ready, Over}
+use Rattle.relay_core.specs.PairTasks.{standing_of, WaitsForEvent}
+
+-- the side of a pair whose descriptor is on this side of its place
+abbrev pub side_of_pair : LoopSide → Side
+side_of_pair First = Client
+side_of_pair Second = Target
+
+-- what a loop heard has this way go on: an event or a due timer of the side that it calls, in the
+-- direction that it waits for; a name, unless it has ended; its next turn, where it gave way
+abbrev pub GoesOn : PairTasks → Why → Way → Type 0
+GoesOn tasks (why.Ready side read write) way =
+    WaitsForEvent (standing_of tasks way) way (side_of_pair side) read write
+GoesOn tasks (why.Due side dir.Read now) way =
+    WaitsForEvent (standing_of tasks way) way (side_of_pair side) true false
+GoesOn tasks (why.Due side dir.Write now) way =
+    WaitsForEvent (standing_of tasks way) way (side_of_pair side) false true
+GoesOn tasks why.Told way = standing_of tasks way ≢ Over
+GoesOn tasks why.Again way = standing_of tasks way ≡ Ready
+
+-- what a loop does with an accept task after this step: it is over where it ended, and a pause is a
+-- wait
+abbrev pub turn_of : AcceptStep → Turn
+turn_of step.Waits = turn.Waits
+turn_of step.Again = turn.Again
+turn_of (step.Pauses ms) = turn.Waits
+turn_of (step.Ended ended) = turn.Over

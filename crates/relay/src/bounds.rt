@@ -1,0 +1,35 @@
+//! What a relay's threads have in common: what they run on, and what counts their bytes.
+
+use std::net::{Net, TcpListener, TcpStream};
+use std::sync::Wait;
+use std::sync::ledger::Ledger;
+use std::thread::Threads;
+use std::time::Clock;
+
+/// What a relay runs on: it waits, starts threads, opens sockets and reads the clock, and each thread
+/// has it.
+pub trait RelayRuntime: Wait
+    + Threads
+    + Net<Listener = TcpListener, Stream = TcpStream>
+    + Clock
+    + Copy
+    + Send
+    + Sync
+    + 'static {}
+
+impl<R> RelayRuntime for R
+where
+    R: Wait
+        + Threads
+        + Net<Listener = TcpListener, Stream = TcpStream>
+        + Clock
+        + Copy
+        + Send
+        + Sync
+        + 'static,
+{}
+
+/// The ledger of a book that threads share.
+pub trait SharedLedger: Ledger + Send + Sync + 'static {}
+
+impl<L: Ledger + Send + Sync + 'static> SharedLedger for L {}
