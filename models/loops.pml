@@ -131,13 +131,13 @@ proctype Main() {
      if :: stop -> break :: else -> skip fi
   od;
 #ifdef ADMIN_IS_WOKEN_BEFORE_STOP_IS_SET
-  door_waker = 1;
+  admin_waker = 1;
   stop_all();
 #elif defined(END_WAKES_NO_ADMIN)
   stop_all();
 #else
   stop_all();
-  door_waker = 1;                                       /* wake_admin */
+  admin_waker = 1;                                       /* wake_admin */
 #endif
 #ifndef END_WAITS_BEFORE_ITS_ACCEPT_ENDS
   atomic { if :: accepting -> users[LISTENER]--; accepting = 0 :: else -> skip fi };
@@ -164,7 +164,7 @@ proctype Main() {
   }
 }
 
-/* serve_sessions over AdminGate, DoorWaits and RelayDesk */
+/* serve_sessions over AdminGate, AdminWaits and RelayDesk */
 proctype Admin() {
   byte id = 0, at = 0, moment = 0, earliest = NEVER, k = 0; bit mine = 0, asleep = 0, first = 0;
   do
@@ -172,7 +172,7 @@ proctype Admin() {
 #ifdef ADMIN_LOOKS_NOT_AT_STOP
      :: false -> skip
 #else
-     :: stop -> break                                   /* DoorWaits::prepare */
+     :: stop -> break                                   /* AdminWaits::prepare */
 #endif
      :: else -> skip
      fi;
@@ -195,7 +195,7 @@ proctype Admin() {
         break
      :: else ->
         admin_polls = 1;
-        atomic { door_waker || typed -> door_waker = 0; typed = 0; admin_polls = 0 }
+        atomic { admin_waker || typed -> admin_waker = 0; typed = 0; admin_polls = 0 }
      fi
   od;
   admin_over = 1

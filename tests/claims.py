@@ -10,7 +10,10 @@ clause that this function has, or another function; a definition isn't taken for
 What is promised is to be of use: a row names a function that a program's `main` comes to by calls, or one of a module
 `laws`, or else says `library call`, or in its last cell that it is tested. Calls are found by name, so that a name which
 two functions share counts for both.
-Prints a line for each name that is missing, for each row that names no such function, and `N passed, M failed`.
+
+An example in README.md and docs/sockets.md is a quotation: each of its lines stands in the sources of a program.
+Prints a line for each name that is missing, for each row that names no such function, for each line that nobody wrote, and
+`N passed, M failed`.
 """
 import pathlib
 import re
@@ -20,7 +23,7 @@ ROOT = pathlib.Path(__file__).resolve().parent.parent
 HEADS = ("Function and clause", "Contract that carries it", "Clause")
 FN = re.compile(r"^( *)(?:pub(?:\([a-z]+\))? )?(?:const )?(?:unsafe )?fn (\w+)")
 OWNER = re.compile(r"^(?:pub(?:\([a-z]+\))? )?(impl|trait)\b(.*)")
-PROGRAMS = ("pollrelay", "echo_server", "loop_echo_server")
+PROGRAMS = ("pollrelay", "echo_server", "page_server", "loop_echo_server")
 WORD = re.compile(r"[A-Za-z_]\w*")
 ITEM = re.compile(r"^\s*(?:pub(?:\([a-z]+\))? )?(?:struct|enum|trait|const|type|mod) (\w+)", re.M)
 # (a definition; an indented line without one of these words is a field of a record)
@@ -188,6 +191,25 @@ def check_models(text, steps, source):
     return missing, seen
 
 
+def quoted(text, lines):
+    """The lines of examples that aren't among these of sources, each with its number, and how many are quoted."""
+    missing, seen, is_example = [], 0, False
+    for number, line in enumerate(text.splitlines(), 1):
+        if line.startswith("```"):
+            is_example = line == "```rust"
+        elif is_example and line.strip():
+            seen += 1
+            # A head has its contract between it and its brace.
+            if not {line.strip(), line.strip().removesuffix(" {")} & lines:
+                missing.append((number, line.strip()))
+    return missing, seen
+
+
+def lines_of_programs():
+    files = (it for name in PROGRAMS for it in (ROOT / "crates" / name / "src").glob("**/*.rt"))
+    return {line.strip() for it in files for line in it.read_text().splitlines()}
+
+
 def source_of(name):
     file = ROOT / name
     return file.read_text() if file.is_file() else ""
@@ -208,6 +230,12 @@ def main():
     for number, token in missing:
         print(f"docs/wake-ups.md:{number}: nothing is called `{token}`")
     failed, passed = failed + len(missing) + (not seen), passed + seen - len(missing)
+    lines = lines_of_programs()
+    for name in ("README.md", "docs/sockets.md"):
+        missing, seen = quoted((ROOT / name).read_text(), lines)
+        for number, line in missing:
+            print(f"{name}:{number}: no program has the line `{line}`")
+        failed, passed = failed + len(missing), passed + seen - len(missing)
     print(f"{passed} passed, {failed} failed")
     return 1 if failed or not passed else 0
 

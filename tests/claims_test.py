@@ -120,6 +120,11 @@ class Claims(unittest.TestCase):
         told = ["set_clock", "crates/timing/src/lib.rt disarm", "crates/timing/src/no.rt arm"]
         self.assertEqual(self.missing_of_model(row), told)
 
+    def test_a_line_of_an_example_that_no_program_has_is_told(self):
+        text = "```rust\nfn arm(&self) {\n    self.next();\n    self.gone();\n}\n```\n\nself.gone();\n```text\nself.gone();\n```\n"
+        missing, seen = claims.quoted(text, {"fn arm(&self)", "self.next();", "}"})
+        self.assertEqual((missing, seen), ([(4, "self.gone();")], 4))
+
 
 if __name__ == "__main__":
     unittest.main()

@@ -8,13 +8,13 @@ trap 'rm -rf "$work"' EXIT
 mkdir -p "$work/crates/misuse/src" "$work/crates/misuse/specs" "$work/crates/misuse/proofs"
 touch "$work/crates/misuse/specs/Lib.antt" "$work/crates/misuse/proofs/Lib.antt"
 cp "$root/HANDLES" "$work/"
-below='stream_base lockword_core lockword fdmutex deadline_core rwloops fd_descriptor'
+below='base_types lockword_core lockword fdmutex deadline_core rwloops fd_descriptor'
 for crate in $below; do
     (cd "$root/crates" && tar --exclude=out --exclude=must-fail --exclude=wrong-bodies -cf - "$crate") | tar -C "$work/crates" -xf -
 done
 {
     grep -E "^($(echo "$below" | tr ' ' '|'))[ :]" "$root/crates.txt"
-    echo 'misuse: stream_base lockword rwloops fd_descriptor'
+    echo 'misuse: base_types lockword rwloops fd_descriptor'
 } > "$work/crates.txt"
 cd "$work/crates/misuse"
 

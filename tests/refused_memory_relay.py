@@ -9,6 +9,7 @@ single    the Nth allocation is refused, for N from 1 until a run meets no refus
 drought   every allocation is refused while connections stand: the bytes of one without an idle time go on, and the relay stops with totals that
           fit. Where memory comes back, new connections are served.
 mappings  the Nth mmap, mprotect, brk or clone3 of each thread is refused by strace, also those of threads' stacks and of the C library's own.
+          A brk that is refused answers the break as it was, as the system's own does: of an error number the C library knows nothing.
 
 It needs a C compiler, and strace for `mappings`: apt-get install gcc strace. POLLRELAY names another program. The gate doesn't run this.
 """
@@ -97,10 +98,19 @@ def drought(checks, folder, _most):
     targets.close()
 
 
-def injecting(call, error, at, log):
-    """The words of a tracer that refuses such a call of each thread, the one with this number."""
-    trace = f"inject={call}:error={error}:when={at}"
-    return ["strace", "-f", "-qq", "-o", log, "-e", f"trace={call}", "-e", "signal=none", "-e", trace]
+def injecting(call, refusal, at, log):
+    """The words of a tracer that refuses such a call of each thread, the one with this number. Addresses are the same in each run."""
+    trace = f"inject={call}:{refusal}:when={at}"
+    return ["setarch", "-R", "strace", "-f", "-qq", "-o", log, "-e", f"trace={call}", "-e", "signal=none", "-e", trace]
+
+
+def breaks_of(targets, folder):
+    """What each brk of a run in which none is refused answered, in their order."""
+    log = f"{folder}/breaks"
+    tracer = ["setarch", "-R", "strace", "-f", "-qq", "-o", log, "-e", "trace=brk", "-e", "signal=none"]
+    single_run(targets, {"LC_ALL": "C"}, None, 0, tracer)
+    with open(log, encoding="utf-8", errors="replace") as file:
+        return [int(line.rpartition("= ")[2], 16) for line in file if " brk(" in line]
 
 
 def loader_calls(folder, call):
@@ -119,11 +129,15 @@ def mappings(checks, folder, most):
         return
     targets, kinds = Targets(folder), collections.Counter()
     log = f"{folder}/injected"
-    for call, error in (("mmap", "ENOMEM"), ("mprotect", "ENOMEM"), ("brk", "ENOMEM"), ("clone3", "EAGAIN"), ("clone3", "ENOMEM")):
+    breaks = breaks_of(targets, folder)
+    for call, error in (("mmap", "ENOMEM"), ("mprotect", "ENOMEM"), ("brk", "the break"), ("clone3", "EAGAIN"), ("clone3", "ENOMEM")):
         first = loader_calls(folder, call) + 1
         for number in range(first, first + most):
+            if call == "brk" and number > len(breaks):
+                break
+            refusal = f"retval={breaks[number - 2]}" if call == "brk" else f"error={error}"
             env = {"LC_ALL": "C"}
-            came, _, wrong = single_run(targets, env, None, number, injecting(call, error, number, log))
+            came, _, wrong = single_run(targets, env, None, number, injecting(call, refusal, number, log))
             with open(log, encoding="utf-8", errors="replace") as file:
                 was_refused = "(INJECTED)" in file.read()
             if not was_refused:

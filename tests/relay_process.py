@@ -17,8 +17,8 @@ ROOT = os.path.dirname(os.path.dirname(os.path.abspath(__file__)))
 PROGRAM = os.path.abspath(os.environ.get("POLLRELAY", f"{ROOT}/crates/pollrelay/out/pollrelay"))
 START_SECONDS = 20
 REPLY_SECONDS = 20
-# 512 pairs and 64 listeners take more descriptors than the 1,024 that a shell often gives.
-DESCRIPTORS = 4096
+# 2,000 pairs and 64 listeners take more descriptors than the 1,024 that a shell often gives.
+DESCRIPTORS = 8192
 
 # Ports below the range from which the system takes those of outgoing connections, so that none of these takes ours.
 _ports = random.sample(range(10_000, 32_000), 22_000)
@@ -140,11 +140,11 @@ class Relay:
         self.said = said
 
     def errors(self):
-        """What it wrote to standard error so far, where that is kept."""
+        """What it wrote to standard error so far, where that is kept, without what a tracer ahead of it says there."""
         if self.kept_errors is None:
             return ""
         with open(self.kept_errors.name, encoding="utf-8", errors="replace") as file:
-            return file.read()
+            return "".join(line for line in file if not line.startswith("strace: "))
 
     def sockets(self):
         """The names of Unix sockets in its folder."""

@@ -14,8 +14,10 @@ import subprocess
 import sys
 import tempfile
 import threading
+import time
 
-from relay_process import PROGRAM, ROOT, Checks, Relay, connect, free_port, listener, wait_until
+from relay_process import DESCRIPTORS, PROGRAM, REPLY_SECONDS, ROOT, Checks, Relay, allow_descriptors, connect, free_port, listener, wait_until
+from relay_rows import so_many_pairs
 
 BAD_COMMAND = b"error 400 bad command\n"
 UNKNOWN = b"error 404 no such connection\n"
@@ -60,6 +62,8 @@ def command_lines(checks, folder):
         ["serve", "--rules", pipe, "--admin", "/a", "--loops"], ["serve", "--rules", pipe, "--admin", "/a", "--loops", "0"],
         ["serve", "--rules", pipe, "--admin", "/a", "--loops", "65"], ["serve", "--rules", pipe, "--admin", "/a", "--loops=02"],
         ["serve", "--rules", pipe, "--admin", "/a", "--loops", "2", "--loops", "2"], ["check", "--rules", pipe, "--loops", "2"],
+        *(["serve", "--rules", pipe, "--admin", "/a", "--connections", it] for it in ("", "0", "2001", "02", "+2", "two")),
+        ["serve", "--rules", pipe, "--admin", "/a", "--connections=2", "--connections=2"], ["check", "--rules", pipe, "--connections", "2"],
         ["serve", "--rules", pipe, "--admin", "/a", "x"], ["trace", "--rules", pipe], [b"\xff"], ["check", "--rules", b"\xff"],
     ]
     for words in refused:
@@ -426,9 +430,39 @@ def spread(checks, _):
                 sock.close()
 
 
+def asked_pairs(checks, _):
+    """As many pairs stand as --connections asks for, up to the most."""
+    allow_descriptors(DESCRIPTORS)
+    so_many_pairs(checks, "3 pairs", 3, "--connections", "3")
+    so_many_pairs(checks, "2,000 pairs", 2_000, "--connections=2000")
+
+
+def silent_sessions(checks, folder):
+    """A session that says nothing for ten minutes is ended, and the next one served; until then it keeps it waiting."""
+    shim = f"{folder}/fast_clock.so"
+    subprocess.run(["cc", "-shared", "-fPIC", "-O2", "-o", shim, f"{ROOT}/tests/fast_clock.c"], check=True)
+    for fast, stays_seconds in ((1, 2.5), (200, 2.0)):
+        with Relay("", env={"LD_PRELOAD": shim, "FAST": str(fast)}) as relay, connect(f"unix:{relay.admin}") as silent:
+            began = time.monotonic()
+            silent.sendall(b"list\nlist")
+            silent.settimeout(stays_seconds)
+            checks.expect(f"silent {fast}: its whole line is answered", b"ids\n", silent.recv(100))
+            try:
+                checks.expect(f"silent {fast}: it stays", None, silent.recv(100))
+            except TimeoutError:
+                checks.holds(f"silent {fast}: it stays", True, "")
+            if fast > 1:
+                silent.settimeout(REPLY_SECONDS)
+                checks.expect(f"silent {fast}: its end", b"", silent.recv(100))
+                real = time.monotonic() - began
+                checks.holds(f"silent {fast}: after ten minutes", 600 / fast - 0.1 < real < 600 / fast + 3, f"after {real * fast:.0f} s")
+                checks.expect(f"silent {fast}: the next is served", "ids", relay.ask("list"))
+
+
 STAGES = [
     command_lines, verdicts, outputs, start_faults, poller_fault, refused_paths, admin_sessions, stopped_and_gone,
     no_rule, sample_rules, sample_sessions, sample_metrics, spread,
+    asked_pairs, silent_sessions,
 ]
 
 

@@ -8,7 +8,7 @@ from relay_process import Relay, Session, connect, free_port, listener, wait_unt
 
 # How much later than its moment a deadline may end a connection.
 LATE_SECONDS = 0.15
-MOST_PAIRS = 512
+DEFAULT_PAIRS = 512
 WAIT_SECONDS = 5
 
 
@@ -397,22 +397,29 @@ def is_refused(address):
 
 def pairs(checks, _):
     """512 pairs stand at once; the next client is dropped, and served once a pair is gone."""
-    with Served("never", "never") as served:
+    so_many_pairs(checks, "pairs", DEFAULT_PAIRS)
+
+
+def so_many_pairs(checks, name, count, *options):
+    """So many pairs stand at once and carry a byte each way; one more is dropped, until one of them ends."""
+    with Served("never", "never", options=options) as served:
         relay = served.relay
-        held = [served.open(at % 2) for at in range(MOST_PAIRS)]
-        all_ids = 2 + 2 * MOST_PAIRS
-        checks.holds("pairs: ids", wait_until(lambda: len(relay.ids()) == all_ids, 2), f"{len(relay.ids())} of {all_ids}")
+        held = [served.open(at % 2) for at in range(count)]
+        all_ids = 2 + 2 * count
+        checks.holds(f"{name}: ids", wait_until(lambda: len(relay.ids()) == all_ids, 2), f"{len(relay.ids())} of {all_ids}")
+        through = sum(passes(*pair) for pair in held)
+        checks.expect(f"{name}: each passes a byte both ways", count, through)
         one_more = connect(served.listens[0])
-        checks.holds("pairs: one more is dropped", seconds_until_end(one_more, 3) is not None, "it stays open")
-        checks.holds("pairs: a full relay goes on", passes(*held[-1]), "no byte came back")
+        checks.holds(f"{name}: one more is dropped", seconds_until_end(one_more, 3) is not None, "it stays open")
+        checks.holds(f"{name}: a full relay goes on", passes(*held[-1]), "no byte came back")
         for sock in held[0]:
             sock.close()
         wait_until(lambda: len(relay.ids()) < all_ids, 2)
         time.sleep(0.1)
-        checks.holds("pairs: room again", opens(served, 0), "no byte came back")
+        checks.holds(f"{name}: room again", opens(served, 0), "no byte came back")
         status, totals, seconds = relay.stop()
-        checks.expect("pairs: status and totals", (0, (2, 2)), (status, totals))
-        checks.holds("pairs: stopped within 2 s", seconds <= 2, f"{seconds:.2f} s")
+        checks.expect(f"{name}: status and totals", (0, (count + 2, count + 2)), (status, totals))
+        checks.holds(f"{name}: stopped within 2 s", seconds <= 2, f"{seconds:.2f} s")
         for sock in [sock for pair in held for sock in pair]:
             sock.close()
 

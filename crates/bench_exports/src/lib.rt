@@ -1,8 +1,8 @@
 //! What the benchmarks call: loops over proved functions, on numbers and byte slices.
 #![tactic(auto)]
 
+use base_types::Dir;
 use lockword_core::{Kind, word_step};
-use stream_base::Dir;
 
 /// The step that a byte stands for.
 fn kind_of(code: u8) -> Kind {

@@ -1,5 +1,5 @@
-//! What the program is asked to do, by four words: a load, the number of threads, how many rounds each
-//! of them makes, and the bytes that lie ahead of the lock word.
+//! What the program is asked to do, by four words: a load, the number of threads, how many rounds
+//! each of them makes, and the bytes that lie ahead of the lock word.
 
 ghost use Rattle.std.specs.Prelude.{◌≡◌, Some, IfSome, IfNone, length};
 ghost use Rattle.std.specs.List.{HoldsAt};

@@ -1,5 +1,5 @@
-//! Rounds on one running lock word, by threads that have a seat each. The benchmark `lock_word` times
-//! this program from outside, beside plain Rust.
+//! Rounds on one running lock word, by threads that have a seat each. The benchmark `lock_word`
+//! times this program from outside, beside plain Rust.
 #![tactic(auto)]
 
 mod job;

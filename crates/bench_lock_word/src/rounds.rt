@@ -1,5 +1,5 @@
-//! The rounds of one thread. Each round ends with the holder's seat, which the next one needs; where a
-//! round leaves none, or the word refuses, the thread stops.
+//! The rounds of one thread. Each round ends with the holder's seat, which the next one needs;
+//! where a round leaves none, or the word refuses, the thread stops.
 
 ghost use Rattle.std.specs.Prelude.{◌≡◌, ◌≤◌, true, false, IfSome};
 ghost use Rattle.lockword.specs.Marks.{saw_closed};

@@ -7,6 +7,7 @@ ghost use Rattle.bench_lock_word.specs.Shown.{WasTheWord};
 
 use crate::job::{Job, Load};
 use crate::rounds::{CounterSeat, Counters, half_of, reads, references};
+use base_types::OutOfMemory;
 use lockword::LockWord;
 use lockword_core::pack;
 use std::alloc::Global;
@@ -14,7 +15,6 @@ use std::sync::Wait;
 use std::sync::atomic::{AtomicU64, Ordering};
 use std::thread;
 use std::thread::Threads;
-use stream_base::OutOfMemory;
 
 /// What the threads left behind.
 #[derive(Drop)]
@@ -69,8 +69,8 @@ fn count_all<T: Threads + Wait + Sync>(
     );
 }
 
-/// Runs a job to its end. How many rounds are made, and what is left in the half, hangs on the threads
-/// that can be had.
+/// Runs a job to its end. How many rounds are made, and what is left in the half, hangs on the
+/// threads that can be had.
 pub fn run<T: Threads + Wait + Sync>(rt: &T, alloc: Global, job: Job) -> Result<Left, OutOfMemory>
     ensures word { IfOk result (λ left. WasTheWord left.word) }
 {

@@ -1,7 +1,7 @@
 -- Where no timer is armed none comes.
 use Rattle.std.proofs.Common.{◌≡◌, ◌∙◌, ◌<◌, ap, ℕ, List, [], ◌∷◌, length, slice_index_or, arith, None, Some}
 use Rattle.std.specs.FinMap.{get, empty, get-empty}
-use Rattle.stream_base.specs.declared.direction.Dir.TheVariants.{Read}
+use Rattle.base_types.specs.declared.direction.Dir.TheVariants.{Read}
 use Rattle.deadline_core.specs.DueOrder.{Slot, slot_cmp}
 use Rattle.deadline_core.specs.Timers.{Armed, AreFirstDue, remove_all}
 

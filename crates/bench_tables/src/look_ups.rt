@@ -6,8 +6,9 @@ use crate::job::By;
 use conntable::ConnTable;
 use std::alloc::Global;
 
-/// Puts `count` entries into a table and looks entries up `times` times. Gives the sum of the values
-/// found, which is 0 where nothing is looked up, or `None` where an insert or memory was refused.
+/// Puts `count` entries into a table and looks entries up `times` times. Gives the sum of the
+/// values found, which is 0 where nothing is looked up, or `None` where an insert or memory was
+/// refused.
 pub fn look_ups(alloc: Global, by: By, count: u64, times: u64) -> Option<u64>
     ensures nothing { times ≡ 0 → IfSome result (λ sum. sum ≡ 0) }
     ensures empty { count ≡ 0 → (IsSome result ↔ (times ≡ 0)) }

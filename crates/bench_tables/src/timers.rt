@@ -2,9 +2,9 @@
 
 ghost use Rattle.std.specs.Prelude.{◌≡◌, IfSome, IsSome};
 
+use base_types::Dir;
 use deadline_core::{MAX_DUE, Timers};
 use std::alloc::Global;
-use stream_base::Dir;
 
 // A moment of the round. In each round the keys come in another order than that of their numbers.
 fn moment(round: u64, key: u64) -> u64 {
@@ -13,8 +13,9 @@ fn moment(round: u64, key: u64) -> u64 {
         .wrapping_add(key.wrapping_mul(0x9e37_79b9_7f4a_7c15) >> 40)
 }
 
-/// Arms a timer for each of `count` keys, then each again in `rounds` rounds, and takes all out. Gives
-/// a sum that tells the order in which they came, 0 where there are none, or `None` where memory was refused.
+/// Arms a timer for each of `count` keys, then each again in `rounds` rounds, and takes all out.
+/// Gives a sum that tells the order in which they came, 0 where there are none, or `None` where
+/// memory was refused.
 pub fn fire(alloc: Global, count: u64, rounds: u64) -> Option<u64>
     ensures nothing { count ≡ 0 → IfSome result (λ sum. sum ≡ 0) }
     ensures runs { count ≡ 0 → IsSome result }

@@ -1,4 +1,5 @@
-//! The tests of `relay_command`. They stand beside it, so that it isn't proved again with its tests.
+//! The tests of `relay_command`. They stand beside it, so that it isn't proved again with its
+//! tests.
 #![tactic(auto)]
 
 #[cfg(test)]

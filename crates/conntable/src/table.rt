@@ -1,9 +1,9 @@
 //! The table: entries by rising id, at most 4,096 of them, each with a key of its own.
 //!
 //! The entries stand in a slab, and an index leads from an id to its place there. The keys are the
-//! table's own, those below 4,096: of a slab's places no clause says how high they go. A key may be that
-//! of a later entry than the one that is asked for, so an entry counts only if its token is the one
-//! asked for. The index is ordered, so it tells the ids in their order.
+//! table's own, those below 4,096: of a slab's places no clause says how high they go. A key may be
+//! that of a later entry than the one that is asked for, so an entry counts only if its token is
+//! the one asked for. The index is ordered, so it tells the ids in their order.
 
 ghost use Rattle.std.specs.Prelude.{◌≡◌, ◌≢◌, ◌<◌, ◌≤◌, [], Err};
 ghost use Rattle.std.specs.Prelude.{IfOk, OnOk, IfErr, OnErr, option_copied};
@@ -30,8 +30,8 @@ pub enum Refusal {
     OutOfMemory,
     /// The last id was given.
     IdsSpent,
-    /// There is room, and no key below 4,096 is free. No table answers it: where there is room, a key
-    /// is free.
+    /// There is room, and no key below 4,096 is free. No table answers it: where there is room, a
+    /// key is free.
     NoKey,
 }
 
@@ -111,8 +111,8 @@ impl<T, A: Allocator + Copy> ConnTable<T, A> {
             Ok(given) => given,
             Err(refusal) => return Err((value, refusal)),
         };
-        // All other room is asked for first, that of the keys that come back among it: once the index
-        // has the id, nothing can be refused, and no removal takes memory.
+        // All other room is asked for first, that of the keys that come back among it: once the
+        // index has the id, nothing can be refused, and no removal takes memory.
         let keys = self.index.len() + 1usize.saturating_sub(self.free.len());
         if self.slots.reserve(1).is_err() || self.free.reserve(keys).is_err() {
             return Err((value, Refusal::OutOfMemory));
@@ -187,8 +187,8 @@ impl<T, A: Allocator> ConnTable<T, A> {
         }
     }
 
-    // The slab gives places as this table gives keys, so an entry stands at the place that is its key;
-    // but no clause of the slab says so.
+    // The slab gives places as this table gives keys, so an entry stands at the place that is its
+    // key; but no clause of the slab says so.
     fn entry_by_token(&self, token: u64) -> Option<&Entry<T>>
         ensures { option_copied result ≡ entry_with_token token self.now.entries }
     {

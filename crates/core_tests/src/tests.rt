@@ -1,4 +1,5 @@
-//! Worked values from outside, scripted devices and halves, and memory that is refused, by the subject of each crate.
+//! Worked values from outside, scripted devices and halves, and memory that is refused, by the
+//! subject of each crate.
 
 mod books;
 mod copies;

@@ -6,8 +6,8 @@ use Rattle.std.specs.Prelude.{take_while, nat_le, if◌then◌else◌}
 use Rattle.std.specs.List.{prefix_len, list_any, filter_map, cons_option}
 use Rattle.std.proofs.lemmas.List.Folds.{list_any-append}
 use Rattle.std.proofs.lemmas.List.Elements.{filter_map-append}
-use Rattle.stream_base.specs.declared.direction.Dir.{Dir}
-use Rattle.stream_base.specs.declared.direction.Dir.TheVariants.{Read, Write}
+use Rattle.base_types.specs.declared.direction.Dir.{Dir}
+use Rattle.base_types.specs.declared.direction.Dir.TheVariants.{Read, Write}
 use Rattle.deadline_core.specs.declared.deadline.Deadline.{Deadline}
 use Rattle.deadline_core.specs.declared.deadline.Deadline.TheVariants.{Never, At}
 use Rattle.deadline_core.specs.declared.deadline.Dirs.{Dirs}

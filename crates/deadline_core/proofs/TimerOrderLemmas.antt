@@ -17,9 +17,9 @@ use Rattle.std.proofs.lemmas.Map.Views.{tells_apart}
 use Rattle.std.specs.FinMap.{get, insert, remove, len, from_sorted, find, get-from_entries, get-from_sorted, get-insert}
 use Rattle.std.specs.FinMap.{get-remove, same_map, len-entries, entries-from_sorted}
 use Rattle.std.specs.FinMap.Entries.{below_all, is_sorted}
-use Rattle.stream_base.specs.contracts.direction.DirOrd.TheImpl as dir_ord
-use Rattle.stream_base.specs.declared.direction.Dir.{Dir}
-use Rattle.stream_base.specs.declared.direction.Dir.TheVariants.{Read, Write}
+use Rattle.base_types.specs.contracts.direction.DirOrd.TheImpl as dir_ord
+use Rattle.base_types.specs.declared.direction.Dir.{Dir}
+use Rattle.base_types.specs.declared.direction.Dir.TheVariants.{Read, Write}
 use Rattle.deadline_core.specs.DueOrder.{Slot, slot_cmp, rank}
 use Rattle.deadline_core.specs.TimerOrder.{moment_cmp, armed_in, moment_in, IsStored, IsMore, Sets, SameMoments}
 use Rattle.deadline_core.proofs.TimersLemmas.{slots_total, exact_slots}

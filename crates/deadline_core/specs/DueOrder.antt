@@ -4,8 +4,8 @@ use Rattle.std.specs.declared.cmp.Ordering.{Ordering}
 use Rattle.std.specs.declared.cmp.Ordering.TheVariants.{Less}
 use Rattle.std.specs.Ordering.{nat_cmp, ordering_then}
 use Rattle.std.specs.Coded.{Coded, code_by, coded×, coded_ℕ}
-use Rattle.stream_base.specs.declared.direction.Dir.{Dir}
-use Rattle.stream_base.specs.declared.direction.Dir.TheVariants.{Read, Write}
+use Rattle.base_types.specs.declared.direction.Dir.{Dir}
+use Rattle.base_types.specs.declared.direction.Dir.TheVariants.{Read, Write}
 
 -- what a timer is for: a key and a direction
 abbrev pub Slot : Type 0

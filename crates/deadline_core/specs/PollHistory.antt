@@ -3,8 +3,8 @@ use Rattle.std.specs.Prelude.{◌≡◌, ℕ, Bool, true, false, ◌&&◌, not, 
 use Rattle.std.specs.Prelude.{Some, None, Result, Ok, Err, is_ok, nat_le, find, take_while}
 use Rattle.std.specs.Prelude.{if◌then◌else◌}
 use Rattle.std.specs.List.{list_any, filter_map}
-use Rattle.stream_base.specs.declared.direction.Dir.{Dir}
-use Rattle.stream_base.specs.declared.direction.Dir.TheVariants.{Read, Write}
+use Rattle.base_types.specs.declared.direction.Dir.{Dir}
+use Rattle.base_types.specs.declared.direction.Dir.TheVariants.{Read, Write}
 use Rattle.deadline_core.specs.declared.deadline.Dirs.{Dirs}
 use Rattle.deadline_core.specs.declared.deadline.Dirs.TheVariants.{Read as ReadAlone}
 use Rattle.deadline_core.specs.declared.deadline.Dirs.TheVariants.{Write as WriteAlone, Both}

@@ -3,23 +3,27 @@
 //! Each law is a function that does nothing: what it ensures holds of every list of calls, and of
 //! every set of timers. In a list of calls the newest comes first, so `later ++ calls` is what
 //! `calls` became once the calls `later` were made.
-ghost use Rattle.std.specs.Prelude.{◌≡◌, ◌≢◌, ◌<◌, ◌≤◌, ℕ, ◌++◌, List, [], ◌∷◌, Result, true, false, if◌then◌else◌, length, Contains};
+ghost use Rattle.std.specs.Prelude.{◌≡◌, ◌≢◌, ◌<◌, ◌≤◌, ℕ, ◌++◌, List, [], ◌∷◌, Result, true};
+ghost use Rattle.std.specs.Prelude.{false, if◌then◌else◌, length, Contains};
 ghost use Rattle.std.specs.List.{list_any, filter_map};
 ghost use Rattle.std.specs.FinMap.{get, insert, remove};
-ghost use Rattle.stream_base.specs.declared.direction.Dir.{Dir};
+ghost use Rattle.base_types.specs.declared.direction.Dir.{Dir};
 ghost use Rattle.deadline_core.specs.declared.deadline.Deadline.{Deadline};
 ghost use Rattle.deadline_core.specs.declared.deadline.Dirs.{Dirs};
 ghost use Rattle.deadline_core.specs.declared.refusal.Refusal.{Refusal};
-ghost use Rattle.deadline_core.specs.PollHistory.{Call, Prepared, Looked, Readied, DeadlineSet, Ticked, Evicted};
-ghost use Rattle.deadline_core.specs.PollHistory.{covers, sets, readies, moves_notice, is_evicted, is_go, tick_moment};
-ghost use Rattle.deadline_core.specs.PollHistory.{closing, deadline_of, expired, notice, passed, refusal_of, look_answer};
+ghost use Rattle.deadline_core.specs.PollHistory.{Call, Prepared, Looked, Readied, DeadlineSet};
+ghost use Rattle.deadline_core.specs.PollHistory.{Ticked, Evicted};
+ghost use Rattle.deadline_core.specs.PollHistory.{covers, sets, readies, moves_notice, is_evicted};
+ghost use Rattle.deadline_core.specs.PollHistory.{is_go, tick_moment};
+ghost use Rattle.deadline_core.specs.PollHistory.{closing, deadline_of, expired, notice, passed};
+ghost use Rattle.deadline_core.specs.PollHistory.{refusal_of, look_answer};
 ghost use Rattle.deadline_core.specs.DueOrder.{Slot};
 ghost use Rattle.deadline_core.specs.Timers.{Armed, AreFirstDue, IsDue, remove_all};
 
 use crate::deadline::{Deadline, Dirs};
 use crate::poll_state::Look;
 use crate::refusal::Refusal;
-use stream_base::Dir;
+use base_types::Dir;
 
 /// A direction's deadline, and whether it is expired, is decided by the last set that covers it and
 /// was answered Ok: by that set's own moment and the ticks since. A direction that was never set

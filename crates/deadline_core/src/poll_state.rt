@@ -4,12 +4,14 @@
 //! `expired` is cleared by a `set` alone, `ready` by a `prepare` answered Ok and a `look` answered
 //! `Go`.
 ghost use Rattle.std.specs.Prelude.{◌≡◌, ◌||◌, ◌&&◌, not, List, [], ◌∷◌, false, true, is_err};
-ghost use Rattle.deadline_core.specs.PollHistory.{Call, Prepared, Looked, Readied, DeadlineSet, Ticked, Evicted, StandsFor};
-ghost use Rattle.deadline_core.specs.PollHistory.{prepare_answer, look_answer, set_answer, closing, passed, why_refused, ok_unless, look_at, is_go};
+ghost use Rattle.deadline_core.specs.PollHistory.{Call, Prepared, Looked, Readied, DeadlineSet};
+ghost use Rattle.deadline_core.specs.PollHistory.{Ticked, Evicted, StandsFor};
+ghost use Rattle.deadline_core.specs.PollHistory.{prepare_answer, look_answer, set_answer, closing};
+ghost use Rattle.deadline_core.specs.PollHistory.{passed, why_refused, ok_unless, look_at, is_go};
 
 use crate::deadline::{Deadline, Dirs};
 use crate::refusal::Refusal;
-use stream_base::Dir;
+use base_types::Dir;
 
 /// What a caller finds who looks whether waiting is over.
 #[derive(Clone, Copy, Debug, PartialEq, Eq)]

@@ -4,15 +4,17 @@
 //! order is stale where the index has another moment for its slot, or none. A change adds the
 //! ordered entry first, so that an index which is then refused memory leaves a stale entry and the
 //! same timers.
-ghost use Rattle.std.specs.Prelude.{◌≡◌, ◌≢◌, ◌≤◌, ◌+◌, ◌*◌, true, Some, None, OnOk, OnErr, IfNone, IfSome, IfOk};
+ghost use Rattle.std.specs.Prelude.{◌≡◌, ◌≢◌, ◌≤◌, ◌+◌, ◌*◌, true, Some, None, OnOk, OnErr, IfNone};
+ghost use Rattle.std.specs.Prelude.{IfSome, IfOk};
 ghost use Rattle.std.specs.FinMap as map;
 ghost use Rattle.std.specs.BTreeMap.{btree_map_len};
 ghost use Rattle.std.specs.BTreeSet.{btree_set_len, contains};
-ghost use Rattle.deadline_core.specs.TimerOrder.{armed_in, moment_in, moment_cmp, is_current_in, IsStored, IsMore, SameMoments, Sets, IsFirstOf};
+ghost use Rattle.deadline_core.specs.TimerOrder.{armed_in, moment_in, moment_cmp, is_current_in};
+ghost use Rattle.deadline_core.specs.TimerOrder.{IsStored, IsMore, SameMoments, Sets, IsFirstOf};
 
+use base_types::{Dir, OutOfMemory};
 use std::alloc::Allocator;
 use std::collections::{BTreeMap, BTreeSet};
-use stream_base::{Dir, OutOfMemory};
 
 /// What a timer is for: a key and a direction.
 pub(crate) type Slot = (u64, Dir);

@@ -10,10 +10,10 @@ ghost use Rattle.deadline_core.specs.TimerOrder.{IsFirstOf};
 
 use crate::timer_order::{Slot, drop_stale, is_current, pop_first_due, put, put_both, take_out};
 use arrayvec::ArrayVec;
+use base_types::{Dir, OutOfMemory};
 use std::alloc::{Allocator, Global};
 use std::collections::{BTreeMap, BTreeSet};
 use std::marker::Model;
-use stream_base::{Dir, OutOfMemory};
 
 /// The most timers that one `due` gives.
 pub const MAX_DUE: usize = 256;

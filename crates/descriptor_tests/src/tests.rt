@@ -2,8 +2,8 @@
 //! halves are destroyed once, which alarms are asked for, and refused memory.
 
 /// Ends the test's process where this doesn't hold, and says what should. A call costs the proof
-/// of a test less than a branch does. `readiness_tests` and `relay_tests` have one too: no crate uses
-/// another's tests.
+/// of a test less than a branch does. `readiness_tests` and `relay_tests` have one too: no crate
+/// uses another's tests.
 macro_rules! holds {
     ($rt:expr; $is:expr) => {
         $crate::tests::holds(&$rt, $is, stringify!($is))
@@ -29,6 +29,7 @@ mod wakes;
 mod watch;
 mod whole_life;
 
+use base_types::OutOfMemory;
 use deadline_core::Dirs;
 use fd_descriptor::{Alarms, FdHandle, Resource};
 use rwloops::{DevKind, Fault, WriteFault};
@@ -41,7 +42,6 @@ use std::test::Fail;
 use std::thread;
 use std::thread::{JoinHandle, Threads};
 use std::time::{Clock, Duration};
-use stream_base::OutOfMemory;
 
 /// The most turns of one millisecond that a test waits.
 const TURNS: u32 = 10_000;

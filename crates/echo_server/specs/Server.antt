@@ -13,7 +13,7 @@ module _ {R : Type 0} where
 
   -- the nanoseconds with nothing to read after which it closes a connection
   abbrev pub idle_of : Server R → ℕ
-  idle_of server = (shared_of server).idle
+  idle_of server = (shared_of server).idle_ns
 
 -- deadlines wake the server's poller, and arm timers with the value of those that its turns take:
 -- two mutexes that guard the same have one value, so that `timers` doesn't tell them apart

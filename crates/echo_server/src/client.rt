@@ -1,5 +1,5 @@
-//! What a client hears that said hello. It knows nothing of the server's crates: it has a reader of the
-//! standard library.
+//! What a client hears that said hello. It knows nothing of the server's crates: it has a reader of
+//! the standard library.
 
 ghost use Rattle.std.specs.Prelude.{◌≡◌, ◌≢◌, ℕ, List};
 ghost use Rattle.std.specs.Io.KnownBytes.{Consumes, IsAtEnd};

@@ -1,8 +1,8 @@
 //! `echo_server`: gives back what it is sent, and closes a connection that is idle for too long.
 //!
 //! With a port and an idle time in milliseconds it serves there until it is ended. With no word it
-//! serves any port that is free, says hello to itself, waits until it has closed the idle connection, and
-//! ends.
+//! serves any port that is free, says hello to itself, waits until it has closed the idle
+//! connection, and ends.
 #![tactic(auto)]
 
 mod client;
@@ -48,8 +48,8 @@ fn main(rt: HostRuntime) -> io::Result<ExitCode> {
         eprintln!(rt; "bad command line")?;
         return Ok(ExitCode::from(2));
     };
-    let idle = idle_ms.saturating_mul(NANOS_IN_A_MILLI);
-    let Some(mut server) = Server::open(rt, rt.alloc(), port, idle) else {
+    let idle_ns = idle_ms.saturating_mul(NANOS_IN_A_MILLI);
+    let Some(mut server) = Server::open(rt, rt.alloc(), port, idle_ns) else {
         eprintln!(rt; "cannot listen")?;
         return Ok(ExitCode::from(3));
     };

@@ -1,5 +1,5 @@
-//! A server: one thread turns the poller and accepts, and each connection has a thread of its own, and
-//! an entry in the table, by which turns find it.
+//! A server: one thread turns the poller and accepts, and each connection has a thread of its own,
+//! and an entry in the table, by which turns find it.
 
 ghost use Rattle.std.specs.Prelude.{◌≡◌, IfSome, IfErr};
 ghost use Rattle.rwloops.specs.declared.fault.Fault.{Fault};
@@ -40,8 +40,8 @@ where
     R: Wait + Threads + Net + Files + Clock + Copy + Drop + Send + Sync + 'static,
 {
     /// Listens at this port, or at any that is free where it is 0.
-    pub fn open(rt: R, alloc: Global, port: u16, idle: u64) -> Option<Server<R>>
-        ensures idle { IfSome result (λ server. idle_of server ≡ idle) }
+    pub fn open(rt: R, alloc: Global, port: u16, idle_ns: u64) -> Option<Server<R>>
+        ensures idle { IfSome result (λ server. idle_of server ≡ idle_ns) }
         ensures alarms { IfSome result HasOwnAlarms }
     {
         let poller = Poller::new(&rt, alloc).ok()?;
@@ -52,7 +52,7 @@ where
         let shared = Shared {
             rt,
             start: Instant::now(&rt).ok()?,
-            idle,
+            idle_ns,
             clients: Mutex::new(ConnTable::new(alloc)),
             timers,
             alarms: TimerAlarms::new(rt, alarmed, poller.waker().ok()?),
@@ -67,7 +67,8 @@ where
         })
     }
 
-    /// Holds a connection and starts its thread. Where anything is refused the connection is closed.
+    /// Holds a connection and starts its thread. Where anything is refused the connection is
+    /// closed.
     fn serve(&self, sock: Sock) -> Option<()> {
         let shared = Arc::try_clone(&self.shared).ok()?;
         let rt = shared.rt;

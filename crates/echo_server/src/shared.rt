@@ -1,5 +1,5 @@
-//! What the threads of a server share, and what the thread of a connection does: it reads and writes
-//! as if it were alone.
+//! What the threads of a server share, and what the thread of a connection does: it reads and
+//! writes as if it were alone.
 
 ghost use Rattle.std.specs.Prelude.{◌≡◌, ◌<◌, length, true, Err, IfOk};
 ghost use Rattle.fd_descriptor.specs.FdHandle.{KeepsHandle, marks_of, saw_closed};
@@ -7,7 +7,7 @@ ghost use Rattle.fd_descriptor.specs.HandleCalls.{HasEnded};
 ghost use Rattle.rwloops.specs.declared.fault.Fault.{Fault};
 
 use fd_descriptor::{Deadline, Fault, FdHandle};
-use readiness::{ConnTable, Held, SockRes, TimerAlarms, Timers};
+use readiness::{ConnTable, HeldSocket, SockRes, TimerAlarms, Timers};
 use std::sync::atomic::AtomicBool;
 use std::sync::{Arc, Mutex, Wait};
 use std::time::{Clock, Instant};
@@ -20,8 +20,8 @@ const BUFFER_BYTES: usize = 4_096;
 pub struct Shared<R: Wait + Clock + Copy + Drop> {
     pub rt: R,
     pub start: Instant,
-    pub idle: u64,
-    pub clients: Mutex<ConnTable<Held<SockRes>>>,
+    pub idle_ns: u64,
+    pub clients: Mutex<ConnTable<HeldSocket<SockRes>>>,
     pub timers: Arc<Mutex<Timers>>,
     pub alarms: TimerAlarms<R>,
     pub stopped: AtomicBool,
@@ -51,7 +51,7 @@ impl<R: Wait + Clock + Copy + Drop> Shared<R> {
         ensures all { IfOk result (λ turn. turn.written ≡ turn.read) }
     {
         let now = self.now();
-        let until = Deadline::At(now.saturating_add(self.idle));
+        let until = Deadline::At(now.saturating_add(self.idle_ns));
         handle.set_read_deadline(&self.rt, until, now, &self.alarms)?;
         let read = handle.read(&self.rt, buf)?;
         match handle.write(&self.rt, &buf[..read]) {
@@ -60,8 +60,8 @@ impl<R: Wait + Clock + Copy + Drop> Shared<R> {
         }
     }
 
-    /// Gives back what comes, until a call is refused, and says why it is: the end of what comes, an
-    /// idle time with nothing, a close, or a fault of the device.
+    /// Gives back what comes, until a call is refused, and says why it is: the end of what comes,
+    /// an idle time with nothing, a close, or a fault of the device.
     pub fn echo(&self, handle: &mut FdHandle<SockRes>) -> Fault
         ensures keeps { KeepsHandle handle.old handle.new }
         ensures closed { saw_closed handle.old ≡ true → result ≡ Fault.Closed }

@@ -4,6 +4,7 @@ use Rattle.fdmutex.specs.declared.answers.Refusal.{Refusal}
 use Rattle.fdmutex.specs.declared.answers.Refusal.TheVariants as refusal
 use Rattle.rwloops.specs.declared.fault.Fault.{Fault}
 use Rattle.rwloops.specs.declared.fault.Fault.TheVariants as fault
+use Rattle.rwloops.specs.declared.outcome.DevKind.{DevKind}
 use Rattle.rwloops.specs.declared.fault.WriteFault.{WriteFault}
 use Rattle.rwloops.specs.declared.tries.Progress.{Progress}
 use Rattle.rwloops.specs.declared.tries.Progress.TheVariants as progress
@@ -129,3 +130,10 @@ WhereEvicted _ Holds = Unit {0}
 abbrev pub IfFailed : Progress → (WriteFault → Type 0) → Type 0
 IfFailed (progress.Failed failed) Holds = Holds failed
 IfFailed _ Holds = Unit {0}
+
+-- a shut was asked of the half, of which this is so by its answer: what the caller is told is that
+-- answer
+abbrev pub IsShut : (Result (Unit {0}) DevKind → Type 0) → Result (Unit {0}) Fault → Type 0
+IsShut Told (Ok u) = Told (Ok tt)
+IsShut Told (Err (fault.Device kind)) = Told (Err kind)
+IsShut Told (Err _) = ⊥

@@ -1,8 +1,8 @@
 -- What a cell's lock guards: which calls its poll state has had, who is parked, and who has to be
 -- woken.
 use Rattle.std.specs.Prelude.{Bool, true, false, List}
-use Rattle.stream_base.specs.declared.direction.Dir.{Dir}
-use Rattle.stream_base.specs.declared.direction.Dir.TheVariants.{Read, Write}
+use Rattle.base_types.specs.declared.direction.Dir.{Dir}
+use Rattle.base_types.specs.declared.direction.Dir.TheVariants.{Read, Write}
 use Rattle.deadline_core.specs.declared.poll_state.Look.{Look}
 use Rattle.deadline_core.specs.declared.poll_state.Look.TheVariants.{Refused, Go, Park}
 use Rattle.deadline_core.specs.PollHistory.{Call, StandsFor}

@@ -1,12 +1,13 @@
 //! What handles do on a descriptor, each under the lock of a half or under a reference.
 
-ghost use Rattle.std.specs.Prelude.{◌≡◌, ◌≤◌, ◌<◌, true, length, Err, IfOk, IfErr};
+ghost use Rattle.std.specs.Prelude.{◌≡◌, ◌≤◌, ◌<◌, true, length, Ok, Err, IfOk, IfErr};
 ghost use Rattle.fd_descriptor.specs.FdHandle.{KeepsHandle, marks_of, saw_closed, saw_draining};
 ghost use Rattle.fd_descriptor.specs.FdHandle.{closes_of, destroys_of, drains_of};
 ghost use Rattle.fd_descriptor.specs.HandleCalls.{IsLockFault, MayTell, HasEnded};
 ghost use Rattle.fd_descriptor.specs.HandleCalls.{IsRefusedWrite};
 ghost use Rattle.fd_descriptor.specs.HandleCalls.{TellsWhoClosed, TellsOwnDestroy, WhereEvicted};
-ghost use Rattle.fd_descriptor.specs.HandleCalls.{Reads, Accepts, Writes, Shuts, SetsDeadline, Closes};
+ghost use Rattle.fd_descriptor.specs.HandleCalls.{Reads, Accepts, Writes, Shuts, SetsDeadline};
+ghost use Rattle.fd_descriptor.specs.HandleCalls.{Closes};
 ghost use Rattle.fd_descriptor.specs.Entry.{IsEntry};
 
 use crate::close::{AtEviction, Nobody, close_by};
@@ -80,13 +81,14 @@ impl<X: Resource, A: Allocator> FdHandle<X, A> {
         }
     }
 
-    /// Shuts the write half, after the writer before it, and where the connection isn't made yet after
-    /// that. A deadline refuses no shut: one that passes while the connection is being made ends the
-    /// wait, and gives the connection up.
+    /// Shuts the write half, after the writer before it, and where the connection isn't made yet
+    /// after that. A deadline refuses no shut: one that passes while the connection is being made
+    /// ends the wait, and gives the connection up.
     pub fn close_write<T: Wait>(&mut self, rt: &T) -> Result<(), Fault>
     where
         X::W: HalfClose,
         ensures entry { IsEntry Shuts self.old self.new result }
+        ensures shut { IfOk result (λ _. (half : X.W) × X.W.shut_told half (Ok tt)) }
     {
         let fd: &Fd<X, A> = &self.fd;
         match with_half::<Writing, X, A, T, _, _>(rt, fd, &mut self.seat, |half| {
@@ -115,9 +117,9 @@ impl<X: Resource, A: Allocator> FdHandle<X, A> {
         answer
     }
 
-    /// Sets the deadline of both directions, for calls that wait now and for later ones, until it is
-    /// set again. One that is at most `now` has passed at once. A descriptor that is draining refuses
-    /// it, as all calls that begin, and keeps the deadline that it has.
+    /// Sets the deadline of both directions, for calls that wait now and for later ones, until it
+    /// is set again. One that is at most `now` has passed at once. A descriptor that is draining
+    /// refuses it, as all calls that begin, and keeps the deadline that it has.
     pub fn set_deadline<T: Wait, L: Alarms>(
         &mut self,
         rt: &T,
@@ -130,8 +132,8 @@ impl<X: Resource, A: Allocator> FdHandle<X, A> {
         self.set(rt, alarms, Setting::new(Dirs::Both, deadline, now))
     }
 
-    /// Sets the deadline of reads and accepts. The three differ in their directions alone; each is a
-    /// call of Go's `net.Conn`.
+    /// Sets the deadline of reads and accepts. The three differ in their directions alone; each is
+    /// a call of Go's `net.Conn`.
     pub fn set_read_deadline<T: Wait, L: Alarms>(
         &mut self,
         rt: &T,
@@ -158,9 +160,9 @@ impl<X: Resource, A: Allocator> FdHandle<X, A> {
     }
 
     /// Closes the descriptor for all handles: calls that wait end as `Closed`, and this one answers
-    /// once the halves are destroyed. `Device` is the fault of destroying them, where this call did;
-    /// `Closed` says that somebody closed before, `TooMany` that the descriptor is still open. One that
-    /// is draining is closed as any other.
+    /// once the halves are destroyed. `Device` is the fault of destroying them, where this call
+    /// did; `Closed` says that somebody closed before, `TooMany` that the descriptor is still open.
+    /// One that is draining is closed as any other.
     pub fn close<T: Wait>(&mut self, rt: &T) -> Result<(), Fault>
         ensures keeps { KeepsHandle self.old self.new }
         ensures no_drain { drains_of self.new ≡ drains_of self.old }
@@ -173,9 +175,10 @@ impl<X: Resource, A: Allocator> FdHandle<X, A> {
         self.close_telling(rt, &Nobody)
     }
 
-    /// Closes as `close` does, and tells this once: when the calls that wait were sent out, and before
-    /// it waits for the last user. A close that is refused, as `Closed` or `TooMany`, tells nobody. An
-    /// event loop ends its own calls under way before it closes, since it would wait for itself.
+    /// Closes as `close` does, and tells this once: when the calls that wait were sent out, and
+    /// before it waits for the last user. A close that is refused, as `Closed` or `TooMany`, tells
+    /// nobody. An event loop ends its own calls under way before it closes, since it would wait for
+    /// itself.
     pub fn close_telling<T: Wait, E: AtEviction>(&mut self, rt: &T, who: &E) -> Result<(), Fault>
         ensures keeps { KeepsHandle self.old self.new }
         ensures no_drain { drains_of self.new ≡ drains_of self.old }

@@ -45,14 +45,15 @@ fn end_close<X: Resource, T: Wait>(
     }
 }
 
-/// Who is told that a descriptor is closing, before its closer waits for the last user. That user may
-/// be a call under way, which nothing wakes: its event loop has to hear of the close, and to end it.
+/// Who is told that a descriptor is closing, before its closer waits for the last user. That user
+/// may be a call under way, which nothing wakes: its event loop has to hear of the close, and to
+/// end it.
 pub trait AtEviction {
     /// What is so once it was told. Whoever has nothing to say of it leaves it out.
     ghost told: { Self → Type 0 } = { λ _. Unit {0} };
 
-    /// The descriptor is closing, for good, and each try on it is refused as `Closed` from now on. It
-    /// is called on the closer's thread, with no lock held.
+    /// The descriptor is closing, for good, and each try on it is refused as `Closed` from now on.
+    /// It is called on the closer's thread, with no lock held.
     fn evicted(&self)
         ensures told { told self.now };
 }
@@ -66,8 +67,8 @@ impl AtEviction for Nobody {
 }
 
 /// Closes: the flag first, so that nobody comes in; then all that wait are woken, to leave, and who
-/// runs calls under way is told, to end them; then the closer's own reference goes, and it waits until
-/// whoever leaves last has destroyed.
+/// runs calls under way is told, to end them; then the closer's own reference goes, and it waits
+/// until whoever leaves last has destroyed.
 pub(crate) fn close_by<X: Resource, A: Allocator, T: Wait, E: AtEviction>(
     rt: &T,
     fd: &Fd<X, A>,

@@ -1,7 +1,7 @@
 //! Setting a deadline in what a cell's lock guards, with its alarm, which is decided before.
 
 ghost use Rattle.std.specs.Prelude.{◌≡◌, ◌&&◌, not, List, ◌∷◌, true, false, Ok, Err, IfOk, IfErr};
-ghost use Rattle.stream_base.specs.declared.direction.Dir.{Dir};
+ghost use Rattle.base_types.specs.declared.direction.Dir.{Dir};
 ghost use Rattle.deadline_core.specs.PollHistory.{Call, DeadlineSet, closing, covers};
 ghost use Rattle.fd_descriptor.specs.Deadlines.{alarm_at};
 ghost use Rattle.fd_descriptor.specs.Parking.{IsAfter, is_parked, is_woken};
@@ -9,9 +9,9 @@ ghost use Rattle.fd_descriptor.specs.HandleCalls.{IsOwnFault, SetsDeadline};
 
 use crate::resource::Alarms;
 use crate::watched::{NotClosing, Parked, Watched};
+use base_types::OutOfMemory;
 use deadline_core::{Deadline, Dirs};
 use rwloops::Fault;
-use stream_base::OutOfMemory;
 
 /// What one call asks: a deadline for some directions, at a moment.
 #[derive(Clone, Copy)]
@@ -32,8 +32,8 @@ impl Setting {
         }
     }
 
-    /// The alarm that goes with it, for this key. What has passed already, and no deadline at all, end
-    /// an alarm that was asked for before.
+    /// The alarm that goes with it, for this key. What has passed already, and no deadline at all,
+    /// end an alarm that was asked for before.
     pub fn plan(self, key: u64) -> AlarmPlan
         ensures key { result.key ≡ key }
         ensures dirs { result.dirs ≡ self.dirs }

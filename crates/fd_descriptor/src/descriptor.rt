@@ -19,8 +19,8 @@ pub struct Fd<X: Resource, A: Allocator = Global> {
 /// A handle on a descriptor, with one seat of its lock word, as a `net.Conn` of Go's.
 ///
 /// Any number of handles may be on one descriptor, and each call takes its handle alone. A handle
-/// may be dropped: that closes nothing, and when the last one goes while the descriptor is open, the
-/// halves are dropped and nobody destroys them.
+/// may be dropped: that closes nothing, and when the last one goes while the descriptor is open,
+/// the halves are dropped and nobody destroys them.
 #[derive(Drop)]
 pub struct FdHandle<X: Resource, A: Allocator = Global> {
     pub(crate) fd: Arc<Fd<X, A>, A>,

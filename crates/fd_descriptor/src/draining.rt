@@ -14,12 +14,12 @@ use std::alloc::Allocator;
 use std::sync::Wait;
 
 impl<X: Resource, A: Allocator> FdHandle<X, A> {
-    /// Drains the descriptor for all handles, and for good: from then on no read, accept, write, shut or
-    /// deadline begins, those that wait for a lock are woken and refused as `Draining`, and those that
-    /// have their half go on and end as ever, also where they are parked. `close` and `share` work as
-    /// before. `Closed` says that the descriptor is closed, `Draining` that somebody drained it before.
-    /// It evicts nobody and takes no memory. Go has no such call: the rule is this project's own, so that
-    /// a server may let its calls end before it closes.
+    /// Drains the descriptor for all handles, and for good: from then on no read, accept, write,
+    /// shut or deadline begins, those that wait for a lock are woken and refused as `Draining`, and
+    /// those that have their half go on and end as ever, also where they are parked. `close` and
+    /// `share` work as before. `Closed` says that the descriptor is closed, `Draining` that
+    /// somebody drained it before. It evicts nobody and takes no memory. Go has no such call: the
+    /// rule is this project's own, so that a server may let its calls end before it closes.
     pub fn drain<T: Wait>(&mut self, rt: &T) -> Result<(), Fault>
         ensures keeps { KeepsHandle self.old self.new }
         ensures no_close { closes_of self.new ≡ closes_of self.old }

@@ -3,25 +3,28 @@
 //! A half is borrowed from the value of its lock, so that a use before the lock or after its return
 //! doesn't compile.
 
-ghost use Rattle.std.specs.Prelude.{◌≡◌, ◌≤◌, ◌<◌, true, length, Ok, Err, IfOk, IfErr, Some, IfSome};
+ghost use Rattle.std.specs.Prelude.{◌≡◌, ◌≤◌, ◌<◌, true, length, Ok, Err, IfOk, IfErr, Some};
+ghost use Rattle.std.specs.Prelude.{IfSome};
 ghost use Rattle.fd_descriptor.specs.HalfUse.{Did};
 ghost use Rattle.rwloops.specs.Waits.{fault_of};
 ghost use Rattle.rwloops.specs.TryNow.{ReadNow, AcceptNow, WriteNow, IsTried, IsPartOf};
-ghost use Rattle.fd_descriptor.specs.HandleCalls.{Reads, Accepts, Writes, Shuts, IsLockFault, IsOwnFault};
-ghost use Rattle.fd_descriptor.specs.HandleCalls.{IsRefusedEntry, IfFailed};
-ghost use Rattle.fd_descriptor.specs.Marks.{HoldsSeatOf, KeepsMarks, marks_in, closes_in, drains_in};
+ghost use Rattle.fd_descriptor.specs.HandleCalls.{Reads, Accepts, Writes, Shuts, IsLockFault};
+ghost use Rattle.fd_descriptor.specs.HandleCalls.{IsOwnFault};
+ghost use Rattle.fd_descriptor.specs.HandleCalls.{IsRefusedEntry, IfFailed, IsShut};
+ghost use Rattle.fd_descriptor.specs.Marks.{HoldsSeatOf, KeepsMarks, marks_in, closes_in};
+ghost use Rattle.fd_descriptor.specs.Marks.{drains_in};
 
 use crate::descriptor::Fd;
 use crate::leave::{leave, lock_fault};
 use crate::poll_cell::{CellWaits, PollCell};
 use crate::resource::{HalfClose, Resource};
+use base_types::Dir;
 use deadline_core::Refusal;
 use fdmutex::{lock, unlock};
 use lockword::{Guards, Seat};
 use rwloops::{DevKind, Fault, Progress, TryAccept, TryRead, TryWrite, Waits, WriteFault};
 use std::alloc::Allocator;
 use std::sync::Wait;
-use stream_base::Dir;
 
 /// Takes the lock of a direction, lends its half to `act`, and gives the lock back. It answers what
 /// `act` did, or why there was no lock.
@@ -113,7 +116,9 @@ pub(crate) fn shut_connected<H: HalfClose, W: Waits>(
     rt: &impl Wait,
     half: &mut H,
     waits: &mut W,
-) -> Result<(), DevKind> {
+) -> Result<(), DevKind>
+    ensures told { H.shut_told half.new result }
+{
     for _ in rt.forever() {
         if !half.is_connecting() || waits.wait(Dir::Write).is_err() {
             return half.shut();
@@ -123,9 +128,9 @@ pub(crate) fn shut_connected<H: HalfClose, W: Waits>(
 }
 
 /// Tries to read from a half, once the cell was asked, with this answer: so closing comes before
-/// expiry, and both before what the half gives. A `prepare` forgets the notice that an earlier one left;
-/// since a try follows it at once, what that notice was for is found there, and no wake-up is lost under
-/// events that come at a change alone.
+/// expiry, and both before what the half gives. A `prepare` forgets the notice that an earlier one
+/// left; since a try follows it at once, what that notice was for is found there, and no wake-up is
+/// lost under events that come at a change alone.
 pub(crate) fn read_now_in<H: TryRead>(
     prepared: Result<(), Refusal>,
     half: &mut H,
@@ -185,14 +190,15 @@ pub(crate) fn write_now_in<H: TryWrite>(
     }
 }
 
-/// Shuts a half, unless its connection isn't made yet; a deadline or a close that came shuts it as it
-/// is, as in `shut_connected`.
+/// Shuts a half, unless its connection isn't made yet; a deadline or a close that came shuts it as
+/// it is, as in `shut_connected`.
 pub(crate) fn shut_now_in<H: HalfClose, T: Wait>(
     rt: &T,
     cell: &PollCell,
     half: &mut H,
 ) -> Option<Result<(), Fault>>
     ensures faults { IfSome result (λ answer. IfErr answer (IsOwnFault Shuts)) }
+    ensures told { IfSome result (λ answer. IsShut (H.shut_told half.new) answer) }
 {
     if half.is_connecting() && cell.prepare(rt, Dir::Write).is_ok() {
         return None;

@@ -3,18 +3,20 @@
 ghost use Rattle.std.specs.Prelude.{◌≡◌, true, IfOk, IfErr};
 ghost use Rattle.std.specs.Arc.{arc_value};
 ghost use Rattle.lockword.specs.TransitionOutcomes.{IsOnlyClosed};
-ghost use Rattle.fd_descriptor.specs.FdHandle.{descriptor_of, cell_of, KeepsDeeds, DidNothing, IsFirst};
-ghost use Rattle.fd_descriptor.specs.FdHandle.{marks_of, saw_closed, saw_draining, saw_done, LooksAt};
+ghost use Rattle.fd_descriptor.specs.FdHandle.{descriptor_of, cell_of, KeepsDeeds, DidNothing};
+ghost use Rattle.fd_descriptor.specs.FdHandle.{IsFirst};
+ghost use Rattle.fd_descriptor.specs.FdHandle.{marks_of, saw_closed, saw_draining, saw_done};
+ghost use Rattle.fd_descriptor.specs.FdHandle.{LooksAt};
 
 use crate::descriptor::{Fd, FdHandle};
 use crate::poll_cell::PollCell;
 use crate::resource::Resource;
+use base_types::OutOfMemory;
 use lockword::LockWord;
 use lockword_core::Word;
 use rwloops::Fault;
 use std::alloc::{Allocator, Global};
 use std::sync::Arc;
-use stream_base::OutOfMemory;
 
 impl<X: Resource> FdHandle<X> {
     /// A new descriptor, with its first handle. Where memory is refused the halves are dropped, and
@@ -57,8 +59,9 @@ impl<X: Resource, A: Allocator> FdHandle<X, A> {
         })
     }
 
-    /// Where the calls on this descriptor wait: whoever hears that it is ready, or that a moment has
-    /// come, tells it to the cell. It takes no memory; refused is only a cell that is held too often.
+    /// Where the calls on this descriptor wait: whoever hears that it is ready, or that a moment
+    /// has come, tells it to the cell. It takes no memory; refused is only a cell that is held too
+    /// often.
     pub fn cell(&self) -> Result<Arc<PollCell, A>, OutOfMemory>
         ensures own { IfOk result (λ cell. arc_value cell ≡ cell_of self.now) }
     {
@@ -68,8 +71,8 @@ impl<X: Resource, A: Allocator> FdHandle<X, A> {
         }
     }
 
-    /// The seven fields of the descriptor's lock word, by one load: who has it, who waits for it, and
-    /// whether it is closed and whether it is draining.
+    /// The seven fields of the descriptor's lock word, by one load: who has it, who waits for it,
+    /// and whether it is closed and whether it is draining.
     pub fn look(&mut self) -> Word
         ensures same { descriptor_of self.new ≡ descriptor_of self.old }
         ensures closed { saw_closed self.new ≡ result.closed }
@@ -89,8 +92,8 @@ impl<X: Resource, A: Allocator> FdHandle<X, A> {
         word
     }
 
-    /// Another handle on this descriptor, which has seen the same, also where that is a drain. It takes
-    /// no memory; refused is only a descriptor that is held too often.
+    /// Another handle on this descriptor, which has seen the same, also where that is a drain. It
+    /// takes no memory; refused is only a descriptor that is held too often.
     pub fn share(&mut self) -> Result<FdHandle<X, A>, Fault>
         ensures same { descriptor_of self.new ≡ descriptor_of self.old }
         ensures kept { marks_of self.new ≡ marks_of self.old }

@@ -1,7 +1,7 @@
 //! How a call leaves its descriptor, from what is given back to the seat that is left.
 //!
-//! Whoever gives the last reference of a closed word back destroys the halves there and then. Only a
-//! close that destroys tells the device's fault; any other call has an answer of its own.
+//! Whoever gives the last reference of a closed word back destroys the halves there and then. Only
+//! a close that destroys tells the device's fault; any other call has an answer of its own.
 
 ghost use Rattle.std.specs.Prelude.{◌≡◌, ◌+◌};
 ghost use Rattle.lockword.specs.Marks.{marks_of as marks_at};
@@ -10,7 +10,8 @@ ghost use Rattle.lockword.specs.TransitionOutcomes.{IsSeatOf, HasNotTaken};
 ghost use Rattle.fdmutex.specs.Deeds.{closes, destroys, drains};
 ghost use Rattle.fdmutex.specs.Refusal.{IsFreedOf};
 ghost use Rattle.fd_descriptor.specs.HandleCalls.{lock_fault};
-ghost use Rattle.fd_descriptor.specs.Marks.{KeepsMarks, SawTheEnd, marks_left, closes_left, drains_left};
+ghost use Rattle.fd_descriptor.specs.Marks.{KeepsMarks, SawTheEnd, marks_left, closes_left};
+ghost use Rattle.fd_descriptor.specs.Marks.{drains_left};
 
 use crate::resource::Resource;
 use fdmutex::{Freed, Refusal};

@@ -26,10 +26,10 @@ pub use under_way::{ReadUnderWay, UnderWay, WriteUnderWay};
 pub use watched::{Parked, Watched};
 
 // What callers of the above speak of, so that they need this crate alone.
-pub use deadline_core::{Deadline, Dirs, Look, Refusal};
+pub use base_types::{Dir, OutOfMemory};
+pub use deadline_core::{Deadline, Dirs, Look, Refusal as DeadlineRefusal};
 pub use lockword_core::Word;
 pub use rwloops::{
     AcceptOutcome, DevKind, Fault, Outcome, Progress, TryAccept, TryRead, TryWrite, Waits,
     WriteFault,
 };
-pub use stream_base::{Dir, OutOfMemory};

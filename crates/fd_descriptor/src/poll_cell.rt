@@ -2,8 +2,8 @@
 //! both directions.
 //!
 //! Whoever changes the state is told there who was parked and may now go on, gives the lock up, and
-//! only then wakes those; each of them looks again. A waiter sets the flag of its direction under the
-//! lock, and parking gives the lock up, so no wake-up is lost.
+//! only then wakes those; each of them looks again. A waiter sets the flag of its direction under
+//! the lock, and parking gives the lock up, so no wake-up is lost.
 
 ghost use Rattle.std.specs.Prelude.{◌≡◌, IfErr};
 ghost use Rattle.fd_descriptor.specs.CellKey.{key_of_cell};
@@ -12,11 +12,11 @@ ghost use Rattle.fd_descriptor.specs.HandleCalls.{IsOwnFault, SetsDeadline};
 use crate::deadlines::{Setting, set_in};
 use crate::resource::Alarms;
 use crate::watched::{Parked, Watched};
+use base_types::Dir;
 use deadline_core::{Look, Refusal};
 use lockword::Closing;
 use rwloops::{Fault, Waits};
 use std::sync::{Condvar, Mutex, Wait};
-use stream_base::Dir;
 
 /// A poll state under a lock, and the parking of both directions, as Go's poll descriptor.
 ///
@@ -71,8 +71,8 @@ impl PollCell {
         self.wake(parked);
     }
 
-    /// Makes the state closing, for good. Only who set the word's flag has the value that this takes,
-    /// so that a close which is refused leaves the cell as it was.
+    /// Makes the state closing, for good. Only who set the word's flag has the value that this
+    /// takes, so that a close which is refused leaves the cell as it was.
     pub(crate) fn evict<R, W, T: Wait>(&self, rt: &T, _closing: &Closing<R, W>) {
         let parked = self.watched.lock(rt).evict();
         self.wake(parked);
@@ -110,8 +110,8 @@ impl PollCell {
     }
 }
 
-/// A cell with the runtime that parks. It tells nothing: what others do to the cell in between isn't
-/// known.
+/// A cell with the runtime that parks. It tells nothing: what others do to the cell in between
+/// isn't known.
 #[derive(Drop)]
 pub struct CellWaits<'a, T: Wait> {
     cell: &'a PollCell,

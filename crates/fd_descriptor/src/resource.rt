@@ -1,9 +1,12 @@
-//! What a program brings to a descriptor: the two halves and how they are destroyed, a half that can
-//! be shut, and alarms for deadlines.
+//! What a program brings to a descriptor: the two halves and how they are destroyed, a half that
+//! can be shut, and alarms for deadlines.
 
+ghost use Rattle.std.specs.Prelude.{Result};
+ghost use Rattle.rwloops.specs.declared.outcome.DevKind.{DevKind};
+
+use base_types::OutOfMemory;
 use deadline_core::Dirs;
 use rwloops::DevKind;
-use stream_base::OutOfMemory;
 
 /// What a descriptor guards: two halves, and how they are destroyed.
 pub trait Resource {
@@ -20,6 +23,10 @@ pub trait Resource {
 
 /// A half that can be shut while the other goes on, as `CloseWrite` of Go's `net.TCPConn`.
 pub trait HalfClose {
+    /// What is so of a half that was asked to be shut and answered this. Whoever has nothing to say
+    /// of it leaves it out.
+    ghost shut_told: { Self → Result (Unit {0}) DevKind → Type 0 } = { λ _ _. Unit {0} };
+
     /// Whether the connection that it belongs to isn't made yet. Shutting it now would give the
     /// connection up, so a descriptor waits until the half is ready to be written, and asks again.
     fn is_connecting(&mut self) -> bool {
@@ -27,7 +34,8 @@ pub trait HalfClose {
     }
 
     /// Shuts it for good.
-    fn shut(&mut self) -> Result<(), DevKind>;
+    fn shut(&mut self) -> Result<(), DevKind>
+        ensures told { shut_told self.new result };
 }
 
 /// Where a descriptor asks to be told of a moment: its timers, under whatever lock they need.

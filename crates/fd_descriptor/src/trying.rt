@@ -1,12 +1,14 @@
-//! Calls that go on when they are told to, for who must not wait: an event loop begins one, tries it
-//! whenever its descriptor may be ready, and ends it. From its beginning to its end it has the lock of
-//! its half, as a call that waits has: a drain lets it go on, and a close waits for its end.
+//! Calls that go on when they are told to, for who must not wait: an event loop begins one, tries
+//! it whenever its descriptor may be ready, and ends it. From its beginning to its end it has the
+//! lock of its half, as a call that waits has: a drain lets it go on, and a close waits for its
+//! end.
 //!
-//! Its tries answer as a call that waits: closing comes before expiry, and expiry before what the half
-//! gives. Nothing wakes it: whoever closes the descriptor, or sets or lifts a deadline, has to tell the
-//! loop, which then tries again. No call here takes memory.
+//! Its tries answer as a call that waits: closing comes before expiry, and expiry before what the
+//! half gives. Nothing wakes it: whoever closes the descriptor, or sets or lifts a deadline, has to
+//! tell the loop, which then tries again. No call here takes memory.
 
-ghost use Rattle.std.specs.Prelude.{◌≡◌, ◌≤◌, ◌<◌, true, length, Some, Ok, IfOk, IfErr, IfSome, IsErrAnd};
+ghost use Rattle.std.specs.Prelude.{◌≡◌, ◌≤◌, ◌<◌, true, length, Some, Ok, IfOk, IfErr, IfSome};
+ghost use Rattle.std.specs.Prelude.{IsErrAnd};
 ghost use Rattle.rwloops.specs.TryNow.{IsPartOf};
 ghost use Rattle.fd_descriptor.specs.FdHandle.{saw_closed, saw_draining};
 ghost use Rattle.fd_descriptor.specs.HandleCalls.{Reads, Accepts, Writes, Shuts, IsOwnFault};
@@ -18,12 +20,12 @@ use crate::half_use::{accept_now_in, read_now_in, shut_now_in, write_now_in};
 use crate::leave::{leave, lock_fault};
 use crate::resource::{HalfClose, Resource};
 use crate::under_way::{ReadUnderWay, UnderWay, WriteUnderWay};
+use base_types::Dir;
 use fdmutex::{lock, unlock};
 use lockword::{Guards, Reading, Writing};
 use rwloops::{Fault, Progress, TryAccept, TryRead, TryWrite};
 use std::alloc::Allocator;
 use std::sync::Wait;
-use stream_base::Dir;
 
 // Begins a call: it takes the lock, after whoever has it.
 fn begin<D: Guards<X::R, X::W>, X: Resource, T: Wait + Copy, A: Allocator>(
@@ -46,9 +48,10 @@ fn begin<D: Guards<X::R, X::W>, X: Resource, T: Wait + Copy, A: Allocator>(
 }
 
 impl<X: Resource, A: Allocator> FdHandle<X, A> {
-    /// Begins a read or an accept, which has the read lock until it ends. It queues for the lock where
-    /// another has it, so an event loop begins one read a descriptor at a time. It is refused as `read`
-    /// is that gets no lock, as `Closed`, `Draining` or `TooMany`, and then gives the handle back.
+    /// Begins a read or an accept, which has the read lock until it ends. It queues for the lock
+    /// where another has it, so an event loop begins one read a descriptor at a time. It is refused
+    /// as `read` is that gets no lock, as `Closed`, `Draining` or `TooMany`, and then gives the
+    /// handle back.
     pub fn begin_read<T: Wait + Copy>(
         self,
         rt: T,
@@ -87,8 +90,8 @@ impl<D: Guards<X::R, X::W>, X: Resource, T: Wait + Copy, A: Allocator> UnderWay<
 }
 
 impl<X: Resource, T: Wait + Copy, A: Allocator> UnderWay<Reading, X, T, A> {
-    /// Tries to read at least one byte, or answers 0 for a buffer of length 0; `None` says that the half
-    /// would block.
+    /// Tries to read at least one byte, or answers 0 for a buffer of length 0; `None` says that the
+    /// half would block.
     pub fn try_read(&mut self, buf: &mut [u8]) -> Option<Result<usize, Fault>>
     where
         X::R: TryRead,
@@ -135,13 +138,15 @@ impl<X: Resource, T: Wait + Copy, A: Allocator> UnderWay<Writing, X, T, A> {
         write_now_in(prepared, self.held.half(&fd.word), bytes)
     }
 
-    /// Tries to shut the half; `None` says that its connection isn't made yet. As for `close_write` a
-    /// deadline that passes, or a close, gives the connection up.
+    /// Tries to shut the half; `None` says that its connection isn't made yet. As for `close_write`
+    /// a deadline that passes, or a close, gives the connection up.
     pub fn try_shut(&mut self) -> Option<Result<(), Fault>>
     where
         X::W: HalfClose,
         ensures goes_on { GoesOn self.old self.new }
         ensures allowed { IfSome result (λ answer. IfErr answer (IsOwnFault Shuts)) }
+        ensures shut { IfSome result (λ answer. IfOk answer (λ _.
+            (half : X.W) × X.W.shut_told half (Ok tt))) }
     {
         let fd: &Fd<X, A> = &self.fd;
         shut_now_in(&self.rt, &fd.cell, self.held.half(&fd.word))

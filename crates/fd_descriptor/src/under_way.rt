@@ -13,8 +13,8 @@ use lockword::{Guards, Held, Reading, Writing};
 use std::alloc::{Allocator, Global};
 use std::sync::{Arc, Wait};
 
-/// A call under way in one direction, in place of the handle that it was begun with. One that is let go
-/// ends, and its handle goes with it.
+/// A call under way in one direction, in place of the handle that it was begun with. One that is
+/// let go ends, and its handle goes with it.
 pub struct UnderWay<D: Guards<X::R, X::W>, X: Resource, T: Wait + Copy, A: Allocator = Global> {
     pub(crate) rt: T,
     pub(crate) fd: Arc<Fd<X, A>, A>,

@@ -1,19 +1,22 @@
-//! What the lock of a cell guards: a poll state, and in which directions somebody is parked. Nothing
-//! here waits or wakes.
+//! What the lock of a cell guards: a poll state, and in which directions somebody is parked.
+//! Nothing here waits or wakes.
 //!
 //! A call that changes the state answers who has to be woken. It clears their flags, so that nobody
 //! else wakes them: whoever made the call owes the wake-up, once the lock is given up.
 
-ghost use Rattle.std.specs.Prelude.{◌≡◌, ◌&&◌, ◌||◌, not, List, [], ◌∷◌, true, false, Ok, IfOk, IfErr};
+ghost use Rattle.std.specs.Prelude.{◌≡◌, ◌&&◌, ◌||◌, not, List, [], ◌∷◌, true, false, Ok, IfOk};
+ghost use Rattle.std.specs.Prelude.{IfErr};
 ghost use Rattle.std.specs.Prelude.{OnSome, IfNone};
-ghost use Rattle.stream_base.specs.declared.direction.Dir.{Dir};
-ghost use Rattle.deadline_core.specs.PollHistory.{Call, Prepared, Looked, Readied, DeadlineSet, Ticked, Evicted};
-ghost use Rattle.deadline_core.specs.PollHistory.{prepare_answer, look_answer, closing, covers, same_dir};
+ghost use Rattle.base_types.specs.declared.direction.Dir.{Dir};
+ghost use Rattle.deadline_core.specs.PollHistory.{Call, Prepared, Looked, Readied, DeadlineSet};
+ghost use Rattle.deadline_core.specs.PollHistory.{Ticked, Evicted};
+ghost use Rattle.deadline_core.specs.PollHistory.{prepare_answer, look_answer, closing, covers};
+ghost use Rattle.deadline_core.specs.PollHistory.{same_dir};
 ghost use Rattle.fd_descriptor.specs.Parking.{IsAfter, is_parked, is_woken, is_park};
 
 use crate::deadlines::Setting;
+use base_types::Dir;
 use deadline_core::{Dirs, Look, PollState, Refusal};
-use stream_base::Dir;
 
 /// A poll state, with a flag for each direction in which somebody may be parked.
 ///

@@ -1,10 +1,12 @@
 -- What the calls that wait answer.
 use Rattle.std.specs.Prelude.{◌≡◌, false, Result, Ok, Err}
-use Rattle.stream_base.specs.declared.direction.Dir.{Dir}
+use Rattle.base_types.specs.declared.direction.Dir.{Dir}
 use Rattle.lockword_core.specs.declared.word.Word.{Word}
 use Rattle.lockword.specs.declared.holders.LockWord.{LockWord}
 use Rattle.lockword.specs.declared.holders.Seat.{Seat}
 use Rattle.lockword.specs.declared.holders.Closing.{Closing}
+use Rattle.lockword.specs.declared.holders.Close.{Close}
+use Rattle.lockword.specs.declared.holders.Close.TheVariants as close
 use Rattle.lockword.specs.declared.holders.Freed.{Freed}
 use Rattle.lockword.specs.declared.holders.Freed.TheVariants as freed
 use Rattle.lockword.specs.Marks.{Place, IsFullWay, SameMarks, SameButDraining, NowClosed}
@@ -64,6 +66,13 @@ module _ {R W : Type 0} where
   IsClosingOrRefused before (Ok closing) =
       NowClosed (seat_place before) (closing_place closing) × IsOpen (seat_place before)
   IsClosingOrRefused before (Err e) = IsCloseRefused before e.0 e.1
+
+  -- what a try to close is answered, or the seat that tries again: that of one that was lost
+  abbrev pub close_answer : Close R W → Result (Result (Closing R W) (Seat R W × Refusal)) (Seat R W)
+  close_answer (close.Closing closing) = Ok (Ok closing)
+  close_answer (close.Closed back) = Ok (Err (back, refusal.Closed))
+  close_answer (close.TooMany back found) = Ok (Err (back, refusal.TooMany found))
+  close_answer (close.Lost back) = Err back
 
   -- a seat of this word is left, or the duty to destroy, with the halves still to take
   abbrev pub IsFreedOf : LockWord R W → Freed R W → Type 0

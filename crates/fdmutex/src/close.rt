@@ -1,9 +1,9 @@
-//! The close. Who closes takes over the signals of all waiters, and gives them before it returns. The
-//! woken contend again, and find the word closed.
+//! The close. Who closes takes over the signals of all waiters, and gives them before it returns.
+//! The woken contend again, and find the word closed.
 
 ghost use Rattle.std.specs.Prelude.{◌≡◌, false, IfOk, IfErr};
-ghost use Rattle.stream_base.specs.declared.direction.Dir.{Dir};
-ghost use Rattle.stream_base.specs.declared.direction.Dir.TheVariants.{Read, Write};
+ghost use Rattle.base_types.specs.declared.direction.Dir.{Dir};
+ghost use Rattle.base_types.specs.declared.direction.Dir.TheVariants.{Read, Write};
 ghost use Rattle.lockword_core.specs.LockState.{is_same};
 ghost use Rattle.lockword.specs.Marks.{NowClosed, SameDeeds, HeardOn};
 ghost use Rattle.lockword.specs.Places.{seat_place, closing_place, owed_by};
@@ -11,15 +11,29 @@ ghost use Rattle.lockword.specs.TransitionOutcomes.{IsSeatOf};
 ghost use Rattle.lockword.specs.Dropping.{IsDecided, LeavesClosed};
 ghost use Rattle.fdmutex.specs.Deeds.{MadeNoEnd, MadeTheClose, LeavesWithoutEnd};
 ghost use Rattle.fdmutex.specs.Heard.{TakesHearing, LeavesHearing};
-ghost use Rattle.fdmutex.specs.Refusal.{IsClosingOrRefused};
+ghost use Rattle.fdmutex.specs.Refusal.{IsClosingOrRefused, close_answer};
 
 use crate::Refusal;
+use base_types::Dir;
 use lockword::{Close, Closing, Freed, LockWord, Seat, SignalClosing};
 use std::sync::Wait;
-use stream_base::Dir;
 
-/// Sets the flag, and takes over the signals of all waiters. The loop is that of `incref`, over a try
-/// with answers of its own, which say what the caller now holds.
+/// What a try to close is answered, or the seat that tries again. Only a try that was lost is made
+/// again: at the limit of references a close that tried again would do so for ever.
+fn answer_of<R, W>(
+    tried: Close<R, W>,
+) -> Result<Result<Closing<R, W>, (Seat<R, W>, Refusal)>, Seat<R, W>>
+    ensures { result ≡ close_answer tried }
+{
+    match tried {
+        Close::Closing(closing) => Ok(Ok(closing)),
+        Close::Closed(back) => Ok(Err((back, Refusal::Closed))),
+        Close::TooMany(back, found) => Ok(Err((back, Refusal::TooMany(found)))),
+        Close::Lost(back) => Err(back),
+    }
+}
+
+/// Sets the flag, and takes over the signals of all waiters.
 fn take_over<R: Drop, W: Drop, T: Wait>(
     rt: &T,
     word: &LockWord<R, W>,
@@ -33,11 +47,9 @@ fn take_over<R: Drop, W: Drop, T: Wait>(
 {
     let mut seat = seat;
     for _ in rt.forever() {
-        match word.try_close(seat) {
-            Close::Closing(closing) => return Ok(closing),
-            Close::Closed(back) => return Err((back, Refusal::Closed)),
-            Close::TooMany(back, found) => return Err((back, Refusal::TooMany(found))),
-            Close::Lost(back) => seat = back,
+        match answer_of(word.try_close(seat)) {
+            Ok(answer) => return answer,
+            Err(back) => seat = back,
         }
     }
     unreachable!()
@@ -72,8 +84,8 @@ fn signal_all<R: Drop, W: Drop, T: Wait>(
     unreachable!()
 }
 
-/// Closes the word, takes a reference, and gives the signals of all waiters. A word that is draining
-/// is closed as any other.
+/// Closes the word, takes a reference, and gives the signals of all waiters. A word that is
+/// draining is closed as any other.
 pub fn close_mark<R: Drop, W: Drop, T: Wait>(
     rt: &T,
     word: &LockWord<R, W>,

@@ -1,7 +1,8 @@
 //! The wait until the resource is destroyed. `mark_done` wakes one waiter, and each wakes the next.
 
 ghost use Rattle.std.specs.Prelude.{◌≡◌, true};
-ghost use Rattle.lockword.specs.Marks.{saw_closed, saw_draining, saw_done, word_of, SameDeeds, SameHeard};
+ghost use Rattle.lockword.specs.Marks.{saw_closed, saw_draining, saw_done, word_of, SameDeeds};
+ghost use Rattle.lockword.specs.Marks.{SameHeard};
 ghost use Rattle.lockword.specs.Places.{seat_place};
 ghost use Rattle.lockword.specs.TransitionOutcomes.{IsSeatOf};
 

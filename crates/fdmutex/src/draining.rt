@@ -1,5 +1,5 @@
-//! The drain. Who drains takes over the signals of all waiters, as a closer does, and gives them before
-//! it returns. The woken contend again, and find the word draining.
+//! The drain. Who drains takes over the signals of all waiters, as a closer does, and gives them
+//! before it returns. The woken contend again, and find the word draining.
 
 ghost use Rattle.std.specs.Prelude.{IfOk, IfErr};
 ghost use Rattle.lockword.specs.Marks.{NowDraining, SameDeeds, HeardOn};
@@ -10,13 +10,13 @@ ghost use Rattle.fdmutex.specs.Heard.{TakesHearing};
 ghost use Rattle.fdmutex.specs.Refusal.{IsNever, IsTakenOrRefused};
 
 use crate::Refusal;
+use base_types::Dir;
 use lockword::{Drain, Drains, LockWord, Seat, SignalDrains};
 use std::sync::Wait;
-use stream_base::Dir;
 
 /// Gives all signals of both directions, after which the drainer has nothing. It stands beside the
-/// closer's `signal_all`, which gives a value back that owes none. A semaphore at its limit is tried
-/// again: only the drainer can give what it owes, and each waiter that wakes makes room.
+/// closer's `signal_all`, which gives a value back that owes none. A semaphore at its limit is
+/// tried again: only the drainer can give what it owes, and each waiter that wakes makes room.
 fn signal_both<R: Drop, W: Drop, T: Wait>(
     rt: &T,
     word: &LockWord<R, W>,
@@ -46,8 +46,8 @@ fn signal_both<R: Drop, W: Drop, T: Wait>(
 
 /// Sets the drain flag, for good, and gives the signals of all waiters: from then on nobody takes a
 /// reference or a lock, and who has one gives it back as before. It takes no reference, so that it
-/// meets no limit. Refused it is as `Closed`, or as `Draining` where another drained before. Go has no
-/// such call: the rule is this project's own.
+/// meets no limit. Refused it is as `Closed`, or as `Draining` where another drained before. Go has
+/// no such call: the rule is this project's own.
 pub fn drain<R: Drop, W: Drop, T: Wait>(
     rt: &T,
     word: &LockWord<R, W>,

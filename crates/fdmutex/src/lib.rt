@@ -1,7 +1,7 @@
 //! The calls that wait, over the lock word's single tries. They try again where another step came
 //! between, park while somebody has the lock, and give each signal that they owe before they end.
-//! Names and rules follow Go's `fd_mutex.go`; where Go panics at a limit these answer `TooMany`. The
-//! drain, which Go doesn't have, is this project's own.
+//! Names and rules follow Go's `fd_mutex.go`; where Go panics at a limit these answer `TooMany`.
+//! The drain, which Go doesn't have, is this project's own.
 #![tactic(auto)]
 
 mod answers;

@@ -1,7 +1,8 @@
-//! The locks. Who finds a lock taken queues, parks until there is a signal to take, and then has nothing
-//! and contends from the start. Who gives a lock back gives the signal that it owes before it returns.
+//! The locks. Who finds a lock taken queues, parks until there is a signal to take, and then has
+//! nothing and contends from the start. Who gives a lock back gives the signal that it owes before
+//! it returns.
 
-ghost use Rattle.stream_base.specs.declared.direction.Dir.TheVariants.{Read, Write};
+ghost use Rattle.base_types.specs.declared.direction.Dir.TheVariants.{Read, Write};
 ghost use Rattle.lockword.specs.Marks.{SameMarks, HeardOn};
 ghost use Rattle.lockword.specs.Places.{seat_place, lock_place, wait_place, owing_place};
 ghost use Rattle.lockword.specs.TransitionOutcomes.{IsSeatOf};
@@ -42,8 +43,8 @@ fn await_signal<D: Direction, R: Drop, W: Drop, T: Wait>(
     unreachable!()
 }
 
-/// Gives the signal that is owed. A semaphore at its limit is tried again: nobody else can give this
-/// signal, and each waiter that wakes makes room.
+/// Gives the signal that is owed. A semaphore at its limit is tried again: nobody else can give
+/// this signal, and each waiter that wakes makes room.
 fn signal<R: Drop, W: Drop, T: Wait>(
     rt: &T,
     word: &LockWord<R, W>,

@@ -20,14 +20,8 @@ goes_on_on a b c g h =
     }
 
 -- one event more
-goes_further : (early h : List Event) (e : Event) → GoesOn early h → GoesOn early (h ++ e ∷ [])
+pub goes_further : (early h : List Event) (e : Event) → GoesOn early h → GoesOn early (h ++ e ∷ [])
 goes_further early h e g = goes_on_on early h (h ++ e ∷ []) g record { more = e ∷ []; whole = refl }
-
--- what a seat has heard with its operation goes on from what it had heard
-pub hears_on : (o : Op) (a : Answer) (v w : LocalView) → IsMade o a v w → GoesOn v.heard w.heard
-hears_on o a v w made =
-    subst (λ (h : List Event). GoesOn v.heard h) (sym made.heard)
-    (goes_further v.heard made.history record { holder = made.seat; op = o } made.goes_on)
 
 -- one seat has another view, which has heard no more than the whole
 pub heard_set : (h : List Event) (views : List LocalView) (id : ℕ) (w : LocalView) → IsHeard h views

@@ -37,8 +37,8 @@ pub use Rattle.std.proofs.Common.{Bool, List, Ok, ap, arith, eqb, false, get_or,
 pub use Rattle.std.proofs.Common.{length, length-set, refl, rules, set, subst, suc, sym, true, zero, ℕ}
 pub use Rattle.std.proofs.lemmas.Bool.Decides.{nat_tests}
 pub use Rattle.std.specs.Prelude.{is_some}
-pub use Rattle.stream_base.specs.declared.direction.Dir.{Dir}
-pub use Rattle.stream_base.specs.declared.direction.Dir.TheVariants.{Read, Write}
+pub use Rattle.base_types.specs.declared.direction.Dir.{Dir}
+pub use Rattle.base_types.specs.declared.direction.Dir.TheVariants.{Read, Write}
 pub use lib.ListN.{get_elem?}
 pub use mathlib.Core.Logic.{dite}
 pub use mathlib.Core.Option.{Option, none, some}

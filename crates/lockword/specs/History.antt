@@ -58,9 +58,9 @@ pub record IsMade (op : Op) (answer : Answer) (v w : LocalView) : Type 0 where
 -- a seat with the first view hears this list, and finds this number: the list goes on from what it
 -- had heard, none of it is refused, replayed it gives this number, and after it the seat has the
 -- second view
-pub record Hears (v : LocalView) (history : List Event) (n : ℕ) (w : LocalView) : Type 0 where
-  pub goes_on : GoesOn v.heard history
-  pub none_refused : NoneRefused history
-  pub leads : encoded (census (state_after empty history)) ≡ n
+pub record Hears (v : LocalView) (list : List Event) (n : ℕ) (w : LocalView) : Type 0 where
+  pub goes_on : GoesOn v.heard list
+  pub none_refused : NoneRefused list
+  pub leads : encoded (census (state_after empty list)) ≡ n
   pub seat : ℕ
-  pub own : IsView history seat w
+  pub own : IsView list seat w

@@ -1,6 +1,6 @@
 -- The seat in each value that holds one.
 use Rattle.std.specs.Prelude.{ℕ}
-use Rattle.stream_base.specs.declared.direction.Dir.{Dir}
+use Rattle.base_types.specs.declared.direction.Dir.{Dir}
 use Rattle.lockword_core.specs.LockState.{owed_part}
 use Rattle.lockword.specs.declared.directions.Direction.{Ghosts}
 use Rattle.lockword.specs.declared.directions.Guards as guards

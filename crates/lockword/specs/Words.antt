@@ -9,7 +9,7 @@ pub use Rattle.lockword_core.specs.declared.stake.Stake.{Stake}
 pub use Rattle.lockword_core.specs.declared.transition.After.{After}
 pub use Rattle.lockword_core.specs.declared.word.Word.{Word}
 pub use Rattle.std.specs.Prelude.{Bool, List, false, slice_index, true, ℕ}
-pub use Rattle.stream_base.specs.declared.direction.Dir.{Dir}
-pub use Rattle.stream_base.specs.declared.direction.Dir.TheVariants.{Read, Write}
+pub use Rattle.base_types.specs.declared.direction.Dir.{Dir}
+pub use Rattle.base_types.specs.declared.direction.Dir.TheVariants.{Read, Write}
 pub use lib.ListN.{get_elem?}
 pub use mathlib.Core.Option.{some}

@@ -6,13 +6,13 @@ ghost use Rattle.lockword.specs.Places.{seat_place, owed_by};
 
 use crate::holders::{Close, Closing, LockWord, Seat};
 use crate::transitions::{Advance, SetClosed};
+use base_types::Dir;
 use lockword_core::{After, Kind};
-use stream_base::Dir;
 
 impl<R: Drop, W: Drop> LockWord<R, W> {
     /// Closes the word, takes a reference, and takes over the signals of all waiters, as
-    /// `increfAndClose` of Go's `fd_mutex.go`; where Go panics this answers `TooMany`. A draining word is
-    /// closed as any other, and stays draining.
+    /// `increfAndClose` of Go's `fd_mutex.go`; where Go panics this answers `TooMany`. A draining
+    /// word is closed as any other, and stays draining.
     pub fn try_close(&self, seat: Seat<R, W>) -> Close<R, W>
         requires { IsSeatOf self.now (seat_place seat) }
         ensures { AnswersClose (seat_place seat) result }

@@ -2,13 +2,13 @@
 //! written once, over a type that stands for a direction.
 
 ghost use Rattle.std.specs.Prelude.{◌≡◌};
-ghost use Rattle.stream_base.specs.declared.direction.Dir.{Dir};
-ghost use Rattle.stream_base.specs.declared.direction.Dir.TheVariants.{Read, Write};
+ghost use Rattle.base_types.specs.declared.direction.Dir.{Dir};
+ghost use Rattle.base_types.specs.declared.direction.Dir.TheVariants.{Read, Write};
 ghost use Rattle.lockword.specs.declared.shared_rule.Half.{Half};
 ghost use Rattle.lockword.specs.Directions.{IsHalf, half_of};
 
 use crate::shared_rule::Half;
-use stream_base::Dir;
+use base_types::Dir;
 
 /// A direction, as a type.
 pub trait Direction {

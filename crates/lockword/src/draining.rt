@@ -7,14 +7,14 @@ ghost use Rattle.lockword.specs.Places.{seat_place, drains_place, drains_owed};
 use crate::holders::{Drain, Drains, LockWord, Seat, SignalDrains};
 use crate::signals::{SignalTry, one_less};
 use crate::transitions::{Advance, GiveSignal, SetDraining};
+use base_types::Dir;
 use lockword_core::{After, Kind};
-use stream_base::Dir;
 
 impl<R: Drop, W: Drop> LockWord<R, W> {
-    /// Sets the drain flag for good, and takes over the signals of all waiters: from then on nobody takes
-    /// a reference, a lock or a place in a queue, what was taken ends as ever, and a close still works.
-    /// Go has no such call: this is this project's own, after the form of `increfAndClose`. It takes no
-    /// reference, so it meets no limit.
+    /// Sets the drain flag for good, and takes over the signals of all waiters: from then on nobody
+    /// takes a reference, a lock or a place in a queue, what was taken ends as ever, and a close
+    /// still works. Go has no such call: this is this project's own, after the form of
+    /// `increfAndClose`. It takes no reference, so it meets no limit.
     pub fn try_drain(&self, seat: Seat<R, W>) -> Drain<R, W>
         requires { IsSeatOf self.now (seat_place seat) }
         ensures { AnswersDrain (seat_place seat) result }
@@ -40,7 +40,8 @@ impl<R: Drop, W: Drop> LockWord<R, W> {
     }
 
     /// Gives one of the signals that a drainer owes, and wakes one thread that is parked on the
-    /// semaphore, as `try_signal_closing` does for a closer; the last that is owed leaves the seat alone.
+    /// semaphore, as `try_signal_closing` does for a closer; the last that is owed leaves the seat
+    /// alone.
     pub fn try_signal_drains(&self, drains: Drains<R, W>, dir: Dir) -> SignalDrains<R, W>
         requires word { IsSeatOf self.now (drains_place drains) }
         requires owes { 0 < drains_owed drains dir }

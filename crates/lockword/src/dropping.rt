@@ -1,8 +1,8 @@
-//! A reference that is given back, also the closer's: one subtraction, which is never lost. The word that
-//! it found decides what is left.
+//! A reference that is given back, also the closer's: one subtraction, which is never lost. The
+//! word that it found decides what is left.
 
 ghost use Rattle.std.specs.Prelude.{◌≡◌, true, []};
-ghost use Rattle.stream_base.specs.declared.direction.Dir.TheVariants.{Read, Write};
+ghost use Rattle.base_types.specs.declared.direction.Dir.TheVariants.{Read, Write};
 ghost use Rattle.lockword_core.specs.declared.stake.Op.TheVariants as op;
 ghost use Rattle.lockword_core.specs.Transition.{allows};
 ghost use Rattle.lockword.specs.Dropping.{Decides, IsDecided, Leaves, LeavesClosed};

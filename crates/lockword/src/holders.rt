@@ -1,5 +1,5 @@
-//! The word, its seats, and the values that must be spent: they have no `Drop`, can't be copied, and
-//! their fields are private, so that each goes into exactly one call that ends its stake.
+//! The word, its seats, and the values that must be spent: they have no `Drop`, can't be copied,
+//! and their fields are private, so that each goes into exactly one call that ends its stake.
 
 ghost use Rattle.std.specs.Prelude.{◌≡◌, ◌<◌, ◌+◌, [], ◌∷◌, true};
 ghost use Rattle.lockword.specs.declared.shared_rule.Half.TheVariants as content;
@@ -12,10 +12,10 @@ use crate::directions::{Direction, Guards, Reading, Writing};
 use crate::local_view::LocalView;
 use crate::shared_rule::{Half, LockRule};
 use atomic_table::Table;
+use base_types::Dir;
 use lockword_core::Word;
 use std::alloc::Global;
 use std::marker::PhantomData;
-use stream_base::Dir;
 
 /// A seat of the table below, in any stake. It has no bytes.
 pub type Place<R, W> = atomic_table::Seat<Half<R, W>, LocalView>;
@@ -55,8 +55,9 @@ pub struct Closing<R, W> {
     ghost slots: { place.me.1 ≡ [] },
 }
 
-/// The drain: the signals that are still owed to the waiters of each direction, of which there is at
-/// least one. It goes into `try_signal_drains` until nothing is owed, which may be after the end.
+/// The drain: the signals that are still owed to the waiters of each direction, of which there is
+/// at least one. It goes into `try_signal_drains` until nothing is owed, which may be after the
+/// end.
 pub struct Drains<R, W> {
     pub(crate) place: Place<R, W>,
     pub(crate) owed_read: u32,
@@ -82,8 +83,8 @@ pub enum Incref<R, W> {
     Held(Ref<R, W>),
     /// The word is closed, and the seat has seen it.
     Closed(Seat<R, W>),
-    /// The references of the word that was found, which is neither closed nor draining, are at their
-    /// limit.
+    /// The references of the word that was found, which is neither closed nor draining, are at
+    /// their limit.
     TooMany(Seat<R, W>, Word),
     /// Another step came between; nothing changed.
     Lost(Seat<R, W>),
@@ -125,7 +126,8 @@ pub enum Close<R, W> {
     Lost(Seat<R, W>),
 }
 
-/// The lock of a direction, with a reference and the half that it guards. It goes into `try_unlock`.
+/// The lock of a direction, with a reference and the half that it guards. It goes into
+/// `try_unlock`.
 pub struct Held<D: Guards<R, W>, R, W> {
     pub(crate) place: Place<R, W>,
     pub(crate) half: D::Guarded,
@@ -167,8 +169,8 @@ pub enum Lock<D: Guards<R, W>, R, W> {
     Queued(Waiting<D, R, W>),
     /// The word is closed, and the seat has seen it.
     Closed(Seat<R, W>),
-    /// The references, or where somebody has the lock its waiters, are at their limit; the word that was
-    /// found is neither closed nor draining.
+    /// The references, or where somebody has the lock its waiters, are at their limit; the word
+    /// that was found is neither closed nor draining.
     TooMany(Seat<R, W>, Word),
     /// Another step came between; nothing changed.
     Lost(Seat<R, W>),

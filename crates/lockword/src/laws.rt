@@ -1,11 +1,11 @@
-//! What the rule of a running word comes to. The rule holds between any two atomic steps of any number
-//! of threads; each law is the contract of a function that does nothing.
+//! What the rule of a running word comes to. The rule holds between any two atomic steps of any
+//! number of threads; each law is the contract of a function that does nothing.
 
 ghost use Rattle.std.specs.Prelude.{◌≡◌, ◌≤◌, ◌<◌, ◌+◌, ◌==◌, ◌&&◌, ◌⊎◌, ℕ, List, true};
 ghost use Rattle.std.specs.Prelude.{count_by, slice_index};
 ghost use mathlib.Core.Option.{some};
 ghost use lib.ListN.{get_elem?};
-ghost use Rattle.stream_base.specs.declared.direction.Dir.{Dir};
+ghost use Rattle.base_types.specs.declared.direction.Dir.{Dir};
 ghost use Rattle.lockword_core.specs.declared.stake.Answer.{Answer};
 ghost use Rattle.lockword_core.specs.declared.stake.Event.{Event};
 ghost use Rattle.lockword_core.specs.declared.stake.Op.{Op};
@@ -14,6 +14,7 @@ ghost use Rattle.lockword_core.specs.Word.{bit};
 ghost use Rattle.lockword_core.specs.LockState.{references, locks, queued, owed, closers, drainers};
 ghost use Rattle.lockword_core.specs.LockState.{lasts};
 ghost use Rattle.lockword_core.specs.OperationCounts.{is_close, is_drain, is_destroy, AddsUp};
+ghost use Rattle.lockword_core.specs.OperationCounts.{NoneRefused};
 ghost use Rattle.lockword_core.specs.Laws.{ReturnedTheLast};
 ghost use Rattle.lockword.specs.declared.local_view.LocalView.{LocalView};
 ghost use Rattle.lockword.specs.declared.shared_rule.TheConstants.{DONE};
@@ -24,7 +25,8 @@ ghost use Rattle.lockword.specs.Marks.{Place, HeardOn};
 ghost use Rattle.lockword.specs.SharedInvariant.{IsReached};
 ghost use Rattle.lockword.specs.TransitionOutcomes.{IsOnlyClosed, Looks};
 ghost use Rattle.lockword.specs.Moment.{Moment, IsRead};
-ghost use Rattle.lockword.specs.Laws.{seats_census, over_seats, IsInOnePlace, CountsSeats, ComesOfDeeds};
+ghost use Rattle.lockword.specs.Laws.{seats_census, over_seats, IsInOnePlace, CountsSeats};
+ghost use Rattle.lockword.specs.Laws.{ComesOfDeeds};
 
 /// At every moment what all seats of the word have done interleaves into one list of operations, of
 /// which none is refused and which leads to the words and stakes of that moment: so the laws of
@@ -33,11 +35,12 @@ pub fn the_word_comes_of_what_its_seats_did<R, W>()
     ensures { (s : Moment R W) (fields : Word) → IsRead s fields → ComesOfDeeds s fields }
 {}
 
-/// At every moment the lock bits and counts of the word are those of the stakes of all seats, at most
-/// one seat reads and at most one writes, each half is in one place, at most one seat is closing, only
-/// in a closed word, at most one owes the signals of a drain, only in a draining word, and nobody is
-/// left to be signalled in a word that is closed or draining. The signals that lie ready and those that
-/// are owed never exceed the seats that wait for them, so that no count of waiters is cut off at 0.
+/// At every moment the lock bits and counts of the word are those of the stakes of all seats, at
+/// most one seat reads and at most one writes, each half is in one place, at most one seat is
+/// closing, only in a closed word, at most one owes the signals of a drain, only in a draining
+/// word, and nobody is left to be signalled in a word that is closed or draining. The signals that
+/// lie ready and those that are owed never exceed the seats that wait for them, so that no count of
+/// waiters is cut off at 0.
 pub fn the_word_counts_the_seats<R, W>()
     ensures counts { (s : Moment R W) (fields : Word) → IsRead s fields → CountsSeats s fields }
     ensures one_lock { (s : Moment R W) (d : Dir) → IsReached s → over_seats (locks d) s ≤ 1 }
@@ -58,27 +61,32 @@ pub fn the_word_counts_the_seats<R, W>()
         → fields.drain ≡ true → fields.wwait ≡ 0 }
 {}
 
-/// What each seat has heard is a beginning of the one list of what all seats did, so that of what two
-/// seats have heard at one moment one is a beginning of the other. Each operation goes on from what its
-/// seat had heard, and so does each look, so that any two looks of a seat are of one list, the later of
-/// at least as much of it: what goes on from a list goes on from all that this goes on from.
+/// What each seat has heard is a beginning of the one list of what all seats did, so that of what
+/// two seats have heard at one moment one is a beginning of the other. Each operation goes on from
+/// what its seat had heard, after operations of which none was refused, and so does each look, so
+/// that any two looks of a seat are of one list, the later of at least as much of it: what goes on
+/// from a list goes on from all that this goes on from.
 pub fn what_seats_heard_is_one_list<R, W>()
     ensures beginning { (s : Moment R W) (seat : ℕ) (v : LocalView) (reached : IsReached s)
         → get_elem? s.views seat ≡ some v → GoesOn v.heard reached.history }
     ensures comparable { (s : Moment R W) (one other : ℕ) (v w : LocalView) → IsReached s
         → get_elem? s.views one ≡ some v → get_elem? s.views other ≡ some w
         → GoesOn v.heard w.heard ⊎ GoesOn w.heard v.heard }
-    ensures made { (o : Op) (a : Answer) (v w : LocalView) → IsMade o a v w → GoesOn v.heard w.heard }
+    ensures made { (o : Op) (a : Answer) (v w : LocalView) → IsMade o a v w
+        → GoesOn v.heard w.heard }
+    ensures none_refused { (o : Op) (a : Answer) (v w : LocalView) (made : IsMade o a v w)
+        → NoneRefused made.history }
     ensures looked { (p q : Place R W) (fields : Word) → Looks p q fields → HeardOn p q }
     ensures chained { (a b c : List Event) → GoesOn a b → GoesOn b c → GoesOn a c }
 {}
 
-/// A closed word without references has one `Last` or was destroyed, and no other has either; once it
-/// was destroyed nobody has a reference, a lock or `Last`, and the word is the closed flag, perhaps with
-/// the drain flag, alone.
+/// A closed word without references has one `Last` or was destroyed, and no other has either; once
+/// it was destroyed nobody has a reference, a lock or `Last`, and the word is the closed flag,
+/// perhaps with the drain flag, alone.
 pub fn the_last_seat_destroys<R, W>()
     ensures one_last { (s : Moment R W) (fields : Word) → IsRead s fields
-        → over_seats lasts s + slice_index s.words DONE ≡ bit (fields.closed && (fields.refs == 0)) }
+        → over_seats lasts s + slice_index s.words DONE
+        ≡ bit (fields.closed && (fields.refs == 0)) }
     ensures no_last { (s : Moment R W) → IsReached s → slice_index s.words DONE ≡ 1
         → over_seats lasts s ≡ 0 }
     ensures no_reference { (s : Moment R W) → IsReached s → slice_index s.words DONE ≡ 1
@@ -100,11 +108,11 @@ pub fn what_a_seat_saw_is_so<R, W>()
         → get_elem? s.views seat ≡ some v → v.saw.done ≡ true → slice_index s.words DONE ≡ 1 }
 {}
 
-/// What all seats of a word together have ever done adds up to what they have now: what was taken is
-/// held or queued for, or was given back; a signal that was given lies ready, or was taken; the close
-/// was made once if the word is closed, the drain once if it is draining, and the destroy at most once,
-/// by the seat that gave back the last reference after the close. No call takes back what its seat has
-/// made, and no seat leaves the count.
+/// What all seats of a word together have ever done adds up to what they have now: what was taken
+/// is held or queued for, or was given back; a signal that was given lies ready, or was taken; the
+/// close was made once if the word is closed, the drain once if it is draining, and the destroy at
+/// most once, by the seat that gave back the last reference after the close. No call takes back
+/// what its seat has made, and no seat leaves the count.
 pub fn what_all_seats_did_adds_up<R, W>()
     ensures adds_up { (s : Moment R W) (fields : Word) → IsRead s fields
         → AddsUp (made_by_seats s.views) (seats_census s fields) }

@@ -1,5 +1,5 @@
-//! The lock word of a shared descriptor, as threads use it: four atomic words, the two halves of the
-//! resource in two slots, and seats, through which alone the words change.
+//! The lock word of a shared descriptor, as threads use it: four atomic words, the two halves of
+//! the resource in two slots, and seats, through which alone the words change.
 #![tactic(auto)]
 
 mod closing;
@@ -13,6 +13,7 @@ mod local_view;
 mod locking;
 mod look;
 mod references;
+mod seats;
 mod shared_rule;
 mod signals;
 mod transitions;

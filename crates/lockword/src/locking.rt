@@ -18,9 +18,9 @@ use lockword_core::{After, Kind};
 use std::marker::PhantomData;
 
 impl<R: Drop, W: Drop> LockWord<R, W> {
-    /// Takes the lock of a direction, or a place in its queue, as `rwlock` of Go's `fd_mutex.go`; where
-    /// Go panics this answers `TooMany`. That a draining word is refused, after the test of the closed
-    /// flag and before the limits, is this project's own.
+    /// Takes the lock of a direction, or a place in its queue, as `rwlock` of Go's `fd_mutex.go`;
+    /// where Go panics this answers `TooMany`. That a draining word is refused, after the test of
+    /// the closed flag and before the limits, is this project's own.
     pub fn try_lock<D: Guards<R, W>>(&self, seat: Seat<R, W>) -> Lock<D, R, W>
         requires { IsSeatOf self.now (seat_place seat) }
         ensures { AnswersLock (seat_place seat) result }
@@ -122,7 +122,10 @@ impl<D: Guards<R, W>, R: Drop, W: Drop> Held<D, R, W> {
     /// The half, for as long as the lock is borrowed.
     pub fn half<'a>(&'a mut self, word: &LockWord<R, W>) -> &'a mut D::Guarded
         requires { IsSeatOf word.now (lock_place self.old) }
-        ensures* writes_back { sem 𝓛 (Lends (held.the_row D.row R.row W.row D.Guarded.row (record { stored = D.stored }) D.Direction) D.Guarded.row self.entry result (with_half self.old)) }
+        ensures* writes_back { sem 𝓛 (Lends
+            (held.the_row D.row R.row W.row D.Guarded.row (record { stored = D.stored })
+            D.Direction)
+            D.Guarded.row self.entry result (with_half self.old)) }
         ensures value { result.now ≡ half_in self.old }
     {
         &mut self.half

@@ -1,4 +1,5 @@
-//! The words and slots of a lock word, and the rule that holds of them between any two atomic steps.
+//! The words and slots of a lock word, and the rule that holds of them between any two atomic
+//! steps.
 //!
 //! | Word | Holds | Greatest |
 //! |---|---|---|
@@ -16,7 +17,7 @@ ghost use Rattle.lockword.specs.Directions.{semaphore, slot_of};
 
 use crate::local_view::LocalView;
 use atomic_table::TableRule;
-use stream_base::Dir;
+use base_types::Dir;
 
 /// The word with the flags, the locks and the counts.
 pub const STATE: usize = 0;

@@ -1,12 +1,13 @@
 //! Signals and wakes: one load and at most one exchange of a semaphore a call.
 
 ghost use Rattle.std.specs.Prelude.{◌≡◌, ◌<◌, ◌-◌, true};
-ghost use Rattle.stream_base.specs.declared.direction.Dir.TheVariants.{Read, Write};
+ghost use Rattle.base_types.specs.declared.direction.Dir.TheVariants.{Read, Write};
 ghost use Rattle.lockword_core.specs.Word.{bit};
 ghost use Rattle.lockword_core.specs.LockState.{is_same, owed_part};
 ghost use Rattle.lockword_core.specs.Transition.{allows};
 ghost use Rattle.lockword.specs.Steps.{op_at, answer_at, Signalled};
-ghost use Rattle.lockword.specs.TransitionOutcomes.{IsSeatOf, AnswersSignal, AnswersSignalClosing, AnswersWake};
+ghost use Rattle.lockword.specs.TransitionOutcomes.{IsSeatOf, AnswersSignal, AnswersSignalClosing};
+ghost use Rattle.lockword.specs.TransitionOutcomes.{AnswersWake};
 ghost use Rattle.lockword.specs.Places.{owing_place, closing_place, owed_by, wait_place};
 
 use crate::directions::Direction;
@@ -16,8 +17,8 @@ use crate::holders::{
 };
 use crate::shared_rule::semaphore;
 use crate::transitions::{Count, GiveSignal, SignalMove, SignalStep, Signalling, TakeSignal};
+use base_types::Dir;
 use std::sync::Wait;
-use stream_base::Dir;
 
 /// What a try at a semaphore came to.
 pub(crate) enum SignalTry {
@@ -110,7 +111,8 @@ impl<R: Drop, W: Drop> LockWord<R, W> {
         }
     }
 
-    /// Takes a signal to a waiter of a direction, after which its holder has nothing and contends again.
+    /// Takes a signal to a waiter of a direction, after which its holder has nothing and contends
+    /// again.
     pub fn try_wake<D: Direction>(&self, wait: Waiting<D, R, W>) -> Wake<D, R, W>
         requires { IsSeatOf self.now (wait_place wait) }
         ensures { AnswersWake wait result }
@@ -139,8 +141,8 @@ impl<R: Drop, W: Drop> LockWord<R, W> {
         self.try_wake(wait)
     }
 
-    /// Sleeps while no signal is there for this direction, or returns for no reason. It changes nothing
-    /// and tells nothing: try to wake, park, and try again.
+    /// Sleeps while no signal is there for this direction, or returns for no reason. It changes
+    /// nothing and tells nothing: try to wake, park, and try again.
     pub fn park_for_signal<T: Wait>(&self, rt: &T, dir: Dir) {
         self.table.shared.park(rt, semaphore(dir), 0);
     }

@@ -32,5 +32,5 @@ pub use Rattle.std.specs.Map.{keys_of, lookup, values_of}
 pub use Rattle.std.specs.Ordering.{nat_cmp}
 pub use Rattle.std.specs.Prelude.{Err, cond, is_some, not, unwrap_or}
 pub use Rattle.std.specs.declared.cmp.Ordering.TheVariants.{Less}
-pub use Rattle.stream_base.specs.declared.direction.Dir.{Dir}
-pub use Rattle.stream_base.specs.declared.direction.Dir.TheVariants.{Read, Write}
+pub use Rattle.base_types.specs.declared.direction.Dir.{Dir}
+pub use Rattle.base_types.specs.declared.direction.Dir.TheVariants.{Read, Write}

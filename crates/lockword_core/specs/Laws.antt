@@ -1,6 +1,6 @@
 -- What the definitions come to, in the words of the subject.
 use Rattle.std.specs.Prelude.{◌≡◌, ℕ, Bool, true, false, List, ◌∷◌, ◌++◌}
-use Rattle.stream_base.specs.declared.direction.Dir.TheVariants.{Read, Write}
+use Rattle.base_types.specs.declared.direction.Dir.TheVariants.{Read, Write}
 use Rattle.lockword_core.specs.declared.word.Word.{Word}
 use Rattle.lockword_core.specs.declared.stake.Event.{Event}
 use Rattle.lockword_core.specs.declared.stake.Op.{Op}

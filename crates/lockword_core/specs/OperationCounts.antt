@@ -1,8 +1,8 @@
 -- What the operations that were made add up to, where none was refused.
 use Rattle.std.specs.Prelude.{◌≡◌, ◌==◌, ◌+◌, ℕ, Bool, true, false, List, [], ◌∷◌, count_by}
 use Rattle.std.specs.Prelude.{if◌then◌else◌}
-use Rattle.stream_base.specs.declared.direction.Dir.{Dir}
-use Rattle.stream_base.specs.declared.direction.Dir.TheVariants.{Read, Write}
+use Rattle.base_types.specs.declared.direction.Dir.{Dir}
+use Rattle.base_types.specs.declared.direction.Dir.TheVariants.{Read, Write}
 use Rattle.lockword_core.specs.declared.stake.Event.{Event}
 use Rattle.lockword_core.specs.declared.stake.Op.{Op}
 use Rattle.lockword_core.specs.declared.stake.Op.TheVariants as op

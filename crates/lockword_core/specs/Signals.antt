@@ -1,7 +1,7 @@
 -- The signals of the two semaphores.
 use Rattle.std.specs.Prelude.{ℕ}
-use Rattle.stream_base.specs.declared.direction.Dir.{Dir}
-use Rattle.stream_base.specs.declared.direction.Dir.TheVariants.{Read, Write}
+use Rattle.base_types.specs.declared.direction.Dir.{Dir}
+use Rattle.base_types.specs.declared.direction.Dir.TheVariants.{Read, Write}
 use Rattle.lockword_core.specs.declared.signals.Signals.{Signals}
 
 -- the signals of a direction

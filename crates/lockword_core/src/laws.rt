@@ -1,28 +1,35 @@
-//! What the definitions come to, in the words of the subject. Each law is the contract of a function
-//! that does nothing.
+//! What the definitions come to, in the words of the subject. Each law is the contract of a
+//! function that does nothing.
 
-ghost use Rattle.std.specs.Prelude.{◌≡◌, ◌<◌, ◌≤◌, ◌+◌, ◌^◌, ℕ, Bool, true, List, [], ◌∷◌, ◌++◌, Some, is_some, count_by, length, slice_set, slice_index_or};
+ghost use Rattle.std.specs.Prelude.{◌≡◌, ◌<◌, ◌≤◌, ◌+◌, ◌^◌, ℕ, Bool, true, List, [], ◌∷◌, ◌++◌};
+ghost use Rattle.std.specs.Prelude.{Some, is_some, count_by, length, slice_set, slice_index_or};
 ghost use Rattle.std.specs.Ordering.{nat_cmp};
 ghost use Rattle.std.specs.Map.{values_of};
 ghost use Rattle.std.specs.BTreeMap.{insert_entry};
-ghost use Rattle.stream_base.specs.declared.direction.Dir.{Dir};
+ghost use Rattle.base_types.specs.declared.direction.Dir.{Dir};
 ghost use Rattle.lockword_core.specs.declared.stake.Event.{Event};
 ghost use Rattle.lockword_core.specs.declared.stake.Stake.{Stake};
 ghost use Rattle.lockword_core.specs.declared.stake.Op.{Op};
 ghost use Rattle.lockword_core.specs.declared.stake.Answer.{Answer};
 ghost use Rattle.lockword_core.specs.declared.word.Word.{Word};
-ghost use Rattle.lockword_core.specs.declared.word.TheConstants.{CLOSED, READ_LOCK, WRITE_LOCK, REFERENCE, READ_WAITER, WRITE_WAITER, DRAIN, MAX_REFERENCES, MAX_WAITERS};
+ghost use Rattle.lockword_core.specs.declared.word.TheConstants.{CLOSED, READ_LOCK, WRITE_LOCK};
+ghost use Rattle.lockword_core.specs.declared.word.TheConstants.{REFERENCE, READ_WAITER};
+ghost use Rattle.lockword_core.specs.declared.word.TheConstants.{WRITE_WAITER, DRAIN};
+ghost use Rattle.lockword_core.specs.declared.word.TheConstants.{MAX_REFERENCES, MAX_WAITERS};
 ghost use Rattle.lockword_core.specs.declared.layout_one.TheConstants as one;
 ghost use Rattle.lockword_core.specs.declared.signals.TheConstants.{MAX_SIGNALS};
 ghost use Rattle.lockword_core.specs.declared.transition.Kind.{Kind};
 ghost use Rattle.lockword_core.specs.Word.{bit, IsWord, packed};
 ghost use Rattle.lockword_core.specs.LayoutOne.{HasFirstFields};
-ghost use Rattle.lockword_core.specs.LockState.{LockState, empty, Census, census, stake_of, Counted, locks, part, count, number, encoded};
-ghost use Rattle.lockword_core.specs.LockInvariant.{IsConsistent, IsConsistentCensus, IsCounted, ChangesOneStake};
+ghost use Rattle.lockword_core.specs.LockState.{LockState, empty, Census, census, stake_of};
+ghost use Rattle.lockword_core.specs.LockState.{Counted, locks, part, count, number, encoded};
+ghost use Rattle.lockword_core.specs.LockInvariant.{IsConsistent, IsConsistentCensus, IsCounted};
+ghost use Rattle.lockword_core.specs.LockInvariant.{ChangesOneStake};
 ghost use Rattle.lockword_core.specs.Transition.{Change, moved, outcome, changed, transition};
 ghost use Rattle.lockword_core.specs.Replay.{state_after, answers_of};
 ghost use Rattle.lockword_core.specs.WordStep.{op_of};
-ghost use Rattle.lockword_core.specs.OperationCounts.{NoneRefused, is_destroy, made_in, operations_of, AddsUp};
+ghost use Rattle.lockword_core.specs.OperationCounts.{NoneRefused, is_destroy, made_in};
+ghost use Rattle.lockword_core.specs.OperationCounts.{operations_of, AddsUp};
 ghost use Rattle.lockword_core.specs.Laws.{CountsStakes, is_done, is_last, ReturnedTheLast};
 
 /// The empty state is consistent, every transition keeps a state consistent, and so every list of
@@ -41,7 +48,8 @@ pub fn the_word_counts_the_stakes()
     ensures fields { (events : List Event) (fields : Word) → IsWord fields
         → packed fields ≡ encoded (census (state_after empty events))
         → CountsStakes fields (state_after empty events) }
-    ensures one_lock { (events : List Event) (d : Dir) → number (locks d) (census (state_after empty events)) ≤ 1 }
+    ensures one_lock { (events : List Event) (d : Dir)
+        → number (locks d) (census (state_after empty events)) ≤ 1 }
 {}
 
 /// After every list of events the descriptor was destroyed at most once, after at most one last
@@ -65,10 +73,11 @@ pub fn what_is_done_stays_done()
         → s.destroyed_by ≡ Some holder → (state_after s events).destroyed_by ≡ Some holder }
 {}
 
-/// Operations of which none was refused add up to what they lead to: what was taken is held or queued
-/// for, or was given back; a signal that was given lies ready, or was taken; there was one close if the
-/// descriptor is closed, one drain if it is drained and one destroy if it is destroyed; and who made the
-/// destroy is the holder that gave back the last reference after the close.
+/// Operations of which none was refused add up to what they lead to: what was taken is held or
+/// queued for, or was given back; a signal that was given lies ready, or was taken; there was one
+/// close if the descriptor is closed, one drain if it is drained and one destroy if it is
+/// destroyed; and who made the destroy is the holder that gave back the last reference after the
+/// close.
 pub fn operations_add_up()
     ensures adds_up { (events : List Event) → NoneRefused events
         → AddsUp (made_in events) (census (state_after empty events)) }
@@ -85,7 +94,8 @@ pub fn the_layout_in_figures()
     ensures signals { MAX_SIGNALS ≡ 4294967295 }
 {}
 
-/// The layout before this one, in figures; what a flag, a lock and a reference add is the same in both.
+/// The layout before this one, in figures; what a flag, a lock and a reference add is the same in
+/// both.
 pub fn the_first_layout_in_figures()
     ensures units { (one.READ_WAITER ≡ 8388608) × (one.WRITE_WAITER ≡ 8796093022208) }
     ensures limits { (one.MAX_REFERENCES ≡ 1048575) × (one.MAX_WAITERS ≡ 1048575) }
@@ -102,12 +112,14 @@ pub fn a_word_has_one_reading()
     ensures { (f g : Word) → IsWord f → IsWord g → packed f ≡ packed g → f ≡ g }
 {}
 
-/// Two consistent censuses with the same word, in which the holder that acts has the same stake, give
-/// the same outcome, and so the same answer and stake, and then the same word.
+/// Two consistent censuses with the same word, in which the holder that acts has the same stake,
+/// give the same outcome, and so the same answer and stake, and then the same word.
 pub fn the_word_decides()
-    ensures same_outcome { (b c : Census) (own : Stake) (kind : Kind) → IsConsistentCensus b → IsConsistentCensus c
+    ensures same_outcome { (b c : Census) (own : Stake) (kind : Kind) → IsConsistentCensus b
+        → IsConsistentCensus c
         → encoded b ≡ encoded c → outcome b own (op_of kind) ≡ outcome c own (op_of kind) }
-    ensures same_word { (b c : Census) (own : Stake) (kind : Kind) (answer : Answer) (new : Stake) (change : Change)
+    ensures same_word { (b c : Census) (own : Stake) (kind : Kind) (answer : Answer) (new : Stake)
+        (change : Change)
         (of_b of_c : List Stake) → IsConsistentCensus b → IsConsistentCensus c
         → encoded b ≡ encoded c → outcome b own (op_of kind) ≡ moved answer new change
         → ChangesOneStake b.stakes own of_b new → ChangesOneStake c.stakes own of_c new

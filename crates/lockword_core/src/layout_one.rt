@@ -10,8 +10,8 @@
 //! | 43 to 62 | write waiters | 1,048,575 |
 //! | 63 | draining | 1 |
 //!
-//! Below bit 63 it is that of Go's `fd_mutex.go`. What a flag, a lock and a reference add is the same in
-//! both.
+//! Below bit 63 it is that of Go's `fd_mutex.go`. What a flag, a lock and a reference add is the
+//! same in both.
 
 ghost use Rattle.std.specs.Prelude.{◌≡◌, ◌≤◌, ◌<◌, ◌+◌, ◌*◌, ◌⊎◌, IfNone, IfSome, Some};
 ghost use Rattle.lockword_core.specs.declared.word.Word.{Word};

@@ -1,7 +1,8 @@
-//! A machine of named holders: the packed word, both semaphores, who destroyed, and each holder's own
-//! stake. It never counts holders, and each operation costs one search in a map.
+//! A machine of named holders: the packed word, both semaphores, who destroyed, and each holder's
+//! own stake. It never counts holders, and each operation costs one search in a map.
 
-ghost use Rattle.std.specs.Prelude.{◌≡◌, ◌≤◌, ℕ, true, false, IfOk, IfErr, OnOk, OnErr, length, take};
+ghost use Rattle.std.specs.Prelude.{◌≡◌, ◌≤◌, ℕ, true, false, IfOk, IfErr, OnOk, OnErr, length};
+ghost use Rattle.std.specs.Prelude.{take};
 ghost use Rattle.std.specs.Ordering.{nat_cmp};
 ghost use Rattle.std.specs.BTreeMap.{insert_entry};
 ghost use Rattle.lockword_core.specs.declared.stake.Op.{Op};
@@ -17,10 +18,10 @@ use crate::signals::{Signals, signal_add, signal_take};
 use crate::stake::{Answer, Event, Op, Stake};
 use crate::stake_rules::{allows, gained, refusal_of, stake_after_signal};
 use crate::transition::{Kind, word_step};
+use base_types::{Dir, OutOfMemory};
 use std::alloc::Global;
 use std::collections::BTreeMap;
 use std::marker::Model;
-use stream_base::{Dir, OutOfMemory};
 
 /// Memory ran out after exactly the first `done` events.
 #[derive(Clone, Copy, Debug, PartialEq, Eq, Drop)]
@@ -49,7 +50,8 @@ impl Model for Machine {
 }
 
 fn put(holders: &mut BTreeMap<u64, Stake>, holder: u64, own: Stake) -> Result<(), OutOfMemory>
-    ensures ok { OnOk result (holders.new.entries ≡ insert_entry nat_cmp holders.old.entries holder own) }
+    ensures ok { OnOk result (holders.new.entries
+        ≡ insert_entry nat_cmp holders.old.entries holder own) }
     ensures err { OnErr result (holders.new.entries ≡ holders.old.entries) }
 {
     match holders.insert(holder, own) {
@@ -126,7 +128,8 @@ impl Machine {
 
     fn step_word(&mut self, holder: u64, kind: Kind) -> Result<Answer, OutOfMemory>
         requires { allows (stake_of self.old holder) (op_of kind) ≡ true }
-        ensures ok { IfOk result (λ answer. (self.new, answer) ≡ transition self.old holder (op_of kind)) }
+        ensures ok { IfOk result (λ answer. (self.new, answer)
+            ≡ transition self.old holder (op_of kind)) }
         ensures err { OnErr result (self.new ≡ self.old) }
     {
         match word_step(self.word, kind) {
@@ -142,7 +145,8 @@ impl Machine {
 
     fn signal(&mut self, holder: u64, dir: Dir) -> Result<Answer, OutOfMemory>
         requires { allows (stake_of self.old holder) (Op.Signal dir) ≡ true }
-        ensures ok { IfOk result (λ answer. (self.new, answer) ≡ transition self.old holder (Op.Signal dir)) }
+        ensures ok { IfOk result (λ answer. (self.new, answer)
+            ≡ transition self.old holder (Op.Signal dir)) }
         ensures err { OnErr result (self.new ≡ self.old) }
     {
         let left = stake_after_signal(dir, self.stake(holder));
@@ -156,7 +160,8 @@ impl Machine {
 
     fn wake(&mut self, holder: u64, dir: Dir) -> Result<Answer, OutOfMemory>
         requires { allows (stake_of self.old holder) (Op.Wake dir) ≡ true }
-        ensures ok { IfOk result (λ answer. (self.new, answer) ≡ transition self.old holder (Op.Wake dir)) }
+        ensures ok { IfOk result (λ answer. (self.new, answer)
+            ≡ transition self.old holder (Op.Wake dir)) }
         ensures err { OnErr result (self.new ≡ self.old) }
     {
         let Some(signals) = signal_take(self.signals.of(dir)) else {
@@ -169,7 +174,8 @@ impl Machine {
 
     fn destroy(&mut self, holder: u64) -> Result<Answer, OutOfMemory>
         requires { allows (stake_of self.old holder) Op.Destroy ≡ true }
-        ensures ok { IfOk result (λ answer. (self.new, answer) ≡ transition self.old holder Op.Destroy) }
+        ensures ok { IfOk result (λ answer. (self.new, answer)
+            ≡ transition self.old holder Op.Destroy) }
         ensures err { OnErr result (self.new ≡ self.old) }
     {
         put(&mut self.holders, holder, Stake::Free)?;
@@ -183,7 +189,8 @@ impl Machine {
         ensures state { OnOk result (self.new ≡ state_after self.old events.now) }
         ensures answers { IfOk result (λ answers. answers.items ≡ answers_of self.old events.now) }
         ensures within { IfErr result (λ stopped. stopped.done ≤ length events.now) }
-        ensures stopped { IfErr result (λ stopped. self.new ≡ state_after self.old (take stopped.done events.now)) }
+        ensures stopped { IfErr result (λ stopped. self.new
+            ≡ state_after self.old (take stopped.done events.now)) }
         ensures consistent { IsConsistent self.new }
     {
         // What a machine keeps is known where one of its fields is read.

@@ -4,7 +4,7 @@
 ghost use Rattle.std.specs.Prelude.{◌≡◌, ◌+◌, ◌-◌, ◌<◌, ◌≤◌, IfNone, IfSome};
 ghost use Rattle.lockword_core.specs.Signals.{signals_in, with_signals};
 
-use stream_base::Dir;
+use base_types::Dir;
 
 /// The greatest number of signals in a semaphore.
 pub const MAX_SIGNALS: u64 = 4_294_967_295;

@@ -1,6 +1,6 @@
 //! What a holder has, what it asks for, and what it is answered.
 
-use stream_base::Dir;
+use base_types::Dir;
 
 /// What a holder has at one moment.
 #[derive(Clone, Copy, Debug, PartialEq, Eq, Drop)]
@@ -19,8 +19,8 @@ pub enum Stake {
     Owes(Dir),
     /// The close: a reference, and the signals still to give in each direction.
     Closing { read: u32, write: u32 },
-    /// The signals still to give in each direction after a drain, of which there is one at least. It is
-    /// no reference.
+    /// The signals still to give in each direction after a drain, of which there is one at least.
+    /// It is no reference.
     Drains { read: u32, write: u32 },
     /// The last return: nobody uses the descriptor any more, and this holder destroys it.
     Last,

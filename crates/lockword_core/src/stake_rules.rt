@@ -4,12 +4,13 @@ ghost use Rattle.std.specs.Prelude.{◌≡◌, true};
 ghost use Rattle.lockword_core.specs.declared.stake.Op.{Op};
 ghost use Rattle.lockword_core.specs.declared.stake.Op.TheVariants as op;
 ghost use Rattle.lockword_core.specs.LockState.{is_same, owed_part};
-ghost use Rattle.lockword_core.specs.Transition.{allows, lock_stake, drains_stake, stake_after_signal};
+ghost use Rattle.lockword_core.specs.Transition.{allows, lock_stake, drains_stake};
+ghost use Rattle.lockword_core.specs.Transition.{stake_after_signal};
 ghost use Rattle.lockword_core.specs.WordStep.{gained, refusal_of};
 
 use crate::stake::{Answer, Op, Stake};
 use crate::transition::{After, Kind, Refused};
-use stream_base::Dir;
+use base_types::Dir;
 
 fn is_same(one: Dir, other: Dir) -> bool
     ensures { result ≡ is_same one other }

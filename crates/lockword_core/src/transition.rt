@@ -3,20 +3,22 @@
 //! are powers of two, so that the divisions and remainders below are shifts and masks.
 
 ghost use Rattle.std.specs.Prelude.{◌≡◌, ◌≢◌, ◌≤◌, ℕ, true};
-ghost use Rattle.stream_base.specs.declared.direction.Dir.{Dir};
+ghost use Rattle.base_types.specs.declared.direction.Dir.{Dir};
 ghost use Rattle.lockword_core.specs.declared.stake.Stake.{Stake};
-ghost use Rattle.lockword_core.specs.Word.{IsWord, packed, lock_unit, waiter_unit, closed_in, drain_in, lock_in, references_in, waiters_in};
+ghost use Rattle.lockword_core.specs.Word.{IsWord, packed, lock_unit, waiter_unit, closed_in};
+ghost use Rattle.lockword_core.specs.Word.{drain_in, lock_in, references_in, waiters_in};
 ghost use Rattle.lockword_core.specs.LockState.{LockState, Census, census, stake_of, encoded};
 ghost use Rattle.lockword_core.specs.LockInvariant.{IsConsistent, IsConsistentCensus, IsCounted};
 ghost use Rattle.lockword_core.specs.Transition.{allows, outcome, transition};
-ghost use Rattle.lockword_core.specs.FieldStep.{guards, first_refusal, left, field_step, packed_result, fields_in, stepped_word};
+ghost use Rattle.lockword_core.specs.FieldStep.{guards, first_refusal, left, field_step};
+ghost use Rattle.lockword_core.specs.FieldStep.{packed_result, fields_in, stepped_word};
 ghost use Rattle.lockword_core.specs.WordStep.{op_of, Tells, TellsTransition};
 
 use crate::word::{
     CLOSED, DRAIN, MAX_REFERENCES, MAX_WAITERS, READ_LOCK, READ_WAITER, REFERENCE, WRITE_LOCK,
     WRITE_WAITER, Word,
 };
-use stream_base::Dir;
+use base_types::Dir;
 
 /// A step on the word.
 #[derive(Clone, Copy, Debug, PartialEq, Eq, Drop)]
@@ -266,13 +268,15 @@ fn step(word: u64, kind: Kind) -> Result<(u64, After), Refused>
     }
 }
 
-/// One step on the packed word, as Go's `fd_mutex.go` makes it, to which the drain is added; where Go
-/// panics this answers [`Refused::TooMany`] or [`Refused::Misuse`].
+/// One step on the packed word, as Go's `fd_mutex.go` makes it, to which the drain is added; where
+/// Go panics this answers [`Refused::TooMany`] or [`Refused::Misuse`].
 pub fn word_step(word: u64, kind: Kind) -> Result<(u64, After), Refused>
     // A step changes the fields that it names, and no other.
-    ensures fields { (f : Word) → IsWord f → packed f ≡ word → result ≡ packed_result (field_step f kind) }
+    ensures fields { (f : Word) → IsWord f → packed f ≡ word
+        → result ≡ packed_result (field_step f kind) }
     // It is the operation of a holder, whoever the others are.
-    ensures census { (c : Census) (own : Stake) → IsConsistentCensus c → IsCounted c own → word ≡ encoded c
+    ensures census { (c : Census) (own : Stake) → IsConsistentCensus c → IsCounted c own
+        → word ≡ encoded c
         → allows own (op_of kind) ≡ true → Tells c own kind (outcome c own (op_of kind)) result }
     // The same with the holders' names.
     ensures state { (s : LockState) (holder : ℕ) → IsConsistent s → word ≡ encoded (census s)

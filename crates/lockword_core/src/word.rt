@@ -10,16 +10,16 @@
 //! | 45 to 62 | write waiters whom nobody is bound to signal | 262,143 |
 //! | 63 | draining; never cleared | 1 |
 //!
-//! The width of the references is the one number of the layout: all else is computed from it. The layout
-//! before this one is in `layout_one`.
+//! The width of the references is the one number of the layout: all else is computed from it. The
+//! layout before this one is in `layout_one`.
 
 ghost use Rattle.std.specs.Prelude.{◌≡◌, IsSome, IfSome};
 ghost use Rattle.lockword_core.specs.Word.{bit, IsWord, packed};
 
 /// Bits of the count of references.
 const REFERENCES_WIDTH: u32 = 24;
-/// Bits of each count of waiters: half of what the closed flag, the locks and the references leave below
-/// the drain flag.
+/// Bits of each count of waiters: half of what the closed flag, the locks and the references leave
+/// below the drain flag.
 const WAITERS_WIDTH: u32 = (63 - 3 - REFERENCES_WIDTH) / 2;
 
 /// The word of a closed descriptor without holders.

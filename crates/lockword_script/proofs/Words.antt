@@ -32,4 +32,4 @@ pub use Rattle.stream_base.specs.Decimal.{number_of}
 pub use Rattle.stream_base.specs.Fronts.{AppendsFront}
 pub use Rattle.stream_base.specs.LineReader.{Reading}
 pub use Rattle.stream_base.specs.Lines.{EndsLines, Lacks, line_feed, lines_of, ended_lines}
-pub use Rattle.stream_base.specs.declared.direction.Dir.TheVariants.{Read, Write}
+pub use Rattle.base_types.specs.declared.direction.Dir.TheVariants.{Read, Write}

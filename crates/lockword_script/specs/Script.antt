@@ -1,7 +1,7 @@
 -- The grammar of a trace script: what a line says.
 use Rattle.std.specs.Prelude.{◌≡◌, ◌≤◌, ◌+◌, ℕ, zero, suc, List, [], ◌∷◌, ◌++◌, ◌⊎◌, codes}
 use Rattle.std.specs.Fmt.{decimal}
-use Rattle.stream_base.specs.declared.direction.Dir.TheVariants.{Read, Write}
+use Rattle.base_types.specs.declared.direction.Dir.TheVariants.{Read, Write}
 use Rattle.lockword_core.specs.declared.stake.Op.{Op}
 use Rattle.lockword_core.specs.declared.stake.Op.TheVariants as op
 use Rattle.lockword_core.specs.declared.stake.Event.{Event}

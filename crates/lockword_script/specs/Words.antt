@@ -14,4 +14,4 @@ pub use Rattle.std.specs.Prelude.{None, codes, IfOk, OnOk, OnErr, IfSome, IfNone
 pub use Rattle.std.specs.Prelude.{true, IfErr, take}
 pub use Rattle.stream_base.specs.Attempt.{WriteStopped}
 pub use Rattle.stream_base.specs.Lines.{lines_of}
-pub use Rattle.stream_base.specs.declared.direction.Dir.TheVariants.{Read, Write}
+pub use Rattle.base_types.specs.declared.direction.Dir.TheVariants.{Read, Write}

@@ -3,7 +3,8 @@
 ghost use Rattle.std.specs.Prelude.{◌≡◌, ◌<◌, ℕ, List, length, take};
 ghost use Rattle.stream_base.specs.Lines.{lines_of};
 ghost use Rattle.lockword_core.specs.declared.stake.Op.{Op};
-ghost use Rattle.lockword_script.specs.declared.script.TheConstants.{HOLDERS, MAX_LINE_BYTES, MAX_LINES};
+ghost use Rattle.lockword_script.specs.declared.script.TheConstants.{HOLDERS, MAX_LINE_BYTES};
+ghost use Rattle.lockword_script.specs.declared.script.TheConstants.{MAX_LINES};
 ghost use Rattle.lockword_script.specs.Script.{Says, IsBadLine};
 ghost use Rattle.lockword_script.specs.TraceOutput.{IsTextOf};
 ghost use Rattle.lockword_script.specs.declared.outcome.End.{End};
@@ -31,8 +32,8 @@ pub fn a_long_line_is_bad()
     ensures { (line : List ℕ) → MAX_LINE_BYTES < length line → IsBadLine line }
 {}
 
-/// Only the first bad line counts: a script that begins with the same lines, up to and with that one,
-/// has the same text and the same end, whatever follows.
+/// Only the first bad line counts: a script that begins with the same lines, up to and with that
+/// one, has the same text and the same end, whatever follows.
 pub fn only_the_first_bad_line_counts()
     ensures { (script other text : List ℕ) (number : ℕ) → IsTextOf script text (End.BadLine number)
         → take number (lines_of script) ≡ take number (lines_of other)

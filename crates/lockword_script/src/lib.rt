@@ -1,5 +1,6 @@
 //! The trace script of the lock word: a text of lines, each of which is one or more events, and the
-//! text that running it prints. From bytes to bytes, over any source and sink or any reader and writer.
+//! text that running it prints. From bytes to bytes, over any source and sink or any reader and
+//! writer.
 #![tactic(auto)]
 
 pub mod laws;

@@ -14,8 +14,8 @@ pub enum End {
 pub enum TraceFault {
     /// A read failed, or was interrupted more often in a row than is borne.
     Read,
-    /// A write or a flush failed or was interrupted more often in a row than is borne, or a write took
-    /// nothing.
+    /// A write or a flush failed or was interrupted more often in a row than is borne, or a write
+    /// took nothing.
     Write,
     /// Memory was refused, to the machine or to the text that waits to be written.
     OutOfMemory,

@@ -1,9 +1,10 @@
-//! The lines that a run prints, put behind the text that waits to be written. The room for a line is
-//! reserved before, so that printing itself can't be refused memory.
+//! The lines that a run prints, put behind the text that waits to be written. The room for a line
+//! is reserved before, so that printing itself can't be refused memory.
 
 ghost use Rattle.std.specs.Prelude.{◌≡◌, ◌≤◌, ◌+◌, ◌++◌, length, vec_len, vec_capacity};
 ghost use Rattle.std.specs.Fmt.{decimal};
-ghost use Rattle.lockword_script.specs.TraceOutput.{answer_name, word_text, destroyer_text, printed_line, printed_of_bad_line};
+ghost use Rattle.lockword_script.specs.TraceOutput.{answer_name, word_text, destroyer_text};
+ghost use Rattle.lockword_script.specs.TraceOutput.{printed_line, printed_of_bad_line};
 
 use itoa::Buffer;
 use lockword_core::Answer;
@@ -94,8 +95,8 @@ fn append_destroyer(out: &mut Vec<u8>, destroyed_by: Option<u64>)
     }
 }
 
-/// What is printed of the state after an event: the word, the signals of readers and of writers, and who
-/// destroyed.
+/// What is printed of the state after an event: the word, the signals of readers and of writers,
+/// and who destroyed.
 #[derive(Clone, Copy, Drop)]
 pub struct Shown {
     pub word: u64,

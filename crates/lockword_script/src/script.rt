@@ -11,8 +11,8 @@ ghost use Rattle.stream_base.specs.Lines.{Lacks};
 ghost use Rattle.lockword_core.specs.declared.stake.Op.{Op};
 ghost use Rattle.lockword_script.specs.Script.{operation_name, NamesHolders, Says, IsBadLine};
 
+use base_types::Dir;
 use lockword_core::Op;
-use stream_base::Dir;
 use stream_base::decimal::parse_decimal;
 
 /// The first number that names no holder.
@@ -24,13 +24,15 @@ const HOLDER_DIGITS: usize = 8;
 /// The most bytes of an operation's name.
 const NAME_BYTES: usize = 7;
 
-/// The most bytes of a line that isn't bad, without its line feed: holder, `+`, count, space and name.
+/// The most bytes of a line that isn't bad, without its line feed: holder, `+`, count, space and
+/// name.
 pub const MAX_LINE_BYTES: usize = 2 * HOLDER_DIGITS + 2 + NAME_BYTES;
 
 /// The most lines of a script; the next line is bad whatever it holds.
 pub const MAX_LINES: u64 = 16_777_216;
 
-/// What a line says: as many holders as the count, from the first on, ask for the operation in turn.
+/// What a line says: as many holders as the count, from the first on, ask for the operation in
+/// turn.
 #[derive(Clone, Copy, Debug, PartialEq, Eq, Drop)]
 pub struct Order {
     pub first: u64,

@@ -1,22 +1,25 @@
-//! The run of a script, line by line as they come. It keeps the machine, the number of the line that is
-//! read, and the reader of the lines: its memory doesn't grow with the script.
+//! The run of a script, line by line as they come. It keeps the machine, the number of the line
+//! that is read, and the reader of the lines: its memory doesn't grow with the script.
 //!
 //! A line counts as carried out once all its events are. The room for its printed line is reserved
 //! before the first of them, so each line that is carried out is printed.
 
 ghost use Rattle.std.specs.Prelude.{◌≡◌, ◌≤◌, ◌<◌, ◌⊎◌, ◌+◌, ◌-◌, ◌*◌, ◌++◌};
-ghost use Rattle.lockword_script.specs.Words.{ℕ, List, [], IfOk, OnOk, OnErr, IfSome, IfNone, length, lines_of, Read, Write, Op, signals_in, LockState, census, encoded, transition, state_after};
+ghost use Rattle.lockword_script.specs.Words.{ℕ, List, [], IfOk, OnOk, OnErr, IfSome, IfNone};
+ghost use Rattle.lockword_script.specs.Words.{length, lines_of, Read, Write, Op, signals_in};
+ghost use Rattle.lockword_script.specs.Words.{LockState, census, encoded, transition, state_after};
 ghost use Rattle.lockword_script.specs.Script.{Says, IsBadLine, events_of};
 ghost use Rattle.lockword_script.specs.TraceOutput.{printed_of_events, printed_of_bad_line, Prints};
-ghost use Rattle.lockword_script.specs.Progress.{ahead_of, progress_of, start, spent, IsReady, LeadsOn, LeadsToBadLine, LeadsPartly, LeadsToEnd};
+ghost use Rattle.lockword_script.specs.Progress.{ahead_of, progress_of, start, spent, IsReady};
+ghost use Rattle.lockword_script.specs.Progress.{LeadsOn, LeadsToBadLine, LeadsPartly, LeadsToEnd};
 
 use crate::outcome::End;
 use crate::printed_line::{PRINTED_ROOM, Shown, print_bad_line, print_line};
 use crate::script::{HOLDERS, MAX_LINE_BYTES, MAX_LINES, Order, decode};
+use base_types::{Dir, OutOfMemory};
 use lockword_core::{Answer, Machine};
 use std::alloc::Global;
 use stream_base::line_reader::{Found, LineReader};
-use stream_base::{Dir, OutOfMemory};
 
 /// The operation by each holder in turn; the answer is that of the last.
 fn answer_last(machine: &mut Machine, order: Order) -> Result<Answer, OutOfMemory>
@@ -133,8 +136,8 @@ impl ScriptRun {
         }
     }
 
-    /// Carries out the whole lines among the bytes that were read, up to a bad line, whose number is the
-    /// answer.
+    /// Carries out the whole lines among the bytes that were read, up to a bad line, whose number
+    /// is the answer.
     fn run_lines(&mut self, out: &mut Vec<u8>) -> Result<Option<u64>, OutOfMemory>
         requires { IsReady (progress_of self.old) }
         ensures ready { IfOk result (λ bad. IfNone bad (IsReady (progress_of self.new)
@@ -184,9 +187,9 @@ impl ScriptRun {
         }
     }
 
-    /// Goes on through the bytes that were read, which are so many; none is the end of the script. The
-    /// answer is how the script ended, if it has ended. What goes on is promised in the words of
-    /// `run_lines`, written out: only here is some progress promised, and any end.
+    /// Goes on through the bytes that were read, which are so many; none is the end of the script.
+    /// The answer is how the script ended, if it has ended. What goes on is promised in the words
+    /// of `run_lines`, written out: only here is some progress promised, and any end.
     pub fn advance(&mut self, count: usize, out: &mut Vec<u8>) -> Result<Option<End>, OutOfMemory>
         requires ready { IsReady (progress_of self.old) }
         requires count { count ≡ length (ahead_of self.old) }

@@ -1,10 +1,12 @@
-//! The run of a script from a source to a sink. What is ready is written and flushed before each read,
-//! so whoever types a line has its answer before the run waits for the next one.
+//! The run of a script from a source to a sink. What is ready is written and flushed before each
+//! read, so whoever types a line has its answer before the run waits for the next one.
 
 ghost use Rattle.std.specs.Prelude.{◌≡◌, ◌<◌, ◌≤◌, ◌++◌};
-ghost use Rattle.lockword_script.specs.Words.{ℕ, List, true, IfOk, IfErr, OnOk, OnErr, IfSome, length, take, Appends, IsAtEnd, WriteStopped};
+ghost use Rattle.lockword_script.specs.Words.{ℕ, List, true, IfOk, IfErr, OnOk, OnErr, IfSome};
+ghost use Rattle.lockword_script.specs.Words.{length, take, Appends, IsAtEnd, WriteStopped};
 ghost use Rattle.lockword_script.specs.TraceOutput.{IsTextOf};
-ghost use Rattle.lockword_script.specs.TraceOutcome.{ExplainsSink, ExplainsSource, Leaves, SinkIsWell, SourceIsWell};
+ghost use Rattle.lockword_script.specs.TraceOutcome.{ExplainsSink, ExplainsSource, Leaves};
+ghost use Rattle.lockword_script.specs.TraceOutcome.{SinkIsWell, SourceIsWell};
 
 use crate::outcome::{End, TraceFault};
 use crate::script_run::ScriptRun;
@@ -15,8 +17,8 @@ use stream_base::sink::{Sink, deliver_to, flush_to};
 use stream_base::source::Source;
 use stream_base::writer_sink::WriterSink;
 
-/// Runs a script: reads it to its end or to its first bad line, and writes its text. What the source has
-/// left after a bad line, and in what state a fault leaves a device, is not said.
+/// Runs a script: reads it to its end or to its first bad line, and writes its text. What the
+/// source has left after a bad line, and in what state a fault leaves a device, is not said.
 pub fn trace_on<S: Source, K: Sink>(
     alloc: Global,
     source: &mut S,
@@ -34,8 +36,8 @@ pub fn trace_on<S: Source, K: Sink>(
         (S.remaining source.old) (S.remaining source.new)
         (K.contents sink.old) (K.contents sink.new)) }
 
-    // A fault comes only of a device that failed, was interrupted too often or took nothing, or of want
-    // of memory; and but for a fault of its own the sink is flushed.
+    // A fault comes only of a device that failed, was interrupted too often or took nothing, or of
+    // want of memory; and but for a fault of its own the sink is flushed.
     ensures source_well { OnOk result (SourceIsWell (S.failed source.old) (S.failed source.new)
         (S.interruptions source.new)) }
     ensures sink_well { OnOk result (SinkIsWell (K.failed sink.old) (K.failed sink.new)
@@ -78,8 +80,8 @@ pub fn trace_on<S: Source, K: Sink>(
     }
 }
 
-/// The same on a reader and a writer of std's. These tell nothing of an error, so what a fault comes of is
-/// said at [`trace_on`] alone. The writer is flushed before each read and at the end.
+/// The same on a reader and a writer of std's. These tell nothing of an error, so what a fault
+/// comes of is said at [`trace_on`] alone. The writer is flushed before each read and at the end.
 pub fn trace<R: Read, W: Write>(
     alloc: Global,
     reader: &mut R,

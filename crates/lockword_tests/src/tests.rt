@@ -1,4 +1,5 @@
-//! Worked rows of the single tries and of the calls that wait, threads at one word, and the drops of the halves.
+//! Worked rows of the single tries and of the calls that wait, threads at one word, and the drops
+//! of the halves.
 
 /// The value in the answer that the row wants; any other answer ends the test.
 macro_rules! want {
@@ -25,19 +26,20 @@ mod waits;
 mod workers;
 
 ghost use Rattle.std.specs.Prelude.{◌≡◌};
-ghost use Rattle.stream_base.specs.declared.direction.Dir.TheVariants.{Read, Write};
+ghost use Rattle.base_types.specs.declared.direction.Dir.TheVariants.{Read, Write};
 ghost use Rattle.lockword.specs.Marks.{SameMarks, NowClosed, NowDraining};
-ghost use Rattle.lockword.specs.Places.{seat_place, ref_place, lock_place, closing_place, last_place, owed_by};
+ghost use Rattle.lockword.specs.Places.{seat_place, ref_place, lock_place, closing_place};
+ghost use Rattle.lockword.specs.Places.{last_place, owed_by};
 ghost use Rattle.lockword.specs.TransitionOutcomes.{IsSeatOf, SameStake, HasNotTaken};
 ghost use Rattle.fdmutex.specs.Refusal.{IsFreedOf};
 
+use base_types::Dir;
 use fdmutex::{Freed, Refusal, close_mark, drain, incref, read_lock, write_lock};
 use lockword::{Closing, Holder, Last, LockWord, ReadLock, Ref, Seat, WriteLock};
 use lockword_core::pack;
 use std::process::Abort;
 use std::sync::Wait;
 use std::sync::atomic::{AtomicU64, Ordering};
-use stream_base::Dir;
 
 /// A word whose halves are numbers.
 type Counters = LockWord<u64, u64>;

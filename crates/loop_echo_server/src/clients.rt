@@ -1,5 +1,5 @@
-//! What clients hear that say something. They know nothing of the server's crates: they have readers and
-//! writers of the standard library.
+//! What clients hear that say something. They know nothing of the server's crates: they have
+//! readers and writers of the standard library.
 
 ghost use Rattle.std.specs.Prelude.{◌≡◌, ◌≤◌};
 ghost use Rattle.std.specs.Io.KnownBytes.{Consumes, IsAtEnd};
@@ -25,7 +25,7 @@ pub enum Seen {
 
 /// How many clients heard what.
 #[derive(Clone, Copy, Debug, PartialEq, Eq, Drop)]
-pub struct Heard {
+pub struct Echoes {
     /// Their own words.
     pub own: u32,
     /// Their own words, and then the end.
@@ -67,27 +67,27 @@ fn says<N: Net>(net: &N, addr: SocketAddr, client: u32) -> Option<N::Stream> {
     Some(stream)
 }
 
-impl Heard {
+impl Echoes {
     // Nobody was heard yet.
-    fn none() -> Heard {
-        Heard { own: 0, end: 0 }
+    fn none() -> Echoes {
+        Echoes { own: 0, end: 0 }
     }
 
-    fn with(self, seen: Seen) -> Heard {
+    fn with(self, seen: Seen) -> Echoes {
         let own = self.own.saturating_add((seen != Seen::NoEcho) as u32);
         match seen {
-            Seen::EchoAndEnd => Heard {
+            Seen::EchoAndEnd => Echoes {
                 own,
                 end: self.end.saturating_add(1),
             },
-            _ => Heard { own, end: self.end },
+            _ => Echoes { own, end: self.end },
         }
     }
 }
 
-/// Has so many clients be connected at once to this port of loopback, each of which says its words, and
-/// tells what they heard. One that has no connection heard nothing.
-pub fn play<N: Net>(net: &N, alloc: Global, port: u16, clients: u32) -> Heard {
+/// Has so many clients be connected at once to this port of loopback, each of which says its words,
+/// and tells what they heard. One that has no connection heard nothing.
+pub fn play<N: Net>(net: &N, alloc: Global, port: u16, clients: u32) -> Echoes {
     let addr = SocketAddr::from((Ipv4Addr::LOCALHOST, port));
     let mut streams = Vec::new(alloc);
     for client in 0..clients {
@@ -95,7 +95,7 @@ pub fn play<N: Net>(net: &N, alloc: Global, port: u16, clients: u32) -> Heard {
             let _ = streams.push((client, stream));
         }
     }
-    let mut heard = Heard::none();
+    let mut heard = Echoes::none();
     for (client, stream) in streams {
         let mut stream = stream;
         heard = heard.with(hear(&mut stream, &words_of(client)));

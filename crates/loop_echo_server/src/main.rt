@@ -1,15 +1,15 @@
 //! `loop_echo_server`: gives back what it is sent, to many clients in one thread, by an event loop.
 //!
-//! It serves any port of loopback that is free. So many clients as it is asked for, 64 with no word, say
-//! something to it at once, each its own words, and wait until it has closed the idle connections. Then
-//! it ends.
+//! It serves any port of loopback that is free. So many clients as it is asked for, 64 with no
+//! word, say something to it at once, each its own words, and wait until it has closed the idle
+//! connections. Then it ends.
 #![tactic(auto)]
 
 mod clients;
 mod server;
 mod task;
 
-use crate::clients::{Heard, play};
+use crate::clients::{Echoes, play};
 use crate::server::Server;
 use std::process::ExitCode;
 use std::sync::Arc;
@@ -39,16 +39,16 @@ fn main(rt: HostRuntime) -> io::Result<ExitCode> {
         return Ok(ExitCode::from(3));
     };
     let stopped = Arc::try_clone(&server.stopped)?;
-    let door = server.door()?;
+    let remote = server.remote()?;
     let (alloc, port) = (rt.alloc(), server.port);
     let playing = thread::spawn(&rt, move || {
         let heard = play(&rt, alloc, port, clients);
         stopped.store(true, Ordering::SeqCst);
-        door.wake();
+        remote.wake();
         heard
     })?;
     let served = server.run();
-    let Heard { own, end } = playing.join(&rt);
+    let Echoes { own, end } = playing.join(&rt);
     println!(rt; "{own} of {clients} clients heard their own words, and {end} the end after them")?;
     Ok(match served {
         Ok(()) => ExitCode::SUCCESS,

@@ -4,11 +4,13 @@ ghost use Rattle.std.specs.Prelude.{◌≡◌, IfSome, IfOk, IfErr};
 ghost use Rattle.std.specs.Arc.{arc_value};
 ghost use Rattle.rwloops.specs.declared.fault.Fault.{Fault};
 ghost use Rattle.rwloops.specs.declared.outcome.DevKind.{DevKind};
-ghost use Rattle.loop_echo_server.specs.Server.{idle_of, door_behind};
+ghost use Rattle.loop_echo_server.specs.Server.{idle_of, remote_behind};
 
 use crate::task::{Accepted, Client, Listener, MOST_AT_ONCE};
 use fd_descriptor::{Alarms, Dirs, Fault, OutOfMemory, PollCell};
-use readiness::{Addr, Door, DoorAlarms, EventLoop, Host, Listen, Side, Sock, Turn, Why, listen};
+use readiness::{
+    Addr, EventLoop, Host, Listen, LoopRemote, RemoteAlarms, Side, Sock, Turn, Why, listen,
+};
 use std::alloc::Global;
 use std::fs::Files;
 use std::net::Net;
@@ -33,8 +35,8 @@ pub enum Task<R: Wait + Copy + Drop> {
 pub struct Desk<R: Wait + Clock + Copy + Drop> {
     rt: R,
     start: Instant,
-    idle: u64,
-    alarms: DoorAlarms<R>,
+    idle_ns: u64,
+    alarms: RemoteAlarms<R>,
     // The listener's token, under which its rests end.
     listener: u64,
     // The connections that were accepted in this turn.
@@ -63,7 +65,12 @@ impl<R: Wait + Clock + Copy + Drop> Desk<R> {
     // Has a client wait for its next bytes, for the idle time at most.
     fn rests(&self, client: &mut Client<R>) -> Result<(), Fault> {
         let now = self.now();
-        client.wait_until(&self.rt, now.saturating_add(self.idle), now, &self.alarms)
+        client.wait_until(
+            &self.rt,
+            now.saturating_add(self.idle_ns),
+            now,
+            &self.alarms,
+        )
     }
 
     // Accepts until nobody waits, but only so many at once. Where the system refuses, it rests.
@@ -119,8 +126,8 @@ impl<R: Wait + Clock + Copy + Drop> Host for Desk<R> {
 
 impl<R: Wait + Net + Files + Clock + Copy + Drop> Server<R> {
     /// Listens at any port that is free.
-    pub fn open(rt: R, alloc: Global, idle: u64) -> Option<Server<R>>
-        ensures idle { IfSome result (λ server. idle_of server ≡ idle) }
+    pub fn open(rt: R, alloc: Global, idle_ns: u64) -> Option<Server<R>>
+        ensures idle { IfSome result (λ server. idle_of server ≡ idle_ns) }
     {
         let mut tasks = EventLoop::new(&rt, alloc).ok()?;
         let place = tasks.vacant().ok()?;
@@ -132,8 +139,8 @@ impl<R: Wait + Net + Files + Clock + Copy + Drop> Server<R> {
         let desk = Desk {
             rt,
             start: Instant::now(&rt).ok()?,
-            idle,
-            alarms: DoorAlarms::new(rt, tasks.door().ok()?),
+            idle_ns,
+            alarms: RemoteAlarms::new(rt, tasks.remote().ok()?),
             listener: place.first,
             accepted: Vec::new(alloc),
         };
@@ -148,10 +155,10 @@ impl<R: Wait + Net + Files + Clock + Copy + Drop> Server<R> {
     }
 
     /// By which others wake the loop.
-    pub fn door(&self) -> Result<Arc<Door>, OutOfMemory>
-        ensures own { IfOk result (λ door. arc_value door ≡ door_behind self.now) }
+    pub fn remote(&self) -> Result<Arc<LoopRemote>, OutOfMemory>
+        ensures own { IfOk result (λ remote. arc_value remote ≡ remote_behind self.now) }
     {
-        self.tasks.door()
+        self.tasks.remote()
     }
 
     // Puts a client into the loop. Where anything is refused the connection is closed.

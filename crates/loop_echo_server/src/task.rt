@@ -10,7 +10,7 @@ ghost use Rattle.rwloops.specs.declared.fault.Fault.{Fault};
 ghost use Rattle.loop_echo_server.specs.Task.{accepted_of, kept_bytes};
 
 use fd_descriptor::{Deadline, Fault, FdHandle, PollCell, Progress, ReadUnderWay, WriteUnderWay};
-use readiness::{DoorAlarms, ListenRes, Sock, SockRes, Turn};
+use readiness::{ListenRes, RemoteAlarms, Sock, SockRes, Turn};
 use std::alloc::Global;
 use std::sync::{Arc, Wait};
 
@@ -112,7 +112,7 @@ impl<R: Wait + Copy + Drop> Client<R> {
         rt: &R,
         until: u64,
         now: u64,
-        alarms: &DoorAlarms<R>,
+        alarms: &RemoteAlarms<R>,
     ) -> Result<(), Fault>
         ensures entry { IsEntry SetsDeadline self.old.handle self.new.handle result }
     {
@@ -138,8 +138,8 @@ impl<R: Wait + Copy + Drop> Client<R> {
         }
     }
 
-    /// Gives back what comes, as far as it doesn't wait, but only so much at once that others have their
-    /// turn. It says what came of it, and whether anything was read.
+    /// Gives back what comes, as far as it doesn't wait, but only so much at once that others have
+    /// their turn. It says what came of it, and whether anything was read.
     pub fn echo(&mut self) -> (Turn, bool)
         ensures gave_way { result.0 ≡ Turn.Again → result.1 ≡ true }
     {

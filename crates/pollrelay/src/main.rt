@@ -1,7 +1,9 @@
-//! `pollrelay`: a relay of TCP and Unix-socket connections; it also runs trace scripts of the lock word.
+//! `pollrelay`: a relay of TCP and Unix-socket connections; it also runs trace scripts of the lock
+//! word.
 #![tactic(auto)]
 
-use relay::{Loops, serve, text_of};
+use base_types::OutOfMemory;
+use relay::{Capacity, Loops, PairLimit, serve, text_of};
 use relay_admin::check_status;
 use relay_command::{Fault, Job, NO_MEMORY, job_of, trace_status};
 use relay_ledger::PARTS;
@@ -9,10 +11,13 @@ use std::alloc::Global;
 use std::fs::Files;
 use std::io::ErrorKind;
 use std::marker::Brand;
+use std::net::{Net, TcpListener, TcpStream};
 use std::process::ExitCode;
+use std::sync::Wait;
 use std::sync::ledger::Blank;
+use std::thread::Threads;
+use std::time::Clock;
 use std::{env, io};
-use stream_base::OutOfMemory;
 
 /// Tells a fault on standard error. Where that cannot be written either, nobody is left to tell.
 fn told<R: Eprint>(rt: &R, fault: Fault) -> ExitCode {
@@ -37,49 +42,79 @@ fn check_file<R: Files + Print + Eprint + AllocGlobal>(rt: &R, rules: &str) -> E
     }
 }
 
-fn main(rt: HostRuntime) -> ExitCode {
-    let words: Vec<String> = match env::args(&rt) {
+/// Runs a trace script on standard input and output.
+fn run_trace(rt: &HostRuntime) -> ExitCode {
+    let (mut input, mut output, mut errors) = (rt.stdin(), rt.stdout(), rt.stderr());
+    let status = trace_status(rt.alloc(), &mut input, &mut output, &mut errors);
+    ExitCode::from(status)
+}
+
+/// Runs a relay until an admin session says stop.
+// (the bounds are those of `serve`, and of who prints)
+fn run_relay<R>(rt: R, rules: &String, admin: &String, capacity: Capacity) -> ExitCode
+where
+    R: Wait
+        + Threads
+        + Net<Listener = TcpListener, Stream = TcpStream>
+        + Clock
+        + Files
+        + Print
+        + Eprint
+        + AllocGlobal
+        + Copy
+        + Send
+        + Sync
+        + 'static,
+{
+    let (up, down) = (Blank::new(PARTS), Blank::new(PARTS));
+    let mut output = io::writer(&rt);
+    match serve::<Brand, Brand, R, _>(rt, rules, admin, capacity, up, down, &mut output) {
+        Ok(()) => ExitCode::from(0),
+        Err(fault) => told(&rt, Fault::Relay(fault)),
+    }
+}
+
+/// The words of the command line, with the program's name.
+fn words_of(rt: &HostRuntime) -> Result<Vec<String>, Fault> {
+    match env::args(rt) {
         Ok(args) => match args.collect(rt.alloc()) {
-            Ok(words) => words,
-            Err(_) => return told(&rt, NO_MEMORY),
+            Ok(words) => Ok(words),
+            Err(_) => Err(NO_MEMORY),
         },
-        Err(error) if error.kind() == ErrorKind::OutOfMemory => return told(&rt, NO_MEMORY),
+        Err(error) if error.kind() == ErrorKind::OutOfMemory => Err(NO_MEMORY),
         // A word that isn't UTF-8.
-        Err(_) => return told(&rt, Fault::BadCommandLine),
-    };
+        Err(_) => Err(Fault::BadCommandLine),
+    }
+}
+
+/// What the program is asked to do.
+fn job(rt: &HostRuntime) -> Result<Job, Fault> {
+    let words = words_of(rt)?;
     match job_of_words(rt.alloc(), words.as_slice()) {
-        Ok(Some(Job::Trace)) => {
-            let (mut input, mut output, mut errors) = (rt.stdin(), rt.stdout(), rt.stderr());
-            let status = trace_status(rt.alloc(), &mut input, &mut output, &mut errors);
-            ExitCode::from(status)
-        }
-        Ok(Some(Job::Check { rules })) => check_file(&rt, rules.as_str()),
+        Ok(Some(job)) => Ok(job),
+        Ok(None) => Err(Fault::BadCommandLine),
+        Err(_) => Err(NO_MEMORY),
+    }
+}
+
+fn main(rt: HostRuntime) -> ExitCode {
+    match job(&rt) {
+        Ok(Job::Trace) => run_trace(&rt),
+        Ok(Job::Check { rules }) => check_file(&rt, rules.as_str()),
         Ok(
-            Some(
-                Job::Serve {
-                    rules,
-                    admin,
-                    loops,
-                },
-            ),
-        ) => {
-            let (up, down) = (Blank::new(PARTS), Blank::new(PARTS));
-            let loops = loops.unwrap_or_else(|| Loops::by_processors(&rt));
-            let mut output = rt.stdout();
-            match serve::<Brand, Brand, HostRuntime, _>(
-                rt,
-                &rules,
-                &admin,
+            Job::Serve {
+                rules,
+                admin,
                 loops,
-                up,
-                down,
-                &mut output,
-            ) {
-                Ok(()) => ExitCode::from(0),
-                Err(fault) => told(&rt, Fault::Relay(fault)),
-            }
+                pairs,
+            },
+        ) => {
+            let capacity = Capacity {
+                loops: loops.unwrap_or_else(|| Loops::by_processors(&rt)),
+                pairs: pairs.unwrap_or_else(|| PairLimit::by_default()),
+            };
+            run_relay(rt, &rules, &admin, capacity)
         }
-        Ok(None) => told(&rt, Fault::BadCommandLine),
-        Err(_) => told(&rt, NO_MEMORY),
+        Err(fault) => told(&rt, fault),
     }
 }

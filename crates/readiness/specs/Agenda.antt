@@ -1,12 +1,12 @@
 -- What a turn resumes, and in which order.
 use Rattle.std.specs.Prelude.{ℕ, List, ◌++◌, map}
-use Rattle.stream_base.specs.declared.direction.Dir.{Dir}
+use Rattle.base_types.specs.declared.direction.Dir.{Dir}
 use Rattle.readiness.specs.Batch.{read_ready, write_ready}
 use Rattle.readiness.specs.LoopToken.{side_in}
 use Rattle.readiness.specs.declared.batch.Ev.{Ev}
 use Rattle.readiness.specs.declared.agenda.Step.{Step}
 use Rattle.readiness.specs.declared.agenda.Why.{Why}
-use Rattle.readiness.specs.declared.agenda.Why.TheVariants.{Ready, Due, Told, Again}
+use Rattle.readiness.specs.declared.agenda.Why.TheVariants.{Ready, Due, Named, Again}
 
 -- an event resumes the task of its token, with the side in the token and what it makes ready
 abbrev pub event_step : Ev → Step
@@ -21,7 +21,7 @@ due_step key dir now = record { token = key; why = Due (side_in key) dir now }
 
 -- a task that was named is resumed
 abbrev pub told_step : ℕ → Step
-told_step token = record { token = token; why = Told }
+told_step token = record { token = token; why = Named }
 
 -- a task that gave way is resumed
 abbrev pub again_step : ℕ → Step

@@ -1,15 +1,15 @@
--- A loop and its door, as callers see them.
+-- A loop and its remote, as callers see them.
 use Rattle.std.specs.Arc.{arc_value}
 use Rattle.mio.specs.declared.waker.Waker.{Waker}
-use Rattle.readiness.specs.declared.door.Door.{Door}
-use Rattle.readiness.specs.declared.door.DoorAlarms.{DoorAlarms}
+use Rattle.readiness.specs.declared.loop_remote.LoopRemote.{LoopRemote}
+use Rattle.readiness.specs.declared.loop_remote.RemoteAlarms.{RemoteAlarms}
 use Rattle.readiness.specs.declared.event_loop.EventLoop.{EventLoop}
 use Rattle.readiness.specs.declared.poller.Poller.{Poller}
 use Rattle.readiness.specs.declared.tasks.Tasks.{Tasks}
 
--- what wakes the loop behind a door
-abbrev pub waker_behind : {A : Type 0} → Door A → Waker
-waker_behind door = arc_value door.waker
+-- what wakes the loop behind a remote
+abbrev pub waker_behind : {A : Type 0} → LoopRemote A → Waker
+waker_behind remote = arc_value remote.waker
 
 module _ {T A : Type 0} where
   -- the tasks of a loop
@@ -20,10 +20,10 @@ module _ {T A : Type 0} where
   abbrev pub poller_of : EventLoop T A → Poller A
   poller_of loop = loop.poller
 
-  -- the door of a loop
-  abbrev pub door_in : EventLoop T A → Door A
-  door_in loop = arc_value loop.door
+  -- the remote of a loop
+  abbrev pub remote_in : EventLoop T A → LoopRemote A
+  remote_in loop = arc_value loop.remote
 
-  -- the door of the loop whose timers these alarms arm
-  abbrev pub door_of : DoorAlarms T A → Door A
-  door_of alarms = arc_value alarms.door
+  -- the remote of the loop whose timers these alarms arm
+  abbrev pub remote_of : RemoteAlarms T A → LoopRemote A
+  remote_of alarms = arc_value alarms.remote

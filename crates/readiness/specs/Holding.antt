@@ -8,12 +8,12 @@ use Rattle.fd_descriptor.specs.declared.descriptor.FdHandle.{FdHandle}
 use Rattle.fd_descriptor.specs.declared.poll_cell.PollCell.{PollCell}
 use Rattle.rwloops.specs.declared.outcome.DevKind.{DevKind}
 use Rattle.rwloops.specs.declared.outcome.DevKind.TheVariants.{Other}
-use Rattle.readiness.specs.declared.holding.Held.{Held}
+use Rattle.readiness.specs.declared.holding.HeldSocket.{HeldSocket}
 use Rattle.readiness.specs.declared.holding.HoldFault.{HoldFault}
 use Rattle.readiness.specs.declared.holding.HoldFault.TheVariants as why
 
 -- the cell of an entry that has no more than its descriptor
-abbrev pub entry_cell : {X R W : Type 0} → Held X R W → PollCell
+abbrev pub entry_cell : {X R W : Type 0} → HeldSocket X R W → PollCell
 entry_cell held = arc_value held.cell
 
 -- one entry more, under the id and the token that were next; what turns tell it comes to this cell

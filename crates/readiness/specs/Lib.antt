@@ -7,7 +7,7 @@ pub mod Holding
 pub mod Alarms
 pub mod LoopToken
 pub mod Agenda
-pub mod Told
+pub mod NamedTasks
 pub mod Tasks
 pub mod EventLoop
 pub mod Laws

@@ -1,24 +1,24 @@
-//! What a turn of a loop resumes, and in which order: each event's task, then each that was told, then
-//! each that gave way in the turn before.
+//! What a turn of a loop resumes, and in which order: each event's task, then each that was told,
+//! then each that gave way in the turn before.
 
 ghost use Rattle.std.specs.Prelude.{◌≡◌, slice_get};
 ghost use Rattle.readiness.specs.Agenda.{event_step, due_step, steps_of};
 
 use crate::batch::Ev;
 use crate::loop_token::{Side, side_of};
-use stream_base::Dir;
+use base_types::Dir;
 
 /// Why a task is resumed.
 #[derive(Clone, Copy, Debug, PartialEq, Eq, Drop)]
 pub enum Why {
-    /// The poller told of the descriptor on this side: a read or an accept may go on, a write, both, or
-    /// neither.
+    /// The poller told of the descriptor on this side: a read or an accept may go on, a write,
+    /// both, or neither.
     Ready { side: Side, read: bool, write: bool },
-    /// A timer came due, of the descriptor on this side and this direction or of the task itself under
-    /// that token. The descriptor's cell has been ticked.
+    /// A timer came due, of the descriptor on this side and this direction or of the task itself
+    /// under that token. The descriptor's cell has been ticked.
     Due { side: Side, dir: Dir, now: u64 },
     /// Somebody named the task, after doing something to it.
-    Told,
+    Named,
     /// It gave way in the turn before.
     Again,
 }
@@ -90,7 +90,7 @@ impl<'a> Agenda<'a> {
         if number < self.told.len() {
             return Some(Step {
                 token: self.told[number],
-                why: Why::Told,
+                why: Why::Named,
             });
         }
         number -= self.told.len();

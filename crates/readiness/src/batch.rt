@@ -67,9 +67,9 @@ impl Ev {
     }
 }
 
-/// For each event in order whose token names an entry, the entry's id and which directions may go on:
-/// a read after readable, read-closed or an error, a write after writable, write-closed or an error.
-/// A token whose entry is gone names nothing, whatever entry has its key by now.
+/// For each event in order whose token names an entry, the entry's id and which directions may go
+/// on: a read after readable, read-closed or an error, a write after writable, write-closed or an
+/// error. A token whose entry is gone names nothing, whatever entry has its key by now.
 pub fn batch_of<T, A: Allocator>(
     events: &[Ev],
     table: &ConnTable<T, A>,

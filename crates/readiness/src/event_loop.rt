@@ -1,5 +1,5 @@
 //! An event loop: one thread that resumes tasks, by what its own poller, its own timers and other
-//! threads tell. Why no wake-up is lost stands at the door.
+//! threads tell. Why no wake-up is lost stands at the remote.
 
 ghost use Rattle.std.specs.Prelude.{◌≡◌, ◌≢◌, ◌⊎◌, ◌+◌, ℕ, None, IfOk, OnOk, IfErr, OnErr, IsOk};
 ghost use Rattle.rwloops.specs.declared.fault.Fault.{Fault};
@@ -8,28 +8,28 @@ ghost use Rattle.readiness.specs.Tasks.{HasPlace, SameTasks, IsPut, RefusesPlace
 ghost use Rattle.readiness.specs.Tasks.{task_in, next_place, next_serial, task_count};
 ghost use Rattle.std.specs.Arc.{arc_value};
 ghost use Rattle.readiness.specs.LoopToken.{place_in};
-ghost use Rattle.readiness.specs.EventLoop.{tasks_of, door_in, poller_of, waker_behind};
+ghost use Rattle.readiness.specs.EventLoop.{tasks_of, remote_in, poller_of, waker_behind};
 ghost use Rattle.readiness.specs.Poller.{waker_of};
 
 use crate::agenda::{Agenda, Why, step_of_timer};
-use crate::door::Door;
+use crate::loop_remote::LoopRemote;
 use crate::loop_token::Place;
+use crate::named_tasks::MAX_NAMED;
 use crate::poller::Poller;
 use crate::tasks::{Host, NoPlace, Tasks};
-use crate::told::MAX_TOLD;
+use base_types::OutOfMemory;
 use rwloops::Fault;
 use std::alloc::{Allocator, Global};
 use std::mem;
 use std::net::Net;
 use std::sync::{Arc, Wait};
-use stream_base::OutOfMemory;
 
-/// An event loop: its tasks by places, its poller, and its door.
+/// An event loop: its tasks by places, its poller, and its remote.
 #[derive(Drop)]
 pub struct EventLoop<T, A: Allocator = Global> {
     alloc: A,
     poller: Poller<A>,
-    door: Arc<Door<A>, A>,
+    remote: Arc<LoopRemote<A>, A>,
     tasks: Tasks<T, A>,
     // Those that gave way in the turn before, and those that were told: for one turn.
     round: Vec<u64, A>,
@@ -41,7 +41,7 @@ impl<T, A: Allocator + Copy> EventLoop<T, A> {
     pub fn new<R: Net>(rt: &R, alloc: A) -> Result<EventLoop<T, A>, Fault>
         ensures none { IfOk result (λ made. (token : ℕ) → task_in (tasks_of made) token ≡ None) }
         ensures waker { IfOk result (λ made.
-            waker_behind (door_in made) ≡ waker_of (poller_of made)) }
+            waker_behind (remote_in made) ≡ waker_of (poller_of made)) }
         ensures faults { IfErr result (λ fault. (fault ≡ Fault.OutOfMemory)
             ⊎ (fault ≡ Fault.Device DevKind.Other)) }
     {
@@ -49,19 +49,19 @@ impl<T, A: Allocator + Copy> EventLoop<T, A> {
         let Ok(waker) = poller.waker() else {
             return Err(Fault::OutOfMemory);
         };
-        let Ok(door) = Door::new(alloc, waker) else {
+        let Ok(remote) = LoopRemote::new(alloc, waker) else {
             return Err(Fault::OutOfMemory);
         };
-        let Ok(door) = Arc::new(alloc, door) else {
+        let Ok(remote) = Arc::new(alloc, remote) else {
             return Err(Fault::OutOfMemory);
         };
-        let Ok(told) = Vec::with_capacity(alloc, MAX_TOLD) else {
+        let Ok(told) = Vec::with_capacity(alloc, MAX_NAMED) else {
             return Err(Fault::OutOfMemory);
         };
         Ok(EventLoop {
             alloc,
             poller,
-            door,
+            remote,
             tasks: Tasks::new(alloc),
             round: Vec::new(alloc),
             told,
@@ -101,20 +101,21 @@ impl<T, A: Allocator + Copy> EventLoop<T, A> {
 }
 
 impl<T, A: Allocator> EventLoop<T, A> {
-    /// The poller, with which the descriptors of tasks are registered, under the tokens of their places.
+    /// The poller, with which the descriptors of tasks are registered, under the tokens of their
+    /// places.
     pub fn poller(&self) -> &Poller<A>
         ensures own { result.now ≡ poller_of self.now }
     {
         &self.poller
     }
 
-    /// The door, for other threads and for alarms. It takes no memory; refused is only a door that is
-    /// held too often.
-    pub fn door(&self) -> Result<Arc<Door<A>, A>, OutOfMemory>
-        ensures own { IfOk result (λ door. arc_value door ≡ door_in self.now) }
+    /// The remote, for other threads and for alarms. It takes no memory; refused is only a remote
+    /// that is held too often.
+    pub fn remote(&self) -> Result<Arc<LoopRemote<A>, A>, OutOfMemory>
+        ensures own { IfOk result (λ remote. arc_value remote ≡ remote_in self.now) }
     {
-        match Arc::try_clone(&self.door) {
-            Ok(door) => Ok(door),
+        match Arc::try_clone(&self.remote) {
+            Ok(remote) => Ok(remote),
             Err(_) => Err(OutOfMemory),
         }
     }
@@ -126,12 +127,13 @@ impl<T, A: Allocator> EventLoop<T, A> {
         self.tasks.len()
     }
 
-    /// Puts a task into the place that `vacant` gave last, which is refused only without such a call. It
-    /// takes no memory. The task waits for its first event; where it is to go on by itself, `again` has
-    /// it do so.
+    /// Puts a task into the place that `vacant` gave last, which is refused only without such a
+    /// call. It takes no memory. The task waits for its first event; where it is to go on by
+    /// itself, `again` has it do so.
     pub fn put(&mut self, task: T) -> Result<Place, T>
         ensures given { IfOk result (λ place. place ≡ next_place (tasks_of self.old)) }
-        ensures put { IfOk result (λ place. IsPut (tasks_of self.old) (tasks_of self.new) place task) }
+        ensures put { IfOk result (λ place.
+            IsPut (tasks_of self.old) (tasks_of self.new) place task) }
         ensures serial { OnOk result
             (next_serial (tasks_of self.new) ≡ next_serial (tasks_of self.old) + 1) }
         ensures returned { IfErr result (λ other. other ≡ task) }
@@ -159,12 +161,13 @@ impl<T, A: Allocator> EventLoop<T, A> {
         self.tasks.give_way(token);
     }
 
-    /// One turn: resumes the tasks whose timers are due at `now`, waits once for the system, at most
-    /// until the next moment, and not at all where a task gave way or was named, and resumes the task of
-    /// each event, then those that were named, then, each once, those that gave way before this turn.
+    /// One turn: resumes the tasks whose timers are due at `now`, waits once for the system, at
+    /// most until the next moment, and not at all where a task gave way or was named, and resumes
+    /// the task of each event, then those that were named, then, each once, those that gave way
+    /// before this turn.
     ///
-    /// `now` is in nanoseconds of the clock of the deadlines, read just before the call. A turn takes no
-    /// memory.
+    /// `now` is in nanoseconds of the clock of the deadlines, read just before the call. A turn
+    /// takes no memory.
     pub fn turn<R: Wait, H: Host<Task = T>>(
         &mut self,
         rt: &R,
@@ -174,17 +177,19 @@ impl<T, A: Allocator> EventLoop<T, A> {
         ensures faults { IfErr result (λ fault. fault ≡ Fault.Device DevKind.Other) }
     {
         let all_again = self.tasks.begin_round(&mut self.round);
-        for (key, dir) in self.door.due(rt, now).as_slice() {
+        for (key, dir) in self.remote.due(rt, now).as_slice() {
             self.tasks.resume(rt, host, step_of_timer(*key, *dir, now));
         }
         let gave_way = all_again || !self.round.is_empty() || self.tasks.gave_way();
-        let heard = self.poller.hear(self.door.may_sleep(rt, now, gave_way));
-        self.door.has_slept();
+        let heard = self
+            .poller
+            .poll_for(self.remote.may_sleep(rt, now, gave_way));
+        self.remote.has_slept();
         heard?;
-        let all_told = self.door.take_told(rt, &mut self.told);
+        let all_told = self.remote.take_told(rt, &mut self.told);
         self.resume_round(rt, host);
         if all_told {
-            self.tasks.resume_all(rt, host, Why::Told);
+            self.tasks.resume_all(rt, host, Why::Named);
         }
         if all_again {
             self.tasks.resume_all(rt, host, Why::Again);

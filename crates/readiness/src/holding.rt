@@ -1,5 +1,5 @@
-//! Making a descriptor of a socket: for a table, where it stands under the token by which a poller tells
-//! of it and whose timers find it by its id, or for a task of a loop, by the loop's token.
+//! Making a descriptor of a socket: for a table, where it stands under the token by which a poller
+//! tells of it and whose timers find it by its id, or for a task of a loop, by the loop's token.
 
 ghost use Rattle.std.specs.Prelude.{◌≡◌, false, IfOk, IfErr, OnErr};
 ghost use Rattle.std.specs.Arc.{arc_value};
@@ -13,12 +13,12 @@ ghost use Rattle.readiness.specs.Holding.{IsHeldUnder, IsOpenFault};
 use crate::poller::{HasCell, Poller};
 use crate::resources::{ListenRes, NoWrites, ReadHalf, SockRes, WriteHalf};
 use crate::sock::{Listen, Sock};
+use base_types::OutOfMemory;
 use conntable::{ConnTable, Refusal};
 use fd_descriptor::{FdHandle, PollCell, Resource};
 use rwloops::DevKind;
 use std::alloc::{Allocator, Global};
 use std::sync::Arc;
-use stream_base::OutOfMemory;
 
 /// Why a socket isn't held. It is closed by then, and the table is as it was.
 #[derive(Clone, Copy, Debug, PartialEq, Eq, Drop)]
@@ -65,13 +65,13 @@ pub trait Holds<X: Resource>: HasCell + Drop {
 
 /// An entry that has no more than its descriptor.
 #[derive(Drop)]
-pub struct Held<X: Resource> {
+pub struct HeldSocket<X: Resource> {
     cell: Arc<PollCell>,
     /// Closes the descriptor, once the entry is taken out and the table's lock given up.
     pub handle: FdHandle<X>,
 }
 
-impl<X: Resource> HasCell for Held<X> {
+impl<X: Resource> HasCell for HeldSocket<X> {
     ghost cell_in = { entry_cell };
 
     fn cell(&self) -> &PollCell {
@@ -79,11 +79,11 @@ impl<X: Resource> HasCell for Held<X> {
     }
 }
 
-impl<X: Resource> Holds<X> for Held<X> {
-    fn holding(cell: Arc<PollCell>, handle: FdHandle<X>) -> Held<X>
+impl<X: Resource> Holds<X> for HeldSocket<X> {
+    fn holding(cell: Arc<PollCell>, handle: FdHandle<X>) -> HeldSocket<X>
         ensures tells { entry_cell result ≡ arc_value cell }
     {
-        Held { cell, handle }
+        HeldSocket { cell, handle }
     }
 }
 
@@ -160,9 +160,9 @@ impl<A: Allocator> Poller<A> {
         Ok(FdHandle::open(alloc, read, write, key)?)
     }
 
-    /// Makes a descriptor of a connection, for a loop's task: the poller tells of it under this token, and
-    /// its timers have the token for their key. Where anything is refused the socket is dropped, which
-    /// closes it; the fault is `Device` or `OutOfMemory`.
+    /// Makes a descriptor of a connection, for a loop's task: the poller tells of it under this
+    /// token, and its timers have the token for their key. Where anything is refused the socket is
+    /// dropped, which closes it; the fault is `Device` or `OutOfMemory`.
     pub fn open(
         &self,
         alloc: Global,
@@ -219,9 +219,9 @@ impl<A: Allocator> Poller<A> {
         enter(table, self.open_socket(alloc, socket, token, token)?)
     }
 
-    /// Holds a connection: turns with this table tell its descriptor from now on, and the descriptor's
-    /// key is its id, so that due timers find it. It gives the id and a handle; the entry has another.
-    /// Where anything is refused the socket is dropped, which closes it.
+    /// Holds a connection: turns with this table tell its descriptor from now on, and the
+    /// descriptor's key is its id, so that due timers find it. It gives the id and a handle; the
+    /// entry has another. Where anything is refused the socket is dropped, which closes it.
     pub fn hold<T: Holds<SockRes>, B: Allocator + Copy>(
         &self,
         alloc: Global,
@@ -249,8 +249,8 @@ impl<A: Allocator> Poller<A> {
         self.hold_socket(alloc, table, listen)
     }
 
-    /// Holds a connection in a table, as `hold` does, for a loop's task: the poller tells of it under this
-    /// token of the loop, and the token is the descriptor's key. Its id is the table's.
+    /// Holds a connection in a table, as `hold` does, for a loop's task: the poller tells of it
+    /// under this token of the loop, and the token is the descriptor's key. Its id is the table's.
     pub fn hold_under<T: Holds<SockRes>, B: Allocator + Copy>(
         &self,
         alloc: Global,

@@ -1,5 +1,5 @@
-//! What a batch means for who turns a poller. Each function does nothing: its contract is a law, which
-//! the check proves.
+//! What a batch means for who turns a poller. Each function does nothing: its contract is a law,
+//! which the check proves.
 
 ghost use Rattle.std.specs.Prelude.{◌≡◌};
 ghost use Rattle.readiness.specs.declared.poll_timeout.TheConstants.{MAX_WAIT_MS};

@@ -1,5 +1,5 @@
-//! Sockets that never wait, and a poller that tells the descriptors in a table what is ready and what
-//! time it is: Go's network poller, over `epoll`.
+//! Sockets that never wait, and a poller that tells the descriptors in a table what is ready and
+//! what time it is: Go's network poller, over `epoll`.
 //!
 //! `addr`, `sock` and `open` have the sockets, `resources` what a descriptor makes of them. `batch`
 //! and `poll_timeout` decide what a poll's events say and how long a poll waits, `poller` polls,
@@ -9,14 +9,15 @@
 mod addr;
 mod agenda;
 mod batch;
-mod door;
 mod event_loop;
-mod heard;
 mod holding;
 pub mod laws;
+mod loop_remote;
 mod loop_token;
+mod named_tasks;
 mod open;
 mod poll_timeout;
+mod polled_events;
 mod poller;
 mod resources;
 mod resuming;
@@ -24,15 +25,15 @@ mod sock;
 mod system_error;
 mod tasks;
 mod timer_alarms;
-mod told;
 
 pub use addr::Addr;
 pub use agenda::{Step, Why, step_of_event, step_of_timer};
 pub use batch::{Ev, MAX_EVENTS, Ready, batch_of};
-pub use door::{Door, DoorAlarms};
 pub use event_loop::EventLoop;
-pub use holding::{Held, HoldFault, Holds};
+pub use holding::{HeldSocket, HoldFault, Holds};
+pub use loop_remote::{LoopRemote, RemoteAlarms};
 pub use loop_token::{LAST_SERIAL, MAX_PLACES, Place, Side};
+pub use named_tasks::MAX_NAMED;
 pub use open::{connect, listen};
 pub use poll_timeout::{MAX_WAIT_MS, sleep_ms, wait_ms};
 pub use poller::{HasCell, Poller};
@@ -40,9 +41,8 @@ pub use resources::{ListenRes, NoWrites, ReadHalf, SockRes, WriteHalf};
 pub use sock::{Listen, Sock};
 pub use tasks::{Host, NoPlace, Turn};
 pub use timer_alarms::TimerAlarms;
-pub use told::MAX_TOLD;
 
 // What callers of the above speak of, so that they need this crate alone.
-pub use conntable::{ConnTable, Refusal};
+pub use conntable::{ConnTable, Refusal as TableRefusal};
 pub use deadline_core::Timers;
 pub use mio::Waker;

@@ -1,4 +1,5 @@
-//! A loop's token is one `u64`, which its poller hands back with an event, and its timers with a moment:
+//! A loop's token is one `u64`, which its poller hands back with an event, and its timers with a
+//! moment:
 //!
 //! | bits | field | greatest value |
 //! |---|---|---|
@@ -6,8 +7,8 @@
 //! | 1 to 16 | place, which no two tasks have at once | 65,535 |
 //! | 17 to 63 | serial, which is never given twice | 140,737,488,355,326 |
 //!
-//! The serial above, 140,737,488,355,327, is never given, so the greatest `u64`, which is the waker's,
-//! is no token.
+//! The serial above, 140,737,488,355,327, is never given, so the greatest `u64`, which is the
+//! waker's, is no token.
 
 ghost use Rattle.std.specs.Prelude.{◌≡◌, ◌<◌, ◌≤◌, ◌+◌, ◌^◌, ℕ};
 ghost use Rattle.readiness.specs.LoopToken.{token_of, place_in, serial_in, side_in, place_at};
@@ -31,8 +32,8 @@ pub enum Side {
     Second,
 }
 
-/// A place for a task: the tokens under which its descriptors are registered, and by which others name
-/// the task.
+/// A place for a task: the tokens under which its descriptors are registered, and by which others
+/// name the task.
 #[derive(Clone, Copy, Debug, PartialEq, Eq, Drop)]
 pub struct Place {
     /// The token of the first side.

@@ -34,9 +34,10 @@ fn begin<R: Net>(rt: &R, addr: &Addr) -> io::Result<Sock>
 
 /// Begins a connection, and returns at once.
 ///
-/// A TCP one is made later: until then its tries would block, and where nobody listens the first try
-/// after that is `Refused`. A Unix one is made at once, or answered `Refused` where nobody listens at
-/// the path any more, and `Other` where there is no such path or the listener's queue is full.
+/// A TCP one is made later: until then its tries would block, and where nobody listens the first
+/// try after that is `Refused`. A Unix one is made at once, or answered `Refused` where nobody
+/// listens at the path any more, and `Other` where there is no such path or the listener's queue is
+/// full.
 pub fn connect<R: Net>(rt: &R, addr: &Addr) -> Result<Sock, DevKind>
     ensures family { IfOk result (λ sock. is_tcp sock ≡ is_tcp_addr addr.now) }
     ensures kinds { IfErr result IsConnectKind }
@@ -59,8 +60,8 @@ fn bind<R: Files + Net>(rt: &R, addr: &Addr) -> io::Result<Listen>
     }
 }
 
-/// Opens a listener. A port that is taken is `Other`, and so is a path that is there already, also one
-/// that a listener which is gone left behind.
+/// Opens a listener. A port that is taken is `Other`, and so is a path that is there already, also
+/// one that a listener which is gone left behind.
 pub fn listen<R: Files + Net>(rt: &R, addr: &Addr) -> Result<Listen, DevKind>
     ensures family { IfOk result (λ listen. is_tcp_listener listen ≡ is_tcp_addr addr.now) }
     ensures kinds { IfErr result (λ kind. kind ≡ DevKind.Other) }

@@ -7,8 +7,9 @@ pub const MAX_WAIT_MS: u64 = 1_000;
 
 const NANOS_IN_A_MILLI: u64 = 1_000_000;
 
-/// The milliseconds from `now` to the next moment, both in nanoseconds, rounded up, so that a poll which
-/// ends by time ends no earlier than the moment; at most [`MAX_WAIT_MS`], also where there is none.
+/// The milliseconds from `now` to the next moment, both in nanoseconds, rounded up, so that a poll
+/// which ends by time ends no earlier than the moment; at most [`MAX_WAIT_MS`], also where there is
+/// none.
 pub fn wait_ms(now: u64, next: Option<u64>) -> u64
     ensures { IsWait now next result }
 {
@@ -21,8 +22,8 @@ pub fn wait_ms(now: u64, next: Option<u64>) -> u64
     }
 }
 
-/// The milliseconds that a loop may sleep from `now`: none where there is something to do already, and
-/// else as [`wait_ms`] says.
+/// The milliseconds that a loop may sleep from `now`: none where there is something to do already,
+/// and else as [`wait_ms`] says.
 pub fn sleep_ms(now: u64, next: Option<u64>, has_more: bool) -> u64
     ensures { IsSleep now next has_more result }
 {

@@ -10,10 +10,11 @@ ghost use Rattle.rwloops.specs.declared.outcome.DevKind.{DevKind};
 ghost use Rattle.readiness.specs.Poller.{waker_of};
 
 use crate::batch::{Ev, batch_of};
-use crate::heard::Heard;
 use crate::loop_token::waker_token;
 use crate::poll_timeout::{MAX_WAIT_MS, wait_ms};
+use crate::polled_events::PolledEvents;
 use crate::sock::{Listen, Sock};
+use base_types::{Dir, OutOfMemory};
 use conntable::ConnTable;
 use deadline_core::Timers;
 use fd_descriptor::PollCell;
@@ -22,7 +23,6 @@ use rwloops::{DevKind, Fault};
 use std::alloc::{Allocator, Global};
 use std::net::Net;
 use std::sync::{Arc, Mutex, Wait};
-use stream_base::{Dir, OutOfMemory};
 
 const DEVICE: Fault = Fault::Device(DevKind::Other);
 
@@ -42,7 +42,7 @@ pub trait HasCell {
 #[derive(Drop)]
 pub struct Poller<A: Allocator = Global> {
     poll: Poll,
-    heard: Heard<A>,
+    polled: PolledEvents<A>,
     waker: Arc<Waker, A>,
 }
 
@@ -62,8 +62,8 @@ fn notify_entries<R: Wait, T: HasCell, B: Allocator>(rt: &R, events: &[Ev], tabl
     }
 }
 
-// Shows the clock to the entries whose timers are due, and gives the earliest moment that is left. A
-// key whose entry is gone is passed over.
+// Shows the clock to the entries whose timers are due, and gives the earliest moment that is left.
+// A key whose entry is gone is passed over.
 fn tick_due<R: Wait, T: HasCell, B: Allocator, C: Allocator>(
     rt: &R,
     now: u64,
@@ -97,7 +97,7 @@ impl<A: Allocator> Poller<A> {
         let Ok(poll) = Poll::new(rt) else {
             return Err(DEVICE);
         };
-        let Ok(heard) = Heard::new(alloc) else {
+        let Ok(polled) = PolledEvents::new(alloc) else {
             return Err(Fault::OutOfMemory);
         };
         let Ok(waker) = Waker::new(poll.registry(), Token(waker_token() as usize)) else {
@@ -106,7 +106,11 @@ impl<A: Allocator> Poller<A> {
         let Ok(waker) = Arc::new(alloc, waker) else {
             return Err(Fault::OutOfMemory);
         };
-        Ok(Poller { poll, heard, waker })
+        Ok(Poller {
+            poll,
+            polled,
+            waker,
+        })
     }
 
     /// Has turns tell of a connection under this token, until the connection is dropped.
@@ -141,29 +145,29 @@ impl<A: Allocator> Poller<A> {
     pub fn wait_any(&mut self) -> Result<(), Fault>
         ensures faults { IfErr result (λ fault. fault ≡ Fault.Device DevKind.Other) }
     {
-        self.heard.hear(&mut self.poll, MAX_WAIT_MS)
+        self.polled.poll(&mut self.poll, MAX_WAIT_MS)
     }
 
     /// Waits until anything is ready, also the waker, at most so many milliseconds.
-    pub(crate) fn hear(&mut self, ms: u64) -> Result<(), Fault>
+    pub(crate) fn poll_for(&mut self, ms: u64) -> Result<(), Fault>
         ensures faults { IfErr result (λ fault. fault ≡ Fault.Device DevKind.Other) }
     {
-        self.heard.hear(&mut self.poll, ms)
+        self.polled.poll(&mut self.poll, ms)
     }
 
     /// What the last wait said.
     pub(crate) fn events(&self) -> &[Ev]
         ensures few { length result.now ≤ 256 }
     {
-        self.heard.evs()
+        self.polled.evs()
     }
 
     /// One turn: ticks what is due at `now`, then waits once for the system, at most until the next
     /// moment, and tells the entries what is ready.
     ///
     /// `now` is in nanoseconds of the clock of the deadlines, read just before the call. A deadline
-    /// that comes while the turn waits is ticked by the next turn, with a later `now`. The keys of the
-    /// timers are the ids of the entries.
+    /// that comes while the turn waits is ticked by the next turn, with a later `now`. The keys of
+    /// the timers are the ids of the entries.
     pub fn turn<R: Wait, T: HasCell, B: Allocator, C: Allocator>(
         &mut self,
         rt: &R,
@@ -174,8 +178,8 @@ impl<A: Allocator> Poller<A> {
         ensures faults { IfErr result (λ fault. fault ≡ Fault.Device DevKind.Other) }
     {
         let next = tick_due(rt, now, table, timers);
-        self.heard.hear(&mut self.poll, wait_ms(now, next))?;
-        let evs = self.heard.evs();
+        self.polled.poll(&mut self.poll, wait_ms(now, next))?;
+        let evs = self.polled.evs();
         if !evs.is_empty() {
             notify_entries(rt, evs, &table.lock(rt));
         }

@@ -1,5 +1,5 @@
-//! The halves of sockets, and what a descriptor makes of them. A socket is closed when its last half
-//! is dropped.
+//! The halves of sockets, and what a descriptor makes of them. A socket is closed when its last
+//! half is dropped.
 
 ghost use Rattle.std.specs.Prelude.{◌≡◌, ◌<◌, Ok, None, IfOk, true, false, length};
 ghost use Rattle.readiness.specs.Sockets.{read_from, written_to, failure_of, known_made};
@@ -7,6 +7,7 @@ ghost use Rattle.rwloops.specs.Outcome.{IsCountWithin, count_in};
 
 use crate::sock::{Listen, Sock};
 use crate::system_error::{accepted_of, kind_of, outcome_of};
+use base_types::OutOfMemory;
 use fd_descriptor::{HalfClose, Resource};
 use rwloops::{AcceptOutcome, DevKind, Outcome, TryAccept, TryRead, TryWrite};
 use std::alloc::{Allocator, Global};
@@ -14,7 +15,6 @@ use std::io;
 use std::io::{Read, Write};
 use std::net::Shutdown;
 use std::sync::Arc;
-use stream_base::OutOfMemory;
 
 /// What is read from a socket.
 #[derive(Drop)]
@@ -56,8 +56,8 @@ impl Sock {
 impl<A: Allocator> TryRead for ReadHalf<A> {
     ghost tells = { λ _ _. ⊥ };
 
-    // It doesn't try again before it says that it would block: a yield gives the processor to a busy
-    // neighbour for milliseconds, and a spin keeps it from the peer.
+    // It doesn't try again before it says that it would block: a yield gives the processor to a
+    // busy neighbour for milliseconds, and a spin keeps it from the peer.
     fn try_read(&mut self, buf: &mut [u8]) -> Outcome {
         outcome_of(match &*self.sock {
             Sock::Tcp(stream) => {
@@ -143,8 +143,8 @@ impl<A: Allocator> WriteHalf<A> {
     }
 }
 
-/// A connection as a resource: dropping both halves destroys it. Its table entry goes first, so it is
-/// not taken out of a poller by a call of its own.
+/// A connection as a resource: dropping both halves destroys it. Its table entry goes first, so it
+/// is not taken out of a poller by a call of its own.
 pub struct SockRes;
 
 impl Resource for SockRes {

@@ -37,8 +37,8 @@ impl<T, A: Allocator> Tasks<T, A> {
         }
     }
 
-    /// Has the task of a step go on, and does what it answers: it comes again in the next turn, or it is
-    /// handed to the host, with its place free. A step whose task is gone is passed over.
+    /// Has the task of a step go on, and does what it answers: it comes again in the next turn, or
+    /// it is handed to the host, with its place free. A step whose task is gone is passed over.
     pub(crate) fn resume<R: Wait, H: Host<Task = T>>(&mut self, rt: &R, host: &mut H, step: Step)
         ensures others { OthersKept self.old self.new step.token }
         ensures passed { task_in self.old step.token ≡ None → SameTasks self.old self.new }
@@ -63,8 +63,8 @@ impl<T, A: Allocator> Tasks<T, A> {
         }
     }
 
-    /// Begins a round: the tokens of those that gave way, in place of what `round` has. It says whether
-    /// all tasks come again.
+    /// Begins a round: the tokens of those that gave way, in place of what `round` has. It says
+    /// whether all tasks come again.
     pub(crate) fn begin_round(&mut self, round: &mut Vec<u64, A>) -> bool
         ensures tokens { round.new.items ≡ gone_again self.old }
         ensures left { gone_again self.new ≡ [] }

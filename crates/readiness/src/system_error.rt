@@ -2,7 +2,8 @@
 
 ghost use Rattle.std.specs.Prelude.{◌≡◌};
 ghost use Rattle.std.specs.IoError.{error_kind};
-ghost use Rattle.readiness.specs.SystemErrors.{kind_told, refused_or_other, outcome_told, accept_told, IsConnectKind};
+ghost use Rattle.readiness.specs.SystemErrors.{kind_told, refused_or_other, outcome_told};
+ghost use Rattle.readiness.specs.SystemErrors.{accept_told, IsConnectKind};
 
 use crate::sock::Sock;
 use rwloops::{AcceptOutcome, DevKind, Outcome};

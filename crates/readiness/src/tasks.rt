@@ -1,7 +1,7 @@
 //! The tasks of a loop by their places, and those that gave way.
 //!
-//! A token names the task at its place only if that has the token's serial. A task that gave way has
-//! its token in `again` once; a token whose task is gone is passed over when its turn comes.
+//! A token names the task at its place only if that has the token's serial. A task that gave way
+//! has its token in `again` once; a token whose task is gone is passed over when its turn comes.
 
 ghost use Rattle.std.specs.Prelude.{◌≡◌, ◌≢◌, ◌+◌, ℕ, None, IfOk, OnOk, IfErr, OnErr, IfNone};
 ghost use Rattle.std.specs.Prelude.{IsOk, is_some};
@@ -31,13 +31,14 @@ pub trait Host {
     /// A task.
     type Task;
 
-    /// The cell of the descriptor on this side of a task, where it has one, so that due timers tick it.
+    /// The cell of the descriptor on this side of a task, where it has one, so that due timers tick
+    /// it.
     fn cell<'a>(&self, task: &'a Self::Task, side: Side) -> Option<&'a PollCell>;
 
     /// Has a task go on, and says what came of it. It must not wait.
     ///
-    /// A task answers `Waits` only after a try that would block, since the poller tells edges. It bounds
-    /// what it does at a time, and answers `Again` where it could do more.
+    /// A task answers `Waits` only after a try that would block, since the poller tells edges. It
+    /// bounds what it does at a time, and answers `Again` where it could do more.
     fn resume(&mut self, task: &mut Self::Task, why: Why) -> Turn;
 
     /// Takes a task that has ended, whose place is free again.
@@ -173,8 +174,8 @@ impl<T, A: Allocator> Tasks<T, A> {
         Some(task)
     }
 
-    // Says of the task that a token names whether it gave way, and tells whether it was said before, or
-    // there is no such task.
+    // Says of the task that a token names whether it gave way, and tells whether it was said
+    // before, or there is no such task.
     fn mark(&mut self, token: u64, gave_way: bool) -> bool
         ensures kept { SameTasks self.old self.new }
     {

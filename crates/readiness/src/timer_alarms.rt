@@ -5,12 +5,12 @@ ghost use Rattle.std.specs.Arc.{arc_value};
 ghost use Rattle.deadline_core.specs.declared.deadline.Dirs.{Dirs};
 ghost use Rattle.readiness.specs.Alarms.{ComesFirst, armed_for, disarmed_for, timers_of, woken_by};
 
+use base_types::{Dir, OutOfMemory};
 use deadline_core::{Dirs, Timers};
 use fd_descriptor::Alarms;
 use mio::Waker;
 use std::alloc::{Allocator, Global};
 use std::sync::{Arc, Mutex, Wait};
-use stream_base::{Dir, OutOfMemory};
 
 // Whether a moment comes before those of all timers, so that the poller may sleep past it.
 pub(crate) fn comes_first<A: Allocator>(timers: &Timers<A>, at: u64) -> bool
@@ -53,9 +53,9 @@ pub(crate) fn disarm_in<A: Allocator>(timers: &mut Timers<A>, key: u64, dirs: Di
 
 /// Timers that many descriptors share, with the waker of the poller that waits for them.
 ///
-/// An alarm takes their lock for a moment, with the lock of its cell held: whoever holds the timers'
-/// lock takes no cell's. It wakes the poller with the timers' lock held, so that of two threads which
-/// arm, the one whose moment is the earliest has woken the poller when it goes.
+/// An alarm takes their lock for a moment, with the lock of its cell held: whoever holds the
+/// timers' lock takes no cell's. It wakes the poller with the timers' lock held, so that of two
+/// threads which arm, the one whose moment is the earliest has woken the poller when it goes.
 #[derive(Drop)]
 pub struct TimerAlarms<T: Wait + Drop, A: Allocator = Global> {
     rt: T,

@@ -5,8 +5,8 @@ ghost use Rattle.std.specs.Prelude.{◌≡◌};
 ghost use Rattle.std.specs.Arc.{arc_value};
 
 /// Ends the test's process where this doesn't hold, and says what should. A call costs the proof
-/// of a test less than a branch does. `descriptor_tests` and `relay_tests` have one too: no crate uses
-/// another's tests.
+/// of a test less than a branch does. `descriptor_tests` and `relay_tests` have one too: no crate
+/// uses another's tests.
 macro_rules! holds {
     ($rt:expr; $is:expr) => {
         $crate::tests::holds(&$rt, $is, stringify!($is))
@@ -55,7 +55,8 @@ fn holds<R: Abort>(rt: &R, is: bool, what: &str) {
     assert!(rt; is, "{what}");
 }
 
-/// What a table holds of a descriptor, of a connection or of a listener. The test alone has handles.
+/// What a table holds of a descriptor, of a connection or of a listener. The test alone has
+/// handles.
 #[derive(Drop)]
 struct Entry {
     cell: Arc<PollCell>,

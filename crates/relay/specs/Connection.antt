@@ -1,6 +1,6 @@
 -- Which ways of a connection go on, and what its loop does then.
 use Rattle.std.specs.Prelude.{◌≡◌, ◌≢◌, true, false}
-use Rattle.stream_base.specs.declared.direction.Dir.TheVariants as dir
+use Rattle.base_types.specs.declared.direction.Dir.TheVariants as dir
 use Rattle.readiness.specs.declared.agenda.Why.{Why}
 use Rattle.readiness.specs.declared.agenda.Why.TheVariants as why
 use Rattle.readiness.specs.declared.loop_token.Side.{Side as LoopSide}
@@ -30,7 +30,7 @@ GoesOn tasks (why.Due side dir.Read now) way =
     WaitsForEvent (standing_of tasks way) way (side_of_pair side) true false
 GoesOn tasks (why.Due side dir.Write now) way =
     WaitsForEvent (standing_of tasks way) way (side_of_pair side) false true
-GoesOn tasks why.Told way = standing_of tasks way ≢ Over
+GoesOn tasks why.Named way = standing_of tasks way ≢ Over
 GoesOn tasks why.Again way = standing_of tasks way ≡ Ready
 
 -- what a loop does with an accept task after this step: it is over where it ended, and a pause is a

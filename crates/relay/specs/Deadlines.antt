@@ -1,7 +1,7 @@
 -- The deadlines that a relay sets.
 use Rattle.std.specs.Prelude.{ℕ, ◌+◌, ◌*◌, ◌-◌, ◌^◌, min, Option, Some, None}
-use Rattle.stream_base.specs.declared.direction.Dir.{Dir}
-use Rattle.stream_base.specs.declared.direction.Dir.TheVariants as dir
+use Rattle.base_types.specs.declared.direction.Dir.{Dir}
+use Rattle.base_types.specs.declared.direction.Dir.TheVariants as dir
 use Rattle.deadline_core.specs.declared.deadline.Dirs.{Dirs}
 use Rattle.deadline_core.specs.declared.deadline.Dirs.TheVariants.{Read, Write}
 use Rattle.deadline_core.specs.declared.deadline.Deadline.{Deadline}

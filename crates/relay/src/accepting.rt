@@ -1,5 +1,5 @@
-//! Accepting by a rule, as a task of the main thread's loop: it goes on when its listener may be ready,
-//! and delivers to the loops.
+//! Accepting by a rule, as a task of the main thread's loop: it goes on when its listener may be
+//! ready, and delivers to the loops.
 
 ghost use Rattle.std.specs.Prelude.{◌≡◌, ⊤, true, false, None};
 ghost use Rattle.relay.specs.Connection.{turn_of};
@@ -9,13 +9,14 @@ use crate::closing::Closer;
 use crate::shared::{Accepted, Shared};
 use deadline_core::Dirs;
 use fd_descriptor::{Alarms, FdHandle, PollCell, ReadUnderWay};
-use readiness::{DoorAlarms, Host, ListenRes, Place, Side, Sock, Turn, Why};
+use readiness::{Host, ListenRes, Place, RemoteAlarms, Side, Sock, Turn, Why};
 use relay_core::{AcceptEnded, AcceptStep, Accepting, PollAcceptGate, has_come, pause_end};
 use rwloops::Fault;
 use std::sync::ledger::Ledger;
 use std::sync::{Arc, Wait};
 
-/// A rule's listener, as its task has it. The handle isn't there exactly while an accept is under way.
+/// A rule's listener, as its task has it. The handle isn't there exactly while an accept is under
+/// way.
 #[derive(Drop)]
 pub(crate) struct RuleListener<R: Wait + Copy> {
     pub(crate) id: u64,
@@ -149,8 +150,8 @@ impl<U: Ledger, D: Ledger, R: Wait + Copy, C: Moments> AcceptHost<U, D, R, C> {
         let until = pause_end(self.clock.now(), ms);
         task.paused_until = Some(until);
         let armed = match Arc::try_clone(&self.shared.main) {
-            Ok(door) => {
-                let alarms = DoorAlarms::new(self.rt, door);
+            Ok(remote) => {
+                let alarms = RemoteAlarms::new(self.rt, remote);
                 alarms.arm(task.place.second, Dirs::Read, until).is_ok()
             }
             Err(_) => false,
@@ -228,8 +229,8 @@ where
 }
 
 impl<U: Ledger, D: Ledger, R: Wait + Copy, C: Moments> AcceptHost<U, D, R, C> {
-    // A drained listener is closed: else its clients would wait in the system's queue, and nobody would
-    // come for them.
+    // A drained listener is closed: else its clients would wait in the system's queue, and nobody
+    // would come for them.
     fn end(&self, listener: &RuleListener<R>, ended: AcceptEnded) {
         if ended.leaves_a_listener_to_close() {
             self.shared.close(&self.rt, listener.id, Closer::ItsLoop);

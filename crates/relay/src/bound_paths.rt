@@ -6,8 +6,8 @@ use relay_admin::{Addr, Rule};
 use std::fs;
 use std::fs::Files;
 
-/// How far a relay has come in binding, so that its Unix paths, and no others, are removed at its end.
-/// It is counted and not listed, so that no path is left for want of memory.
+/// How far a relay has come in binding, so that its Unix paths, and no others, are removed at its
+/// end. It is counted and not listed, so that no path is left for want of memory.
 #[derive(Clone, Copy, Drop)]
 pub(crate) struct BoundPaths<'a> {
     rules: &'a [Rule],

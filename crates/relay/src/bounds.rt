@@ -6,8 +6,8 @@ use std::sync::ledger::Ledger;
 use std::thread::Threads;
 use std::time::Clock;
 
-/// What a relay runs on: it waits, starts threads, opens sockets and reads the clock, and each thread
-/// has it.
+/// What a relay runs on: it waits, starts threads, opens sockets and reads the clock, and each
+/// thread has it.
 pub trait RelayRuntime: Wait
     + Threads
     + Net<Listener = TcpListener, Stream = TcpStream>

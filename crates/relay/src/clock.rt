@@ -8,8 +8,8 @@ pub trait Moments {
     fn now(&self) -> u64;
 }
 
-/// The nanoseconds since a start. Where the clock can't be read it tells the greatest moment, so that
-/// what hangs on time ends and doesn't stay for ever.
+/// The nanoseconds since a start. Where the clock can't be read it tells the greatest moment, so
+/// that what hangs on time ends and doesn't stay for ever.
 #[derive(Clone, Copy)]
 pub struct RelayClock<R: Clock + Copy> {
     rt: R,

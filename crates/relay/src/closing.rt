@@ -30,10 +30,11 @@ pub trait Closes {
     fn disarm<R: Wait + Copy>(self, rt: &R);
 }
 
-/// Closes the connection or listener with this id, and gives its answer; `None` says that another did.
+/// Closes the connection or listener with this id, and gives its answer; `None` says that another
+/// did.
 ///
-/// First its entry is taken out, so that nobody else finds it; then it is closed, with the table's lock
-/// given back, since a close waits for the last user; then no alarm is armed for it any more.
+/// First its entry is taken out, so that nobody else finds it; then it is closed, with the table's
+/// lock given back, since a close waits for the last user; then no alarm is armed for it any more.
 pub fn close_by_id<T: Closes, R: Wait + Copy>(
     rt: &R,
     table: &Mutex<ConnTable<T>>,

@@ -10,17 +10,17 @@ use crate::clock::RelayClock;
 use crate::closing::Closer;
 use crate::shared::Shared;
 use crate::task_gate::TaskGate;
+use base_types::Dir;
 use fd_descriptor::PollCell;
-use readiness::{DoorAlarms, Side, Why};
-use relay_core::{BUFFER_BYTES, Copying, PairNext, PairTasks, Step, Way, Ways};
+use readiness::{RemoteAlarms, Side, Why};
+use relay_core::{Copying, LOOP_BUFFER_BYTES, PairNext, PairTasks, Step, Way, Ways};
 use relay_ledger::{Book, CarriedShare};
 use std::sync::ledger::Ledger;
 use std::sync::{Arc, Mutex, Wait};
 use std::time::Clock;
-use stream_base::Dir;
 
 /// What a way copies through.
-pub(crate) type Gate<R> = TaskGate<R, RelayClock<R>, DoorAlarms<R>>;
+pub(crate) type Gate<R> = TaskGate<R, RelayClock<R>, RemoteAlarms<R>>;
 
 /// Has the book take back a share, so that none piles up.
 pub(crate) fn settle<L: Ledger, R: Wait>(
@@ -43,8 +43,11 @@ pub(crate) struct WayCopy<L: Ledger, R: Wait + Clock + Copy> {
 }
 
 impl<L: Ledger, R: Wait + Clock + Copy> WayCopy<L, R> {
-    // Goes on. Without a share it has nothing to do.
-    fn go_on(&mut self, rt: &R, book: &Mutex<Book<L>>, buf: &mut [u8; BUFFER_BYTES]) -> Step {
+    // Goes on. Without a share, or without a whole buffer, it has nothing to do.
+    fn go_on(&mut self, rt: &R, book: &Mutex<Book<L>>, buf: &mut [u8]) -> Step {
+        let Some(buf) = buf.as_mut_array::<LOOP_BUFFER_BYTES>() else {
+            return Step::Waits(Dir::Read);
+        };
         let Some(carried) = self.share.take() else {
             return Step::Waits(Dir::Read);
         };
@@ -124,7 +127,7 @@ impl<U: Ledger, D: Ledger, R: Wait + Clock + Copy> Connection<U, D, R> {
                 Dir::Read => self.tasks.woken_by(pair_side(side), true, false),
                 Dir::Write => self.tasks.woken_by(pair_side(side), false, true),
             },
-            Why::Told => self.tasks.not_over(),
+            Why::Named => self.tasks.not_over(),
             Why::Again => self.tasks.ready(),
         }
     }
@@ -135,11 +138,12 @@ impl<U: Ledger, D: Ledger, R: Wait + Clock + Copy> Connection<U, D, R> {
         rt: &R,
         shared: &Shared<U, D>,
         why: Why,
-        buf: &mut [u8; BUFFER_BYTES],
+        buf: &mut [u8],
     ) -> PairNext
         ensures closes { result ≡ PairNext.Closes ↔ HasToClose self.new.tasks }
         ensures again { result ≡ PairNext.Again ↔ MayGoOn self.new.tasks }
-        ensures up { (GoesOn self.old.tasks why Way.Up → ⊥) → self.new.tasks.up ≡ self.old.tasks.up }
+        ensures up { (GoesOn self.old.tasks why Way.Up → ⊥)
+            → self.new.tasks.up ≡ self.old.tasks.up }
         ensures down { (GoesOn self.old.tasks why Way.Down → ⊥)
             → self.new.tasks.down ≡ self.old.tasks.down }
     {

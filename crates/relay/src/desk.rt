@@ -52,8 +52,8 @@ fn answer_of_close(done: Option<Result<(), Fault>>) -> DeskAnswer
     }
 }
 
-// What a session asks a descriptor for: a deadline in both directions, so many milliseconds from now, or
-// none.
+// What a session asks a descriptor for: a deadline in both directions, so many milliseconds from
+// now, or none.
 fn asked_setting(now: u64, after_ms: Option<u32>) -> Setting
     ensures both { result.dirs ≡ Dirs.Both }
     ensures deadline { result.deadline ≡ asked_deadline now after_ms }

@@ -36,8 +36,8 @@ fn gathered<L: Ledger, R: Wait>(
 }
 
 impl<'a, U: Ledger, D: Ledger, R: Wait + Clock + Copy> Relay<'a, U, D, R> {
-    // Closes every listener that stands, the least id first. It takes no memory. The loops have closed
-    // their connections, and the accepts that were under way have ended.
+    // Closes every listener that stands, the least id first. It takes no memory. The loops have
+    // closed their connections, and the accepts that were under way have ended.
     fn close_all(&self, rt: &R) {
         for _ in rt.forever() {
             let first = self.shared.table.lock(rt).first_id();

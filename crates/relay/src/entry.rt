@@ -2,13 +2,13 @@
 
 ghost use Rattle.std.specs.Prelude.{◌≡◌, ⊤, IfSome, IfOk};
 ghost use Rattle.std.specs.Arc.{arc_value};
-ghost use Rattle.readiness.specs.EventLoop.{door_of};
+ghost use Rattle.readiness.specs.EventLoop.{remote_of};
 
 use crate::closing::{Closer, Closes};
 use crate::setting::set_by;
 use deadline_core::Dirs;
 use fd_descriptor::{Alarms, AtEviction, FdHandle, Nobody, Setting};
-use readiness::{Door, DoorAlarms, ListenRes, SockRes};
+use readiness::{ListenRes, LoopRemote, RemoteAlarms, SockRes};
 use rwloops::Fault;
 use std::sync::{Arc, Mutex, Wait};
 
@@ -54,35 +54,37 @@ impl Handle {
     }
 }
 
-/// The task that has a descriptor: the door of its loop, and the token by which the loop knows it.
+/// The task that has a descriptor: the remote of its loop, and the token by which the loop knows
+/// it.
 #[derive(Drop)]
 pub(crate) struct Owner {
-    pub(crate) door: Arc<Door>,
+    pub(crate) remote: Arc<LoopRemote>,
     pub(crate) token: u64,
 }
 
 impl Owner {
     /// Has the task look at its descriptor: what it is to see is there before.
     pub(crate) fn tell<R: Wait>(&self, rt: &R) {
-        self.door.tell(rt, self.token);
+        self.remote.tell(rt, self.token);
     }
 
     /// The same once more. It takes no memory.
     pub(crate) fn again(&self) -> Option<Owner>
         ensures token { IfSome result (λ other. other.token ≡ self.now.token) }
-        ensures door { IfSome result (λ other. arc_value other.door ≡ arc_value self.now.door) }
+        ensures remote { IfSome result (λ other. arc_value other.remote
+            ≡ arc_value self.now.remote) }
     {
-        let door = Arc::try_clone(&self.door).ok()?;
+        let remote = Arc::try_clone(&self.remote).ok()?;
         let token = self.token;
-        Some(Owner { door, token })
+        Some(Owner { remote, token })
     }
 
     /// Where deadlines ask to be told of their moments. It takes no memory.
-    pub(crate) fn alarms<R: Wait + Copy>(&self, rt: R) -> Option<DoorAlarms<R>>
-        ensures own { IfSome result (λ alarms. door_of alarms ≡ arc_value self.now.door) }
+    pub(crate) fn alarms<R: Wait + Copy>(&self, rt: R) -> Option<RemoteAlarms<R>>
+        ensures own { IfSome result (λ alarms. remote_of alarms ≡ arc_value self.now.remote) }
     {
-        let door = Arc::try_clone(&self.door).ok()?;
-        Some(DoorAlarms::new(rt, door))
+        let remote = Arc::try_clone(&self.remote).ok()?;
+        Some(RemoteAlarms::new(rt, remote))
     }
 }
 
@@ -99,8 +101,8 @@ impl<'a, R: Wait> AtEviction for Telling<'a, R> {
     }
 }
 
-/// A connection's side or a listener: whose it is, and a handle that the desk takes shares of and that
-/// whoever takes the entry out closes.
+/// A connection's side or a listener: whose it is, and a handle that the desk takes shares of and
+/// that whoever takes the entry out closes.
 #[derive(Drop)]
 pub(crate) struct Entry {
     handle: Mutex<Handle>,

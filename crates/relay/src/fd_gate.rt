@@ -7,9 +7,9 @@ use relay_core::CopyGate;
 use rwloops::{Fault, TryRead, TryWrite, WriteFault};
 use std::sync::Wait;
 
-/// Reads from `source` and writes to `target`. With an idle time each read and each write first sets
-/// the deadline of its own direction to that long from now; where that is refused it is the answer, of
-/// a write with count 0.
+/// Reads from `source` and writes to `target`. With an idle time each read and each write first
+/// sets the deadline of its own direction to that long from now; where that is refused it is the
+/// answer, of a write with count 0.
 #[derive(Drop)]
 pub struct FdGate<X: Resource, R, C, A> {
     rt: R,

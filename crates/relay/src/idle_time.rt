@@ -5,10 +5,10 @@ ghost use Rattle.deadline_core.specs.declared.deadline.Deadline.{Deadline};
 ghost use Rattle.relay.specs.Deadlines.{dirs_of};
 
 use crate::clock::Moments;
+use base_types::Dir;
 use deadline_core::{Deadline, Dirs};
 use fd_descriptor::Setting;
 use relay_core::idle_deadline;
-use stream_base::Dir;
 
 /// An idle time in milliseconds, or none, by this clock.
 #[derive(Drop)]

@@ -1,5 +1,5 @@
-//! The relay: it accepts connections by rules, connects each to its target, copies both ways, counts
-//! the bytes, and is steered through an admin socket.
+//! The relay: it accepts connections by rules, connects each to its target, copies both ways,
+//! counts the bytes, and is steered through an admin socket.
 //!
 //! | Thread | What it does |
 //! |---|---|
@@ -10,8 +10,11 @@
 
 mod accepting;
 mod admin;
+mod admin_session;
+mod admin_waits;
 mod bound_paths;
 mod bounds;
+mod capacity;
 mod clock;
 mod closing;
 mod connection;
@@ -21,12 +24,13 @@ mod entry;
 mod fault;
 mod fd_gate;
 mod idle_time;
+mod loop_buffer;
 mod loops;
 mod opening;
+mod output;
 mod pair;
 mod relay;
 mod rules_file;
-mod saying;
 mod serving;
 mod set_up;
 mod setting;
@@ -35,11 +39,13 @@ mod task_gate;
 mod threads;
 mod turns;
 
+pub use capacity::Capacity;
 pub use clock::{Moments, RelayClock};
 pub use closing::{Closer, Closes, close_by_id};
 pub use fault::ServeFault;
 pub use fd_gate::FdGate;
 pub use loops::{Loops, MAX_LOOPS};
 pub use pair::{AtEnd, CopyOf, Done, Worker, start_pair};
+pub use relay_core::PairLimit;
 pub use rules_file::text_of;
 pub use serving::serve;

@@ -8,10 +8,11 @@ ghost use Rattle.relay.specs.Loops.{loop_count};
 use crate::clock::{Moments, RelayClock};
 use crate::connection::Connection;
 use crate::fault::ServeFault;
+use crate::loop_buffer::LoopBuffer;
 use crate::shared::{Accepted, Home, Shared};
 use fd_descriptor::PollCell;
 use readiness::{EventLoop, Host, Side, Turn, Why};
-use relay_core::{BUFFER_BYTES, PairNext};
+use relay_core::PairNext;
 use std::alloc::Global;
 use std::mem;
 use std::net::{Net, TcpListener, TcpStream};
@@ -77,7 +78,7 @@ pub(crate) struct LoopHost<U: Ledger, D: Ledger, R: Wait + Clock + Copy> {
     /// change places, so that a turn takes no memory for a list.
     taken: Vec<Accepted>,
     /// It is lent to each task while that goes on.
-    buf: [u8; BUFFER_BYTES],
+    buf: LoopBuffer,
 }
 
 impl<U: Ledger, D: Ledger, R: Wait + Clock + Copy> Host for LoopHost<U, D, R> {
@@ -91,7 +92,7 @@ impl<U: Ledger, D: Ledger, R: Wait + Clock + Copy> Host for LoopHost<U, D, R> {
         ensures over { result ≡ Turn.Over ↔ HasToClose task.new.tasks }
         ensures again { result ≡ Turn.Again ↔ MayGoOn task.new.tasks }
     {
-        match task.go_on(&self.rt, &self.shared, why, &mut self.buf) {
+        match task.go_on(&self.rt, &self.shared, why, self.buf.bytes.as_mut_slice()) {
             PairNext::Waits => Turn::Waits,
             PairNext::Again => Turn::Again,
             PairNext::Closes => Turn::Over,
@@ -161,6 +162,7 @@ pub(crate) struct Lot<U: Ledger, D: Ledger, R: Wait + Clock + Copy> {
     pub(crate) home: usize,
     pub(crate) shared: Arc<Shared<U, D>>,
     pub(crate) tasks: ConnLoop<U, D, R>,
+    pub(crate) buf: LoopBuffer,
 }
 
 /// A loop from its first turn to its end. One whose poller fails stops the relay.
@@ -176,6 +178,7 @@ where
         home,
         shared,
         tasks,
+        buf,
     } = lot;
     let mut tasks = tasks;
     let mut host = LoopHost {
@@ -185,7 +188,7 @@ where
         home,
         shared,
         taken: Vec::new(alloc),
-        buf: [0; BUFFER_BYTES],
+        buf,
     };
     let turned = host.turn_until_stop(&mut tasks);
     tasks.end_all(&mut host);

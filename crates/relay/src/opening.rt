@@ -4,7 +4,7 @@ ghost use Rattle.std.specs.Prelude.{◌≡◌};
 ghost use Rattle.relay.specs.Addr.{socket_address};
 
 use crate::accepting::{RuleListener, RuleTask};
-use crate::admin::AdminDoor;
+use crate::admin::AdminSocket;
 use crate::bound_paths::BoundPaths;
 use crate::entry::{Entry, Handle, Owner};
 use crate::fault::ServeFault;
@@ -25,7 +25,7 @@ use std::sync::{Arc, Mutex, Wait};
 use std::time::Clock;
 
 /// The token of the admin socket with its own poller.
-const DOOR_TOKEN: u64 = 1;
+const ADMIN_TOKEN: u64 = 1;
 
 /// The loop that accepts, with its tasks, and what they are found by.
 #[derive(Drop)]
@@ -96,7 +96,7 @@ impl<R: Wait + Copy> Acceptors<R> {
     fn hold(&mut self, handle: FdHandle<ListenRes>, place: Place) -> Option<RuleListener<R>> {
         let mut handle = handle;
         let owner = Owner {
-            door: self.tasks.door().ok()?,
+            remote: self.tasks.remote().ok()?,
             token: place.first,
         };
         let cell = handle.cell().ok()?;
@@ -121,7 +121,7 @@ impl<R: Wait + Copy> Acceptors<R> {
         };
         let route = Route {
             target: address_of(&rule.target),
-            idle_ms: rule.idle,
+            idle_ms: rule.idle_ms,
         };
         self.tokens.push(place.first).ok()?;
         self.routes.push(route).ok()?;
@@ -157,13 +157,13 @@ impl<R: Wait + Copy> Acceptors<R> {
 }
 
 // A path of no byte, or of more than an address holds, can't be listened on.
-fn open_door<R: Net + Files>(
+fn open_admin<R: Net + Files>(
     rt: &R,
     alloc: Global,
     poller: Poller,
     path: &str,
     bound: &mut BoundPaths<'_>,
-) -> Result<AdminDoor, ServeFault> {
+) -> Result<AdminSocket, ServeFault> {
     if path.is_empty() {
         return Err(ServeFault::Admin);
     }
@@ -174,14 +174,14 @@ fn open_door<R: Net + Files>(
         return Err(ServeFault::Admin);
     };
     bound.note_admin();
-    if poller.register_listener(&mut socket, DOOR_TOKEN).is_err() {
+    if poller.register_listener(&mut socket, ADMIN_TOKEN).is_err() {
         return Err(ServeFault::Device);
     }
     let Ok(poller) = Arc::new(alloc, Mutex::new(poller)) else {
         return Err(ServeFault::Memory);
     };
     let listener = socket;
-    Ok(AdminDoor { listener, poller })
+    Ok(AdminSocket { listener, poller })
 }
 
 // So many loops without a connection, and what others reach them by.
@@ -194,8 +194,8 @@ fn open_loops<U: Ledger, D: Ledger, R: Wait + Net + Clock + Copy>(
     let mut homes = Vec::new(alloc);
     for _ in 0..loops.count {
         let tasks = event_loop(rt, alloc)?;
-        let door = need(tasks.door().ok())?;
-        need(homes.push(Home::new(door, Vec::new(alloc))).ok())?;
+        let remote = need(tasks.remote().ok())?;
+        need(homes.push(Home::new(remote, Vec::new(alloc))).ok())?;
         need(all.push(tasks).ok())?;
     }
     Ok((all, homes))
@@ -212,19 +212,19 @@ pub(crate) fn open<U: Ledger, D: Ledger, R: Wait + Net + Files + Clock + Copy>(
     bound: &mut BoundPaths<'_>,
 ) -> Result<Opened<U, D, R>, ServeFault> {
     let mut acceptors = Acceptors::new(rt, alloc)?;
-    let (door_poller, door_waker) = poller(rt, alloc)?;
+    let (admin_poller, admin_waker) = poller(rt, alloc)?;
     let (loops, homes) = open_loops(rt, alloc, loops)?;
     for rule in rules {
         acceptors.listen(rt, alloc, rule, bound)?;
     }
-    let door = open_door(rt, alloc, door_poller, admin, bound)?;
+    let admin = open_admin(rt, alloc, admin_poller, admin, bound)?;
     Ok(Opened {
         acceptors,
         homes,
         unstarted: Unstarted {
             loops,
-            door,
-            door_waker,
+            admin,
+            admin_waker,
         },
     })
 }

@@ -10,19 +10,20 @@ use std::sync::ledger::Ledger;
 use std::sync::{Arc, Mutex, Wait};
 use std::thread::{Builder, Promise, PromisedHandle, Threads};
 
-/// The stack of a worker's thread, in bytes: the least that the system gives, with its buffers on it.
+/// The stack of a worker's thread, in bytes: the least that the system gives, with its buffers on
+/// it.
 pub(crate) const STACK_BYTES: usize = 131_072;
 
-/// What a worker leaves: how it ended, and its share. There is none only where the book opened none,
-/// and then it ended by `BookFull(0)`.
+/// What a worker leaves: how it ended, and its share. There is none only where the book opened
+/// none, and then it ended by `BookFull(0)`.
 #[derive(Drop)]
 pub struct Done<L: Ledger> {
     pub ended: Ended,
     pub share: Option<CarriedShare<L>>,
 }
 
-/// What the join of a worker's thread tells: what it leaves is that of a copy through this gate, as the
-/// gate was when it was handed over.
+/// What the join of a worker's thread tells: what it leaves is that of a copy through this gate, as
+/// the gate was when it was handed over.
 #[derive(Drop)]
 pub struct CopyOf<G> {
     pub gate: Snapshot<G>,

@@ -19,7 +19,8 @@ const MOST_BYTES: usize = MAX_BYTES + 1;
 /// The most bytes of one read.
 const READ_BYTES: usize = 4_096;
 
-// The bytes of a source up to its end, or one byte more than a rules file may have, where it has more.
+// The bytes of a source up to its end, or one byte more than a rules file may have, where it has
+// more.
 fn text_on<S: Source>(alloc: Global, source: &mut S) -> Result<Vec<u8>, ServeFault>
     requires uninterrupted { S.interruptions source.old ≡ 0 }
     ensures most { IfOk result (λ text. length text.items ≤ MAX_BYTES + 1) }
@@ -47,7 +48,8 @@ fn text_on<S: Source>(alloc: Global, source: &mut S) -> Result<Vec<u8>, ServeFau
 }
 
 /// The bytes of a file, or one byte more than a rules file may have, where it has more, which are
-/// enough to see that it is too long. The faults are `RulesFile`, where it can't be opened or read, and `Memory`.
+/// enough to see that it is too long. The faults are `RulesFile`, where it can't be opened or read,
+/// and `Memory`.
 pub fn text_of<R: Files>(rt: &R, alloc: Global, path: &str) -> Result<Vec<u8>, ServeFault>
     ensures most { IfOk result (λ text. length text.items ≤ MAX_BYTES + 1) }
     ensures faults { IfErr result (λ fault. IsReadFault fault) }

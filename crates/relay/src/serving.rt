@@ -7,22 +7,24 @@ ghost use Rattle.relay.specs.ServeFault.{IsRunFault};
 ghost use Rattle.relay.specs.declared.fault.ServeFault.{ServeFault};
 
 use crate::accepting::AcceptHost;
-use crate::admin::AdminDoor;
+use crate::admin::AdminSocket;
 use crate::bound_paths::BoundPaths;
 use crate::bounds::{RelayRuntime, SharedLedger};
+use crate::capacity::Capacity;
 use crate::clock::RelayClock;
 use crate::entry::Entry;
 use crate::fault::ServeFault;
-use crate::loops::{ConnLoop, Loops};
+use crate::loops::ConnLoop;
 use crate::opening::{Acceptors, Opened, open};
+use crate::output::{write_listening, write_totals};
 use crate::relay::Relay;
 use crate::rules_file::rules_in;
-use crate::saying::{say_listening, say_totals};
 use crate::shared::{Home, Route, Shared};
 use crate::threads::{Helpers, Unstarted};
 use conntable::ConnTable;
-use readiness::Door;
+use readiness::LoopRemote;
 use relay_admin::Rule;
+use relay_core::PairLimit;
 use relay_ledger::Book;
 use std::alloc::{AllocError, Global};
 use std::fs::Files;
@@ -39,8 +41,9 @@ fn shared_of<U: Ledger, D: Ledger>(
     alloc: Global,
     table: ConnTable<Entry>,
     routes: Vec<Route>,
-    main: Arc<Door>,
+    main: Arc<LoopRemote>,
     homes: Vec<Home>,
+    limit: PairLimit,
     up: Book<U>,
     down: Book<D>,
 ) -> Result<Arc<Shared<U, D>>, AllocError> {
@@ -52,6 +55,7 @@ fn shared_of<U: Ledger, D: Ledger>(
         up: Mutex::new(up),
         down: Mutex::new(down),
         stop: AtomicBool::new(false),
+        limit,
     };
     let shared = Arc::new(alloc, shared)?;
     Ok(shared)
@@ -64,6 +68,7 @@ fn relay_over<'a, U: Ledger, D: Ledger, R: Wait + Clock + Copy>(
     start: Instant,
     acceptors: Acceptors<R>,
     homes: Vec<Home>,
+    limit: PairLimit,
     up: Book<U>,
     down: Book<D>,
 ) -> Result<Relay<'a, U, D, R>, ServeFault> {
@@ -73,10 +78,10 @@ fn relay_over<'a, U: Ledger, D: Ledger, R: Wait + Clock + Copy>(
         routes,
         table,
     } = acceptors;
-    let Ok(main) = tasks.door() else {
+    let Ok(main) = tasks.remote() else {
         return Err(ServeFault::Memory);
     };
-    let Ok(shared) = shared_of(alloc, table, routes, main, homes, up, down) else {
+    let Ok(shared) = shared_of(alloc, table, routes, main, homes, limit, up, down) else {
         return Err(ServeFault::Memory);
     };
     Ok(Relay {
@@ -95,7 +100,7 @@ fn opened<'a, U: Ledger, D: Ledger, R: Wait + Net + Files + Clock + Copy>(
     alloc: Global,
     rules: &'a [Rule],
     admin: &str,
-    loops: Loops,
+    capacity: Capacity,
     up: Book<U>,
     down: Book<D>,
     bound: &mut BoundPaths<'_>,
@@ -107,8 +112,17 @@ fn opened<'a, U: Ledger, D: Ledger, R: Wait + Net + Files + Clock + Copy>(
         acceptors,
         homes,
         unstarted,
-    } = open(rt, alloc, rules, admin, loops, bound)?;
-    let relay = relay_over(alloc, rules, start, acceptors, homes, up, down)?;
+    } = open(rt, alloc, rules, admin, capacity.loops, bound)?;
+    let relay = relay_over(
+        alloc,
+        rules,
+        start,
+        acceptors,
+        homes,
+        capacity.pairs,
+        up,
+        down,
+    )?;
     match Arc::try_clone(&relay.shared) {
         Ok(shared) => Ok((relay, shared, unstarted)),
         Err(_) => Err(ServeFault::Memory),
@@ -126,17 +140,17 @@ fn tell_start<W: Write>(
     ensures faults { OnOk started (IfErr result (λ fault. IsRunFault fault)) }
 {
     started?;
-    say_listening(writer, rules)
+    write_listening(writer, rules)
 }
 
-// Starts the relay's threads, says that it listens, and runs it until it is stopped. The threads are
-// started first, so that nothing which is refused after the line ends it.
+// Starts the relay's threads, says that it listens, and runs it until it is stopped. The threads
+// are started first, so that nothing which is refused after the line ends it.
 fn start_and_run<U, D, R, W: Write>(
     relay: &mut Relay<'_, U, D, R>,
     host: &mut AcceptHost<U, D, R, RelayClock<R>>,
     helpers: &mut Helpers,
     loops: Vec<ConnLoop<U, D, R>>,
-    door: AdminDoor,
+    admin: AdminSocket,
     writer: &mut W,
 ) -> Result<(), ServeFault>
 where
@@ -146,7 +160,7 @@ where
     ensures said { OnOk result (SaysItListens (W.contents writer.old) (W.contents writer.new)) }
     ensures faults { IfErr result (λ fault. IsRunFault fault) }
 {
-    let started = helpers.start(host.rt, relay, loops, door);
+    let started = helpers.start(host.rt, relay, loops, admin);
     tell_start(started, relay.rules.len() as u64, writer)?;
     relay.turn_until_stop(host)
 }
@@ -183,17 +197,17 @@ where
     let mut relay = relay;
     let Unstarted {
         loops,
-        door,
-        door_waker,
+        admin,
+        admin_waker,
     } = unstarted;
-    let mut helpers = Helpers::none(relay.alloc, door_waker);
+    let mut helpers = Helpers::none(relay.alloc, admin_waker);
     let mut host = AcceptHost {
         rt,
         clock: RelayClock::new(rt, relay.start),
         shared,
         unarmed: None,
     };
-    let ran = start_and_run(&mut relay, &mut host, &mut helpers, loops, door, writer);
+    let ran = start_and_run(&mut relay, &mut host, &mut helpers, loops, admin, writer);
     let gathered = relay.end(host, helpers);
     totals_after(ran, gathered)
 }
@@ -204,7 +218,7 @@ fn relayed<U, D, R, W: Write>(
     alloc: Global,
     rules: &[Rule],
     admin: &str,
-    loops: Loops,
+    capacity: Capacity,
     up: Book<U>,
     down: Book<D>,
     writer: &mut W,
@@ -218,7 +232,7 @@ where
         ⊎ (W.contents writer.new ≡ W.contents writer.old)) }
 {
     let mut bound = BoundPaths::new(rules, admin);
-    let totals = match opened(&rt, alloc, rules, admin, loops, up, down, &mut bound) {
+    let totals = match opened(&rt, alloc, rules, admin, capacity, up, down, &mut bound) {
         Ok((relay, shared, unstarted)) => run_to_the_end(rt, relay, shared, unstarted, writer),
         Err(refused) => Err(refused),
     };
@@ -226,17 +240,19 @@ where
     totals
 }
 
-/// Runs a relay by the rules file at the path `rules`, with its admin socket at the path `admin`, on
-/// so many loops, until an admin session says stop. It writes `listening N` once all sockets are open, and at the end
-/// `up U down D`, the bytes copied to the targets and to the clients. A fault at the start is the
-/// first of: the rules file can't be read, its rules are bad, the poller, the listeners in the rules'
-/// order, the admin socket. Whatever comes, no thread, no socket and no path that it bound is left.
-// (its bounds are spelt out: a program that calls it over `RelayRuntime` isn't covered by the prover)
+/// Runs a relay by the rules file at the path `rules`, with its admin socket at the path `admin`,
+/// on so many loops and with so many connections at once, until an admin session says stop. It
+/// writes `listening N` once all sockets are open, and at the end `up U down D`, the bytes copied
+/// to the targets and to the clients. A fault at the start is the first of: the rules file can't be
+/// read, its rules are bad, the poller, the listeners in the rules' order, the admin socket.
+/// Whatever comes, no thread, no socket and no path that it bound is left.
+// (its bounds are spelt out: a program that calls it over `RelayRuntime` isn't covered by the
+// prover)
 pub fn serve<U, D, R, W: Write>(
     rt: R,
     rules: &String,
     admin: &String,
-    loops: Loops,
+    capacity: Capacity,
     up: Blank,
     down: Blank,
     writer: &mut W,
@@ -260,7 +276,8 @@ where
     requires down_name { down.name ≡ D.name }
     requires down_parts { down.parts ≡ D.parts }
     requires down_all { down.parts ≡ PARTS }
-    ensures written { OnOk result (WritesBothLines (W.contents writer.old) (W.contents writer.new)) }
+    ensures written { OnOk result
+        (WritesBothLines (W.contents writer.old) (W.contents writer.new)) }
     // Where the rules or a socket are at fault, nothing was written.
     ensures unwritten { IfErr result (λ fault. IsRunFault fault
         ⊎ (W.contents writer.new ≡ W.contents writer.old)) }
@@ -273,10 +290,10 @@ where
         alloc,
         rules.as_slice(),
         admin.as_str(),
-        loops,
+        capacity,
         up,
         down,
         writer,
     )?;
-    say_totals(writer, up, down)
+    write_totals(writer, up, down)
 }

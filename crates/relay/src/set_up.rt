@@ -2,7 +2,7 @@
 
 ghost use Rattle.std.specs.Prelude.{◌≡◌, [], length, Some, IfSome};
 ghost use Rattle.std.specs.Arc.{arc_value};
-ghost use Rattle.stream_base.specs.declared.direction.Dir.{Dir};
+ghost use Rattle.base_types.specs.declared.direction.Dir.{Dir};
 ghost use Rattle.fd_descriptor.specs.CellKey.{key_of_cell};
 ghost use Rattle.fd_descriptor.specs.FdHandle.{key_of};
 ghost use Rattle.relay_core.specs.declared.pair_tasks.Standing.{Standing};
@@ -15,8 +15,9 @@ use crate::idle_time::IdleTime;
 use crate::loops::{ConnLoop, LoopHost};
 use crate::shared::Accepted;
 use crate::task_gate::TaskGate;
+use base_types::Dir;
 use fd_descriptor::{FdHandle, PollCell};
-use readiness::{DoorAlarms, Poller, Sock, SockRes, connect};
+use readiness::{Poller, RemoteAlarms, Sock, SockRes, connect};
 use relay_core::{Copying, InsertedSides, PairTasks, Step, Way};
 use relay_ledger::{Book, CarriedShare};
 use std::alloc::Global;
@@ -24,16 +25,15 @@ use std::net::Net;
 use std::sync::ledger::Ledger;
 use std::sync::{Arc, Mutex, Wait};
 use std::time::Clock;
-use stream_base::Dir;
 
-/// A side that isn't in the table yet: its descriptor, by the handles that each holder gets, and its
-/// alarms, none of which is armed.
+/// A side that isn't in the table yet: its descriptor, by the handles that each holder gets, and
+/// its alarms, none of which is armed.
 #[derive(Drop)]
 struct NewSide<R: Wait + Copy> {
     cell: Arc<PollCell>,
     reader: FdHandle<SockRes>,
     writer: FdHandle<SockRes>,
-    alarms: DoorAlarms<R>,
+    alarms: RemoteAlarms<R>,
     entry: Entry,
 }
 
@@ -65,8 +65,8 @@ fn new_side<R: Wait + Copy>(
     })
 }
 
-// A pair of which both reads are under way. Its sides were just registered, so that the poller tells
-// of what is there already.
+// A pair of which both reads are under way. Its sides were just registered, so that the poller
+// tells of what is there already.
 fn reading_tasks() -> PairTasks
     ensures up { result.up ≡ Standing.Waits Dir.Read }
     ensures down { result.down ≡ Standing.Waits Dir.Read }
@@ -86,12 +86,12 @@ fn opened<L: Ledger, R: Wait>(rt: &R, book: &Mutex<Book<L>>) -> Option<CarriedSh
 }
 
 impl<U: Ledger, D: Ledger, R: Wait + Net + Clock + Copy> LoopHost<U, D, R> {
-    // A way whose first read is under way, without a share. With an idle time that read arms an alarm,
-    // which is disarmed with its side's entry: so both sides were inserted before.
+    // A way whose first read is under way, without a share. With an idle time that read arms an
+    // alarm, which is disarmed with its side's entry: so both sides were inserted before.
     fn way<L: Ledger>(
         &self,
         inserted: &InsertedSides,
-        alarms: DoorAlarms<R>,
+        alarms: RemoteAlarms<R>,
         idle_ms: Option<u32>,
         source: FdHandle<SockRes>,
         target: FdHandle<SockRes>,
@@ -141,8 +141,8 @@ impl<U: Ledger, D: Ledger, R: Wait + Net + Clock + Copy> LoopHost<U, D, R> {
         }
     }
 
-    // Puts both sides into the table, and then begins the reads of both ways. The shares come last, so
-    // that none has to be given back.
+    // Puts both sides into the table, and then begins the reads of both ways. The shares come last,
+    // so that none has to be given back.
     fn join_sides(
         &self,
         client: NewSide<R>,
@@ -198,11 +198,11 @@ impl<U: Ledger, D: Ledger, R: Wait + Net + Clock + Copy> LoopHost<U, D, R> {
         let target = connect(&self.rt, &route.target).ok()?;
         let place = tasks.vacant().ok()?;
         let first = Owner {
-            door: tasks.door().ok()?,
+            remote: tasks.remote().ok()?,
             token: place.first,
         };
         let second = Owner {
-            door: tasks.door().ok()?,
+            remote: tasks.remote().ok()?,
             token: place.second,
         };
         let client = new_side(self.rt, self.alloc, tasks.poller(), accepted.sock, first)?;
@@ -218,8 +218,8 @@ impl<U: Ledger, D: Ledger, R: Wait + Net + Clock + Copy> LoopHost<U, D, R> {
         }
     }
 
-    /// Sets a connection up. An accepted socket whose setting up is refused is dropped, and nothing is
-    /// left of it.
+    /// Sets a connection up. An accepted socket whose setting up is refused is dropped, and nothing
+    /// is left of it.
     pub(crate) fn set_up(&self, tasks: &mut ConnLoop<U, D, R>, accepted: Accepted) -> Option<()> {
         let mut inserted = InsertedSides::none();
         let Some(connection) = self.connect_sides(tasks, accepted, &mut inserted) else {

@@ -1,15 +1,15 @@
 //! What the relay's threads share.
 //!
 //! Locks are held for a few steps, and taken in this order: the table's, an entry's or a cell's, a
-//! door's. The inboxes' and the books' are held alone.
+//! remote's. The inboxes' and the books' are held alone.
 
 use crate::closing::{Closer, close_by_id};
 use crate::entry::Entry;
 use crate::loops::MAX_LOOPS;
 use arrayvec::ArrayVec;
 use conntable::ConnTable;
-use readiness::{Addr, Door, Sock};
-use relay_core::place_of_pair;
+use readiness::{Addr, LoopRemote, Sock};
+use relay_core::{PairLimit, place_of_pair};
 use relay_ledger::Book;
 use rwloops::Fault;
 use std::mem;
@@ -34,16 +34,16 @@ pub(crate) struct Accepted {
 /// What others reach a loop by.
 #[derive(Drop)]
 pub(crate) struct Home {
-    pub(crate) door: Arc<Door>,
+    pub(crate) remote: Arc<LoopRemote>,
     inbox: Mutex<Vec<Accepted>>,
     /// How many connections it has, those in its inbox among them.
     connections: AtomicU64,
 }
 
 impl Home {
-    pub(crate) fn new(door: Arc<Door>, inbox: Vec<Accepted>) -> Home {
+    pub(crate) fn new(remote: Arc<LoopRemote>, inbox: Vec<Accepted>) -> Home {
         Home {
-            door,
+            remote,
             inbox: Mutex::new(inbox),
             connections: AtomicU64::new(0),
         }
@@ -55,7 +55,7 @@ impl Home {
         if self.inbox.lock(rt).push(accepted).is_err() {
             self.note_end();
         }
-        self.door.wake();
+        self.remote.wake();
     }
 
     /// One of its connections is no more, or was never set up.
@@ -74,18 +74,20 @@ pub(crate) struct Shared<U: Ledger, D: Ledger> {
     pub(crate) table: Mutex<ConnTable<Entry>>,
     /// Each rule's, in the rules' order.
     pub(crate) routes: Vec<Route>,
-    /// The door of the main thread's loop, which accepts.
-    pub(crate) main: Arc<Door>,
+    /// The remote of the main thread's loop, which accepts.
+    pub(crate) main: Arc<LoopRemote>,
     /// The loops', by their places.
     pub(crate) homes: Vec<Home>,
     pub(crate) up: Mutex<Book<U>>,
     pub(crate) down: Mutex<Book<D>>,
     pub(crate) stop: AtomicBool,
+    /// How many connections stand at once.
+    pub(crate) limit: PairLimit,
 }
 
 impl<U: Ledger, D: Ledger> Shared<U, D> {
-    /// Delivers an accepted socket to the loop with the fewest connections. One beyond the most pairs
-    /// is dropped. The main thread alone delivers.
+    /// Delivers an accepted socket to the loop with the fewest connections. One beyond the most
+    /// pairs is dropped. The main thread alone delivers.
     pub(crate) fn deliver<R: Wait>(&self, rt: &R, accepted: Accepted) {
         let mut counts = ArrayVec::<u64, MAX_LOOPS>::new();
         let mut all = 0u64;
@@ -94,7 +96,7 @@ impl<U: Ledger, D: Ledger> Shared<U, D> {
             all = all.saturating_add(count);
             let _ = counts.try_push(count);
         }
-        let Some(place) = place_of_pair(counts.as_slice(), all as usize) else {
+        let Some(place) = place_of_pair(counts.as_slice(), all as usize, self.limit) else {
             return;
         };
         if let Some(home) = self.homes.get(place) {
@@ -117,7 +119,7 @@ impl<U: Ledger, D: Ledger> Shared<U, D> {
         self.stop.store(true, Ordering::SeqCst);
         self.main.wake();
         for home in self.homes.iter() {
-            home.door.wake();
+            home.remote.wake();
         }
     }
 

@@ -1,5 +1,5 @@
-//! What a task copies through: two descriptors, of which one is read and the other written, by calls
-//! that give way where they would wait.
+//! What a task copies through: two descriptors, of which one is read and the other written, by
+//! calls that give way where they would wait.
 
 ghost use Rattle.std.specs.Prelude.{◌≡◌, ◌≤◌, ⊤, length, true, Some, None, OnOk, is_some};
 ghost use Rattle.rwloops.specs.TryNow.{IsPartOf};
@@ -7,17 +7,17 @@ ghost use Rattle.rwloops.specs.TryNow.{IsPartOf};
 use crate::clock::Moments;
 use crate::idle_time::IdleTime;
 use crate::setting::set_by;
+use base_types::Dir;
 use fd_descriptor::{Alarms, FdHandle, ReadUnderWay, WriteUnderWay};
 use readiness::SockRes;
 use relay_core::PollGate;
 use rwloops::{Fault, Progress, WriteFault};
 use std::sync::Wait;
-use stream_base::Dir;
 
-/// Reads from `source` and writes to `target`. A call that would wait stays under way, with its half's
-/// lock, and goes on when it is made again: a drain lets it end. With an idle time each read and each
-/// write first sets the deadline of its own direction to that long from when it begins; where that is
-/// refused it is the answer, of a write with count 0.
+/// Reads from `source` and writes to `target`. A call that would wait stays under way, with its
+/// half's lock, and goes on when it is made again: a drain lets it end. With an idle time each read
+/// and each write first sets the deadline of its own direction to that long from when it begins;
+/// where that is refused it is the answer, of a write with count 0.
 ///
 /// A handle isn't there exactly while its call is under way.
 #[derive(Drop)]

@@ -3,10 +3,12 @@
 ghost use Rattle.std.specs.Prelude.{◌≡◌, IfErr};
 ghost use Rattle.relay.specs.declared.fault.ServeFault.{ServeFault};
 
-use crate::admin::{AdminDoor, AdminGate, DoorWaits, serve_sessions};
+use crate::admin::{AdminGate, AdminSocket, serve_sessions};
+use crate::admin_waits::AdminWaits;
 use crate::bounds::{RelayRuntime, SharedLedger};
 use crate::clock::RelayClock;
 use crate::fault::ServeFault;
+use crate::loop_buffer::LoopBuffer;
 use crate::loops::{ConnLoop, Lot, run_loop};
 use crate::pair::STACK_BYTES;
 use crate::relay::Relay;
@@ -23,8 +25,8 @@ use std::time::Clock;
 pub(crate) struct Unstarted<U: Ledger, D: Ledger, R: Wait + Clock + Copy> {
     /// The loops, by their places.
     pub(crate) loops: Vec<ConnLoop<U, D, R>>,
-    pub(crate) door: AdminDoor,
-    pub(crate) door_waker: Arc<Waker>,
+    pub(crate) admin: AdminSocket,
+    pub(crate) admin_waker: Arc<Waker>,
 }
 
 /// The threads beside the main one, as far as they were started.
@@ -32,7 +34,7 @@ pub(crate) struct Unstarted<U: Ledger, D: Ledger, R: Wait + Clock + Copy> {
 pub(crate) struct Helpers {
     loops: Vec<JoinHandle<Result<(), ServeFault>>>,
     admin: Option<JoinHandle<()>>,
-    door_waker: Arc<Waker>,
+    admin_waker: Arc<Waker>,
 }
 
 fn spawn_admin<G, R>(rt: R, gate: G) -> Result<JoinHandle<()>, ServeFault>
@@ -69,11 +71,11 @@ where
 }
 
 impl Helpers {
-    pub(crate) fn none(alloc: Global, door_waker: Arc<Waker>) -> Helpers {
+    pub(crate) fn none(alloc: Global, admin_waker: Arc<Waker>) -> Helpers {
         Helpers {
             loops: Vec::new(alloc),
             admin: None,
-            door_waker,
+            admin_waker,
         }
     }
 
@@ -98,12 +100,16 @@ impl Helpers {
             let Ok(shared) = Arc::try_clone(&relay.shared) else {
                 return Err(ServeFault::Memory);
             };
+            let Ok(buf) = LoopBuffer::new(relay.alloc) else {
+                return Err(ServeFault::Memory);
+            };
             let lot = Lot {
                 alloc: relay.alloc,
                 start: relay.start,
                 home,
                 shared,
                 tasks,
+                buf,
             };
             let _ = self.loops.push(spawn_loop(rt, lot)?);
             home = home.saturating_add(1);
@@ -117,7 +123,7 @@ impl Helpers {
         rt: R,
         relay: &Relay<'_, U, D, R>,
         loops: Vec<ConnLoop<U, D, R>>,
-        door: AdminDoor,
+        admin: AdminSocket,
     ) -> Result<(), ServeFault>
     where
         U: SharedLedger,
@@ -129,12 +135,19 @@ impl Helpers {
         let Ok(shared) = Arc::try_clone(&relay.shared) else {
             return Err(ServeFault::Memory);
         };
-        let AdminDoor { listener, poller } = door;
+        let AdminSocket { listener, poller } = admin;
+        let clock = RelayClock::new(rt, relay.start);
         let gate = AdminGate {
             alloc: relay.alloc,
             listener,
-            waits: DoorWaits { rt, poller, shared },
-            clock: RelayClock::new(rt, relay.start),
+            waits: AdminWaits {
+                rt,
+                poller,
+                shared,
+                clock,
+                until: None,
+            },
+            clock,
         };
         self.admin = Some(spawn_admin(rt, gate)?);
         Ok(())
@@ -142,7 +155,7 @@ impl Helpers {
 
     /// Ends the admin thread's wait. The relay is to be marked as stopped before.
     pub(crate) fn wake_admin(&self) {
-        let _ = self.door_waker.wake();
+        let _ = self.admin_waker.wake();
     }
 
     /// Waits for all of them. A loop's fault is the relay's.
@@ -152,7 +165,7 @@ impl Helpers {
         let Helpers {
             loops,
             admin,
-            door_waker: _,
+            admin_waker: _,
         } = self;
         if let Some(admin) = admin {
             admin.join(rt);

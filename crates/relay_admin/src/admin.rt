@@ -2,9 +2,9 @@
 //!
 //! | To add | Goes to |
 //! |---|---|
-//! | a command | `command`: its variant and its row, and the row of `words_of` in the specification |
-//! | an end by a command | `end`: how it is told; `command`: `Command::end`, and `end_of` in the specification |
-//! | a question to the desk | `desk`: the question, its row in `ask`, and an answer if it is a new one |
+//! | a command | `command`: its variant and its row, and its row of `words_of` |
+//! | an end by a command | `end`: how it is told; `command`: `Command::end`, and `end_of` |
+//! | a question to the desk | `desk`: the question, its row in `ask`, a new answer |
 //! | a reply | `reply_text`: its words; `reply`: which answer has it |
 
 pub mod command;

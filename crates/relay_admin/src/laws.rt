@@ -3,13 +3,16 @@
 ghost use Rattle.std.specs.Prelude.{◌≡◌, ◌∷◌, ◌++◌, [], codes};
 ghost use Rattle.relay_admin.specs.declared.admin.command.TheConstants.{MAX_DEADLINE_MS, MAX_ID};
 ghost use Rattle.relay_admin.specs.declared.admin.dialogue.TheConstants.{MAX_LINES, MAX_LINE_BYTES};
-ghost use Rattle.relay_admin.specs.declared.admin.reply_text.TheConstants.{BAD_COMMAND, BUSY, CLOSED};
+ghost use Rattle.relay_admin.specs.declared.admin.reply_text.TheConstants.{BAD_COMMAND, BUSY};
+ghost use Rattle.relay_admin.specs.declared.admin.reply_text.TheConstants.{CLOSED};
 ghost use Rattle.relay_admin.specs.declared.admin.reply_text.TheConstants.{DONE, DRAINING};
-ghost use Rattle.relay_admin.specs.declared.admin.reply_text.TheConstants.{NO_SUCH_CONNECTION, OUT_OF_MEMORY};
+ghost use Rattle.relay_admin.specs.declared.admin.reply_text.TheConstants.{NO_SUCH_CONNECTION};
+ghost use Rattle.relay_admin.specs.declared.admin.reply_text.TheConstants.{OUT_OF_MEMORY};
 ghost use Rattle.relay_admin.specs.declared.rules.addr.TheConstants.{MAX_PATH_BYTES};
 ghost use Rattle.relay_admin.specs.declared.rules.file.TheConstants.{MAX_BYTES, MAX_RULES};
 ghost use Rattle.relay_admin.specs.declared.rules.rule.TheConstants.{MAX_IDLE_MS, MAX_NAME_BYTES};
-ghost use Rattle.relay_admin.specs.Laws.{NoRulesWithFault, OneCommandALine, OneDialogueAText, OneFault, OneListOfRules, OneRuleALine, OneTextAnAddress};
+ghost use Rattle.relay_admin.specs.Laws.{NoRulesWithFault, OneCommandALine, OneDialogueAText};
+ghost use Rattle.relay_admin.specs.Laws.{OneFault, OneListOfRules, OneRuleALine, OneTextAnAddress};
 
 /// Two addresses are one exactly where their texts are one.
 pub fn one_text_an_address()
@@ -49,8 +52,8 @@ pub fn the_limits_of_a_session_in_figures()
     ensures deadline_ms { MAX_DEADLINE_MS ≡ 86400000 }
 {}
 
-/// The replies that are always the same, in words, each with its line feed. The definitions follow the
-/// code's texts, so that this alone says which they are.
+/// The replies that are always the same, in words, each with its line feed. The definitions follow
+/// the code's texts, so that this alone says which they are.
 pub fn the_fixed_replies_in_words()
     ensures done { DONE.now ≡ codes "ok" ++ 10 ∷ [] }
     ensures bad_command { BAD_COMMAND.now ≡ codes "error 400 bad command" ++ 10 ∷ [] }

@@ -1,4 +1,5 @@
-//! The rules file: which lines spell which rules, what a file says or why it is none, and what is said of it.
+//! The rules file: which lines spell which rules, what a file says or why it is none, and what is
+//! said of it.
 
 pub mod addr;
 pub mod file;

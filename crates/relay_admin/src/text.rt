@@ -22,8 +22,8 @@ pub(crate) fn number_between(low: u64, high: u64, text: &[u8]) -> Option<u64>
     Some(n)
 }
 
-/// The milliseconds from `low` to `high` that the text spells, or never, by this word; and none where
-/// it spells neither.
+/// The milliseconds from `low` to `high` that the text spells, or never, by this word; and none
+/// where it spells neither.
 #[tactic(auto, unfolding(crate::specs::TextReading::time_within))]
 pub(crate) fn time_between(low: u64, high: u64, text: &[u8]) -> Option<Option<u32>>
     requires { high < 2 ^ 32 }

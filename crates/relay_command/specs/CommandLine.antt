@@ -12,20 +12,22 @@ use Rattle.clap.specs.Kinds.{Kinds}
 use Rattle.clap.specs.declared.builder.action.ArgAction.TheVariants.{Set}
 use Rattle.stream_base.specs.Decimal.{number_of}
 use Rattle.relay.specs.Loops.{loop_count}
+use Rattle.relay_core.specs.PairLimit.{pair_count}
 use Rattle.relay_command.specs.declared.job.Job.{Job}
 use Rattle.relay_command.specs.declared.job.Job.TheVariants as job
 
--- a job with its texts, and how many loops a relay is asked for
+-- a job with its texts, and how many loops and pairs a relay is asked for
 pub data Asked : Type 0 where
   Trace : Asked
   Check : (rules : Text) → Asked
-  Serve : (rules admin : Text) → (loops : Option ℕ) → Asked
+  Serve : (rules admin : Text) → (loops pairs : Option ℕ) → Asked
 
 abbrev pub asked_of : Job → Asked
 asked_of job.Trace = Trace
 asked_of (job.Check rules) = Check (string_bytes rules)
-asked_of (job.Serve rules admin loops) =
+asked_of (job.Serve rules admin loops pairs) =
     Serve (string_bytes rules) (string_bytes admin) (option_map (λ l. l.count) loops)
+    (option_map (λ p. p.count) pairs)
 
 -- an option that has to be there, with one value
 abbrev pub required_option : Text → Rule
@@ -42,9 +44,11 @@ check_app = with_rule (new_app (codes "check")) (required_option (codes "rules")
 abbrev pub serve_app : App
 serve_app =
     with_rule
+    (with_rule
     (with_rule (with_rule (new_app (codes "serve")) (required_option (codes "rules")))
     (required_option (codes "admin")))
-    (optional_option (codes "loops"))
+    (optional_option (codes "loops")))
+    (optional_option (codes "connections"))
 
 -- the program as `clap` sees it: three commands, and no name ahead of the words
 abbrev pub program : App
@@ -68,10 +72,22 @@ abbrev pub loops_given : Option Text → Option (Option ℕ)
 loops_given None = Some None
 loops_given (Some text) = option_map Some (loops_in text)
 
+-- the pairs that a text asks for, if it spells a number of them
+abbrev pub pairs_in : Text → Option ℕ
+pairs_in text = option_and_then pair_count (number_of text)
+
+-- the pairs that an option asks for, which may be left out; none where its text asks for none
+abbrev pub pairs_given : Option Text → Option (Option ℕ)
+pairs_given None = Some None
+pairs_given (Some text) = option_map Some (pairs_in text)
+
 -- the job of `serve` with its options, or none
 abbrev pub served_job : List Row → Option Asked
 served_job rows =
-    option_map (Serve (value_of (codes "rules") rows) (value_of (codes "admin") rows))
+    option_and_then
+    (λ loops. option_map
+    (Serve (value_of (codes "rules") rows) (value_of (codes "admin") rows) loops)
+    (pairs_given (first_of (codes "connections") rows)))
     (loops_given (first_of (codes "loops") rows))
 
 -- the job of a command with its options, or none

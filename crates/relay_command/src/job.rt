@@ -6,16 +6,18 @@ ghost use Rattle.clap.specs.Walk.{first_of, rows_of, rule_of};
 ghost use Rattle.clap.specs.Matches.{found_of};
 ghost use Rattle.clap.specs.Simple.{app_of, subcommand_rows_of};
 ghost use Rattle.clap.specs.declared.builder.command.Command.TheViews.{out-Command};
-ghost use Rattle.relay_command.specs.CommandLine.{asked_of, check_app, found_job, job_asked, named_job};
+ghost use Rattle.relay_command.specs.CommandLine.{asked_of, check_app, found_job, job_asked};
+ghost use Rattle.relay_command.specs.CommandLine.{named_job};
 ghost use Rattle.relay_command.specs.CommandLine as spec;
 ghost use Rattle.relay_command.specs.CommandLine.{program, required_option, serve_app, value_of};
-ghost use Rattle.relay_command.specs.CommandLine.{loops_given, loops_in, optional_option, served_job};
+ghost use Rattle.relay_command.specs.CommandLine.{loops_given, loops_in, optional_option};
+ghost use Rattle.relay_command.specs.CommandLine.{pairs_given, pairs_in, served_job};
 
+use base_types::OutOfMemory;
 use clap::error::ErrorKind;
 use clap::{Arg, ArgAction, ArgMatches, Command};
-use relay::Loops;
+use relay::{Loops, PairLimit};
 use std::alloc::Global;
-use stream_base::OutOfMemory;
 use stream_base::decimal::parse_decimal;
 
 /// What the program is asked to do.
@@ -27,12 +29,14 @@ pub enum Job {
     Check {
         rules: String,
     },
-    /// Run the relay by the rules file at `rules`, with its admin socket at `admin`, on so many loops,
-    /// or on as many as suit the machine.
+    /// Run the relay by the rules file at `rules`, with its admin socket at `admin`, on so many
+    /// loops, or on as many as suit the machine, with so many connections at once, or with the
+    /// default.
     Serve {
         rules: String,
         admin: String,
         loops: Option<Loops>,
+        pairs: Option<PairLimit>,
     },
 }
 
@@ -69,7 +73,8 @@ fn serve<'a>(alloc: Global) -> Result<Command<'a>, OutOfMemory>
     Command::new(alloc, "serve")
         .arg(option(alloc, "rules"))?
         .arg(option(alloc, "admin"))?
-        .arg(optional(alloc, "loops"))
+        .arg(optional(alloc, "loops"))?
+        .arg(optional(alloc, "connections"))
 }
 
 fn command<'a>(alloc: Global) -> Result<Command<'a>, OutOfMemory>
@@ -90,7 +95,8 @@ fn value(alloc: Global, matches: &ArgMatches<'_>, id: &str) -> Result<String, Ou
     String::from_str(alloc, matches.get_str(id).unwrap_or(""))
 }
 
-// The loops that a text asks for, in digits without a zero ahead, or none where it has no such number.
+// The loops that a text asks for, in digits without a zero ahead, or none where it has no such
+// number.
 fn loops_of(text: &str) -> Option<Loops>
     ensures { option_map (λ loops. loops.count) result ≡ loops_in text.now }
 {
@@ -111,6 +117,29 @@ fn loops_asked(given: Option<&str>) -> Option<Option<Loops>>
     }
 }
 
+// The connections that a text asks for, in digits without a zero ahead, or none where it has no
+// such number.
+fn pairs_of(text: &str) -> Option<PairLimit>
+    ensures { option_map (λ pairs. pairs.count) result ≡ pairs_in text.now }
+{
+    PairLimit::of(parse_decimal(text.as_bytes())?)
+}
+
+// The connections that an option asks for, if it is there; none where it asks for no number of
+// them. One function for these and the loops would need a trait over both types, for no less text.
+fn pairs_asked(given: Option<&str>) -> Option<Option<PairLimit>>
+    ensures { option_map (option_map (λ pairs. pairs.count)) result
+        ≡ pairs_given (option_map (λ text. text.now) given.entry) }
+{
+    match given {
+        None => Some(None),
+        Some(text) => match pairs_of(text) {
+            Some(pairs) => Some(Some(pairs)),
+            None => None,
+        },
+    }
+}
+
 // The value of an option that may be left out.
 fn given<'a>(matches: &ArgMatches<'a>, id: &str) -> Option<&'a str>
     ensures { option_map (λ text. text.now) result
@@ -125,14 +154,18 @@ fn serve_job(alloc: Global, matches: &ArgMatches<'_>) -> Result<Option<Job>, Out
 {
     let rules = value(alloc, matches, "rules")?;
     let admin = value(alloc, matches, "admin")?;
-    match loops_asked(given(matches, "loops")) {
-        Some(loops) => Ok(Some(Job::Serve {
-            rules,
-            admin,
-            loops,
-        })),
-        None => Ok(None),
-    }
+    let Some(loops) = loops_asked(given(matches, "loops")) else {
+        return Ok(None);
+    };
+    let Some(pairs) = pairs_asked(given(matches, "connections")) else {
+        return Ok(None);
+    };
+    Ok(Some(Job::Serve {
+        rules,
+        admin,
+        loops,
+        pairs,
+    }))
 }
 
 fn job_named(
@@ -166,7 +199,8 @@ fn job_in(alloc: Global, matches: &ArgMatches<'_>) -> Result<Option<Job>, OutOfM
 
 // The words without a `--` at their end, which ends the options.
 fn options_of<'a>(words: &'a [&'a str]) -> &'a [&'a str]
-    ensures { map (λ word. word.now) result.now ≡ spec.options_of (map (λ word. word.now) words.now) }
+    ensures { map (λ word. word.now) result.now
+        ≡ spec.options_of (map (λ word. word.now) words.now) }
 {
     match words.last() {
         Some(last) if *last == "--" => &words[..words.len() - 1],
@@ -176,10 +210,11 @@ fn options_of<'a>(words: &'a [&'a str]) -> &'a [&'a str]
 
 /// The job that the words after the program's name ask for, and `None` where they ask for none.
 /// No word and the word `trace` ask for [`Job::Trace`]; `check` with `--rules` and `serve` with
-/// `--rules` and `--admin`, in any order, for the others. `serve` may have `--loops` too, with a number
-/// from 1 to 64 in digits without a zero ahead. A value follows its option as the next word,
-/// which begins with no `-`, or behind a `=`. A `--` ends the options: what follows it is an operand, and
-/// no command has one. The only fault is want of memory.
+/// `--rules` and `--admin`, in any order, for the others. `serve` may have `--loops` too, with a
+/// number from 1 to 64 in digits without a zero ahead, and `--connections`, with one from 1 to
+/// 2,000. A value follows its option as the next word, which begins with no `-`, or behind a `=`. A
+/// `--` ends the options: what follows it is an operand, and no command has one. The only fault is
+/// want of memory.
 pub fn job_of(alloc: Global, words: &[&str]) -> Result<Option<Job>, OutOfMemory>
     ensures { IfOk result (λ job. option_map asked_of job
         ≡ job_asked (map (λ word. word.now) words.now)) }

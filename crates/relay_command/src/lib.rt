@@ -1,5 +1,5 @@
-//! The command line of `pollrelay`: the job that its words ask for, what a run of a script comes to, and what
-//! is said of a fault, with the exit status of each.
+//! The command line of `pollrelay`: the job that its words ask for, what a run of a script comes
+//! to, and what is said of a fault, with the exit status of each.
 #![tactic(auto)]
 
 mod fault;

@@ -29,9 +29,11 @@ pub fn trace_status<R: Read, W: Write, E: Write>(
     ensures known { (result ≡ 0) ⊎ ((result ≡ 1) ⊎ (result ≡ 3)) }
     // The whole text of the script was written, and nothing else.
     ensures whole { result ≡ 0 → IfSome (R.remaining reader.old) (λ script. (text : List ℕ)
-        × IsTextOf script text Whole × Appends (W.contents writer.old) (W.contents writer.new) text) }
+        × IsTextOf script text Whole
+        × Appends (W.contents writer.old) (W.contents writer.new) text) }
     // The text up to the first bad line was written, with the line that says so, and nothing else.
-    ensures bad_line { result ≡ 1 → IfSome (R.remaining reader.old) (λ script. (text : List ℕ) × (n : ℕ)
+    ensures bad_line { result ≡ 1
+        → IfSome (R.remaining reader.old) (λ script. (text : List ℕ) × (n : ℕ)
         × IsTextOf script text (BadLine n)
         × Appends (W.contents writer.old) (W.contents writer.new) text) }
     ensures fault { result ≡ 3 → (fault : TraceFault) × Leaves fault

@@ -6,8 +6,8 @@ use Rattle.rwloops.specs.Waits.{Tells}
 use Rattle.relay_core.specs.declared.copying.Ended.{Ended}
 use Rattle.relay_core.specs.declared.passing.Step.{Step}
 use Rattle.relay_core.specs.declared.passing.Step.TheVariants.{Again, Ended as Over}
-use Rattle.stream_base.specs.declared.direction.Dir.{Dir}
-use Rattle.stream_base.specs.declared.direction.Dir.TheVariants.{Write}
+use Rattle.base_types.specs.declared.direction.Dir.{Dir}
+use Rattle.base_types.specs.declared.direction.Dir.TheVariants.{Write}
 use Rattle.relay_core.specs.CopyTrace.{GateCall, Read, Wrote, ClosedWrite, written, written_by, uncredited}
 use Rattle.relay_core.specs.Passing.{Rest, Bytes, Passing, NoCall, Reads, Writes, Ends, EndsAt, IsPassing, IsPassed}
 use Rattle.relay_core.specs.Passing.{reads_among, unwritten, rest_of, next_dir, IfWaits, IfEnded, IsStop, ToWait}

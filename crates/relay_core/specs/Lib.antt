@@ -3,6 +3,7 @@ pub mod Passing
 pub mod AcceptTrace
 pub mod Accepting
 pub mod Pair
+pub mod PairLimit
 pub mod PairTasks
 pub mod Placing
 pub mod Laws

@@ -1,7 +1,7 @@
 -- What the tasks of a pair wait for, and what follows when one of them went on.
 use Rattle.std.specs.Prelude.{◌≡◌, ◌≢◌, ◌⊎◌, Bool, true}
-use Rattle.stream_base.specs.declared.direction.Dir.{Dir}
-use Rattle.stream_base.specs.declared.direction.Dir.TheVariants.{Read, Write}
+use Rattle.base_types.specs.declared.direction.Dir.{Dir}
+use Rattle.base_types.specs.declared.direction.Dir.TheVariants.{Read, Write}
 use Rattle.relay_core.specs.declared.copying.Ended.TheVariants.{Eof}
 use Rattle.relay_core.specs.declared.passing.Step.{Step}
 use Rattle.relay_core.specs.declared.passing.Step.TheVariants as step

@@ -56,8 +56,8 @@ impl Accepting {
         }
     }
 
-    /// Accepts and delivers until the gate says "not yet", a fault comes, or others are to have their
-    /// turn. After a fault that may pass it is to be resumed once its pause is over, at most
+    /// Accepts and delivers until the gate says "not yet", a fault comes, or others are to have
+    /// their turn. After a fault that may pass it is to be resumed once its pause is over, at most
     /// `MAX_FAULTS_IN_A_ROW` times in a row. After an end it isn't resumed.
     pub fn resume<G: PollAcceptGate>(&mut self, gate: &mut G) -> AcceptStep
         ensures waits { result ≡ AcceptStep.Waits

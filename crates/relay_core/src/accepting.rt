@@ -2,7 +2,8 @@
 
 ghost use Rattle.std.specs.Prelude.{◌≡◌, ◌≢◌, ◌<◌, ◌*◌, ◌↔◌, min, true, List, ◌∷◌};
 ghost use Rattle.relay_core.specs.declared.accepting.AcceptEnded.{AcceptEnded};
-ghost use Rattle.relay_core.specs.AcceptTrace.{AcceptCall, Accepted, Delivered, Paused, IsAccepting};
+ghost use Rattle.relay_core.specs.AcceptTrace.{AcceptCall, Accepted, Delivered, Paused};
+ghost use Rattle.relay_core.specs.AcceptTrace.{IsAccepting};
 
 use crate::accept_task::{AcceptStep, Accepting};
 use rwloops::Fault;
@@ -53,17 +54,17 @@ pub enum AcceptEnded {
 }
 
 impl AcceptEnded {
-    /// Whether the listener is still to be closed: a drained one, since its clients would wait in the
-    /// system's queue, and nobody would come for them. One that fails too often stays for an admin
-    /// session.
+    /// Whether the listener is still to be closed: a drained one, since its clients would wait in
+    /// the system's queue, and nobody would come for them. One that fails too often stays for an
+    /// admin session.
     pub fn leaves_a_listener_to_close(self) -> bool
         ensures { result ≡ true ↔ self ≡ AcceptEnded.Draining }
     {
         self == AcceptEnded::Draining
     }
 
-    /// Whether the accept worker is to begin again, as the admin socket's: without it nobody could stop
-    /// the relay, however many accepts in a row failed.
+    /// Whether the accept worker is to begin again, as the admin socket's: without it nobody could
+    /// stop the relay, however many accepts in a row failed.
     pub fn lets_it_begin_again(self) -> bool
         ensures { result ≡ true ↔ self ≢ AcceptEnded.Closed }
     {

@@ -1,4 +1,4 @@
-//! A worker's buffers, which lie on the stack of its thread.
+//! How large buffers are: a worker's two, which lie on the stack of its thread, and a loop's.
 
 ghost use Rattle.std.specs.Prelude.{◌≡◌, length, IfSome, IfNone};
 ghost use Rattle.relay_core.specs.CopyTrace.{IsCopied, IsCopiedSoFar};
@@ -16,8 +16,13 @@ pub const FIRST_BUFFER_BYTES: usize = 1_024;
 /// The bytes of a worker's buffer once a read has filled the first one.
 pub const BUFFER_BYTES: usize = 16_384;
 
-/// Copies as `copy_worker` does, through a buffer of `FIRST_BUFFER_BYTES` until a read fills it, and
-/// through one of `BUFFER_BYTES` from then on. The larger one isn't touched before.
+/// The bytes of a loop's buffer, which it lends to each copy in turn, and of what a copy keeps at
+/// most. One read takes so much that a stream costs fewer calls of the system than with a quarter
+/// of it; a larger one was not faster. This project's own rule.
+pub const LOOP_BUFFER_BYTES: usize = 65_536;
+
+/// Copies as `copy_worker` does, through a buffer of `FIRST_BUFFER_BYTES` until a read fills it,
+/// and through one of `BUFFER_BYTES` from then on. The larger one isn't touched before.
 pub fn copy_by_need<G: CopyGate, L: Ledger, R: Wait>(
     rt: &R,
     gate: &mut G,

@@ -1,6 +1,7 @@
 //! The worker that copies: it reads, writes what it read, and credits what the write reported.
 
-ghost use Rattle.std.specs.Prelude.{◌≡◌, ◌+◌, ◌<◌, length, OnOk, OnErr, IfOk, IfErr, IfSome, IfNone};
+ghost use Rattle.std.specs.Prelude.{◌≡◌, ◌+◌, ◌<◌, length, OnOk, OnErr, IfOk, IfErr, IfSome};
+ghost use Rattle.std.specs.Prelude.{IfNone};
 ghost use Rattle.relay_core.specs.CopyTrace.{IsCopied, IsCopiedSoFar};
 ghost use Rattle.relay_core.specs.Passing.{IfOpen};
 
@@ -47,8 +48,8 @@ pub fn copy_worker<G: CopyGate, L: Ledger, R: Wait>(
     unreachable!()
 }
 
-/// Copies as `copy_worker` does until a read fills the buffer, and gives `None` once those bytes are
-/// written.
+/// Copies as `copy_worker` does until a read fills the buffer, and gives `None` once those bytes
+/// are written.
 pub(crate) fn copy_until_full<G: CopyGate, L: Ledger, R: Wait>(
     rt: &R,
     gate: &mut G,

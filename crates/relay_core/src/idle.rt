@@ -2,8 +2,8 @@
 
 ghost use Rattle.std.specs.Prelude.{◌≡◌, ◌≤◌, ◌+◌, ◌*◌, ◌-◌, ◌^◌, ◌↔◌, min, true, ℕ, Some};
 
-/// The nanoseconds of a millisecond. The clause below has the figure itself, so that another value is
-/// refused.
+/// The nanoseconds of a millisecond. The clause below has the figure itself, so that another value
+/// is refused.
 const NANOS_PER_MS: u64 = 1_000_000;
 
 /// The moment at which a read or a write that begins now gives up, by the idle time of its rule.
@@ -15,12 +15,25 @@ pub fn idle_deadline(now: u64, idle_ms: u32) -> u64
     now.saturating_add(idle_ms as u64 * NANOS_PER_MS)
 }
 
-/// The moment at which a pause of so many milliseconds is over that begins now. A sum past the greatest
-/// `u64` is the greatest `u64`.
+/// The moment at which a pause of so many milliseconds is over that begins now. A sum past the
+/// greatest `u64` is the greatest `u64`.
 pub fn pause_end(now: u64, pause_ms: u64) -> u64
     ensures { result ≡ min (now + pause_ms * 1000000) (2 ^ 64 - 1) }
 {
     now.saturating_add(pause_ms.saturating_mul(NANOS_PER_MS))
+}
+
+/// How long an admin session may say nothing, or take no reply, before it is ended. The clause
+/// below has the figure itself, so that another value is refused.
+const MAX_SILENCE_MS: u64 = 600_000;
+
+/// The moment at which an admin session is ended that reads or writes from now on and that nothing
+/// comes of: ten minutes on. A sum past the greatest `u64` is the greatest `u64`. This project's
+/// own rule: sessions are served one after the other, so that a silent one keeps out all others.
+pub fn silence_end(now: u64) -> u64
+    ensures { result ≡ min (now + 600000000000) (2 ^ 64 - 1) }
+{
+    pause_end(now, MAX_SILENCE_MS)
 }
 
 /// Whether a moment stands and has come. What has no moment waits for none.

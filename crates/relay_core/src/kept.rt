@@ -2,13 +2,14 @@
 
 ghost use Rattle.std.specs.Prelude.{◌≡◌, ◌≤◌, [], length, drop, true, ◌↔◌, IfOk};
 
-use crate::buffers::BUFFER_BYTES;
+use crate::buffers::LOOP_BUFFER_BYTES;
+use base_types::OutOfMemory;
 use std::alloc::{Allocator, Global};
 use std::marker::Model;
-use stream_base::OutOfMemory;
 
-/// Bytes that wait to be written, with room for `BUFFER_BYTES` that was taken when it was made, so
-/// that keeping them takes no memory. The room isn't touched before. Contracts see the bytes.
+/// Bytes that wait to be written, with room for `LOOP_BUFFER_BYTES` that was taken when it was
+/// made, so that keeping them takes no memory. The room isn't touched before. Contracts see the
+/// bytes.
 #[derive(Drop)]
 pub(crate) struct Kept<A: Allocator = Global> {
     bytes: Vec<u8, A>,
@@ -22,7 +23,7 @@ impl<A: Allocator> Model for Kept<A> {
 
     ghost view = { λ k. drop k.written k.bytes.items };
 
-    ghost invariant = { λ k. (k.written ≤ vec_len k.bytes) × (16384 ≤ vec_capacity k.bytes) };
+    ghost invariant = { λ k. (k.written ≤ vec_len k.bytes) × (65536 ≤ vec_capacity k.bytes) };
 }
 
 impl<A: Allocator> Kept<A> {
@@ -30,7 +31,7 @@ impl<A: Allocator> Kept<A> {
     pub(crate) fn new(alloc: A) -> Result<Kept<A>, OutOfMemory>
         ensures { IfOk result (λ kept. kept ≡ []) }
     {
-        let bytes = Vec::with_capacity(alloc, BUFFER_BYTES)?;
+        let bytes = Vec::with_capacity(alloc, LOOP_BUFFER_BYTES)?;
         Ok(Kept { bytes, written: 0 })
     }
 
@@ -51,7 +52,7 @@ impl<A: Allocator> Kept<A> {
     /// Keeps these bytes, where nothing is kept.
     pub(crate) fn keep(&mut self, bytes: &[u8])
         requires empty { self.old ≡ [] }
-        requires room { length bytes.now ≤ 16384 }
+        requires room { length bytes.now ≤ 65536 }
         ensures { self.new ≡ bytes.now }
     {
         self.written = 0;

@@ -10,27 +10,28 @@ use crate::gate::CopyGate;
 use crate::poll_accept::PollAcceptGate;
 use crate::poll_gate::PollGate;
 
-/// A worker offers its writer exactly the bytes that it read, in order and once. What was written is
-/// a front of them, and all of them where it ended at the reader's end.
+/// A worker offers its writer exactly the bytes that it read, in order and once. What was written
+/// is a front of them, and all of them where it ended at the reader's end.
 pub fn bytes_pass_in_order()
     ensures { BytesPassInOrder }
 {}
 
-/// Where a worker ended at a full book, its last write took all that was read last or failed, and the
-/// count that the end tells is that of the answer which the gate gave.
+/// Where a worker ended at a full book, its last write took all that was read last or failed, and
+/// the count that the end tells is that of the answer which the gate gave.
 pub fn full_book_tells_the_last_write()
     ensures { FullBookTellsTheLastWrite }
 {}
 
 /// However often a copy says that it waits, what it keeps is exactly what it has read and not yet
-/// written, in order. What a whole copy wrote is a front of what it read, and all of it where it ended
-/// at the reader's end.
+/// written, in order. What a whole copy wrote is a front of what it read, and all of it where it
+/// ended at the reader's end.
 pub fn bytes_pass_in_parts<G: PollGate>()
     ensures kept { NothingIsLost G.takes }
     ensures whole { BytesPassInParts G.takes }
 {}
 
-/// Any number of parts of a copy, as resumes make them, are one part, and end it as the last one does.
+/// Any number of parts of a copy, as resumes make them, are one part, and end it as the last one
+/// does.
 pub fn parts_join<G: PollGate>()
     ensures more { PartsJoin G G.tells G.takes }
     ensures last { LastPartJoins G G.tells G.takes }
@@ -46,8 +47,8 @@ pub fn each_is_delivered_in_order<T>()
     ensures { EachIsDeliveredInOrder T }
 {}
 
-/// The turns of an accept task, with the pauses between them that it asks for, are a run of an accept
-/// worker, and what it delivers is what it accepted.
+/// The turns of an accept task, with the pauses between them that it asks for, are a run of an
+/// accept worker, and what it delivers is what it accepted.
 pub fn accepts_join<G: PollAcceptGate>()
     ensures begins { AcceptsBegin G G.tells }
     ensures goes_on { AcceptsGoOn G G.tells }

@@ -1,6 +1,6 @@
-//! What a relay does with bytes, connections and pairs, as far as it can be said without a socket or
-//! a thread: the worker that copies, the worker that accepts, and the decisions about pairs. What
-//! they copy and accept through are traits.
+//! What a relay does with bytes, connections and pairs, as far as it can be said without a socket
+//! or a thread: the worker that copies, the worker that accepts, and the decisions about pairs.
+//! What they copy and accept through are traits.
 #![tactic(auto)]
 
 mod accept_task;
@@ -12,6 +12,7 @@ mod idle;
 mod kept;
 pub mod laws;
 mod pair;
+mod pair_limit;
 mod pair_tasks;
 mod passing;
 mod placing;
@@ -23,11 +24,12 @@ mod ways;
 
 pub use accept_task::{ACCEPTS_IN_A_ROW, AcceptStep, Accepting};
 pub use accepting::{AcceptEnded, AcceptGate, MAX_FAULTS_IN_A_ROW, accept_worker, next_pause_ms};
-pub use buffers::{BUFFER_BYTES, FIRST_BUFFER_BYTES, copy_by_need};
+pub use buffers::{BUFFER_BYTES, FIRST_BUFFER_BYTES, LOOP_BUFFER_BYTES, copy_by_need};
 pub use copying::{Ended, copy_worker};
 pub use gate::CopyGate;
-pub use idle::{has_come, idle_deadline, pause_end};
-pub use pair::{InsertedSides, MAX_PAIRS, end_closes_pair, has_room_for_pair};
+pub use idle::{has_come, idle_deadline, pause_end, silence_end};
+pub use pair::{InsertedSides, end_closes_pair, has_room_for_pair};
+pub use pair_limit::{DEFAULT_PAIRS, MAX_PAIRS, PairLimit};
 pub use pair_tasks::{PairNext, PairTasks, Standing, Ways};
 pub use passing::Step;
 pub use placing::{loop_of, place_of_pair};

@@ -1,22 +1,20 @@
 //! The decisions about a pair: whether one more fits, what a set-up that fails has to undo, and
 //! whether the end of a worker closes it. A pair is two workers over two entries of the table.
 
-ghost use Rattle.std.specs.Prelude.{◌≡◌, ◌+◌, ◌<◌, ◌↔◌, List, [], ◌∷◌, ◌++◌, length, true, Some, IfSome, IfNone};
+ghost use Rattle.std.specs.Prelude.{◌≡◌, ◌+◌, ◌<◌, ◌↔◌, List, [], ◌∷◌, ◌++◌, length, true, Some};
+ghost use Rattle.std.specs.Prelude.{IfSome, IfNone};
 ghost use Rattle.relay_core.specs.declared.copying.Ended.{Ended};
 ghost use Rattle.relay_core.specs.Pair.{IsToBeClosed};
 
 use crate::copying::Ended;
+use crate::pair_limit::PairLimit;
 use std::marker::Model;
 
-/// The most pairs that stand at once. This project's own rule.
-pub const MAX_PAIRS: usize = 512;
-
-/// Whether one more pair may be set up beside so many. The clause has the figure itself, so that a
-/// constant of another value is refused.
-pub fn has_room_for_pair(pairs: usize) -> bool
-    ensures { result ≡ true ↔ pairs < 512 }
+/// Whether one more pair may be set up beside so many.
+pub fn has_room_for_pair(pairs: usize, limit: PairLimit) -> bool
+    ensures { result ≡ true ↔ pairs < limit.count }
 {
-    pairs < MAX_PAIRS
+    pairs < limit.count
 }
 
 /// Whether the pair is to be closed now that one of its workers ended so, where so many of its
@@ -29,8 +27,8 @@ pub fn end_closes_pair(ended: &Ended, running: u64) -> bool
     *ended != Ended::Eof || running < 2
 }
 
-/// The ids of the sides of a pair that a set-up has put into the table and that nobody has taken out:
-/// the client's first, then the target's. Contracts see the list.
+/// The ids of the sides of a pair that a set-up has put into the table and that nobody has taken
+/// out: the client's first, then the target's. Contracts see the list.
 #[derive(Drop)]
 pub struct InsertedSides {
     first: Option<u64>,

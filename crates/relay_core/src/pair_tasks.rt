@@ -1,5 +1,6 @@
-//! The tasks of a pair, one for each way, as an event loop sees them: which of them an event, a turn
-//! or a change from outside resumes, and when the pair is closed. The rules are this project's own.
+//! The tasks of a pair, one for each way, as an event loop sees them: which of them an event, a
+//! turn or a change from outside resumes, and when the pair is closed. The rules are this project's
+//! own.
 
 ghost use Rattle.std.specs.Prelude.{◌≡◌, ◌≢◌, ◌⊎◌, ◌↔◌, true, false};
 ghost use Rattle.relay_core.specs.declared.ways.Way.TheVariants.{Up, Down};
@@ -9,7 +10,7 @@ ghost use Rattle.relay_core.specs.PairTasks.{WaitsForEvent, IsFailure, HasToClos
 use crate::copying::Ended;
 use crate::passing::Step;
 use crate::ways::{Side, Way, deadline_side};
-use stream_base::Dir;
+use base_types::Dir;
 
 /// Where a way of a pair stands between two of its turns.
 #[derive(Clone, Copy, Debug, PartialEq, Eq, Drop)]
@@ -95,7 +96,8 @@ impl PairTasks {
         }
     }
 
-    /// The ways that haven't ended: those that a close, a drain, or a deadline from outside resumes.
+    /// The ways that haven't ended: those that a close, a drain, or a deadline from outside
+    /// resumes.
     pub fn not_over(&self) -> Ways
         ensures up { result.up ≡ true ↔ self.now.up ≢ Standing.Over }
         ensures down { result.down ≡ true ↔ self.now.down ≢ Standing.Over }
@@ -106,9 +108,9 @@ impl PairTasks {
         }
     }
 
-    /// Notes how far a turn of a way came, and says what follows: the pair is closed once a way ended
-    /// other than by `Eof`, or both ended, as `end_closes_pair` says of workers, and then after each
-    /// later turn too.
+    /// Notes how far a turn of a way came, and says what follows: the pair is closed once a way
+    /// ended other than by `Eof`, or both ended, as `end_closes_pair` says of workers, and then
+    /// after each later turn too.
     pub fn note(&mut self, way: Way, step: &Step) -> PairNext
         ensures noted { standing_of self.new way ≡ standing_after step.now }
         ensures kept { standing_of self.new (other_way way) ≡ standing_of self.old (other_way way) }

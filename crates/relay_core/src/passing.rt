@@ -6,11 +6,11 @@ ghost use Rattle.relay_core.specs.Passing.{Bytes, Close, IsPassing, IsPassed, Is
 
 use crate::copying::{Ended, credited};
 use crate::poll_gate::PollGate;
+use base_types::Dir;
 use relay_ledger::{Book, Full, Share};
 use rwloops::Fault;
 use std::sync::ledger::Ledger;
 use std::sync::{Mutex, Wait};
-use stream_base::Dir;
 
 /// How far a copy came.
 #[derive(Clone, Copy, Debug, PartialEq, Eq, Drop)]
@@ -32,7 +32,8 @@ pub(crate) fn read_once<G: PollGate>(gate: &mut G, buf: &mut [u8]) -> Result<Opt
         → IsPassing G.takes (G.tells gate.old) (G.tells gate.new) amount amount (Bytes [])
         (Bytes (take count buf.new)) 1 1)) }
     ensures end { IfOk result (λ read. IfNone read ((amount : ℕ)
-        → IsPassing G.takes (G.tells gate.old) (G.tells gate.new) amount amount (Bytes []) Close 1 1)) }
+        → IsPassing G.takes (G.tells gate.old) (G.tells gate.new) amount amount (Bytes []) Close 1
+        1)) }
     ensures stopped { IfErr result (IsStop Dir.Read (G.blocked gate.new)
         ((amount : ℕ) → IsPassing G.takes (G.tells gate.old) (G.tells gate.new) amount amount
         (Bytes []) (Bytes []) 0 0)

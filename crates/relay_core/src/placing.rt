@@ -4,9 +4,10 @@ ghost use Rattle.std.specs.Prelude.{◌≡◌, ◌<◌, ◌≤◌, ◌⊎◌, []
 ghost use Rattle.relay_core.specs.Placing.{IsFirstLeast};
 
 use crate::pair::has_room_for_pair;
+use crate::pair_limit::PairLimit;
 
-/// Of loops with so many connections each, the one with the fewest, and the first of those that have
-/// equally few. This project's own rule.
+/// Of loops with so many connections each, the one with the fewest, and the first of those that
+/// have equally few. This project's own rule.
 pub fn loop_of(counts: &[u64]) -> usize
     requires some { 0 < length counts.now }
     ensures { IsFirstLeast counts.now result }
@@ -22,12 +23,12 @@ pub fn loop_of(counts: &[u64]) -> usize
 
 /// Where one connection more goes, beside so many on each loop and so many on all: to none where as
 /// many stand as may at once, or where there is no loop.
-pub fn place_of_pair(counts: &[u64], all: usize) -> Option<usize>
-    ensures none { IfNone result ((512 ≤ all) ⊎ (counts.now ≡ [])) }
-    ensures room { IfSome result (λ place. all < 512) }
+pub fn place_of_pair(counts: &[u64], all: usize, limit: PairLimit) -> Option<usize>
+    ensures none { IfNone result ((limit.count ≤ all) ⊎ (counts.now ≡ [])) }
+    ensures room { IfSome result (λ place. all < limit.count) }
     ensures least { IfSome result (IsFirstLeast counts.now) }
 {
-    if counts.is_empty() || !has_room_for_pair(all) {
+    if counts.is_empty() || !has_room_for_pair(all, limit) {
         return None;
     }
     Some(loop_of(counts))

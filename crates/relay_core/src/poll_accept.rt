@@ -12,8 +12,8 @@ pub trait PollAcceptGate {
     /// What is accepted.
     type T;
 
-    /// This list is told: each finished call so far with its answer, newest first. A call that isn't
-    /// finished leaves it.
+    /// This list is told: each finished call so far with its answer, newest first. A call that
+    /// isn't finished leaves it.
     ghost tells: { Self → List (AcceptCall Self.T) → Type 0 };
 
     /// The last accept isn't finished.

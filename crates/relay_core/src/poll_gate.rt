@@ -1,11 +1,11 @@
 //! What a copy goes through whose calls don't wait.
 
 ghost use Rattle.std.specs.Prelude.{◌<◌, ◌≤◌, ℕ, length, List, ◌∷◌, IfOk, IfErr, IfSome, IfNone};
-ghost use Rattle.stream_base.specs.declared.direction.Dir.{Dir};
+ghost use Rattle.base_types.specs.declared.direction.Dir.{Dir};
 ghost use Rattle.relay_core.specs.CopyTrace.{GateCall, Wrote, ClosedWrite, read_call};
 
+use base_types::Dir;
 use rwloops::{Fault, WriteFault};
-use stream_base::Dir;
 
 /// Where a copy reads bytes and writes them, by calls that answer at once. `None` is "not yet": the
 /// call did nothing, and whoever copies is woken when it may be made again.

@@ -7,20 +7,20 @@ ghost use Rattle.relay_core.specs.Passing.{next_dir, unwritten, IfWaits, IfEnded
 use crate::kept::Kept;
 use crate::passing::{Step, close_once, offer, read_once};
 use crate::poll_gate::PollGate;
+use base_types::OutOfMemory;
 use relay_ledger::{Book, Share};
 use std::alloc::{Allocator, Global};
 use std::marker::Model;
 use std::sync::ledger::Ledger;
 use std::sync::{Mutex, Wait};
-use stream_base::OutOfMemory;
 
-/// The turns of one `resume`, each a read and a write at most, after which others have theirs: so one
-/// reads at most 32 times 16 KiB, half a MiB, in a row. This project's own rule. The clauses below have
-/// the figure itself, so that another value is refused.
-pub const TURNS_IN_A_ROW: u32 = 32;
+/// The turns of one `resume`, each a read and a write at most, after which others have theirs: so
+/// one reads at most 8 times 64 KiB, half a MiB, in a row. This project's own rule. The clauses
+/// below have the figure itself, so that another value is refused.
+pub const TURNS_IN_A_ROW: u32 = 8;
 
-/// A copy between two of its calls. It keeps what it read and couldn't write yet; the buffer that it
-/// reads into is lent. Contracts see what it has to do next.
+/// A copy between two of its calls. It keeps what it read and couldn't write yet; the buffer that
+/// it reads into is lent. Contracts see what it has to do next.
 #[derive(Drop)]
 pub struct Copying<A: Allocator = Global> {
     kept: Kept<A>,
@@ -58,15 +58,15 @@ impl<A: Allocator> Copying<A> {
         buf: &mut [u8],
     ) -> Step
         requires room { 0 < length buf.old }
-        requires fits { length buf.old ≤ 16384 }
+        requires fits { length buf.old ≤ 65536 }
         ensures again { result ≡ Step.Again → IsPassing G.takes (G.tells gate.old)
-            (G.tells gate.new) share.old share.new self.old self.new 32 32 }
+            (G.tells gate.new) share.old share.new self.old self.new 8 8 }
         ensures waits { IfWaits result (λ _. IsPassing G.takes (G.tells gate.old)
-            (G.tells gate.new) share.old share.new self.old self.new 0 32) }
+            (G.tells gate.new) share.old share.new self.old self.new 0 8) }
         ensures blocked { IfWaits result (G.blocked gate.new) }
         ensures next { IfWaits result (λ dir. dir ≡ next_dir self.new) }
         ensures ended { IfEnded result (λ ended. IsPassed G.takes (G.tells gate.old)
-            (G.tells gate.new) share.old share.new self.old ended 32) }
+            (G.tells gate.new) share.old share.new self.old ended 8) }
     {
         for _turn in 0..TURNS_IN_A_ROW {
             match self.turn(rt, gate, book, share, buf) {
@@ -87,7 +87,7 @@ impl<A: Allocator> Copying<A> {
         buf: &mut [u8],
     ) -> Result<(), Step>
         requires room { 0 < length buf.old }
-        requires fits { length buf.old ≤ 16384 }
+        requires fits { length buf.old ≤ 65536 }
         ensures passing { IfOk result (λ _. IsPassing G.takes (G.tells gate.old) (G.tells gate.new)
             share.old share.new self.old self.new 1 1) }
         ensures stopped { IfErr result (IsStop (next_dir self.new) (G.blocked gate.new)
@@ -141,7 +141,7 @@ impl<A: Allocator> Copying<A> {
         buf: &mut [u8],
     ) -> Result<(), Step>
         requires room { 0 < length buf.old }
-        requires fits { length buf.old ≤ 16384 }
+        requires fits { length buf.old ≤ 65536 }
         requires nothing { self.old ≡ Bytes [] }
         ensures passing { IfOk result (λ _. IsPassing G.takes (G.tells gate.old) (G.tells gate.new)
             share.old share.new self.old self.new 1 1) }
@@ -171,7 +171,7 @@ impl<A: Allocator> Copying<A> {
         bytes: &[u8],
     ) -> Result<(), Step>
         requires some { 0 < length bytes.now }
-        requires fits { length bytes.now ≤ 16384 }
+        requires fits { length bytes.now ≤ 65536 }
         requires nothing { self.old ≡ Bytes [] }
         ensures passing { IfOk result (λ _. IsPassing G.takes (G.tells gate.old) (G.tells gate.new)
             share.old share.new (Bytes bytes.now) self.new 1 0) }

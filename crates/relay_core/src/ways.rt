@@ -3,7 +3,7 @@
 ghost use Rattle.std.specs.Prelude.{◌≡◌};
 ghost use Rattle.relay_core.specs.PairTasks.{source, sink, called_side};
 
-use stream_base::Dir;
+use base_types::Dir;
 
 /// A side of a pair.
 #[derive(Clone, Copy, Debug, PartialEq, Eq, Drop)]

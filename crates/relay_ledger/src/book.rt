@@ -3,13 +3,14 @@
 //! One ledger stands behind it, cut into `PARTS` parts. Each open share holds one part, and the
 //! book keeps the rest, with the amounts of the shares that were settled. So the open shares' parts
 //! and the rest are all parts, and where as many shares come back as are open, the ledger itself
-//! tells that their amounts and the settled ones are the total. At run time a ledger's tokens take no
-//! bytes.
+//! tells that their amounts and the settled ones are the total. At run time a ledger's tokens take
+//! no bytes.
 
 ghost use Rattle.std.specs.Prelude.{◌≡◌, ◌+◌, ◌^◌, ◌<◌, ◌↔◌, false, true, sum};
 ghost use Rattle.std.specs.Prelude.{IsOk, IfOk, OnOk, IfErr, OnErr};
 ghost use Rattle.relay_ledger.specs.declared.book.TheConstants.{PARTS};
-ghost use Rattle.relay_ledger.specs.Book.{OpensOne, Adds, Settles, Gathers, MayOpen, CannotOpen, AreAllShares};
+ghost use Rattle.relay_ledger.specs.Book.{OpensOne, Adds, Settles, Gathers, MayOpen, CannotOpen};
+ghost use Rattle.relay_ledger.specs.Book.{AreAllShares};
 
 use crate::gathering;
 use crate::share::Share;

@@ -12,9 +12,9 @@ pub fn credits_are_conserved()
     ensures { CreditsAreConserved }
 {}
 
-/// The bounds of a book in figures: 4,294,967,295 shares are open at most, and the ledger has a part for
-/// each and one for the book. The definitions follow the code's constants, so that this alone says which
-/// they are.
+/// The bounds of a book in figures: 4,294,967,295 shares are open at most, and the ledger has a
+/// part for each and one for the book. The definitions follow the code's constants, so that this
+/// alone says which they are.
 pub fn the_bounds_in_figures()
     ensures shares { MAX_SHARES ≡ 4294967295 }
     ensures parts { PARTS ≡ 4294967296 }

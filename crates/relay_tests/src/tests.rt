@@ -2,8 +2,8 @@
 //! be set up ends the test's process there, so that a test is one straight line.
 
 /// Ends the test's process where this doesn't hold, and says what should. A call costs the proof
-/// of a test less than a branch does. `descriptor_tests` and `readiness_tests` have one too: no crate uses
-/// another's tests.
+/// of a test less than a branch does. `descriptor_tests` and `readiness_tests` have one too: no
+/// crate uses another's tests.
 macro_rules! holds {
     ($rt:expr; $is:expr) => {
         $crate::tests::holds(&$rt, $is, stringify!($is))
@@ -16,6 +16,7 @@ macro_rules! holds {
 mod closing;
 mod draining;
 mod echo;
+mod ending;
 mod loops;
 mod most_pairs;
 mod pairs;
@@ -24,7 +25,7 @@ mod start_faults;
 mod steering;
 mod watch;
 
-use relay::{Loops, ServeFault, serve};
+use relay::{Capacity, Loops, PairLimit, ServeFault, serve};
 use relay_ledger::PARTS;
 use std::alloc::Global;
 use std::fs::Files;
@@ -121,7 +122,28 @@ impl Said {
     }
 }
 
-/// A relay from its start to its end, on so many loops.
+/// A relay from its start to its end, of this size.
+fn served_at<R>(rt: R, rules: &String, admin: &String, capacity: Capacity) -> Said
+where
+    R: Wait
+        + Threads
+        + Net<Listener = TcpListener, Stream = TcpStream>
+        + Clock
+        + Files
+        + Abort
+        + AllocGlobal
+        + Copy
+        + Send
+        + Sync
+        + 'static,
+{
+    let (up, down) = (Blank::new(PARTS), Blank::new(PARTS));
+    let mut text = Vec::new(rt.alloc());
+    let done = serve::<Brand, Brand, R, _>(rt, rules, admin, capacity, up, down, &mut text);
+    Said { done, text }
+}
+
+/// A relay from its start to its end, on so many loops, with the default of connections.
 fn served_on<R>(rt: R, rules: &String, admin: &String, loops: u64) -> Said
 where
     R: Wait
@@ -137,10 +159,8 @@ where
         + 'static,
 {
     let loops = Loops::of(loops).expect(&rt, "loops");
-    let (up, down) = (Blank::new(PARTS), Blank::new(PARTS));
-    let mut text = Vec::new(rt.alloc());
-    let done = serve::<Brand, Brand, R, _>(rt, rules, admin, loops, up, down, &mut text);
-    Said { done, text }
+    let pairs = PairLimit::by_default();
+    served_at(rt, rules, admin, Capacity { loops, pairs })
 }
 
 /// A relay from its start to its end, on two loops.

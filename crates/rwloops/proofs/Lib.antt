@@ -6,3 +6,4 @@ pub mod RetryLemmas
 pub mod AnswerLemmas
 pub mod TurnLemmas
 pub mod TryNowLemmas
+pub mod UnderWayLemmas

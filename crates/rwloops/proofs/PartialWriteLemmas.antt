@@ -18,7 +18,7 @@ use Rattle.rwloops.specs.declared.retries.Next.TheVariants.{Done, Failed}
 use Rattle.rwloops.specs.declared.write_loop.WriteLoop.{WriteLoop}
 use Rattle.rwloops.specs.RetryBound.{has_short_rows}
 use Rattle.rwloops.specs.Outcome.{is_interrupted, is_would_block, count_in, sum_of_counts, IsCountWithin}
-use Rattle.stream_base.specs.declared.direction.Dir.TheVariants.{Write}
+use Rattle.base_types.specs.declared.direction.Dir.TheVariants.{Write}
 use Rattle.rwloops.specs.Waits.{WaitCall, Prepared}
 use Rattle.rwloops.specs.OutcomeTrace.{EachTry, Refused, WaitRefused, Decided}
 use Rattle.rwloops.specs.WriteTrace.{WriteTry, write_goes_on, write_is_inconclusive, write_decision, write_outcome}

@@ -2,7 +2,7 @@
 use Rattle.std.proofs.Common.{◌≡◌, Bool, true, false, List, [], ◌∷◌, ◌++◌, cond, refl, sym, ap, subst, ◌∙◌, Ok, Err}
 use Rattle.std.proofs.Common.{IsTrue, IsFalse}
 use Rattle.std.specs.Borrow.{MutBor}
-use Rattle.stream_base.specs.declared.direction.Dir.{Dir}
+use Rattle.base_types.specs.declared.direction.Dir.{Dir}
 use Rattle.deadline_core.specs.declared.refusal.Refusal.{Refusal}
 use Rattle.rwloops.specs.declared.retries.Next.{Next}
 use Rattle.rwloops.specs.declared.retries.Next.TheVariants.{Try, Wait, Failed}

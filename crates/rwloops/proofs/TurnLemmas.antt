@@ -1,6 +1,6 @@
 -- What comes right before and right after a wait. Lists are newest first.
 use Rattle.std.proofs.Common.{◌≡◌, refl, ap, subst, List, [], ◌∷◌, ◌++◌, Result, IsTrue, IsFalse}
-use Rattle.stream_base.specs.declared.direction.Dir.{Dir}
+use Rattle.base_types.specs.declared.direction.Dir.{Dir}
 use Rattle.deadline_core.specs.declared.refusal.Refusal.{Refusal}
 use Rattle.rwloops.specs.Waits.{Prepared, Waited}
 use Rattle.rwloops.specs.OutcomeTrace.{OutcomeRules, EachTry}

@@ -1,7 +1,7 @@
 -- The outcome trace of an accept. Lists are newest first.
 use Rattle.std.specs.Prelude.{◌≡◌, Bool, true, false, ◌&&◌, List, Result, Ok, Err, IsTrue}
 use Rattle.std.specs.List.{list_all}
-use Rattle.stream_base.specs.declared.direction.Dir.TheVariants.{Read}
+use Rattle.base_types.specs.declared.direction.Dir.TheVariants.{Read}
 use Rattle.rwloops.specs.declared.outcome.AcceptOutcome.{AcceptOutcome}
 use Rattle.rwloops.specs.declared.outcome.AcceptOutcome.TheVariants.{Took, Interrupted, Aborted}
 use Rattle.rwloops.specs.declared.outcome.AcceptOutcome.TheVariants.{WouldBlock, Broken}

@@ -8,3 +8,4 @@ pub mod Pair
 pub mod ReadTrace
 pub mod WriteTrace
 pub mod AcceptTrace
+pub mod UnderWay

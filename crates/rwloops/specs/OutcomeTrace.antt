@@ -2,7 +2,7 @@
 -- Lists are newest first.
 use Rattle.std.specs.Prelude.{◌≡◌, Bool, true, false, List, [], ◌∷◌, map, Err, IsTrue, IsFalse}
 use Rattle.std.specs.Prelude.{if◌then◌else◌}
-use Rattle.stream_base.specs.declared.direction.Dir.{Dir}
+use Rattle.base_types.specs.declared.direction.Dir.{Dir}
 use Rattle.deadline_core.specs.declared.refusal.Refusal.{Refusal}
 use Rattle.rwloops.specs.declared.retries.Next.{Next}
 use Rattle.rwloops.specs.declared.retries.Next.TheVariants.{Try, Wait, Failed}

@@ -2,7 +2,7 @@
 use Rattle.std.specs.Prelude.{◌≡◌, ℕ, zero, suc, ◌<◌, min, Bool, true, false, ◌&&◌, List, [], ◌∷◌}
 use Rattle.std.specs.Prelude.{map, take, length, Result, Ok, Err, IsTrue}
 use Rattle.std.specs.List.{list_all}
-use Rattle.stream_base.specs.declared.direction.Dir.TheVariants.{Read}
+use Rattle.base_types.specs.declared.direction.Dir.TheVariants.{Read}
 use Rattle.rwloops.specs.declared.limits.TheConstants.{MAX_TRY_BYTES}
 use Rattle.rwloops.specs.declared.outcome.DevKind.TheVariants.{Aborted as DeviceAborted}
 use Rattle.rwloops.specs.declared.outcome.Outcome.{Outcome}

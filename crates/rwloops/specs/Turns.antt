@@ -1,7 +1,7 @@
 -- The tries of one call and its calls on waits, in one order. Lists are newest first.
 use Rattle.std.specs.Prelude.{◌≡◌, refl, List, [], ◌∷◌, ◌++◌, Result, Ok, IsTrue, IsFalse}
 use Rattle.std.specs.Borrow.{MutBor}
-use Rattle.stream_base.specs.declared.direction.Dir.{Dir}
+use Rattle.base_types.specs.declared.direction.Dir.{Dir}
 use Rattle.deadline_core.specs.declared.refusal.Refusal.{Refusal}
 use Rattle.rwloops.specs.Waits.{WaitCall, Prepared, Waited, Tells}
 use Rattle.rwloops.specs.declared.retries.Next.{Next}

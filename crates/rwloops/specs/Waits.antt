@@ -1,6 +1,6 @@
 -- What is asked of waits, and what halves and waits tell. Lists are newest first.
 use Rattle.std.specs.Prelude.{Bool, List, [], ◌∷◌, ◌++◌, Result, Ok, if◌then◌else◌}
-use Rattle.stream_base.specs.declared.direction.Dir.{Dir}
+use Rattle.base_types.specs.declared.direction.Dir.{Dir}
 use Rattle.deadline_core.specs.declared.refusal.Refusal.{Refusal}
 use Rattle.deadline_core.specs.declared.refusal.Refusal.TheVariants.{Closed, DeadlineExceeded}
 use Rattle.rwloops.specs.declared.fault.Fault.{Fault}

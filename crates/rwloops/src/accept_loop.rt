@@ -5,17 +5,18 @@ ghost use Rattle.rwloops.specs.OutcomeTrace.{next_after, is_open, IsTraced};
 ghost use Rattle.rwloops.specs.Turns.{Event, Tried, Asked, IsTurn, IsInTurn};
 ghost use Rattle.rwloops.specs.Waits.{Prepared, Waited};
 ghost use Rattle.rwloops.specs.TryNow.{accept_tries_left};
-ghost use Rattle.rwloops.specs.AcceptTrace.{accept_rules, AcceptStandsFor, IsAcceptTry, AcceptTrace};
+ghost use Rattle.rwloops.specs.AcceptTrace.{accept_rules, AcceptStandsFor, IsAcceptTry};
+ghost use Rattle.rwloops.specs.AcceptTrace.{AcceptTrace};
 
 use crate::fault::Fault;
 use crate::outcome::AcceptOutcome;
 use crate::pair::Pair;
 use crate::retries::{Next, Retries};
 use crate::waits::Waits;
+use base_types::Dir;
 use deadline_core::Refusal;
 use std::marker::PhantomData;
 use std::sync::Wait;
-use stream_base::Dir;
 
 /// An accept, by the outcomes of its tries.
 #[derive(Debug, Drop)]

@@ -24,8 +24,8 @@ pub enum Fault {
     TooMany,
     /// Memory ran out. No call of this crate answers it.
     OutOfMemory,
-    /// The descriptor is drained: it ends what it has taken on, and takes on nothing more. No call of
-    /// this crate answers it.
+    /// The descriptor is drained: it ends what it has taken on, and takes on nothing more. No call
+    /// of this crate answers it.
     Draining,
 }
 

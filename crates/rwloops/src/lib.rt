@@ -1,5 +1,5 @@
-//! Reading, writing and accepting over halves that may have to wait: Go's `internal/poll` loops, made of pure loops that are fed one
-//! outcome at a time.
+//! Reading, writing and accepting over halves that may have to wait: Go's `internal/poll` loops,
+//! made of pure loops that are fed one outcome at a time.
 #![tactic(auto)]
 
 mod accept_loop;

@@ -18,7 +18,8 @@ pub enum DevKind {
 /// What one try to read or to write gave.
 #[derive(Clone, Copy, Debug, PartialEq, Eq, Drop)]
 pub enum Outcome {
-    /// So many bytes were read or written, at most as many as the try was offered; a read that gives 0 is at the stream's end.
+    /// So many bytes were read or written, at most as many as the try was offered; a read that
+    /// gives 0 is at the stream's end.
     Count(usize),
     /// A signal came first (`EINTR`).
     Interrupted,

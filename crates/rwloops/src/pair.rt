@@ -8,8 +8,8 @@ use crate::outcome::{AcceptOutcome, Outcome};
 use crate::read_loop::{ReadTurns, TryRead};
 use crate::waits::Waits;
 use crate::write_loop::{TryWrite, WriteTurns};
+use base_types::Dir;
 use deadline_core::Refusal;
-use stream_base::Dir;
 
 /// A half and its waits. Each tells its own events alone, since the one knows nothing of the other.
 #[derive(Drop)]

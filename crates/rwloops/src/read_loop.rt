@@ -6,7 +6,9 @@ ghost use Rattle.rwloops.specs.Waits.{Prepared, Waited};
 ghost use Rattle.rwloops.specs.TryNow.{read_tries_left};
 ghost use Rattle.rwloops.specs.OutcomeTrace.{next_after, is_open, IsTraced};
 ghost use Rattle.rwloops.specs.Turns.{Event, Tried, Asked, IsTurn, IsInTurn};
-ghost use Rattle.rwloops.specs.ReadTrace.{read_rules, ReadStandsFor, ReadTry, read_try, read_outcome, read_try_rules, IsReadTry, ReadTrace, HasRead, StandsForTries};
+ghost use Rattle.rwloops.specs.ReadTrace.{read_rules, ReadStandsFor, ReadTry, read_try};
+ghost use Rattle.rwloops.specs.ReadTrace.{read_outcome, read_try_rules, IsReadTry, ReadTrace};
+ghost use Rattle.rwloops.specs.ReadTrace.{HasRead, StandsForTries};
 
 use crate::fault::Fault;
 use crate::limits::chunk_of;
@@ -14,9 +16,9 @@ use crate::outcome::{DevKind, Outcome};
 use crate::pair::Pair;
 use crate::retries::{Next, Retries};
 use crate::waits::Waits;
+use base_types::Dir;
 use deadline_core::Refusal;
 use std::sync::Wait;
-use stream_base::Dir;
 
 /// A read, by the outcomes of its tries.
 #[derive(Debug, Drop)]
@@ -25,7 +27,8 @@ pub struct ReadLoop {
 }
 
 impl ReadLoop {
-    /// A read into so many bytes, before its first try. What follows doesn't depend on their number.
+    /// A read into so many bytes, before its first try. What follows doesn't depend on their
+    /// number.
     pub fn new(len: usize) -> ReadLoop
         ensures { ReadStandsFor result [] }
     {
@@ -112,8 +115,8 @@ pub(crate) fn try_once<P: ReadTurns>(
     reading.feed(outcome)
 }
 
-/// Reads at least one byte, or answers 0 for a buffer of length 0: `read` over a half and waits that
-/// tell their events in one list.
+/// Reads at least one byte, or answers 0 for a buffer of length 0: `read` over a half and waits
+/// that tell their events in one list.
 pub fn read_in_turn<P: ReadTurns>(
     rt: &impl Wait,
     pair: &mut P,

@@ -1,10 +1,13 @@
-//! Calls that don't wait: tries until there is an answer, or until the half would block. They make their tries and
-//! read the outcomes as the calls that wait do, by the same steps over the same loops.
+//! Calls that don't wait: tries until there is an answer, or until the half would block. They make
+//! their tries and read the outcomes as the calls that wait do, by the same steps over the same
+//! loops.
 //!
-//! What begins so may go on later, and is one read, write or accept then: a try that would block ends a row of
-//! inconclusive answers, so that of a write the count alone is to be kept between, and of the others nothing.
+//! What begins so may go on later, and is one read, write or accept then: a try that would block
+//! ends a row of inconclusive answers, so that of a write the count alone is to be kept between,
+//! and of the others nothing.
 ghost use Rattle.std.specs.Prelude.{◌≡◌, ◌<◌, ◌≤◌, length, Some, Ok, IfSome, IfOk};
-ghost use Rattle.rwloops.specs.TryNow.{ReadNow, WriteNow, AcceptNow, IsTried, IsTriedInTurn, IsPartOf};
+ghost use Rattle.rwloops.specs.TryNow.{ReadNow, WriteNow, AcceptNow, IsTried, IsTriedInTurn};
+ghost use Rattle.rwloops.specs.TryNow.{IsPartOf};
 
 use crate::accept_loop::{AcceptLoop, AcceptTurns, TryAccept};
 use crate::fault::{Fault, WriteFault};
@@ -14,8 +17,8 @@ use crate::retries::Next;
 use crate::waits::Waits;
 use crate::write_loop::{TryWrite, WriteLoop, WriteTurns};
 use crate::{accept_loop, read_loop, write_loop};
+use base_types::Dir;
 use deadline_core::Refusal;
-use stream_base::Dir;
 
 /// What a write came to that doesn't wait.
 #[derive(Clone, Copy, Debug, PartialEq, Eq, Drop)]
@@ -66,8 +69,8 @@ fn read_tries<P: ReadTurns>(pair: &mut P, buf: &mut [u8]) -> Option<Result<usize
     }
 }
 
-/// Tries to read at least one byte, or answers 0 for a buffer of length 0; `None` says that the half would block. It
-/// answers what `read` would, which then waits.
+/// Tries to read at least one byte, or answers 0 for a buffer of length 0; `None` says that the
+/// half would block. It answers what `read` would, which then waits.
 pub fn read_now<H: TryRead>(half: &mut H, buf: &mut [u8]) -> Option<Result<usize, Fault>>
     ensures trace { IsTried (λ tries. ReadNow buf.new tries result)
         (H.tells half.old) (H.tells half.new) }
@@ -94,8 +97,8 @@ fn accept_tries<P: AcceptTurns>(pair: &mut P) -> Option<Result<P::T, Fault>>
     }
 }
 
-/// Tries to accept one connection; `None` says that nobody waits to be accepted. It answers what `accept` would, which
-/// then waits.
+/// Tries to accept one connection; `None` says that nobody waits to be accepted. It answers what
+/// `accept` would, which then waits.
 pub fn accept_now<H: TryAccept>(half: &mut H) -> Option<Result<H::T, Fault>>
     ensures trace { IsTried (λ tries. AcceptNow tries result)
         (H.tells half.old) (H.tells half.new) }
@@ -126,8 +129,9 @@ fn write_tries<P: WriteTurns>(pair: &mut P, bytes: &[u8]) -> Progress
     }
 }
 
-/// Tries to write all bytes, from the front; a `Part` says that the half would block before the rest. Whoever goes on
-/// offers what comes after the part, so that no byte which was taken is offered again.
+/// Tries to write all bytes, from the front; a `Part` says that the half would block before the
+/// rest. Whoever goes on offers what comes after the part, so that no byte which was taken is
+/// offered again.
 pub fn write_now<H: TryWrite>(half: &mut H, bytes: &[u8]) -> Progress
     ensures trace { IsTried (λ tries. WriteNow bytes.now tries result)
         (H.tells half.old) (H.tells half.new) }

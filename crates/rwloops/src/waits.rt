@@ -2,10 +2,11 @@
 ghost use Rattle.std.specs.Prelude.{List, ◌∷◌};
 ghost use Rattle.rwloops.specs.Waits.{WaitCall, Prepared, Waited};
 
+use base_types::Dir;
 use deadline_core::Refusal;
-use stream_base::Dir;
 
-/// How a call waits for the readiness of one direction: Go's `pollDesc`, with `prepareRead`, `waitRead` and their like.
+/// How a call waits for the readiness of one direction: Go's `pollDesc`, with `prepareRead`,
+/// `waitRead` and their like.
 pub trait Waits {
     /// This list is told: each call so far with its answer, newest first.
     ghost tells: { Self → List WaitCall → Type 0 };

@@ -1,5 +1,6 @@
 //! Writes: the pure loop, and the call over a half that may have to wait.
-ghost use Rattle.std.specs.Prelude.{◌≡◌, ◌<◌, ◌≤◌, ◌-◌, ℕ, List, [], ◌∷◌, length, min, IsTrue, IfOk, IfErr};
+ghost use Rattle.std.specs.Prelude.{◌≡◌, ◌<◌, ◌≤◌, ◌-◌, ℕ, List, [], ◌∷◌, length, min, IsTrue};
+ghost use Rattle.std.specs.Prelude.{IfOk, IfErr};
 ghost use Rattle.rwloops.specs.declared.outcome.Outcome.{Outcome};
 ghost use Rattle.rwloops.specs.declared.limits.TheConstants.{MAX_TRY_BYTES};
 ghost use Rattle.rwloops.specs.Outcome.{IsCountWithin, sum_of_counts};
@@ -7,7 +8,9 @@ ghost use Rattle.rwloops.specs.OutcomeTrace.{next_after, is_open, IsTraced};
 ghost use Rattle.rwloops.specs.Turns.{Event, Tried, Asked, IsTurn, IsInTurn};
 ghost use Rattle.rwloops.specs.Waits.{Prepared, Waited};
 ghost use Rattle.rwloops.specs.TryNow.{write_tries_left};
-ghost use Rattle.rwloops.specs.WriteTrace.{write_rules, WriteStandsFor, written, IsOfferedCount, WriteTry, write_try_rules, IsWriteTry, WriteTrace, HasWritten, StandsForTries, chunk_after};
+ghost use Rattle.rwloops.specs.WriteTrace.{write_rules, WriteStandsFor, written, IsOfferedCount};
+ghost use Rattle.rwloops.specs.WriteTrace.{WriteTry, write_try_rules, IsWriteTry, WriteTrace};
+ghost use Rattle.rwloops.specs.WriteTrace.{HasWritten, StandsForTries, chunk_after};
 
 use crate::fault::{Fault, WriteFault};
 use crate::limits::chunk_of;
@@ -15,9 +18,9 @@ use crate::outcome::{DevKind, Outcome};
 use crate::pair::Pair;
 use crate::retries::{Next, Retries};
 use crate::waits::Waits;
+use base_types::Dir;
 use deadline_core::Refusal;
 use std::sync::Wait;
-use stream_base::Dir;
 
 /// A write, by the outcomes of its tries.
 #[derive(Debug, Drop)]
@@ -94,8 +97,8 @@ pub trait TryWrite {
             → tells self.new (record { offered = bytes.now; outcome = result } ∷ tries) };
 }
 
-/// A half that bytes are written to, with its waits. `prepare` and `wait` are those of `ReadTurns`, but
-/// told in a list of tries to write: a trait has one kind of list.
+/// A half that bytes are written to, with its waits. `prepare` and `wait` are those of `ReadTurns`,
+/// but told in a list of tries to write: a trait has one kind of list.
 pub trait WriteTurns {
     ghost use Rattle.rwloops.specs.Turns.{Event};
 

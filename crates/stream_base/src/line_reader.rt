@@ -1,5 +1,5 @@
-//! The lines of a source, as they come. The source is read in chunks, and one line is held at a time, up
-//! to a limit, so that memory grows with neither the source nor its lines.
+//! The lines of a source, as they come. The source is read in chunks, and one line is held at a
+//! time, up to a limit, so that memory grows with neither the source nor its lines.
 
 ghost use Rattle.std.specs.Prelude.{◌≡◌, ◌<◌, ◌≤◌, ◌-◌, [], IfOk, OnOk, OnErr, drop, length, take};
 ghost use Rattle.std.specs.Io.KnownBytes.{Consumes, IsAtEnd, Keeps};
@@ -42,7 +42,8 @@ impl<const LIMIT: usize> Model for LineReader<LIMIT> {
       ahead = take (r.end - r.at) (drop r.at r.chunk);
     } };
 
-    ghost invariant = { λ r. (length r.line.items ≤ LIMIT) × (r.at ≤ r.end) × (r.end ≤ CHUNK_BYTES) };
+    ghost invariant = { λ r. (length r.line.items ≤ LIMIT) × (r.at ≤ r.end)
+        × (r.end ≤ CHUNK_BYTES) };
 }
 
 impl<const LIMIT: usize> LineReader<LIMIT> {
@@ -58,8 +59,8 @@ impl<const LIMIT: usize> LineReader<LIMIT> {
         }
     }
 
-    /// Reads once from the source, and again as long as it is interrupted. The answer is how many bytes
-    /// came; none is the end of the source. The line that is held stays.
+    /// Reads once from the source, and again as long as it is interrupted. The answer is how many
+    /// bytes came; none is the end of the source. The line that is held stays.
     pub fn fill<S: Source>(&mut self, source: &mut S) -> Result<usize, SourceFault>
         requires uninterrupted { S.interruptions source.old ≡ 0 }
         requires all_looked_at { self.old.ahead ≡ [] }
@@ -86,8 +87,8 @@ impl<const LIMIT: usize> LineReader<LIMIT> {
         Ok(count)
     }
 
-    /// Goes on with the line that is held, through the bytes ahead, up to its line feed or to the byte that
-    /// is one too many.
+    /// Goes on with the line that is held, through the bytes ahead, up to its line feed or to the
+    /// byte that is one too many.
     pub fn find_line(&mut self) -> Found
         ensures found { Finds LIMIT result self.old self.new }
         ensures fits { length self.new.held ≤ LIMIT }

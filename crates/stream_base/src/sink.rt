@@ -1,10 +1,13 @@
 //! Sinks of bytes, which tell what they hold and how their writes went, and writing to them.
 
-ghost use Rattle.std.specs.Prelude.{◌≡◌, ◌<◌, ◌≤◌, ◌||◌, ℕ, Bool, true, List, Option, IfOk, OnOk, OnErr, is_ok, length, take};
+ghost use Rattle.std.specs.Prelude.{◌≡◌, ◌<◌, ◌≤◌, ◌||◌, ℕ, Bool, true, List, Option, IfOk, OnOk};
+ghost use Rattle.std.specs.Prelude.{OnErr, is_ok, length, take};
 ghost use Rattle.std.specs.Io.{WritesAtMost};
 ghost use Rattle.std.specs.Io.KnownBytes.{Appends, Keeps, WriteAppends};
 ghost use Rattle.stream_base.specs.Fronts.{AppendsFront, AppendsPart};
-ghost use Rattle.stream_base.specs.Attempt.{interruptions_after, failed_after, flushed_after, taken, took_nothing_after, FailedOrInterrupted, WriteStopped};
+ghost use Rattle.stream_base.specs.Attempt.{interruptions_after, failed_after, flushed_after};
+ghost use Rattle.stream_base.specs.Attempt.{taken, took_nothing_after, FailedOrInterrupted};
+ghost use Rattle.stream_base.specs.Attempt.{WriteStopped};
 
 use crate::attempt::{AttemptError, MAX_INTERRUPTIONS};
 
@@ -97,7 +100,8 @@ pub fn write_to<K: Sink>(sink: &mut K, text: &[u8]) -> Result<(), SinkFault>
     ensures progress { OnOk result (K.took_nothing sink.new ≡ K.took_nothing sink.old) }
     ensures flushed { OnOk result
         (K.flushed sink.new ≡ flushed_after (K.flushed sink.old) text.now) }
-    ensures front { OnErr result (AppendsPart (K.contents sink.old) (K.contents sink.new) text.now) }
+    ensures front { OnErr result
+        (AppendsPart (K.contents sink.old) (K.contents sink.new) text.now) }
     ensures cause { OnErr result
         (WriteStopped (K.failed sink.new) (K.interruptions sink.new) (K.took_nothing sink.new)) }
     ensures same { K.stays sink.old sink.new }
@@ -134,9 +138,10 @@ pub fn flush_to<K: Sink>(sink: &mut K) -> Result<(), SinkFault>
     Err(SinkFault)
 }
 
-/// Writes the whole text, and makes the sink pass on all that it holds. At a fault the sink has taken a
-/// front of the text, which is the whole where the fault is the flush's. The clauses are those of
-/// `write_to` but for `flushed` and `front`, written out, since a caller reads them here alone.
+/// Writes the whole text, and makes the sink pass on all that it holds. At a fault the sink has
+/// taken a front of the text, which is the whole where the fault is the flush's. The clauses are
+/// those of `write_to` but for `flushed` and `front`, written out, since a caller reads them here
+/// alone.
 pub fn deliver_to<K: Sink>(sink: &mut K, text: &[u8]) -> Result<(), SinkFault>
     requires uninterrupted { K.interruptions sink.old ≡ 0 }
     ensures ok { OnOk result (Appends (K.contents sink.old) (K.contents sink.new) text.now) }

@@ -15,8 +15,8 @@ fn verdict(text: &[u8]) -> Result<usize, RulesFault> {
 
 const WEB: &str = "relay web tcp:127.0.0.1:8080 unix:/tmp/a.sock 5000\n";
 
-const WEB_TWICE: &str =
-    "relay web tcp:127.0.0.1:8080 unix:/tmp/a.sock 5000\nrelay web tcp:127.0.0.1:8080 unix:/tmp/a.sock 5000\n";
+const WEB_TWICE: &str = "relay web tcp:127.0.0.1:8080 unix:/tmp/a.sock 5000\n\
+    relay web tcp:127.0.0.1:8080 unix:/tmp/a.sock 5000\n";
 
 // examples/rules/web.rules
 const WEB_FILE: &str = "# Two web servers behind the relay.
@@ -131,7 +131,7 @@ fn a_rule_holds_what_its_line_says(rt: HostRuntime) -> Result<(), Fail> {
         "where it listens"
     );
     assert!(rt; rule.target == Addr::Unix(path), "where it leads");
-    assert!(rt; rule.idle == Some(5000), "the idle time");
+    assert!(rt; rule.idle_ms == Some(5000), "the idle time");
     Ok(())
 }
 

@@ -79,7 +79,8 @@ const SESSIONS: [(&str, &str, AdminEnd, u64); 17] = [
     ),
     (
         "drain 2\ndrain 3\ndrain 4\ndrain 01\ndrain\nquit\n",
-        "error 409 closed\nerror 409 busy\nerror 507 out of memory\nerror 400 bad command\nerror 400 bad command\nok\n",
+        "error 409 closed\nerror 409 busy\nerror 507 out of memory\nerror 400 bad command\n\
+        error 400 bad command\nok\n",
         AdminEnd::Quit,
         3,
     ),

@@ -84,7 +84,8 @@ fn locks_waiters_and_signals_print_their_words(rt: HostRuntime) {
             "held 000000000000000a 0 0 -\nheld 0000000000000016 0 0 -\n",
         ),
         good_row(
-            "1 rlock\n2 rlock\n3 close\n3 rsignal\n2 rwake\n2 rlock\n3 decref\n1 runlock\n1 destroy\n",
+            "1 rlock\n2 rlock\n3 close\n3 rsignal\n2 rwake\n2 rlock\n3 decref\n1 runlock\n\
+            1 destroy\n",
             "held 000000000000000a 0 0 -\nqueued 000000000800000a 0 0 -\n\
              closing 0000000000000013 0 0 -\nsignalled 0000000000000013 1 0 -\n\
              woken 0000000000000013 0 0 -\nclosed 0000000000000013 0 0 -\n\

@@ -1,6 +1,6 @@
 //! The words that ask for a job, and words that ask for none.
 
-use relay::Loops;
+use relay::{Loops, PairLimit};
 use relay_command::{Job, job_of};
 use std::alloc::Global;
 use std::prelude::HostRuntime;
@@ -18,13 +18,20 @@ fn checked(alloc: Global, rules: &str) -> Option<Job> {
     Some(Job::Check { rules })
 }
 
-fn served(alloc: Global, rules: &str, admin: &str, loops: Option<Loops>) -> Option<Job> {
+fn served(
+    alloc: Global,
+    rules: &str,
+    admin: &str,
+    loops: Option<Loops>,
+    pairs: Option<PairLimit>,
+) -> Option<Job> {
     let rules = String::from_str(alloc, rules).ok()?;
     let admin = String::from_str(alloc, admin).ok()?;
     Some(Job::Serve {
         rules,
         admin,
         loops,
+        pairs,
     })
 }
 
@@ -32,11 +39,12 @@ fn served(alloc: Global, rules: &str, admin: &str, loops: Option<Loops>) -> Opti
 fn a_command_is_taken_with_its_options(rt: HostRuntime) {
     let alloc = rt.alloc();
     let check = checked(alloc, "F");
-    let serve = served(alloc, "F", "/a b", None);
-    let on_one = served(alloc, "F", "/a b", Loops::of(1));
-    let on_most = served(alloc, "F", "/a b", Loops::of(64));
+    let serve = served(alloc, "F", "/a b", None, None);
+    let on_one = served(alloc, "F", "/a b", Loops::of(1), None);
+    let on_most = served(alloc, "F", "/a b", Loops::of(64), PairLimit::of(1));
+    let most_pairs = served(alloc, "F", "/a b", None, PairLimit::of(2_000));
     let check_none = checked(alloc, "");
-    let rows: [(&[&str], &Option<Job>); 13] = [
+    let rows: [(&[&str], &Option<Job>); 14] = [
         (&[], &Some(Job::Trace)),
         (&["trace"], &Some(Job::Trace)),
         (&["--"], &Some(Job::Trace)),
@@ -52,8 +60,28 @@ fn a_command_is_taken_with_its_options(rt: HostRuntime) {
             &on_one,
         ),
         (
-            &["serve", "--rules", "F", "--admin", "/a b", "--loops=64"],
+            &[
+                "serve",
+                "--rules",
+                "F",
+                "--connections=1",
+                "--admin",
+                "/a b",
+                "--loops=64",
+            ],
             &on_most,
+        ),
+        (
+            &[
+                "serve",
+                "--rules",
+                "F",
+                "--admin",
+                "/a b",
+                "--connections",
+                "2000",
+            ],
+            &most_pairs,
         ),
         (&["check", "--rules", ""], &check_none),
     ];
@@ -65,7 +93,7 @@ fn a_command_is_taken_with_its_options(rt: HostRuntime) {
 
 #[test]
 fn no_other_words_are_taken(rt: HostRuntime) {
-    let refused: [&[&str]; 37] = [
+    let refused: [&[&str]; 43] = [
         &["check"],
         &["check", "F"],
         &["check", "--rules"],
@@ -93,6 +121,27 @@ fn no_other_words_are_taken(rt: HostRuntime) {
             "--loops=4",
         ],
         &["check", "--rules", "F", "--loops", "4"],
+        &["check", "--rules", "F", "--connections", "4"],
+        &["serve", "--rules", "F", "--admin", "A", "--connections"],
+        &["serve", "--rules", "F", "--admin", "A", "--connections=0"],
+        &[
+            "serve",
+            "--rules",
+            "F",
+            "--admin",
+            "A",
+            "--connections=2001",
+        ],
+        &["serve", "--rules", "F", "--admin", "A", "--connections=04"],
+        &[
+            "serve",
+            "--rules",
+            "F",
+            "--admin",
+            "A",
+            "--connections=4",
+            "--connections=4",
+        ],
         &["--rules", "F", "check"],
         &["frob"],
         &["--help"],

@@ -1,10 +1,10 @@
-//! What a loop shares with those who steer: the stage, its door, and the tokens of its tasks.
+//! What a loop shares with those who steer: the stage, its remote, and the tokens of its tasks.
 
 use super::scene::End;
 use super::stage::Stage;
 use super::waiting::{Around, set_by};
 use fd_descriptor::{AtEviction, Dir, Fault, FdHandle, Setting};
-use readiness::{Door, DoorAlarms, SockRes};
+use readiness::{LoopRemote, RemoteAlarms, SockRes};
 use std::process::Abort;
 use std::sync::atomic::{AtomicBool, AtomicU64, Ordering};
 use std::sync::{Arc, Wait};
@@ -39,19 +39,19 @@ impl Seat {
 #[derive(Drop)]
 pub(super) struct Floor<R: Wait + Drop> {
     pub(super) stage: Stage,
-    pub(super) alarms: DoorAlarms<R>,
-    door: Arc<Door>,
+    pub(super) alarms: RemoteAlarms<R>,
+    remote: Arc<LoopRemote>,
     near: Seat,
     far: Seat,
 }
 
 impl<R: Wait + Clock + Abort + Drop> Floor<R> {
-    /// The floor of the loop with this door.
-    pub(super) fn open(rt: R, door: Arc<Door>) -> Option<Floor<R>> {
+    /// The floor of the loop with this remote.
+    pub(super) fn open(rt: R, remote: Arc<LoopRemote>) -> Option<Floor<R>> {
         Some(Floor {
             stage: Stage::open(&rt),
-            alarms: DoorAlarms::new(rt, Arc::try_clone(&door).ok()?),
-            door,
+            alarms: RemoteAlarms::new(rt, Arc::try_clone(&remote).ok()?),
+            remote,
             near: Seat::new(),
             far: Seat::new(),
         })
@@ -71,13 +71,13 @@ impl<R: Wait + Drop> Floor<R> {
 #[derive(Drop)]
 struct Tells<'a, T: Wait> {
     rt: &'a T,
-    door: &'a Door,
+    remote: &'a LoopRemote,
     token: u64,
 }
 
 impl<T: Wait> AtEviction for Tells<'_, T> {
     fn evicted(&self) {
-        self.door.tell(self.rt, self.token);
+        self.remote.tell(self.rt, self.token);
     }
 }
 
@@ -95,7 +95,7 @@ impl<R: Wait + Drop> Around for Floor<R> {
         setting: Setting,
     ) -> Result<(), Fault> {
         let answer = set_by(rt, handle, setting, &self.alarms);
-        self.door.tell(rt, key);
+        self.remote.tell(rt, key);
         answer
     }
 
@@ -107,14 +107,14 @@ impl<R: Wait + Drop> Around for Floor<R> {
     ) -> Result<(), Fault> {
         let tells = Tells {
             rt,
-            door: &*self.door,
+            remote: &*self.remote,
             token: key,
         };
         handle.close_telling(rt, &tells)
     }
 
     fn marked<T: Wait>(&self, rt: &T) {
-        self.door.tell(rt, self.near.token.load(Ordering::SeqCst));
-        self.door.tell(rt, self.far.token.load(Ordering::SeqCst));
+        self.remote.tell(rt, self.near.token.load(Ordering::SeqCst));
+        self.remote.tell(rt, self.far.token.load(Ordering::SeqCst));
     }
 }

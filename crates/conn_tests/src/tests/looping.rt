@@ -134,7 +134,7 @@ struct World<R: Wait + Copy + Drop> {
 
 impl<R: Wait + Threads + Clock + Abort + Copy + Drop + Send + Sync + 'static> World<R> {
     fn on(rt: R, alloc: Global, looping: EventLoop<Task<R>>) -> Option<World<R>> {
-        let floor = Floor::open(rt, looping.door().ok()?)?;
+        let floor = Floor::open(rt, looping.remote().ok()?)?;
         Some(World {
             rt,
             alloc,

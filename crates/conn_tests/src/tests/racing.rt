@@ -9,9 +9,16 @@ const RACERS: u64 = 10;
 
 const ROUNDS: u64 = 100;
 
+/// The bytes that come at once.
+const PIECE: u64 = 4_096;
+
+/// How many milliseconds a connection has until it has to be full.
+const FILLING: u64 = 500;
+
 const LATE: Fault = Fault::DeadlineExceeded;
 
-/// Ten read under deadlines of a millisecond, before and while there is something to read.
+/// Ten read under deadlines of a millisecond, while a piece comes each millisecond or two: so many
+/// a piece comes just as a deadline passes.
 fn reads_race() -> [Part; 3] {
     [
         roles(
@@ -36,8 +43,9 @@ fn reads_race() -> [Part; 3] {
         role(
             End::Far,
             &[
-                Step::Pause(20),
-                Step::Write(1 << 20),
+                Step::Write(PIECE),
+                Step::Pause(1),
+                Step::Repeat(256),
                 Step::Await(RACERS),
                 Step::Do(Call::Shut),
                 Step::Refused(Call::Read, Fault::EndOfFile),
@@ -47,13 +55,13 @@ fn reads_race() -> [Part; 3] {
 }
 
 /// Ten write under deadlines of a millisecond, from when the connection takes no more until the
-/// other end has read all.
+/// other end has read all. It takes a part of the last write, which is counted.
 fn writes_race() -> [Part; 3] {
     [
         role(
             End::Near,
             &[
-                Step::Do(Call::Set(Dirs::Write, When::In(20))),
+                Step::Do(Call::Set(Dirs::Write, When::In(FILLING))),
                 Step::WriteUntil(LATE),
                 Step::Mark,
                 Step::Await(RACERS + 1),

@@ -5,8 +5,8 @@ use super::{TURNS, holds, pause};
 use arrayvec::ArrayString;
 use fd_descriptor::{AcceptOutcome, FdHandle, TryAccept};
 use readiness::{
-    Addr, ConnTable, Held, Listen, Poller, Sock, SockRes, TimerAlarms, Timers, Waker, connect,
-    listen,
+    Addr, ConnTable, HeldSocket, Listen, Poller, Sock, SockRes, TimerAlarms, Timers, Waker,
+    connect, listen,
 };
 use std::alloc::Global;
 use std::fs::Files;
@@ -114,7 +114,7 @@ pub(super) struct HeldEnd {
     pub(super) handle: FdHandle<SockRes>,
 }
 
-type Table = Mutex<ConnTable<Held<SockRes>>>;
+type Table = Mutex<ConnTable<HeldSocket<SockRes>>>;
 
 /// Holds a socket, which `poller` tells from now on.
 fn hold<R: Wait>(

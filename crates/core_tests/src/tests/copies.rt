@@ -1,5 +1,5 @@
-//! Rows of answers, by scripted gates: how a worker ends, what its share and its book then have, and
-//! which pauses an accept worker asks for.
+//! Rows of answers, by scripted gates: how a worker ends, what its share and its book then have,
+//! and which pauses an accept worker asks for.
 
 ghost use Rattle.std.specs.Prelude.{◌≡◌, ◌+◌};
 ghost use Rattle.relay_core.specs.CopyTrace.{written, uncredited};
@@ -7,7 +7,7 @@ ghost use Rattle.relay_core.specs.CopyTrace.{written, uncredited};
 use relay_core::laws::each_is_delivered_in_order;
 use relay_core::{
     AcceptEnded, AcceptGate, BUFFER_BYTES, CopyGate, Ended, FIRST_BUFFER_BYTES, InsertedSides,
-    MAX_PAIRS, accept_worker, copy_by_need, copy_worker, end_closes_pair, has_room_for_pair,
+    PairLimit, accept_worker, copy_by_need, copy_worker, end_closes_pair, has_room_for_pair,
     idle_deadline, next_pause_ms,
 };
 use relay_ledger::{Book, PARTS, Share};
@@ -16,7 +16,8 @@ use std::marker::Brand;
 use std::sync::ledger::{Blank, Ledger};
 use std::sync::{Mutex, Wait};
 
-/// Gives the answers of a script, and the reader's end after its reads. It tells nothing, as a socket.
+/// Gives the answers of a script, and the reader's end after its reads. It tells nothing, as a
+/// socket.
 #[derive(Drop)]
 struct ScriptedGate {
     reads: &'static [usize],
@@ -381,8 +382,13 @@ fn pair_closes_at_a_fault_or_at_both_ends(rt: HostRuntime) {
     assert_eq!(rt; end_closes_pair(&Ended::Eof, 1), true);
     assert_eq!(rt; end_closes_pair(&Ended::ReadFault(RESET), 2), true);
     assert_eq!(rt; end_closes_pair(&Ended::BookFull(0), 1), true);
-    assert_eq!(rt; has_room_for_pair(511), true);
-    assert_eq!(rt; has_room_for_pair(MAX_PAIRS), false);
+    assert_eq!(rt; has_room_for_pair(511, PairLimit::by_default()), true);
+    assert_eq!(rt; has_room_for_pair(512, PairLimit::by_default()), false);
+    let most = PairLimit::of(2_000).expect(&rt, "2,000 pairs");
+    assert_eq!(rt; has_room_for_pair(1_999, most), true);
+    assert_eq!(rt; has_room_for_pair(2_000, most), false);
+    assert_eq!(rt; PairLimit::of(0), None);
+    assert_eq!(rt; PairLimit::of(2_001), None);
 }
 
 #[test]

@@ -2,8 +2,8 @@
 use linked_list_allocator::LocalHeap;
 use std::alloc::{AllocError, Global};
 
-/// Takes what is left of a heap, in blocks of its least size. `descriptor_tests` has its own: no crate
-/// uses another's tests, and one for this alone would be proved in each gate.
+/// Takes what is left of a heap, in blocks of its least size. `descriptor_tests` has its own: no
+/// crate uses another's tests, and one for this alone would be proved in each gate.
 pub(super) fn fill<'a>(
     alloc: Global,
     heap: &'a LocalHeap,

@@ -1,6 +1,8 @@
-//! Rows of answers, by scripted halves and waits, and the order between tries and waits, which no clause can say.
+//! Rows of answers, by scripted halves and waits, and the order between tries and waits, which no
+//! clause can say.
 ghost use Rattle.rwloops.specs.Outcome.{IsCountWithin};
 
+use base_types::Dir;
 use deadline_core::Refusal;
 use rwloops::{
     AcceptLoop, AcceptOutcome, DevKind, Fault, Next, Outcome, ReadLoop, TryAccept, TryRead,
@@ -9,7 +11,6 @@ use rwloops::{
 use std::cell::Cell;
 use std::process::Abort;
 use std::sync::Wait;
-use stream_base::Dir;
 
 const PREPARED: u64 = 1;
 
@@ -24,7 +25,8 @@ fn note(log: &Cell<u64>, done: u64) {
     log.set(log.get().saturating_mul(10).saturating_add(done));
 }
 
-/// Gives the outcomes of a script, each so many times in a row, and `WouldBlock` after its end. It tells nothing, as a socket.
+/// Gives the outcomes of a script, each so many times in a row, and `WouldBlock` after its end. It
+/// tells nothing, as a socket.
 #[derive(Drop)]
 pub(super) struct ScriptedHalf {
     script: &'static [(Outcome, u32)],
@@ -187,8 +189,8 @@ impl Waits for Noted<'_, ScriptedWaits> {
     }
 }
 
-/// A row: its name, the outcomes in turn, how many calls on waits are granted before the deadline has passed, and how many tries are
-/// made.
+/// A row: its name, the outcomes in turn, how many calls on waits are granted before the deadline
+/// has passed, and how many tries are made.
 #[derive(Clone, Copy)]
 struct Row {
     name: &'static str,

@@ -1,12 +1,12 @@
 //! Worked values from outside the definitions, and each call once on its way to an answer.
 
+use base_types::Dir;
 use lockword_core::layout_one::to_two;
 use lockword_core::{
     After, Answer, Event, Kind, MAX_SIGNALS, Machine, Op, Refused, Signals, Stake, Word, pack,
     signal_add, signal_take, unpack, word_step,
 };
 use std::prelude::HostRuntime;
-use stream_base::Dir;
 
 #[test]
 fn a_step_on_the_word_gives_the_worked_words(rt: HostRuntime) {

@@ -1,4 +1,5 @@
-//! Devices that are slow, interrupted or broken, lines at their limits, and memory that may be refused.
+//! Devices that are slow, interrupted or broken, lines at their limits, and memory that may be
+//! refused.
 
 use lockword_script::laws::{
     a_line_says_one_thing, a_long_line_is_bad, each_script_has_a_text, one_script_has_one_text,
@@ -9,8 +10,8 @@ use std::cell::Cell;
 use std::io::{ErrorKind, Read, Result, Write};
 use std::prelude::HostRuntime;
 
-/// A reader that is interrupted some times before each read, gives a few bytes by a read, may break at
-/// its end, and notes what the writer had passed on when each of its first reads came.
+/// A reader that is interrupted some times before each read, gives a few bytes by a read, may break
+/// at its end, and notes what the writer had passed on when each of its first reads came.
 #[derive(Drop)]
 struct SlowReader<'a> {
     row: u32,
@@ -63,8 +64,9 @@ impl Read for SlowReader<'_> {
     }
 }
 
-/// A writer that is interrupted some times before each call, takes a few bytes by a write and no more than
-/// it has room for, then breaks or takes nothing, and whose flushes fail once some have succeeded.
+/// A writer that is interrupted some times before each call, takes a few bytes by a write and no
+/// more than it has room for, then breaks or takes nothing, and whose flushes fail once some have
+/// succeeded.
 #[derive(Drop)]
 struct SlowWriter<'a> {
     row: u32,
@@ -196,7 +198,8 @@ fn lines_at_their_limits_are_good_or_bad(rt: HostRuntime) {
 fn a_drained_word_lets_nobody_in_and_is_closed(rt: HostRuntime) {
     let rows: [(&str, &str); 3] = [
         (
-            "1 rlock\n2 rlock\n3 drain\n3 rsignal\n2 rwake\n2 rlock\n1 runlock\n5 close\n5 decref\n5 destroy\n",
+            "1 rlock\n2 rlock\n3 drain\n3 rsignal\n2 rwake\n2 rlock\n1 runlock\n5 close\n5 decref\n\
+            5 destroy\n",
             "held 000000000000000a 0 0 -\nqueued 000000000800000a 0 0 -\n\
              drained 800000000000000a 0 0 -\nsignalled 800000000000000a 1 0 -\n\
              woken 800000000000000a 0 0 -\ndraining 800000000000000a 0 0 -\n\
@@ -204,7 +207,8 @@ fn a_drained_word_lets_nobody_in_and_is_closed(rt: HostRuntime) {
              last 8000000000000001 0 0 -\ndone 8000000000000001 0 0 5\n",
         ),
         (
-            "1 rlock\n2 wlock\n3 rlock\n4 wlock\n5 drain\n5 drain\n5 wsignal\n5 wsignal\n5 rsignal\n5 drain\n",
+            "1 rlock\n2 wlock\n3 rlock\n4 wlock\n5 drain\n5 drain\n5 wsignal\n5 wsignal\n\
+            5 rsignal\n5 drain\n",
             "held 000000000000000a 0 0 -\nheld 0000000000000016 0 0 -\n\
              queued 0000000008000016 0 0 -\nqueued 0000200008000016 0 0 -\n\
              drained 8000000000000016 0 0 -\nmisuse 8000000000000016 0 0 -\n\
@@ -317,7 +321,8 @@ impl Write for Counter {
     }
 }
 
-// Run with each allocation refused in turn, it is that refusal that comes back, and whole lines stand.
+// Run with each allocation refused in turn, it is that refusal that comes back, and whole lines
+// stand.
 #[test]
 fn refused_memory_leaves_whole_lines(rt: HostRuntime) {
     let passed_on = Cell::new(0);

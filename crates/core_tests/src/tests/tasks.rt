@@ -1,14 +1,16 @@
-//! Copies and accepts that are resumed, by scripted gates that say "not yet"; and what follows for a
-//! pair and for a loop.
+//! Copies and accepts that are resumed, by scripted gates that say "not yet"; and what follows for
+//! a pair and for a loop.
 
 ghost use Rattle.std.specs.Prelude.{◌≡◌, ◌≤◌, ⊤};
 
 use crate::tests::full_heap::fill;
+use base_types::Dir;
 use linked_list_allocator::LocalHeap;
 use relay_core::laws::{accepts_join, bytes_pass_in_parts, parts_join};
 use relay_core::{
-    ACCEPTS_IN_A_ROW, AcceptEnded, AcceptStep, Accepting, BUFFER_BYTES, Copying, Ended, PairNext,
-    PairTasks, PollAcceptGate, PollGate, Side, Standing, Step, TURNS_IN_A_ROW, Way, Ways, loop_of,
+    ACCEPTS_IN_A_ROW, AcceptEnded, AcceptStep, Accepting, Copying, Ended, LOOP_BUFFER_BYTES,
+    PairNext, PairTasks, PollAcceptGate, PollGate, Side, Standing, Step, TURNS_IN_A_ROW, Way, Ways,
+    loop_of,
 };
 use relay_ledger::{Book, PARTS};
 use rwloops::{DevKind, Fault, WriteFault};
@@ -17,13 +19,12 @@ use std::marker::Brand;
 use std::sync::ledger::{Blank, Ledger};
 use std::sync::{Mutex, Wait};
 use std::test::Fail;
-use stream_base::Dir;
 
 const RESET: Fault = Fault::Device(DevKind::Reset);
 
-/// Gives so many bytes by each read, 0 for "not yet", and the reader's end after its reads; takes so
-/// many by each write, 0 for "not yet", and all after its writes. The bytes are counted up from 0,
-/// which the writes check. It tells nothing, as a socket.
+/// Gives so many bytes by each read, 0 for "not yet", and the reader's end after its reads; takes
+/// so many by each write, 0 for "not yet", and all after its writes. The bytes are counted up from
+/// 0, which the writes check. It tells nothing, as a socket.
 #[derive(Drop)]
 struct PacedGate {
     reads: &'static [usize],
@@ -113,7 +114,8 @@ impl PollGate for PacedGate {
 }
 
 /// How a copy went that was resumed to its end: how often it waited to read and to write, and said
-/// `Again`; its end; its share's amount; whether the bytes were in order, and how many were written.
+/// `Again`; its end; its share's amount; whether the bytes were in order, and how many were
+/// written.
 #[derive(Clone, Copy, Debug, PartialEq, Eq, Drop)]
 struct Course {
     to_read: u32,
@@ -189,8 +191,8 @@ fn parts_pass_in_order(rt: HostRuntime) -> Result<(), Fail> {
 
 #[test]
 fn long_copy_gives_others_their_turn(rt: HostRuntime) -> Result<(), Fail> {
-    assert_eq!(rt; (TURNS_IN_A_ROW, BUFFER_BYTES), (32, 16_384));
-    let gate = PacedGate::new(&[1; 80], &[]);
+    assert_eq!(rt; (TURNS_IN_A_ROW, LOOP_BUFFER_BYTES), (8, 65_536));
+    let gate = PacedGate::new(&[1; 20], &[]);
     let copying = Copying::new(rt.alloc())?;
     let course = resumed::<Brand, _, _>(&rt, Blank::new(PARTS), gate, copying);
     let wanted = Course {
@@ -198,9 +200,9 @@ fn long_copy_gives_others_their_turn(rt: HostRuntime) -> Result<(), Fail> {
         to_write: 0,
         again: 2,
         ended: Ended::Eof,
-        amount: 80,
+        amount: 20,
         in_order: true,
-        written: 80,
+        written: 20,
     };
     assert_eq!(rt; course, Some(wanted));
     Ok(())
@@ -228,14 +230,14 @@ fn parts_before_a_failed_write_are_credited(rt: HostRuntime) -> Result<(), Fail>
     Ok(())
 }
 
-// A copy asks for memory once, at its beginning. On a heap with nothing left it goes to its end, with
-// all that it keeps.
+// A copy asks for memory once, at its beginning. On a heap with nothing left it goes to its end,
+// with all that it keeps.
 #[test]
 fn copy_takes_no_memory_after_its_beginning(rt: HostRuntime) -> Result<(), Fail> {
-    let heap = LocalHeap::new(rt.alloc(), 32_768)?;
+    let heap = LocalHeap::new(rt.alloc(), 81_920)?;
     let mut blocks = fill(rt.alloc(), &heap)?;
     let mut refusals = 0u32;
-    for _ in 0..4096 {
+    for _ in 0..8_192 {
         let used = heap.used();
         match Copying::new(&heap) {
             Ok(copying) => {

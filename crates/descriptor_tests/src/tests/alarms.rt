@@ -3,6 +3,7 @@
 use super::scripted::ALWAYS_BLOCKS;
 use super::watch::Watch;
 use super::{comes_to, told_plain};
+use base_types::OutOfMemory;
 use deadline_core::{Deadline, Dirs};
 use fd_descriptor::Alarms;
 use std::alloc::Global;
@@ -11,7 +12,6 @@ use std::sync::atomic::{AtomicU64, Ordering};
 use std::test::Fail;
 use std::thread;
 use std::time::{Clock, Duration};
-use stream_base::OutOfMemory;
 
 /// How often an alarm was armed, whether a tick came through, and whether it did so meanwhile.
 #[derive(Drop)]

@@ -39,7 +39,8 @@ fn halves_are_destroyed_once(rt: HostRuntime) -> Result<(), Fail> {
     Ok(())
 }
 
-/// Waits until the word is closed with one reference left, which is then that of a call in its half.
+/// Waits until the word is closed with one reference left, which is then that of a call in its
+/// half.
 pub(super) fn closer_has_left<C: Clock, X: Resource>(clock: &C, handle: &mut FdHandle<X>) -> bool {
     for _ in 0..TURNS {
         let word = handle.look();

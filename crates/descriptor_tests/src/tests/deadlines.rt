@@ -3,6 +3,7 @@
 use super::scripted::{ALWAYS_BLOCKS, BLOCKS, END, Script, Try};
 use super::watch::Watch;
 use super::{KEY, Plain, Silent, comes_to, share, start_read, start_two_reads, told_plain};
+use base_types::{Dir, OutOfMemory};
 use deadline_core::{Deadline, Dirs};
 use fd_descriptor::{Alarms, PollCell};
 use rwloops::{Fault, Outcome, WriteFault};
@@ -10,7 +11,6 @@ use std::process::Abort;
 use std::sync::{Mutex, Wait};
 use std::test::Fail;
 use std::time::Clock;
-use stream_base::{Dir, OutOfMemory};
 
 /// What was asked of alarms: for this key and these directions a tick at this moment, or none.
 type Asked = (u64, Dirs, Option<u64>);
@@ -96,7 +96,7 @@ fn a_deadline_that_has_passed_ends_a_parked_read_at_once(rt: HostRuntime) -> Res
     }
     holds!(rt; reading.join(&rt) == LATE);
     watch.end(&rt);
-    holds!(rt; alarms.asked() == Some((KEY, Dirs::Both, None)), "the alarm of the earlier one is gone");
+    holds!(rt; alarms.asked() == Some((KEY, Dirs::Both, None)), "the earlier alarm is gone");
     Ok(())
 }
 

@@ -1,11 +1,12 @@
-//! Drains: who has a half goes on, who queues for one is woken and refused, nobody comes in any more,
-//! and a close still works.
+//! Drains: who has a half goes on, who queues for one is woken and refused, nobody comes in any
+//! more, and a close still works.
 
 use super::scripted::{ALWAYS_BLOCKS, BLOCKS, END, Script, Told, Try};
 use super::watch::Watch;
 use super::{
     Plain, Silent, TURNS, comes_to, open_plain, share, start_read, start_two_reads, start_write,
 };
+use base_types::Dir;
 use deadline_core::Deadline;
 use rwloops::{Fault, Outcome, WriteFault};
 use std::process::Abort;
@@ -15,7 +16,6 @@ use std::test::Fail;
 use std::thread;
 use std::thread::{JoinHandle, Threads};
 use std::time::{Clock, Duration};
-use stream_base::Dir;
 
 /// A half that is ready for three bytes once it has blocked.
 const THEN_THREE: Script = [

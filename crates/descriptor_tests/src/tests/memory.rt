@@ -48,8 +48,8 @@ fn half_of(drops: &Arc<AtomicU64, Global>) -> Result<Counted, Fail> {
     })
 }
 
-/// Takes what is left of a heap. `core_tests` has its own: no crate uses another's tests, and one for
-/// this alone would be proved in each gate.
+/// Takes what is left of a heap. `core_tests` has its own: no crate uses another's tests, and one
+/// for this alone would be proved in each gate.
 pub(super) fn fill<'a>(
     alloc: Global,
     heap: &'a LocalHeap,
@@ -132,8 +132,8 @@ fn a_handle_is_shared_and_used_with_no_memory_left(rt: HostRuntime) -> Result<()
     Ok(())
 }
 
-/// Holds where memory is refused as well: `tests/refused_memory.sh` refuses each allocation in turn. A
-/// descriptor that was opened is then drained, since a drain takes no memory.
+/// Holds where memory is refused as well: `tests/refused_memory.sh` refuses each allocation in
+/// turn. A descriptor that was opened is then drained, since a drain takes no memory.
 #[test]
 fn a_refused_word_drops_the_halves(rt: HostRuntime) -> Result<(), Fail> {
     let drops = Arc::new(rt.alloc(), AtomicU64::new(0))?;

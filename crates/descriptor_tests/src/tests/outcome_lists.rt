@@ -4,6 +4,7 @@
 use super::scripted::{END, Notice, OwnCell, Script, ScriptedHalf, Told, Try};
 use super::watch::Watch;
 use super::{Woken, open_woken};
+use base_types::Dir;
 use deadline_core::Refusal;
 use rwloops::{DevKind, Outcome, Waits, accept, read, write};
 use std::alloc::Global;
@@ -11,7 +12,6 @@ use std::process::Abort;
 use std::sync::Wait;
 use std::sync::atomic::Ordering;
 use std::test::Fail;
-use stream_base::Dir;
 
 /// Waits that grant everything.
 #[derive(Drop)]
@@ -47,7 +47,8 @@ enum Call {
     Accept,
 }
 
-/// Whether a call through the handle answers and leaves in the buffer what the loop does on the half.
+/// Whether a call through the handle answers and leaves in the buffer what the loop does on the
+/// half.
 fn same_answer<T: Wait + Drop>(
     rt: &T,
     handle: &mut Woken<T>,

@@ -15,8 +15,8 @@ const WOKEN: Try = Try::Tells(Notice::Ready);
 
 const EXPIRES: Try = Try::Tells(Notice::Clock(100));
 
-/// A row: its name, the tries of the half, the moment at which a deadline of 100 is set, if it is, and
-/// how many tries are made.
+/// A row: its name, the tries of the half, the moment at which a deadline of 100 is set, if it is,
+/// and how many tries are made.
 #[derive(Clone, Copy)]
 struct Row {
     name: &'static str,

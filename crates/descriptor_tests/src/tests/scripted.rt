@@ -3,6 +3,7 @@
 ghost use Rattle.rwloops.specs.Outcome.{IsCountWithin};
 
 use super::TURNS;
+use base_types::Dir;
 use fd_descriptor::{HalfClose, PollCell, Resource};
 use rwloops::{AcceptOutcome, DevKind, Outcome, TryAccept, TryRead, TryWrite};
 use std::alloc::Global;
@@ -12,7 +13,6 @@ use std::sync::{Arc, Mutex, Wait};
 use std::test::Fail;
 use std::thread;
 use std::time::{Clock, Duration};
-use stream_base::Dir;
 
 /// What a half says to its cell at a try.
 #[derive(Clone, Copy)]

@@ -1,5 +1,5 @@
-//! Calls under way: what their tries answer, that each keeps its half's lock until it ends, and who is
-//! told of a close.
+//! Calls under way: what their tries answer, that each keeps its half's lock until it ends, and who
+//! is told of a close.
 
 use super::closing::closer_has_left;
 use super::scripted::{ALWAYS_BLOCKS, BLOCKS, ClockAlone, END, Played, Script, Told, Try};
@@ -259,8 +259,8 @@ fn plays<T: Wait + Clock + Copy + Drop>(rt: T, handle: &mut Plain<T>, thread: u3
     unreachable!()
 }
 
-/// Eight threads and a task: four that set deadlines, three that read, and one that closes. In every
-/// other round the descriptor is drained first.
+/// Eight threads and a task: four that set deadlines, three that read, and one that closes. In
+/// every other round the descriptor is drained first.
 fn play_round<T: Threads + Wait + Clock + Copy + Send + Drop + Abort + 'static>(
     rt: T,
     alloc: Global,

@@ -1,9 +1,10 @@
-//! Who waits is woken by a notice alone, with no tick and no close beside it, and tries no more once
-//! a close has woken it.
+//! Who waits is woken by a notice alone, with no tick and no close beside it, and tries no more
+//! once a close has woken it.
 
 use super::scripted::{ALWAYS_BLOCKS, BLOCKS, END, Script, Told, Try};
 use super::watch::Watch;
 use super::{comes_to, start_read, start_write, told_plain};
+use base_types::Dir;
 use fd_descriptor::PollCell;
 use rwloops::{Fault, Outcome};
 use std::process::Abort;
@@ -12,7 +13,6 @@ use std::sync::atomic::Ordering;
 use std::test::Fail;
 use std::thread;
 use std::time::{Clock, Duration};
-use stream_base::Dir;
 
 /// How many tries would block, before one that takes three bytes.
 const BLOCKED: u32 = 20;

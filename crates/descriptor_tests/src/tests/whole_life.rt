@@ -1,5 +1,5 @@
-//! Every call of a handle, where memory is refused: on heaps of growing size a descriptor isn't opened, and destroys
-//! nothing, or is opened and then works on with no memory left.
+//! Every call of a handle, where memory is refused: on heaps of growing size a descriptor isn't
+//! opened, and destroys nothing, or is opened and then works on with no memory left.
 
 use super::memory::fill;
 use super::scripted::{ClockAlone, END, Played, Script, ScriptedHalf, Told, Try};
@@ -41,8 +41,8 @@ fn try_it<T: Wait + Abort + Copy, C: Clock + Drop>(
     Ok(())
 }
 
-/// Two shares, a read, a write, both of them under way, a deadline, a drain and a close, each of which
-/// succeeds.
+/// Two shares, a read, a write, both of them under way, a deadline, a drain and a close, each of
+/// which succeeds.
 fn use_it<T: Wait + Abort + Copy, C: Clock + Drop>(
     rt: &T,
     handle: &mut FdHandle<Played<ClockAlone<C>>, &LocalHeap>,

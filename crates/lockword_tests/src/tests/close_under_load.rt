@@ -1,4 +1,5 @@
-//! Eight threads lock, queue and hold in both directions while one closes, or drains and then closes.
+//! Eight threads lock, queue and hold in both directions while one closes, or drains and then
+//! closes.
 
 ghost use Rattle.std.specs.Prelude.{IfSome, IfOk};
 ghost use Rattle.fdmutex.specs.Refusal.{IsFreedOf};
@@ -8,6 +9,7 @@ ghost use Rattle.lockword.specs.TransitionOutcomes.{IsSeatOf};
 use super::threads::add_slowly;
 use super::workers::{Worker, all_work, wait_for};
 use super::{CounterSeat, Counters, closed, destroy, drained};
+use base_types::Dir;
 use fdmutex::{Freed, Refusal, drop_closing, read_lock, read_unlock, write_lock, write_unlock};
 use lockword::LockWord;
 use lockword_core::pack;
@@ -18,7 +20,6 @@ use std::sync::atomic::{AtomicU64, Ordering};
 use std::test::Fail;
 use std::thread::Threads;
 use std::time::Clock;
-use stream_base::Dir;
 
 /// What the threads of a round saw, all together, and why each of the eight is refused at its end.
 #[derive(Drop)]

@@ -1,8 +1,8 @@
-//! The words of a worked row with a drain, and each call before and after it, by one thread with a seat for
-//! each holder.
+//! The words of a worked row with a drain, and each call before and after it, by one thread with a
+//! seat for each holder.
 
 ghost use Rattle.std.specs.Prelude.{◌<◌};
-ghost use Rattle.stream_base.specs.declared.direction.Dir.TheVariants.{Read};
+ghost use Rattle.base_types.specs.declared.direction.Dir.TheVariants.{Read};
 ghost use Rattle.lockword.specs.Places.{seat_place, drains_owed};
 ghost use Rattle.lockword.specs.TransitionOutcomes.{IsSeatOf};
 
@@ -12,6 +12,7 @@ use super::{
     CounterSeat, Counters, closed, destroy, destroyed, drained, kept, owes_nobody, reading,
     reference, shows, wrong,
 };
+use base_types::Dir;
 use fdmutex::{Refusal, decref, drain, drop_closing, incref, read_lock, read_unlock, write_lock};
 use lockword::{
     Close, Drain, Drains, Freed, LockRead, LockWord, LockWrite, SignalDrains, UnlockRead,
@@ -20,7 +21,6 @@ use lockword::{
 use std::process::Abort;
 use std::sync::Wait;
 use std::test::Fail;
-use stream_base::Dir;
 
 /// Ends the test where a drainer owes anything but one reader a signal.
 fn owes_one_reader<R: Abort>(rt: &R, drains: &Drains<u64, u64>)

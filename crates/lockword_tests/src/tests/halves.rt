@@ -16,7 +16,8 @@ impl Drop for Counted<'_> {
     }
 }
 
-/// Holds where memory is refused as well: `tests/refused_memory.sh` refuses each allocation in turn.
+/// Holds where memory is refused as well: `tests/refused_memory.sh` refuses each allocation in
+/// turn.
 #[test]
 fn a_word_drops_its_halves_once(rt: HostRuntime) {
     let drops = AtomicU64::new(0);

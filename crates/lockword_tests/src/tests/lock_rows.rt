@@ -1,16 +1,17 @@
-//! The words of worked rows with locks, queues and signals, by one thread with a seat for each holder.
+//! The words of worked rows with locks, queues and signals, by one thread with a seat for each
+//! holder.
 
 ghost use Rattle.lockword.specs.Places.{seat_place, lock_place, wait_place};
 ghost use Rattle.lockword.specs.TransitionOutcomes.{IsSeatOf};
 
 use super::{CounterSeat, Counters, destroy, owes_nobody, shows, wrong};
+use base_types::Dir;
 use lockword::{
     Close, Freed, Incref, LockRead, LockWord, LockWrite, ReadLock, ReadWait, Signal, SignalClosing,
     UnlockRead, UnlockWrite, WakeRead, WakeWrite,
 };
 use std::process::Abort;
 use std::test::Fail;
-use stream_base::Dir;
 
 /// One has the read lock, and two waits for it.
 pub(super) fn reads_and_waits<R: Abort>(

@@ -7,6 +7,7 @@ ghost use Rattle.lockword.specs.TransitionOutcomes.{IsSeatOf};
 use super::answers::refused;
 use super::workers::{Worker, all_work, wait_for};
 use super::{CounterSeat, Counters, closed, drained, kept, leave, reading, shows, writing};
+use base_types::Dir;
 use fdmutex::{Freed, Refusal, drop_closing, read_lock, read_unlock, write_lock, write_unlock};
 use lockword::LockWord;
 use std::alloc::Global;
@@ -17,7 +18,6 @@ use std::test::Fail;
 use std::thread;
 use std::thread::Threads;
 use std::time::{Clock, Duration};
-use stream_base::Dir;
 
 /// What the threads saw, why each waiter is refused, and when the holders may go.
 #[derive(Drop)]
@@ -167,7 +167,8 @@ impl<R: Wait + Abort + Clock> Worker<R, Tally> for Role {
     }
 }
 
-/// Plays the roles of a round, in which each waiter is refused for this reason, and looks at the end.
+/// Plays the roles of a round, in which each waiter is refused for this reason, and looks at the
+/// end.
 fn all_waiters_end<R: Threads + Wait + Abort + Clock + Sync>(
     rt: &R,
     alloc: Global,

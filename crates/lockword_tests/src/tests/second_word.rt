@@ -6,11 +6,11 @@ ghost use Rattle.lockword.specs.Places.{seat_place};
 ghost use Rattle.lockword.specs.TransitionOutcomes.{IsSeatOf};
 
 use super::{CounterSeat, Counters, kept, reference, shows};
+use base_types::OutOfMemory;
 use fdmutex::decref;
 use lockword::LockWord;
 use std::alloc::Global;
 use std::test::Fail;
-use stream_base::OutOfMemory;
 
 /// A word, from the second try where the first was refused.
 fn word_of(alloc: Global) -> Result<(Counters, CounterSeat), OutOfMemory>

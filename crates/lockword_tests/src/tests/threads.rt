@@ -5,6 +5,7 @@ ghost use Rattle.lockword.specs.TransitionOutcomes.{IsSeatOf};
 
 use super::workers::{Worker, all_work};
 use super::{CounterSeat, Counters, closed, destroyed, kept, reading, writing};
+use base_types::Dir;
 use fdmutex::{drop_closing, read_unlock, write_unlock};
 use lockword::LockWord;
 use std::alloc::Global;
@@ -14,7 +15,6 @@ use std::test::Fail;
 use std::thread;
 use std::thread::Threads;
 use std::time::Clock;
-use stream_base::Dir;
 
 /// Adds one, and lets other threads run between the load and the store.
 pub(super) fn add_slowly(half: &mut u64) {

@@ -1,12 +1,13 @@
 //! The limit of those who wait for one lock, by the single tries and by the call that waits.
 
 ghost use Rattle.std.specs.Prelude.{◌≡◌};
-ghost use Rattle.stream_base.specs.declared.direction.Dir.TheVariants.{Read, Write};
+ghost use Rattle.base_types.specs.declared.direction.Dir.TheVariants.{Read, Write};
 ghost use Rattle.lockword.specs.Places.{seat_place, lock_place, closing_place, wait_place, owed_by};
 ghost use Rattle.lockword.specs.TransitionOutcomes.{IsSeatOf};
 
 use super::answers::refused;
 use super::{CounterSeat, Counters, destroyed, kept, owes_nobody, shows, wrong};
+use base_types::Dir;
 use fdmutex::{Refusal, drop_closing, write_lock, write_unlock};
 use lockword::{
     Close, Closing, LockWord, LockWrite, SignalClosing, WakeWrite, WriteLock, WriteWait,
@@ -16,7 +17,6 @@ use std::alloc::{AllocError, AllocFailed, Global};
 use std::process::Abort;
 use std::sync::Wait;
 use std::test::Fail;
-use stream_base::Dir;
 
 /// Who waits for the write lock of this word.
 struct Queued<'a> {

@@ -76,7 +76,8 @@ fn all_who_wait_for_the_end_are_woken(rt: HostRuntime) -> Result<(), Fail> {
     Ok(())
 }
 
-/// No thread sleeps, so that in some rounds a waiter has asked and not yet parked when the mark comes.
+/// No thread sleeps, so that in some rounds a waiter has asked and not yet parked when the mark
+/// comes.
 #[test]
 fn nobody_misses_an_end_that_comes_as_he_parks(rt: HostRuntime) -> Result<(), Fail> {
     let mut roles = [Role::Waits; 5];

@@ -1,16 +1,17 @@
 //! Many connections at once.
 
+use super::paths::own_path;
 use super::watch::Watch;
-use super::{Turning, World, any_port, share};
+use super::{Turning, World, any_port, pause, share};
 use fd_descriptor::{Fault, FdHandle};
-use readiness::SockRes;
+use readiness::{Addr, SockRes};
 use std::fs::Files;
 use std::net::Net;
 use std::process::Abort;
 use std::sync::Wait;
-use std::thread;
 use std::thread::{JoinHandle, Threads};
 use std::time::Clock;
+use std::{fs, thread};
 
 const CONNECTIONS: u64 = 64;
 
@@ -156,5 +157,22 @@ fn sixty_four_connections_echo_a_megabyte_each(rt: HostRuntime) {
         ends(&rt, echo);
     }
     turning.stop(&rt);
+    watch.end(&rt);
+}
+
+#[test]
+fn a_unix_connection_that_is_read_late_loses_no_byte(rt: HostRuntime) {
+    let watch = Watch::start(rt, rt.alloc());
+    let path = own_path(&rt, "bulk").expect(&rt, "a path");
+    let world = World::new(rt, rt.alloc());
+    let (near, mut far) = world.pair(&Addr::Unix(path));
+    let turning = Turning::start(world);
+    let sending = start_sending(rt, near, 1);
+    // By then the socket holds all that it can.
+    pause(&rt, 100);
+    holds!(rt; reads_all(&rt, &mut far, 1) == Some(BYTES));
+    holds!(rt; sending.join(&rt));
+    turning.stop(&rt);
+    holds!(rt; fs::remove_file(&rt, path.as_str()).is_ok());
     watch.end(&rt);
 }

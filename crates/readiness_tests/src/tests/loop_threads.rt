@@ -1,10 +1,11 @@
-//! A loop whose tasks other threads name, or set moments for, in any state of the loop: while it sleeps,
-//! while it runs, and just before it sleeps. A wake-up that was lost would cost a second each time.
+//! A loop whose tasks other threads name, or set moments for, in any state of the loop: while it
+//! sleeps, while it runs, and just before it sleeps. A wake-up that was lost would cost a second
+//! each time.
 
 use super::watch::Watch;
 use super::{comes_to, nanos_since};
 use fd_descriptor::{Alarms, Dirs, PollCell};
-use readiness::{Door, DoorAlarms, EventLoop, Host, Side, Turn, Why};
+use readiness::{EventLoop, Host, LoopRemote, RemoteAlarms, Side, Turn, Why};
 use std::alloc::Global;
 use std::process::Abort;
 use std::sync::atomic::{AtomicU64, Ordering};
@@ -37,7 +38,7 @@ impl Host for Counter {
     }
 
     fn resume(&mut self, task: &mut Heard, why: Why) -> Turn {
-        if let Why::Told | Why::Due { .. } = why {
+        if let Why::Named | Why::Due { .. } = why {
             task.times.fetch_add(1, Ordering::SeqCst);
         }
         Turn::Waits
@@ -48,8 +49,8 @@ impl Host for Counter {
     }
 }
 
-/// Looks at the count so often before it waits by the millisecond, so that some rounds meet a loop that
-/// runs or is about to sleep, and others one that sleeps.
+/// Looks at the count so often before it waits by the millisecond, so that some rounds meet a loop
+/// that runs or is about to sleep, and others one that sleeps.
 fn is_heard<R: Clock>(rt: &R, times: &AtomicU64, round: u64) -> bool {
     for _ in 0..(round % 8).saturating_mul(2_000) {
         if times.load(Ordering::SeqCst) >= round {
@@ -62,8 +63,8 @@ fn is_heard<R: Clock>(rt: &R, times: &AtomicU64, round: u64) -> bool {
 /// What a thread tells its task by.
 #[derive(Drop)]
 struct Teller<R: Wait + Drop> {
-    door: Arc<Door>,
-    alarms: DoorAlarms<R>,
+    remote: Arc<LoopRemote>,
+    alarms: RemoteAlarms<R>,
     token: u64,
     times: Arc<AtomicU64>,
     ended: Arc<AtomicU64>,
@@ -73,7 +74,7 @@ impl<R: Wait + Clock + Drop> Teller<R> {
     /// Tells the task, by its name in even rounds and by a moment that is past in odd ones.
     fn tell(&self, rt: &R, round: u64) -> bool {
         if round % 2 == 0 {
-            self.door.tell(rt, self.token);
+            self.remote.tell(rt, self.token);
             return true;
         }
         self.alarms.arm(self.token, Dirs::Read, round).is_ok()
@@ -87,7 +88,7 @@ impl<R: Wait + Clock + Drop> Teller<R> {
             }
         }
         self.ended.fetch_add(1, Ordering::SeqCst);
-        self.door.wake();
+        self.remote.wake();
         true
     }
 }
@@ -107,8 +108,8 @@ where
         times: Arc::try_clone(&times).expect(&rt, "count"),
     };
     let teller = Teller {
-        door: tasks.door().expect(&rt, "door"),
-        alarms: DoorAlarms::new(rt, tasks.door().expect(&rt, "door")),
+        remote: tasks.remote().expect(&rt, "remote"),
+        alarms: RemoteAlarms::new(rt, tasks.remote().expect(&rt, "remote")),
         token: tasks.vacant().expect(&rt, "a place").second,
         times,
         ended: Arc::try_clone(ended).expect(&rt, "count"),

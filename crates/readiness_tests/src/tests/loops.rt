@@ -2,7 +2,7 @@
 
 use super::{any_port, nanos_since, socks};
 use fd_descriptor::{Alarms, Deadline, Dirs, Fault, FdHandle, PollCell};
-use readiness::{DoorAlarms, EventLoop, Host, Place, Side, Sock, SockRes, Turn, Why};
+use readiness::{EventLoop, Host, Place, RemoteAlarms, Side, Sock, SockRes, Turn, Why};
 use std::alloc::Global;
 use std::net::Net;
 use std::process::Abort;
@@ -68,7 +68,7 @@ impl Ledger {
         let count = match why {
             Why::Ready { .. } => &mut counts.ready,
             Why::Due { .. } => &mut counts.due,
-            Why::Told => &mut counts.told,
+            Why::Named => &mut counts.told,
             Why::Again => &mut counts.again,
         };
         *count = count.saturating_add(1);
@@ -87,7 +87,7 @@ impl Host for Ledger {
 
     fn resume(&mut self, task: &mut Counting, why: Why) -> Turn {
         self.note(task.number, why);
-        if task.ends_when_told && why == Why::Told {
+        if task.ends_when_told && why == Why::Named {
             return Turn::Over;
         }
         if task.yields > 0 {
@@ -173,7 +173,7 @@ fn a_due_timer_resumes_its_task_alone(rt: HostRuntime) {
     let task = on_second_side(&rt, rt.alloc(), &mut tasks, near, 0);
     let place = puts(&rt, &mut tasks, task);
     let other = puts(&rt, &mut tasks, plain_task(1));
-    let alarms = DoorAlarms::new(rt, tasks.door().expect(&rt, "door"));
+    let alarms = RemoteAlarms::new(rt, tasks.remote().expect(&rt, "remote"));
     holds!(rt; alarms.arm(place.second, Dirs::Read, 50).is_ok());
     holds!(rt; alarms.arm(other.first, Dirs::Write, 1_000).is_ok());
     tasks.again(other.first);
@@ -195,7 +195,7 @@ fn a_deadline_expires_by_the_loops_timers(rt: HostRuntime) {
     let mut task = on_second_side(&rt, rt.alloc(), &mut tasks, near, 0);
     let mut handle = task.handle.take().expect(&rt, "handle");
     let place = puts(&rt, &mut tasks, task);
-    let alarms = DoorAlarms::new(rt, tasks.door().expect(&rt, "door"));
+    let alarms = RemoteAlarms::new(rt, tasks.remote().expect(&rt, "remote"));
     holds!(rt; handle.set_read_deadline(&rt, Deadline::At(70), 0, &alarms).is_ok());
     tasks.again(place.first);
     holds!(rt; tasks.turn(&rt, 70, &mut ledger).is_ok());
@@ -221,17 +221,17 @@ fn an_event_of_both_directions_names_its_side(rt: HostRuntime) {
 fn a_stale_token_resumes_nobody(rt: HostRuntime) {
     let mut tasks = new_loop(&rt, rt.alloc());
     let mut ledger = Ledger::new();
-    let door = tasks.door().expect(&rt, "door");
-    let alarms = DoorAlarms::new(rt, tasks.door().expect(&rt, "door"));
+    let remote = tasks.remote().expect(&rt, "remote");
+    let alarms = RemoteAlarms::new(rt, tasks.remote().expect(&rt, "remote"));
     let mut ending = plain_task(0);
     ending.ends_when_told = true;
     let gone = puts(&rt, &mut tasks, ending);
-    door.tell(&rt, gone.second);
+    remote.tell(&rt, gone.second);
     holds!(rt; tasks.turn(&rt, 0, &mut ledger).is_ok());
     holds!(rt; ledger.ended == 1 && tasks.len() == 0);
     let here = puts(&rt, &mut tasks, plain_task(1));
     holds!(rt; here.first % 131_072 == gone.first % 131_072, "the place is used again");
-    door.tell(&rt, gone.first);
+    remote.tell(&rt, gone.first);
     tasks.again(gone.first);
     holds!(rt; alarms.arm(gone.first, Dirs::Both, 0).is_ok());
     holds!(rt; tasks.turn(&rt, 0, &mut ledger).is_ok());
@@ -243,11 +243,11 @@ fn a_stale_token_resumes_nobody(rt: HostRuntime) {
 fn more_told_than_the_list_holds_are_all_looked_at(rt: HostRuntime) {
     let mut tasks = new_loop(&rt, rt.alloc());
     let mut ledger = Ledger::new();
-    let door = tasks.door().expect(&rt, "door");
+    let remote = tasks.remote().expect(&rt, "remote");
     let _first = puts(&rt, &mut tasks, plain_task(0));
     let _second = puts(&rt, &mut tasks, plain_task(1));
     for token in 0..300u64 {
-        door.tell(&rt, token);
+        remote.tell(&rt, token);
     }
     holds!(rt; tasks.turn(&rt, 0, &mut ledger).is_ok());
     holds!(rt; ledger.of(0).told == 1 && ledger.of(1).told == 1, "each once");
@@ -256,19 +256,19 @@ fn more_told_than_the_list_holds_are_all_looked_at(rt: HostRuntime) {
     holds!(rt; end.ended == 2 && tasks.len() == 0);
 }
 
-/// Whether one of three turns ends before the longest wait, before each of which the loop is woken, or
-/// told of this task.
+/// Whether one of three turns ends before the longest wait, before each of which the loop is woken,
+/// or told of this task.
 fn ends_early<R: Wait + Clock + Abort>(
     rt: &R,
     tasks: &mut CountingLoop,
     ledger: &mut Ledger,
     told: Option<Place>,
 ) -> bool {
-    let door = tasks.door().expect(rt, "door");
+    let remote = tasks.remote().expect(rt, "remote");
     for _ in 0..3u32 {
         match told {
-            Some(place) => door.tell(rt, place.first),
-            None => door.wake(),
+            Some(place) => remote.tell(rt, place.first),
+            None => remote.wake(),
         }
         let start = Instant::now(rt).expect(rt, "clock");
         holds!(*rt; tasks.turn(rt, 0, ledger).is_ok());

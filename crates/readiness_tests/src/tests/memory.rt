@@ -6,7 +6,8 @@ use super::{any_port, socks};
 use fd_descriptor::{Deadline, Fault, Outcome, TryRead, TryWrite};
 use linked_list_allocator::LocalHeap;
 use readiness::{
-    ConnTable, EventLoop, Held, Listen, NoPlace, Poller, Sock, SockRes, TimerAlarms, Timers, listen,
+    ConnTable, EventLoop, HeldSocket, Listen, NoPlace, Poller, Sock, SockRes, TimerAlarms, Timers,
+    listen,
 };
 use std::alloc::Global;
 use std::fs::Files;
@@ -102,8 +103,8 @@ fn a_refused_poller_leaves_nothing(rt: HostRuntime) {
     assert_eq!(rt; open_files(&rt), before);
 }
 
-/// Makes a loop on this heap and puts tasks into it, as far as memory suffices, and gives how many it has;
-/// each refusal leaves it as it was.
+/// Makes a loop on this heap and puts tasks into it, as far as memory suffices, and gives how many
+/// it has; each refusal leaves it as it was.
 fn tasks_on<R: Net + Abort>(rt: &R, heap: &LocalHeap) -> Option<usize> {
     let mut tasks: EventLoop<Counting, &LocalHeap> = match EventLoop::new(rt, heap) {
         Ok(tasks) => tasks,
@@ -167,12 +168,13 @@ fn alarms_of<R: Wait + Copy + Drop>(
 fn sets_up<R: Wait + Net + Copy + Drop>(rt: R, alloc: Global, near: Sock) -> Option<()> {
     let poller = Poller::new(&rt, alloc).ok()?;
     let alarms = alarms_of(rt, alloc, &poller)?;
-    let mut table = ConnTable::<Held<SockRes>>::new(alloc);
+    let mut table = ConnTable::<HeldSocket<SockRes>>::new(alloc);
     let (_, mut handle) = poller.hold(alloc, &mut table, near).ok()?;
     handle.set_deadline(&rt, Deadline::At(100), 0, &alarms).ok()
 }
 
-/// Holds where memory is refused as well: `tests/refused_memory.sh` refuses each allocation in turn.
+/// Holds where memory is refused as well: `tests/refused_memory.sh` refuses each allocation in
+/// turn.
 #[test]
 fn a_refused_setting_up_leaves_no_file_open(rt: HostRuntime) {
     let before = next_file(&rt);

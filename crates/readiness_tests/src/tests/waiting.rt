@@ -89,9 +89,10 @@ fn a_due_key_without_an_entry_is_passed_over(rt: HostRuntime) {
     let watch = Watch::start(rt, rt.alloc());
     let mut world = World::new(rt, rt.alloc());
     let alarms = world.alarms();
-    let (mut near, _far) = due_at_100(&world, &alarms);
+    // The key that has no entry is due before the other.
     let _gone = due_at_100(&world, &alarms);
-    holds!(rt; world.shared.removes(&rt, 3));
+    let (mut near, _far) = due_at_100(&world, &alarms);
+    holds!(rt; world.shared.removes(&rt, 1));
     holds!(rt; world.turn(100));
     holds!(rt; near.read(&rt, &mut [0; 8]) == LATE);
     holds!(rt; world.next_due().is_none(), "all are taken out");

@@ -22,7 +22,7 @@ entry_of rule =
       listen = address_of rule.listen;
       target =
           address_of rule.target;
-      idle = rule.idle;
+      idle = rule.idle_ms;
     }
 
 -- what rules of the program say

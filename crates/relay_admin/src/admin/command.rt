@@ -4,7 +4,8 @@
 
 ghost use Rattle.std.specs.Prelude.{◌≡◌, ◌≢◌, IfSome, IfNone};
 ghost use Rattle.relay_admin.specs.TextReading.{Views};
-ghost use Rattle.relay_admin.specs.admin.Command.{IsCommand, SpellsCommand, command_text, end_of, words_of};
+ghost use Rattle.relay_admin.specs.admin.Command.{IsCommand, SpellsCommand, command_text, end_of};
+ghost use Rattle.relay_admin.specs.admin.Command.{words_of};
 ghost use Rattle.relay_admin.specs.admin.CommandReading.{arguments_at, words_at};
 
 use crate::admin::end::AdminEnd;

@@ -29,8 +29,8 @@ pub enum DeskAnswer {
     NoMemory,
 }
 
-/// What a session asks: once for each `List`, `Totals`, `CloseConn`, `DrainConn` and `DeadlineOf`, in
-/// the order of the lines, and for nothing else.
+/// What a session asks: once for each `List`, `Totals`, `CloseConn`, `DrainConn` and `DeadlineOf`,
+/// in the order of the lines, and for nothing else.
 pub trait Desk {
     // The questions so far with their answers, where the desk still tells them.
     ghost exchanges: { Self → Option (List Exchange) };
@@ -50,8 +50,8 @@ pub trait Desk {
         ensures { Exchanges (exchanges self.old) (exchanges self.new)
             (commands.CloseConn id) (answer_of result) };
 
-    /// Drains the connection or listener with this id: what was begun on it ends as it would, nothing
-    /// new is begun, and a close still works.
+    /// Drains the connection or listener with this id: what was begun on it ends as it would,
+    /// nothing new is begun, and a close still works.
     fn drain(&mut self, id: u64) -> DeskAnswer
         ensures { Exchanges (exchanges self.old) (exchanges self.new)
             (commands.DrainConn id) (answer_of result) };

@@ -4,7 +4,8 @@
 ghost use Rattle.std.specs.Prelude.{◌≡◌};
 ghost use Rattle.relay_admin.specs.Words.{[], OnOk, OnErr, WriteStopped};
 ghost use Rattle.relay_admin.specs.admin.Devices.{IsFlushedOrUntouched};
-ghost use Rattle.relay_admin.specs.admin.Progress.{EndComesTo, IsReady, LineComesTo, LinesComeTo, SinkAfter, ahead_of, position, start};
+ghost use Rattle.relay_admin.specs.admin.Progress.{EndComesTo, IsReady, LineComesTo, LinesComeTo};
+ghost use Rattle.relay_admin.specs.admin.Progress.{SinkAfter, ahead_of, position, start};
 
 use crate::admin::desk::Desk;
 use crate::admin::end::AdminEnd;
@@ -84,8 +85,8 @@ impl Dialogue {
         }
     }
 
-    /// Answers the line, which is whole. It takes and keeps what `answer_lines` does, which calls it
-    /// once a line; what it does to the session differs, so each has its clauses.
+    /// Answers the line, which is whole. It takes and keeps what `answer_lines` does, which calls
+    /// it once a line; what it does to the session differs, so each has its clauses.
     fn end_line<A: Allocator + Copy, K: Sink, D: Desk>(
         &mut self,
         alloc: Global,

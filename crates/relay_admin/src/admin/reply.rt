@@ -9,8 +9,8 @@ use crate::admin::command::Command;
 use crate::admin::desk::DeskAnswer;
 use crate::admin::reply_bytes::Reply;
 use crate::admin::reply_text::{BUSY, CLOSED, DONE, DRAINING, NO_SUCH_CONNECTION, OUT_OF_MEMORY};
+use base_types::OutOfMemory;
 use std::alloc::{Allocator, Global};
-use stream_base::OutOfMemory;
 
 /// The reply to an answer, with its line feed. It hangs on the answer alone, whatever the command
 /// is. The only fault is want of memory.
@@ -24,8 +24,8 @@ pub fn reply_of(
     reply_in(alloc, answer)
 }
 
-/// The reply to an answer, with its line feed, in memory of this allocator. The only fault is want of
-/// memory.
+/// The reply to an answer, with its line feed, in memory of this allocator. The only fault is want
+/// of memory.
 pub fn reply_in<A: Allocator + Copy>(
     alloc: A,
     answer: &DeskAnswer,

@@ -1,5 +1,5 @@
-//! The words of replies, each with its line feed. They stand here alone: replies are made of them, and
-//! contracts cite them.
+//! The words of replies, each with its line feed. They stand here alone: replies are made of them,
+//! and contracts cite them.
 
 /// What was asked is done.
 pub const DONE: &[u8] = b"ok\n";

@@ -17,9 +17,10 @@ use stream_base::writer_sink::WriterSink;
 
 /// Answers the lines of a source up to its end, or to a line that ends the session. A line of more
 /// than 64 bytes ends it at its 65th byte; no read is made after the line that ends it, nor after
-/// line 65,536. Each reply is written and flushed before the next read. A reply to `Ids` or `Totals`
-/// alone takes memory, of `memory`, and frees it before the next line; where it is refused, the reply
-/// is `error 507 out of memory`, and the session goes on. The desk may take memory of `alloc`.
+/// line 65,536. Each reply is written and flushed before the next read. A reply to `Ids` or
+/// `Totals` alone takes memory, of `memory`, and frees it before the next line; where it is
+/// refused, the reply is `error 507 out of memory`, and the session goes on. The desk may take
+/// memory of `alloc`.
 pub fn serve_on<A: Allocator + Copy, S: Source, K: Sink, D: Desk>(
     alloc: Global,
     memory: A,
@@ -70,9 +71,9 @@ pub fn serve_on<A: Allocator + Copy, S: Source, K: Sink, D: Desk>(
     }
 }
 
-/// `serve_on` over a reader and a writer of std's, with replies in memory of `alloc`. What they answer at a fault tells no cause in
-/// proofs; that is said of `serve_on`. The clauses stand here again, since the words for what is left
-/// and what is written are those of other traits.
+/// `serve_on` over a reader and a writer of std's, with replies in memory of `alloc`. What they
+/// answer at a fault tells no cause in proofs; that is said of `serve_on`. The clauses stand here
+/// again, since the words for what is left and what is written are those of other traits.
 pub fn serve_admin<R: Read, W: Write, D: Desk>(
     alloc: Global,
     reader: &mut R,

@@ -2,7 +2,8 @@
 
 ghost use Rattle.std.specs.Prelude.{◌≡◌, true, IfSome, IfNone};
 ghost use Rattle.std.specs.List.{list_all};
-ghost use Rattle.relay_admin.specs.rules.Grammar.{Entry, SpellsRule, entry_of, is_name, is_name_byte};
+ghost use Rattle.relay_admin.specs.rules.Grammar.{Entry, SpellsRule, entry_of, is_name};
+ghost use Rattle.relay_admin.specs.rules.Grammar.{is_name_byte};
 ghost use Rattle.relay_admin.specs.rules.Reading.{rule_at};
 ghost use Rattle.relay_admin.specs.TextReading.{Views};
 
@@ -17,13 +18,13 @@ pub const MAX_NAME_BYTES: usize = 16;
 pub const MAX_IDLE_MS: u64 = DAY_MS;
 
 /// A rule of the relay: what it accepts on `listen` it connects to `target`. A connection that was
-/// idle for `idle` milliseconds, 1 to 86,400,000, is closed; with `None` it never is.
+/// idle for `idle_ms` milliseconds, 1 to 86,400,000, is closed; with `None` it never is.
 #[derive(Clone, Copy, Debug, PartialEq, Eq, Drop)]
 pub struct Rule {
     pub name: ArrayString<MAX_NAME_BYTES>,
     pub listen: Addr,
     pub target: Addr,
-    pub idle: Option<u32>,
+    pub idle_ms: Option<u32>,
 }
 
 impl Default for Rule {
@@ -32,7 +33,7 @@ impl Default for Rule {
             name: ArrayString::new(),
             listen: Addr::Tcp([0, 0, 0, 0], 0),
             target: Addr::Tcp([0, 0, 0, 0], 0),
-            idle: None,
+            idle_ms: None,
         }
     }
 }
@@ -52,16 +53,16 @@ fn read_rule(text: &[u8]) -> Option<Rule>
     let (word, rest) = split_once(text, b' ')?;
     let (name, rest) = split_once(rest, b' ')?;
     let (listen, rest) = split_once(rest, b' ')?;
-    let (target, idle) = split_once(rest, b' ')?;
+    let (target, idle_ms) = split_once(rest, b' ')?;
     let listen = addr_of(listen)?;
     let target = addr_of(target)?;
-    let idle = time_between(1, MAX_IDLE_MS, idle)?;
+    let idle_ms = time_between(1, MAX_IDLE_MS, idle_ms)?;
     if word == b"relay".as_slice() && is_name_text(name) {
         Some(Rule {
             name: name_held(name),
             listen,
             target,
-            idle,
+            idle_ms,
         })
     } else {
         None

@@ -10,7 +10,8 @@ ghost use Rattle.std.specs.Prelude.{◌≡◌, ◌≢◌, ◌≤◌, ◌⊎◌, 
 ghost use Rattle.stream_base.specs.Fronts.{AppendsFront};
 ghost use Rattle.std.specs.Io.KnownBytes.{Appends};
 ghost use Rattle.relay_admin.specs.declared.rules.verdict.Verdict.{Verdict};
-ghost use Rattle.relay_admin.specs.rules.Verdict.{IsVerdict, verdict_words, verdict_number, verdict_line, verdict_status};
+ghost use Rattle.relay_admin.specs.rules.Verdict.{IsVerdict, verdict_words, verdict_number};
+ghost use Rattle.relay_admin.specs.rules.Verdict.{verdict_line, verdict_status};
 
 use crate::rules::file::{Rules, RulesFault};
 use arrayvec::ArrayString;

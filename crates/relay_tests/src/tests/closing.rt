@@ -1,10 +1,11 @@
-//! The order in which an entry is closed: taken out, closed with the table's lock given back, and only
-//! then without alarms.
+//! The order in which an entry is closed: taken out, closed with the table's lock given back, and
+//! only then without alarms.
 
 ghost use Rattle.std.specs.Prelude.{⊤};
 
 use super::comes;
 use super::watch::Watch;
+use base_types::Dir;
 use conntable::ConnTable;
 use deadline_core::Timers;
 use relay::{Closer, Closes, close_by_id};
@@ -15,7 +16,6 @@ use std::sync::{Arc, Mutex, Wait};
 use std::thread;
 use std::thread::{JoinHandle, Threads};
 use std::time::Clock;
-use stream_base::Dir;
 
 /// The key of the entry's alarm.
 const KEY: u64 = 1;

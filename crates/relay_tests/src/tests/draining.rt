@@ -12,8 +12,8 @@ use std::time::Duration;
 /// Longer than a worker or an accept thread takes to its next wait, in milliseconds.
 const UNTIL_IT_WAITS_MS: u64 = 200;
 
-/// A client of a relay that has just started and the target's end of its connection, after a byte went
-/// each way, so that both reads wait for more.
+/// A client of a relay that has just started and the target's end of its connection, after a byte
+/// went each way, so that both reads wait for more.
 fn waiting_pair(
     rt: &HostRuntime,
     listener: &TcpListener,

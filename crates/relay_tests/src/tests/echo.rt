@@ -54,7 +54,8 @@ fn hello_comes_back_and_is_counted(rt: HostRuntime) {
 fn place_over(rt: &HostRuntime, middle: &str, target: u16) -> Option<(Place, u16)> {
     let port = free_port(rt)?;
     let rules = format!(in rt.alloc();
-        "relay in tcp:127.0.0.1:{port} unix:{middle} never\nrelay out unix:{middle} tcp:127.0.0.1:{target} 60000\n"
+        "relay in tcp:127.0.0.1:{port} unix:{middle} never\n\
+        relay out unix:{middle} tcp:127.0.0.1:{target} 60000\n"
     );
     Some((Place::with_rules(rt, &rules.ok()?)?, port))
 }

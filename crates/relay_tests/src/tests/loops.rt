@@ -1,5 +1,5 @@
-//! Many connections on one loop: each has its turn, and what an admin session does reaches a loop that
-//! sleeps.
+//! Many connections on one loop: each has its turn, and what an admin session does reaches a loop
+//! that sleeps.
 
 use super::watch::Watch;
 use super::{
@@ -42,8 +42,8 @@ pub(super) fn talking_pair(
     None
 }
 
-/// Ends pairs by such commands on the ids of their clients, each once the loop sleeps, and gives how
-/// long all ends took.
+/// Ends pairs by such commands on the ids of their clients, each once the loop sleeps, and gives
+/// how long all ends took.
 fn ended_by(
     rt: &HostRuntime,
     running: &Running,
@@ -179,7 +179,8 @@ fn clients_that_came_at_once_are_all_served(rt: HostRuntime) {
 fn place_of_two(rt: &HostRuntime, target: u16) -> Option<(Place, u16, u16)> {
     let (short, long) = (free_port(rt)?, free_port(rt)?);
     let rules = format!(in rt.alloc();
-        "relay s tcp:127.0.0.1:{short} tcp:127.0.0.1:{target} 150\nrelay l tcp:127.0.0.1:{long} tcp:127.0.0.1:{target} 60000\n"
+        "relay s tcp:127.0.0.1:{short} tcp:127.0.0.1:{target} 150\n\
+        relay l tcp:127.0.0.1:{long} tcp:127.0.0.1:{target} 60000\n"
     );
     Some((Place::with_rules(rt, &rules.ok()?)?, short, long))
 }

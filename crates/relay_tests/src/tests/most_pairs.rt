@@ -1,8 +1,8 @@
-//! The most pairs that stand at once. The test holds some 2,100 descriptors.
+//! The most pairs that stand at once: the default, which takes some 2,100 descriptors, and fewer.
 
 use super::watch::Watch;
-use super::{Place, Running, TURNS, hears, place_to, reach, served, target};
-use relay_core::MAX_PAIRS;
+use super::{Place, Running, TURNS, hears, place_to, reach, served_at, target};
+use relay::{Capacity, Loops, PairLimit};
 use std::alloc::Global;
 use std::io::Write;
 use std::net::{TcpListener, TcpStream};
@@ -13,9 +13,9 @@ use std::time::Duration;
 const GREETING: &[u8] = b"h";
 
 /// Greets one connection more than the most that stand at once, and holds them all.
-fn greet_all(alloc: Global, listener: &TcpListener) -> Option<Vec<TcpStream>> {
+fn greet_all(alloc: Global, listener: &TcpListener, pairs: usize) -> Option<Vec<TcpStream>> {
     let mut held = Vec::new(alloc);
-    for _ in 0..=MAX_PAIRS {
+    for _ in 0..=pairs {
         let (stream, _) = listener.accept().ok()?;
         let mut stream = stream;
         stream.write_all(GREETING).ok()?;
@@ -33,9 +33,9 @@ fn greeted(rt: &HostRuntime, port: u16) -> Option<(TcpStream, bool)> {
 }
 
 /// As many clients as there are pairs at most, where all of them are greeted.
-fn most_clients(rt: &HostRuntime, port: u16) -> Option<Vec<TcpStream>> {
+fn most_clients(rt: &HostRuntime, port: u16, pairs: usize) -> Option<Vec<TcpStream>> {
     let mut clients = Vec::new(rt.alloc());
-    for _ in 0..MAX_PAIRS {
+    for _ in 0..pairs {
         let (client, is_greeted) = greeted(rt, port)?;
         if !is_greeted {
             return None;
@@ -65,27 +65,36 @@ fn one_is_greeted(rt: &HostRuntime, port: u16) -> bool {
 }
 
 #[test]
-fn the_next_after_512_pairs_is_dropped_until_one_ends(rt: HostRuntime) {
-    let watch = Watch::start(rt, rt.alloc());
-    let alloc = rt.alloc();
-    let (listener, target) = target(&rt).expect(&rt, "a target");
-    let greeter = thread::spawn(&rt, move || greet_all(alloc, &listener));
-    let greeter = greeter.expect(&rt, "thread");
-    let (place, port) = place_to(&rt, target, "never").expect(&rt, "a place");
-    let Place {
-        rules,
-        admin,
-        socket,
-    } = place;
-    let thread = thread::spawn(&rt, move || served(rt, &rules, &socket));
-    let thread = thread.expect(&rt, "thread");
-    let running = Running { thread, admin };
-    let _clients = most_clients(&rt, port).expect(&rt, "one of 512 is dropped");
-    holds!(rt; next_is_dropped(&rt, port), "one more is served");
-    holds!(rt; running.answers(&rt, "close 2\n", "ok\n"));
-    holds!(rt; one_is_greeted(&rt, port), "nobody is served once a pair has ended");
-    holds!(rt; greeter.join(&rt).is_some());
-    holds!(rt; running.is_stopped(&rt));
-    running.ends(&rt, "listening 1\nup 0 down 513\n");
-    watch.end(&rt);
+fn the_next_after_the_most_pairs_is_dropped_until_one_ends(rt: HostRuntime) {
+    let three = PairLimit::of(3).expect(&rt, "a limit");
+    let loops = Loops::of(2).expect(&rt, "loops");
+    let rows = [
+        (three, "listening 1\nup 0 down 4\n"),
+        (PairLimit::by_default(), "listening 1\nup 0 down 513\n"),
+    ];
+    for (pairs, said) in rows {
+        let watch = Watch::start(rt, rt.alloc());
+        let (alloc, count) = (rt.alloc(), pairs.count);
+        let (listener, target) = target(&rt).expect(&rt, "a target");
+        let greeter = thread::spawn(&rt, move || greet_all(alloc, &listener, count));
+        let greeter = greeter.expect(&rt, "thread");
+        let (place, port) = place_to(&rt, target, "never").expect(&rt, "a place");
+        let Place {
+            rules,
+            admin,
+            socket,
+        } = place;
+        let capacity = Capacity { loops, pairs };
+        let thread = thread::spawn(&rt, move || served_at(rt, &rules, &socket, capacity));
+        let thread = thread.expect(&rt, "thread");
+        let running = Running { thread, admin };
+        let _clients = most_clients(&rt, port, count).expect(&rt, "a pair too few is served");
+        holds!(rt; next_is_dropped(&rt, port), "one more is served");
+        holds!(rt; running.answers(&rt, "close 2\n", "ok\n"));
+        holds!(rt; one_is_greeted(&rt, port), "nobody is served once a pair has ended");
+        holds!(rt; greeter.join(&rt).is_some());
+        holds!(rt; running.is_stopped(&rt));
+        running.ends(&rt, said);
+        watch.end(&rt);
+    }
 }

@@ -25,8 +25,8 @@ fn shared<R: Abort, T>(rt: &R, one: &Arc<T>) -> Arc<T> {
     Arc::try_clone(one).expect(rt, "shared")
 }
 
-/// Gives three bytes and then the end. A write says that it has begun, and ends once the other gate's
-/// write has.
+/// Gives three bytes and then the end. A write says that it has begun, and ends once the other
+/// gate's write has.
 #[derive(Drop)]
 struct OneRound<R: Clock + Drop> {
     rt: R,

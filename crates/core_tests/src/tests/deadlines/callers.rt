@@ -1,8 +1,8 @@
 //! A caller that proves, from the contracts alone, what a state answers after some calls.
 ghost use Rattle.std.specs.Prelude.{◌≡◌};
 
+use base_types::Dir;
 use deadline_core::{Deadline, Dirs, PollState, Refusal};
-use stream_base::Dir;
 
 fn expired_at_once() -> Result<(), Refusal>
     ensures { result ≡ Err Refusal.DeadlineExceeded }

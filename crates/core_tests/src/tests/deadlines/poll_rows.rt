@@ -1,7 +1,7 @@
 //! Rows of calls on one poll state, each with the answers that it must get.
+use base_types::Dir;
 use deadline_core::{Deadline, Dirs, Look, PollState, Refusal};
 use std::process::Abort;
-use stream_base::Dir;
 
 #[derive(Drop)]
 enum Step {

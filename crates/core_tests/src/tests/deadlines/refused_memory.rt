@@ -3,12 +3,12 @@
 //!
 //! A heap that was used more after a refusal met one request of that call and refused a later one.
 use crate::tests::full_heap::fill;
+use base_types::Dir;
+use base_types::Dir::{Read, Write};
 use deadline_core::Timers;
 use linked_list_allocator::LocalHeap;
 use std::alloc::Global;
 use std::test::Fail;
-use stream_base::Dir;
-use stream_base::Dir::{Read, Write};
 
 /// The refusals of a call: those of its first request, and those of a later one.
 #[derive(Clone, Copy, Drop)]

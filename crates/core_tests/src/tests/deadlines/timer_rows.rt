@@ -1,9 +1,9 @@
 //! Rows of timers, with what is due and in which order.
+use base_types::Dir;
+use base_types::Dir::{Read, Write};
 use deadline_core::Timers;
 use std::process::Abort;
 use std::test::Fail;
-use stream_base::Dir;
-use stream_base::Dir::{Read, Write};
 
 /// What is due by now is this, in this order.
 fn gives(rt: &impl Abort, timers: &mut Timers, now: u64, want: &[(u64, Dir)], row: &str) {

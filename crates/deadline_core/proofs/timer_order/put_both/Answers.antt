@@ -1,7 +1,7 @@
 use Rattle.std.proofs.Common.{ap, ◌∙◌, cond}
 use Rattle.std.specs.Ordering.{eq_by_cmp}
 use Rattle.std.specs.FinMap.{insert}
-use Rattle.stream_base.specs.declared.direction.Dir.TheVariants.{Read, Write}
+use Rattle.base_types.specs.declared.direction.Dir.TheVariants.{Read, Write}
 use Rattle.deadline_core.specs.DueOrder.{Slot, slot_cmp}
 use Rattle.deadline_core.proofs.TimerOrderLemmas.{armed_named, stored_named, stored_more, stored_same, put_back_same}
 use Rattle.deadline_core.proofs.timer_order.put_both.Goals as goal

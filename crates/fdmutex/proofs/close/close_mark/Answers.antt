@@ -1,5 +1,5 @@
 use Rattle.std.proofs.Common.{rules, refl}
-use Rattle.stream_base.specs.declared.direction.Dir.TheVariants.{Read}
+use Rattle.base_types.specs.declared.direction.Dir.TheVariants.{Read}
 use Rattle.fdmutex.proofs.close.close_mark.Goals as goal
 
 pub returns-clause-no_reader_owed : goal.returns-clause-no_reader_owed

@@ -1,5 +1,5 @@
 use Rattle.std.proofs.Common.{◌≡◌, false}
-use Rattle.stream_base.specs.declared.direction.Dir.{Dir}
+use Rattle.base_types.specs.declared.direction.Dir.{Dir}
 use Rattle.lockword_core.specs.LockState.{is_same}
 use Rattle.lockword.specs.Marks.{NowClosed, HeardOn}
 use Rattle.lockword.specs.Places.{closing_place, owed_by}

@@ -1,5 +1,6 @@
 use Rattle.std.proofs.Common.{rules}
-use Rattle.lockword.proofs.HeardSteps.{goes_on_on, hears_on}
+use Rattle.lockword.proofs.HeardSteps.{goes_on_on}
+use Rattle.fdmutex.proofs.Hearing.{hears_on}
 use Rattle.fdmutex.proofs.locks.unlock.Goals as goal
 
 pub returns-in-Free-clause-heard : goal.returns-in-Free-clause-heard

@@ -1,5 +1,5 @@
 use Rattle.std.proofs.Common.{◌≡◌, ◌∙◌, ap, List, ℕ, ◌++◌}
-use Rattle.stream_base.specs.declared.direction.Dir.TheVariants.{Read, Write}
+use Rattle.base_types.specs.declared.direction.Dir.TheVariants.{Read, Write}
 use Rattle.lockword_core.specs.Signals.{signals_in}
 use Rattle.lockword_core.specs.LockState.{census, encoded}
 use Rattle.lockword_script.specs.TraceOutput.{printed_line, printed_of_events}

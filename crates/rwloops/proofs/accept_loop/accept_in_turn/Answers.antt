@@ -1,5 +1,5 @@
 use Rattle.std.proofs.Common.{[], ◌∷◌, refl, ap, Err}
-use Rattle.stream_base.specs.declared.direction.Dir.TheVariants.{Read}
+use Rattle.base_types.specs.declared.direction.Dir.TheVariants.{Read}
 use Rattle.rwloops.specs.Waits.{Prepared}
 use Rattle.rwloops.specs.Turns.{Asked}
 use Rattle.rwloops.specs.OutcomeTrace.{Refused, is_open}

@@ -1,6 +1,6 @@
 use Rattle.std.proofs.Common.{[], ◌∷◌, refl, ap, Err, arith, rules}
 use Rattle.std.proofs.lemmas.Bool.Decides.{nat_tests}
-use Rattle.stream_base.specs.declared.direction.Dir.TheVariants.{Read}
+use Rattle.base_types.specs.declared.direction.Dir.TheVariants.{Read}
 use Rattle.rwloops.specs.Waits.{Prepared}
 use Rattle.rwloops.specs.OutcomeTrace.{Refused, is_open}
 use Rattle.rwloops.specs.ReadTrace.{Empty, Tried}

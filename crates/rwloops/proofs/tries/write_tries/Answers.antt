@@ -1,6 +1,6 @@
 use Rattle.std.proofs.Common.{[], ◌∷◌, length, refl, sym, ap, arith, Ok}
 use Rattle.std.proofs.lemmas.Bool.Decides.{nat_tests}
-use Rattle.stream_base.specs.declared.direction.Dir.TheVariants.{Write}
+use Rattle.base_types.specs.declared.direction.Dir.TheVariants.{Write}
 use Rattle.deadline_core.specs.declared.refusal.Refusal.TheVariants.{Closed}
 use Rattle.rwloops.specs.Waits.{Prepared}
 use Rattle.rwloops.specs.OutcomeTrace.{is_open}

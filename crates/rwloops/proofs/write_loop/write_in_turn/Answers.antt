@@ -1,6 +1,6 @@
 use Rattle.std.proofs.Common.{[], ◌∷◌, length, refl, ap, Ok, Err, arith}
 use Rattle.std.proofs.lemmas.Bool.Decides.{nat_tests}
-use Rattle.stream_base.specs.declared.direction.Dir.TheVariants.{Write}
+use Rattle.base_types.specs.declared.direction.Dir.TheVariants.{Write}
 use Rattle.rwloops.specs.Waits.{Prepared}
 use Rattle.rwloops.specs.OutcomeTrace.{Refused, is_open}
 use Rattle.rwloops.specs.WriteTrace.{Empty, Tried}

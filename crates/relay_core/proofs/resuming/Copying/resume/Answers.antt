@@ -24,8 +24,8 @@ loop-turn-preserved g c = record {
 pub returns-in-Err : goal.returns-in-Err
 returns-in-Err g c =
     let before = c.loop-turn.invariant.passing in
-    let stop = stop_after refl (λ stays. within 0 32 (omega arith) (omega arith) (then_passing before stays))
-    (λ ended over. passed_within 32 (omega arith) (then_passed before over)) c.in-Err.ensures.stopped in
+    let stop = stop_after refl (λ stays. within 0 8 (omega arith) (omega arith) (then_passing before stays))
+    (λ ended over. passed_within 8 (omega arith) (then_passed before over)) c.in-Err.ensures.stopped in
     record {
       again = no_pause _ stop;
       waits = open_at_stop stop;

@@ -1,5 +1,5 @@
 use Rattle.std.proofs.Common.{◌≡◌, [], ◌∷◌, ap, ◌∙◌, Ok}
-use Rattle.stream_base.specs.declared.direction.Dir.TheVariants.{Read}
+use Rattle.base_types.specs.declared.direction.Dir.TheVariants.{Read}
 use Rattle.deadline_core.specs.declared.deadline.Dirs.TheVariants.{Read as ReadAlone}
 use Rattle.deadline_core.specs.declared.deadline.Deadline.TheVariants.{At}
 use Rattle.deadline_core.specs.PollHistory.{DeadlineSet, prepare_answer}

@@ -1,0 +1,4 @@
+pub mod Answers
+pub mod Kinds
+pub mod Reader
+pub mod Writer

@@ -1,0 +1,74 @@
+//! Halves in memory: each try gives one outcome, after some bytes that were given or taken.
+
+ghost use Rattle.rwloops.specs.Outcome.{IsCountWithin};
+
+use fd_descriptor::{DevKind, FdHandle, Outcome, Resource, TryRead, TryWrite};
+use std::alloc::Global;
+use std::process::Abort;
+
+/// A half that gives or takes so many bytes, one at a time, and then answers each try so.
+#[derive(Drop)]
+pub(super) struct Half {
+    pub(super) left: usize,
+    pub(super) then: Outcome,
+}
+
+impl Half {
+    // One byte, while there are some and there is room.
+    fn one(&mut self, room: usize) -> Outcome
+        ensures within { IsCountWithin room result }
+    {
+        if self.left > 0 && room > 0 {
+            self.left -= 1;
+            return Outcome::Count(1);
+        }
+        match self.then {
+            Outcome::Count(_) => Outcome::Count(0),
+            other => other,
+        }
+    }
+}
+
+impl TryRead for Half {
+    ghost tells = { λ _ _. ⊥ };
+
+    fn try_read(&mut self, buf: &mut [u8]) -> Outcome {
+        if let [first, ..] = buf {
+            *first = b'x';
+        }
+        self.one(buf.len())
+    }
+}
+
+impl TryWrite for Half {
+    ghost tells = { λ _ _. ⊥ };
+
+    fn try_write(&mut self, bytes: &[u8]) -> Outcome {
+        self.one(bytes.len())
+    }
+}
+
+/// Two such halves, which nothing destroys.
+#[derive(Drop)]
+pub(super) struct Memory;
+
+impl Resource for Memory {
+    type R = Half;
+
+    type W = Half;
+
+    fn destroy(_read: Half, _write: Half) -> Result<(), DevKind> {
+        Ok(())
+    }
+}
+
+/// A handle on two halves that pass so many bytes, and then answer so.
+pub(super) fn handle_on<R: Abort>(
+    rt: &R,
+    alloc: Global,
+    left: usize,
+    then: Outcome,
+) -> FdHandle<Memory> {
+    let (read, write) = (Half { left, then }, Half { left, then });
+    FdHandle::open(alloc, read, write, 1).expect(rt, "a descriptor")
+}

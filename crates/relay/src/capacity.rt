@@ -1,0 +1,11 @@
+//! How large a relay is.
+
+use crate::loops::Loops;
+use relay_core::PairLimit;
+
+/// How many loops a relay has, and how many connections it relays at once.
+#[derive(Clone, Copy, Debug, PartialEq, Eq, Drop)]
+pub struct Capacity {
+    pub loops: Loops,
+    pub pairs: PairLimit,
+}

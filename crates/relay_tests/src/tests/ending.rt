@@ -1,0 +1,137 @@
+//! The end of a relay: it comes at once, and no thread outlives it.
+
+use super::watch::Watch;
+use super::{Place, Running, place_to, served_on};
+use relay::{Capacity, Loops, PairLimit, ServeFault, serve};
+use relay_ledger::PARTS;
+use std::fs::Files;
+use std::io::{ErrorKind, Write};
+use std::marker::Brand;
+use std::net::{Net, TcpListener, TcpStream};
+use std::process::Abort;
+use std::sync::Wait;
+use std::sync::ledger::Blank;
+use std::thread::Threads;
+use std::time::{Clock, Duration, Instant};
+use std::{fs, io, thread};
+
+/// So many relays end one after the other.
+const RELAYS: u32 = 60;
+
+/// The most of them after which a thread may still be seen: the system takes a moment to forget one
+/// that was joined. One that isn't joined is seen after most.
+const SEEN_AFTER: u32 = 6;
+
+/// The longest that all of them may take. A wait that nobody ends takes a second each time.
+const LONGEST_MS: u64 = 10_000;
+
+/// So many relays of 64 loops are stopped one after the other.
+const STOPS: u32 = 4;
+
+/// The longest that the fastest of these stops may take. A loop that looks before the flag is set
+/// sleeps for a second more.
+const LONGEST_STOP_MS: u64 = 800;
+
+/// Longer than a loop takes to its first sleep, in milliseconds.
+const UNTIL_ALL_SLEEP_MS: u64 = 50;
+
+/// A writer that is broken: a relay can't say that it listens, once all its threads run.
+#[derive(Drop)]
+struct Broken;
+
+impl Write for Broken {
+    fn write(&mut self, _bytes: &[u8]) -> io::Result<usize> {
+        Err(ErrorKind::BrokenPipe.into())
+    }
+
+    fn flush(&mut self) -> io::Result<()> {
+        Ok(())
+    }
+}
+
+/// How many threads this process has.
+fn threads(rt: &HostRuntime) -> Option<usize> {
+    Some(fs::read_dir(rt, "/proc/self/task").ok()?.count())
+}
+
+/// A relay of one loop whose first line can't be written, from its start to its end.
+fn breaks<R>(rt: R, place: &Place) -> Result<(), ServeFault>
+where
+    R: Wait
+        + Threads
+        + Net<Listener = TcpListener, Stream = TcpStream>
+        + Clock
+        + Files
+        + Abort
+        + AllocGlobal
+        + Copy
+        + Send
+        + Sync
+        + 'static,
+{
+    let (up, down) = (Blank::new(PARTS), Blank::new(PARTS));
+    let loops = Loops::of(1).expect(&rt, "loops");
+    let pairs = PairLimit::by_default();
+    let capacity = Capacity { loops, pairs };
+    let (rules, admin) = (&place.rules, &place.admin);
+    serve::<Brand, Brand, R, _>(rt, rules, admin, capacity, up, down, &mut Broken)
+}
+
+#[test]
+fn a_relay_that_breaks_as_it_starts_ends_all_its_threads_at_once(rt: HostRuntime) {
+    let watch = Watch::start(rt, rt.alloc());
+    let (place, _port) = place_to(&rt, 9, "never").expect(&rt, "a place");
+    let before = threads(&rt);
+    holds!(rt; before.is_some());
+    let began = Instant::now(&rt).expect(&rt, "clock");
+    let mut seen = 0u32;
+    for _ in 0..RELAYS {
+        holds!(rt; breaks(rt, &place) == Err(ServeFault::Device));
+        if threads(&rt) != before {
+            seen = seen.saturating_add(1);
+        }
+    }
+    holds!(rt; seen <= SEEN_AFTER, "a thread goes on");
+    let took = began.elapsed(&rt).expect(&rt, "clock");
+    holds!(rt; took < Duration::from_millis(LONGEST_MS), "a thread isn't woken");
+    watch.end(&rt);
+}
+
+/// Stops a relay whose loops all sleep, and gives when it asked for that.
+fn stop_of_sleepers(rt: &HostRuntime, running: &Running) -> Option<Instant> {
+    if !running.answers(rt, "list\n", "ids 1\n") {
+        return None;
+    }
+    thread::sleep(rt, Duration::from_millis(UNTIL_ALL_SLEEP_MS));
+    let began = Instant::now(rt).ok()?;
+    if running.is_stopped(rt) {
+        return Some(began);
+    }
+    None
+}
+
+#[test]
+fn a_stop_ends_64_loops_that_sleep_at_once(rt: HostRuntime) {
+    let watch = Watch::start(rt, rt.alloc());
+    let longest = Duration::from_millis(LONGEST_STOP_MS);
+    let mut least = longest;
+    for _ in 0..STOPS {
+        let (place, _port) = place_to(&rt, 9, "never").expect(&rt, "a place");
+        let Place {
+            rules,
+            admin,
+            socket,
+        } = place;
+        let thread = thread::spawn(&rt, move || served_on(rt, &rules, &socket, 64));
+        let thread = thread.expect(&rt, "thread");
+        let running = Running { thread, admin };
+        let began = stop_of_sleepers(&rt, &running).expect(&rt, "a relay");
+        running.ends(&rt, "listening 1\nup 0 down 0\n");
+        let took = began.elapsed(&rt).expect(&rt, "clock");
+        if took < least {
+            least = took;
+        }
+    }
+    holds!(rt; least < longest, "a loop isn't told");
+    watch.end(&rt);
+}
