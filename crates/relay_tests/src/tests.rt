@@ -17,6 +17,7 @@ mod closing;
 mod draining;
 mod echo;
 mod ending;
+mod live_threads;
 mod loops;
 mod most_pairs;
 mod pairs;

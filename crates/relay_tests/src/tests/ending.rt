@@ -1,5 +1,6 @@
 //! The end of a relay: it comes at once, and no thread outlives it.
 
+use super::live_threads::live_threads;
 use super::watch::Watch;
 use super::{Place, Running, place_to, served_on};
 use relay::{Capacity, Loops, PairLimit, ServeFault, serve};
@@ -13,14 +14,10 @@ use std::sync::Wait;
 use std::sync::ledger::Blank;
 use std::thread::Threads;
 use std::time::{Clock, Duration, Instant};
-use std::{fs, io, thread};
+use std::{io, thread};
 
 /// So many relays end one after the other.
 const RELAYS: u32 = 60;
-
-/// The most of them after which a thread may still be seen: the system takes a moment to forget one
-/// that was joined. One that isn't joined is seen after most.
-const SEEN_AFTER: u32 = 6;
 
 /// The longest that all of them may take. A wait that nobody ends takes a second each time.
 const LONGEST_MS: u64 = 10_000;
@@ -47,11 +44,6 @@ impl Write for Broken {
     fn flush(&mut self) -> io::Result<()> {
         Ok(())
     }
-}
-
-/// How many threads this process has.
-fn threads(rt: &HostRuntime) -> Option<usize> {
-    Some(fs::read_dir(rt, "/proc/self/task").ok()?.count())
 }
 
 /// A relay of one loop whose first line can't be written, from its start to its end.
@@ -81,17 +73,13 @@ where
 fn a_relay_that_breaks_as_it_starts_ends_all_its_threads_at_once(rt: HostRuntime) {
     let watch = Watch::start(rt, rt.alloc());
     let (place, _port) = place_to(&rt, 9, "never").expect(&rt, "a place");
-    let before = threads(&rt);
+    let before = live_threads(&rt);
     holds!(rt; before.is_some());
     let began = Instant::now(&rt).expect(&rt, "clock");
-    let mut seen = 0u32;
     for _ in 0..RELAYS {
         holds!(rt; breaks(rt, &place) == Err(ServeFault::Device));
-        if threads(&rt) != before {
-            seen = seen.saturating_add(1);
-        }
+        holds!(rt; live_threads(&rt) == before, "a thread goes on");
     }
-    holds!(rt; seen <= SEEN_AFTER, "a thread goes on");
     let took = began.elapsed(&rt).expect(&rt, "clock");
     holds!(rt; took < Duration::from_millis(LONGEST_MS), "a thread isn't woken");
     watch.end(&rt);
