@@ -1,0 +1,6 @@
+//! What a relay's log says of a connection that ended or was refused, and the bounded queue through
+//! which lines go to the thread that writes them. No thread, no socket, no clock and no file.
+#![tactic(auto)]
+
+pub mod queue;
+pub mod words;
