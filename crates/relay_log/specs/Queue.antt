@@ -1,6 +1,6 @@
 -- What a caller sees of a queue, and how the calls change it.
 use Rattle.std.specs.Prelude.{◌≡◌, ◌≤◌, ◌+◌, ◌-◌, ◌^◌, ◌++◌, ℕ, List, [], ◌∷◌, length}
-use Rattle.std.specs.Prelude.{nat_eq, if◌then◌else◌}
+use Rattle.std.specs.Prelude.{nat_eq, min, if◌then◌else◌}
 use Rattle.std.specs.Fmt.{decimal}
 use Rattle.relay_log.specs.declared.words.TheConstants.{LOST}
 
@@ -28,7 +28,7 @@ TakesIn old new line =
 
 -- one more, but never more than the greatest `u64`
 abbrev pub one_more : ℕ → ℕ
-one_more n = if nat_eq n (2 ^ 64 - 1) then n else n + 1
+one_more n = min (n + 1) (2 ^ 64 - 1)
 
 -- one line more was lost
 abbrev pub Loses : Queue → Queue → Type 0

@@ -2,5 +2,6 @@
 //! which lines go to the thread that writes them. No thread, no socket, no clock and no file.
 #![tactic(auto)]
 
+pub mod laws;
 pub mod queue;
 pub mod words;

@@ -1,0 +1,19 @@
+//! What the contracts of a queue mean together. Each function does nothing: its contract is a law,
+//! which the check proves.
+
+ghost use Rattle.std.specs.Prelude.{◌≡◌};
+ghost use Rattle.relay_log.specs.declared.queue.TheConstants.{MOST_QUEUED_BYTES};
+ghost use Rattle.relay_log.specs.Conservation.{EachPushIsTold};
+
+/// However lines are pushed and taken, what was taken and what waits are the lines that were taken
+/// in, in order and whole, with a line `lost N` exactly where N were lost between; and the lines
+/// taken in, the sum of all N and those lost since are as many as the pushes. For fewer than 2^64
+/// pushes, since the count stops there.
+pub fn each_push_is_told()
+    ensures { EachPushIsTold }
+{}
+
+/// The bound in figures: at most 65,536 bytes wait.
+pub fn the_bound_in_figures()
+    ensures { MOST_QUEUED_BYTES ≡ 65536 }
+{}
