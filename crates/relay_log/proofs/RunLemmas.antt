@@ -1,10 +1,10 @@
 -- Runs of pushes and takes, step by step.
-use Rattle.std.proofs.Common.{◌≡◌, ◌∙◌, sym, ap, refl, ℕ, ◌+◌, ◌<◌, ◌^◌, ◌-◌, List, [], ◌∷◌, ◌++◌, length, arith, length-append, replicate, min}
+use Rattle.std.proofs.Common.{◌≡◌, ◌∙◌, sym, ap, ℕ, ◌+◌, ◌<◌, ◌^◌, List, [], ◌∷◌, ◌++◌, arith, length-append, replicate}
 use Rattle.std.specs.Prelude.{sum_by, flat_map}
 use Rattle.std.proofs.lemmas.Grind.{common_steps}
 use Rattle.relay_log.specs.Queue.{Queue, one_more, entry_text}
-use Rattle.relay_log.specs.Conservation.{Push, HasRun, Entry, pushes_of, text_of, said_lost}
-use Rattle.relay_log.specs.Conservation.{AreEntriesOf, EachPushIsTold}
+use Rattle.relay_log.specs.Conservation.{Push, Entry, pushes_of, text_of, said_lost}
+use Rattle.relay_log.specs.Conservation.{EachPushIsTold}
 use Rattle.relay_log.specs.Conservation.{queued, lost, begins, queues, loses, takes}
 
 -- one element more of the same

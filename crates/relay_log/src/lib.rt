@@ -2,6 +2,9 @@
 //! which lines go to the thread that writes them. No thread, no socket, no clock and no file.
 #![tactic(auto)]
 
+pub mod ended;
 pub mod laws;
+pub mod line;
+pub mod moment;
 pub mod queue;
 pub mod words;

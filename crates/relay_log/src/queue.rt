@@ -83,15 +83,23 @@ impl<A: Allocator> LogQueue<A> {
         let room = MOST_QUEUED_BYTES - self.waiting.len();
         let said = lost_len(self.lost);
         if line.len() > room || said > room - line.len() {
-            self.lost = self.lost.saturating_add(1);
+            self.lose();
             return Err(Lost::NoRoom);
         }
-        if write_entry(&mut self.waiting, self.lost, line).is_err() {
-            self.lost = self.lost.saturating_add(1);
-            return Err(Lost::NoMemory);
+        match write_entry(&mut self.waiting, self.lost, line) {
+            Ok(()) => self.lost = 0,
+            Err(_) => {
+                self.lose();
+                return Err(Lost::NoMemory);
+            }
         }
-        self.lost = 0;
         Ok(())
+    }
+
+    fn lose(&mut self)
+        ensures { Loses self.old self.new }
+    {
+        self.lost = self.lost.saturating_add(1);
     }
 
     /// All that waits, in order, in place of what the vector held. The queue goes on in the

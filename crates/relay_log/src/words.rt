@@ -2,3 +2,45 @@
 
 /// What a line begins with that says how many lines were lost.
 pub const LOST: &[u8] = b"lost ";
+
+/// In place of an id: the connection was refused, so it never had one.
+pub const NO_ID: &[u8] = b"-";
+
+/// Both ends of file were passed on.
+pub const EOF: &[u8] = b"eof";
+
+/// No byte passed for the idle time of its rule.
+pub const IDLE: &[u8] = b"idle";
+
+/// An admin session closed it.
+pub const CLOSED: &[u8] = b"closed";
+
+/// It ended what it had begun after a drain.
+pub const DRAINED: &[u8] = b"drained";
+
+/// A read failed; the reason follows.
+pub const READ: &[u8] = b"read ";
+
+/// A write failed; the reason follows.
+pub const WRITE: &[u8] = b"write ";
+
+/// It was refused, since as many connections stood as may.
+pub const FULL: &[u8] = b"full";
+
+/// It was refused, since the target wasn't reached.
+pub const NO_TARGET: &[u8] = b"no target";
+
+/// The peer reset the connection.
+pub const RESET: &[u8] = b"reset";
+
+/// The system gave the connection up.
+pub const ABORTED: &[u8] = b"aborted";
+
+/// The peer took no more bytes.
+pub const BROKEN_PIPE: &[u8] = b"broken-pipe";
+
+/// Nobody listened at the address.
+pub const REFUSED: &[u8] = b"refused";
+
+/// Any other error.
+pub const OTHER: &[u8] = b"other";

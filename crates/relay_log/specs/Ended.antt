@@ -1,0 +1,28 @@
+-- How a connection's end is spelled.
+use Rattle.std.specs.Prelude.{ℕ, List, ◌++◌}
+use Rattle.relay_log.specs.declared.words.TheConstants.{EOF, IDLE, CLOSED, DRAINED, READ, WRITE}
+use Rattle.relay_log.specs.declared.words.TheConstants.{FULL, NO_TARGET, RESET, ABORTED}
+use Rattle.relay_log.specs.declared.words.TheConstants.{BROKEN_PIPE, REFUSED, OTHER}
+use Rattle.relay_log.specs.declared.ended.Reason.{Reason}
+use Rattle.relay_log.specs.declared.ended.Reason.TheVariants as reason
+use Rattle.relay_log.specs.declared.ended.Ended.{Ended}
+use Rattle.relay_log.specs.declared.ended.Ended.TheVariants as ended
+
+-- the word of a reason
+abbrev pub reason_text : Reason → List ℕ
+reason_text reason.Reset = RESET.now
+reason_text reason.Aborted = ABORTED.now
+reason_text reason.BrokenPipe = BROKEN_PIPE.now
+reason_text reason.Refused = REFUSED.now
+reason_text reason.Other = OTHER.now
+
+-- the words of an end, with its reason where it has one
+abbrev pub ended_text : Ended → List ℕ
+ended_text ended.Eof = EOF.now
+ended_text ended.Idle = IDLE.now
+ended_text ended.Closed = CLOSED.now
+ended_text ended.Drained = DRAINED.now
+ended_text (ended.Read why) = READ.now ++ reason_text why
+ended_text (ended.Write why) = WRITE.now ++ reason_text why
+ended_text ended.Full = FULL.now
+ended_text ended.NoTarget = NO_TARGET.now
