@@ -40,7 +40,10 @@ fn what_is_said_of_lost_lines_takes_room_too(rt: HostRuntime) -> Result<(), Fail
         let mut queue = LogQueue::new(rt.alloc());
         assert!(rt; queue.push(line_of(rt.alloc(), 65_537)?.as_slice()).is_err());
         assert_eq!(rt; queue.push(line_of(rt.alloc(), 93)?.as_slice()), Ok(()));
-        assert_eq!(rt; queue.push(line_of(rt.alloc(), len)?.as_slice()).is_ok(), goes_in);
+        assert_eq!(rt;
+            queue.push(line_of(rt.alloc(), len)?.as_slice()).is_ok(),
+            goes_in
+        );
     }
     Ok(())
 }
@@ -57,12 +60,12 @@ fn lost_lines_are_said_once_and_the_last_at_the_end(rt: HostRuntime) -> Result<(
     assert_eq!(rt; queue.push(b"b\n"), Ok(()));
     assert_eq!(rt; queue.push(b"c\n"), Ok(()));
     queue.take(&mut taken);
-    assert_eq!(rt; taken.as_slice(), b"a\nlost 12\nb\nc\n");
+    assert_eq!(rt; taken.as_slice(), b"a\nlost 12\nb\nc\n".as_slice());
     assert_eq!(rt; queue.push(b"d\n"), Ok(()));
     assert_eq!(rt; queue.push(long.as_slice()), Err(Lost::NoRoom));
     assert_eq!(rt; queue.finish(&mut taken), Ok(()));
-    assert_eq!(rt; taken.as_slice(), b"d\nlost 1\n");
+    assert_eq!(rt; taken.as_slice(), b"d\nlost 1\n".as_slice());
     assert_eq!(rt; queue.finish(&mut taken), Ok(()));
-    assert_eq!(rt; taken.as_slice(), b"");
+    assert_eq!(rt; taken.as_slice(), b"".as_slice());
     Ok(())
 }

@@ -51,6 +51,9 @@ fn ten_thousand_pushes_are_each_taken_or_said_to_be_lost(rt: HostRuntime) -> Res
             lines.extend_from_slice(b"\n")?;
         }
     }
-    assert!(rt; lines.as_slice() == want.as_slice(), "other lines, or in another order");
+    assert!(rt;
+        lines.as_slice() == want.as_slice(),
+        "other lines, or in another order"
+    );
     Ok(())
 }
