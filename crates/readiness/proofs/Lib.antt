@@ -1,1 +1,3 @@
 pub mod BatchLemmas
+pub mod ResumingLemmas
+pub mod TellingLemmas

@@ -19,15 +19,11 @@ event_step event = record {
 abbrev pub due_step : ℕ → Dir → ℕ → Step
 due_step key dir now = record { token = key; why = Due (side_in key) dir now }
 
--- a task that was named is resumed
-abbrev pub told_step : ℕ → Step
-told_step token = record { token = token; why = Named }
-
--- a task that gave way is resumed
-abbrev pub again_step : ℕ → Step
-again_step token = record { token = token; why = Again }
+-- the task that a token names is resumed for this reason
+abbrev pub step_for : Why → ℕ → Step
+step_for why token = record { token = token; why = why }
 
 -- each event's task in order, then each that was named, then each that gave way
 abbrev pub steps_of : List Ev → List ℕ → List ℕ → List Step
 steps_of events told gave_way =
-    map event_step events ++ (map told_step told ++ map again_step gave_way)
+    map event_step events ++ (map (step_for Named) told ++ map (step_for Again) gave_way)

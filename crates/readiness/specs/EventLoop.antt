@@ -1,6 +1,9 @@
 -- A loop and its remote, as callers see them.
+use Rattle.std.specs.Prelude.{ℕ, List}
 use Rattle.std.specs.Arc.{arc_value}
 use Rattle.mio.specs.declared.waker.Waker.{Waker}
+use Rattle.readiness.specs.Poller.{heard_by}
+use Rattle.readiness.specs.declared.batch.Ev.{Ev}
 use Rattle.readiness.specs.declared.loop_remote.LoopRemote.{LoopRemote}
 use Rattle.readiness.specs.declared.loop_remote.RemoteAlarms.{RemoteAlarms}
 use Rattle.readiness.specs.declared.event_loop.EventLoop.{EventLoop}
@@ -27,3 +30,15 @@ module _ {T A : Type 0} where
   -- the remote of the loop whose timers these alarms arm
   abbrev pub remote_of : RemoteAlarms T A → LoopRemote A
   remote_of alarms = arc_value alarms.remote
+
+  -- what the last wait of a loop said
+  abbrev pub events_in : EventLoop T A → List Ev
+  events_in loop = heard_by loop.poller
+
+  -- the tokens that were named when a loop looked last
+  abbrev pub told_in : EventLoop T A → List ℕ
+  told_in loop = loop.told.items
+
+  -- the tokens of those that gave way before a loop's turn
+  abbrev pub round_in : EventLoop T A → List ℕ
+  round_in loop = loop.round.items

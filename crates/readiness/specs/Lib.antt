@@ -1,6 +1,8 @@
 pub mod SystemErrors
+pub mod Peers
 pub mod Sockets
 pub mod Batch
+pub mod Telling
 pub mod PollTimeout
 pub mod Poller
 pub mod Holding
@@ -9,5 +11,7 @@ pub mod LoopToken
 pub mod Agenda
 pub mod NamedTasks
 pub mod Tasks
+pub mod HostCalls
+pub mod Resuming
 pub mod EventLoop
 pub mod Laws

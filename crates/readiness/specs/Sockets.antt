@@ -1,12 +1,16 @@
 -- Sockets and halves, as callers see them.
-use Rattle.std.specs.Prelude.{Bool, true, false, Option}
+use Rattle.std.specs.Prelude.{ℕ, Bool, true, false, List, Option, Some, None}
+use Rattle.std.specs.Option.{option_map}
 use Rattle.std.specs.Arc.{arc_value}
+use Rattle.mio.specs.declared.net.stream.TcpStream.{TcpStream}
+use Rattle.mio.specs.declared.net.uds.stream.UnixStream.{UnixStream}
 use Rattle.readiness.specs.declared.addr.Addr.{Addr}
 use Rattle.readiness.specs.declared.addr.Addr.TheVariants.{Tcp as TcpAddr, Unix as UnixAddr}
 use Rattle.readiness.specs.declared.sock.Sock.{Sock}
 use Rattle.readiness.specs.declared.sock.Sock.TheVariants.{Tcp as TcpSock, Unix as UnixSock}
 use Rattle.readiness.specs.declared.sock.Listen.{Listen}
 use Rattle.readiness.specs.declared.sock.Listen.TheVariants.{Tcp as TcpListen, Unix as UnixListen}
+use Rattle.readiness.specs.Peers.{bytes_of}
 use Rattle.readiness.specs.declared.resources.ReadHalf.{ReadHalf}
 use Rattle.readiness.specs.declared.resources.WriteHalf.{WriteHalf}
 use Rattle.rwloops.specs.declared.outcome.DevKind.{DevKind}
@@ -20,6 +24,26 @@ is_tcp_addr (UnixAddr path) = false
 abbrev pub is_tcp : Sock → Bool
 is_tcp (TcpSock stream) = true
 is_tcp (UnixSock stream) = false
+
+-- the peer's address, where the system's accept gave one
+abbrev pub peer_of : Sock → Option Addr
+peer_of (TcpSock tcp) = option_map (λ from. TcpAddr from.0 from.1) tcp.peer
+peer_of (UnixSock unix) = option_map UnixAddr unix.peer
+
+-- a connection over this stream of TCP, with what is kept of its peer's address; only private
+-- functions cite it
+abbrev pub tcp_sock : TcpStream → Option (List ℕ × ℕ) → Sock
+tcp_sock stream peer = TcpSock (record { stream = stream; peer = peer })
+
+-- the stream of a connection over a Unix socket; only private functions cite it
+abbrev pub unix_stream_in : Sock → Option UnixStream
+unix_stream_in (TcpSock tcp) = None
+unix_stream_in (UnixSock unix) = Some unix.stream
+
+-- the bytes of the path that is kept of a connection's peer; only private functions cite it
+abbrev pub path_in : Sock → Option (List ℕ)
+path_in (TcpSock tcp) = None
+path_in (UnixSock unix) = option_map bytes_of unix.peer
 
 -- the listener is one of TCP
 abbrev pub is_tcp_listener : Listen → Bool

@@ -2,6 +2,9 @@
 
 use arrayvec::ArrayString;
 
+/// The most bytes of a path that an address keeps.
+pub const MAX_PATH_BYTES: usize = 100;
+
 /// An IPv4 address with a port, or the path of a Unix socket in at most 100 bytes.
 #[derive(Clone, Copy, Debug, PartialEq, Eq, Drop)]
 pub enum Addr {
@@ -9,5 +12,5 @@ pub enum Addr {
     /// listen at port 0 takes any port that is free.
     Tcp([u8; 4], u16),
     /// The path of a file, which a listener makes and nobody removes.
-    Unix(ArrayString<100>),
+    Unix(ArrayString<MAX_PATH_BYTES>),
 }

@@ -1,8 +1,7 @@
-//! What a turn of a loop resumes, and in which order: each event's task, then each that was told,
-//! then each that gave way in the turn before.
+//! What a turn of a loop resumes, one step for each task that it comes to.
 
-ghost use Rattle.std.specs.Prelude.{◌≡◌, slice_get};
-ghost use Rattle.readiness.specs.Agenda.{event_step, due_step, steps_of};
+ghost use Rattle.std.specs.Prelude.{◌≡◌};
+ghost use Rattle.readiness.specs.Agenda.{event_step, due_step};
 
 use crate::batch::Ev;
 use crate::loop_token::{Side, side_of};
@@ -57,49 +56,5 @@ pub fn step_of_timer(key: u64, dir: Dir, now: u64) -> Step
             dir,
             now,
         },
-    }
-}
-
-/// The steps of a turn after its wait.
-#[derive(Clone, Copy, Drop)]
-pub(crate) struct Agenda<'a> {
-    pub(crate) events: &'a [Ev],
-    pub(crate) told: &'a [u64],
-    pub(crate) gave_way: &'a [u64],
-}
-
-impl<'a> Agenda<'a> {
-    /// How many steps there are, or the most that a `usize` counts.
-    pub(crate) fn len(&self) -> usize {
-        self.events
-            .len()
-            .saturating_add(self.told.len())
-            .saturating_add(self.gave_way.len())
-    }
-
-    /// The step of this number, or `None` after the last.
-    pub(crate) fn step(&self, number: usize) -> Option<Step>
-        ensures { result ≡ slice_get
-            (steps_of self.now.events.now self.now.told.now self.now.gave_way.now) number }
-    {
-        let mut number = number;
-        if number < self.events.len() {
-            return Some(step_of_event(self.events[number]));
-        }
-        number -= self.events.len();
-        if number < self.told.len() {
-            return Some(Step {
-                token: self.told[number],
-                why: Why::Named,
-            });
-        }
-        number -= self.told.len();
-        if number < self.gave_way.len() {
-            return Some(Step {
-                token: self.gave_way[number],
-                why: Why::Again,
-            });
-        }
-        None
     }
 }

@@ -8,15 +8,19 @@ ghost use Rattle.readiness.specs.Tasks.{HasPlace, SameTasks, IsPut, RefusesPlace
 ghost use Rattle.readiness.specs.Tasks.{task_in, next_place, next_serial, task_count};
 ghost use Rattle.std.specs.Arc.{arc_value};
 ghost use Rattle.readiness.specs.LoopToken.{place_in};
+ghost use Rattle.readiness.specs.Agenda.{steps_of};
 ghost use Rattle.readiness.specs.EventLoop.{tasks_of, remote_in, poller_of, waker_behind};
+ghost use Rattle.readiness.specs.EventLoop.{events_in, told_in, round_in};
+ghost use Rattle.readiness.specs.Resuming.{MakesSteps};
 ghost use Rattle.readiness.specs.Poller.{waker_of};
 
-use crate::agenda::{Agenda, Why, step_of_timer};
+use crate::agenda::Why;
 use crate::loop_remote::LoopRemote;
 use crate::loop_token::Place;
 use crate::named_tasks::MAX_NAMED;
 use crate::poller::Poller;
 use crate::tasks::{Host, NoPlace, Tasks};
+use crate::telling::{CellsThemselves, Telling};
 use base_types::OutOfMemory;
 use rwloops::Fault;
 use std::alloc::{Allocator, Global};
@@ -177,9 +181,9 @@ impl<T, A: Allocator> EventLoop<T, A> {
         ensures faults { IfErr result (λ fault. fault ≡ Fault.Device DevKind.Other) }
     {
         let all_again = self.tasks.begin_round(&mut self.round);
-        for (key, dir) in self.remote.due(rt, now).as_slice() {
-            self.tasks.resume(rt, host, step_of_timer(*key, *dir, now));
-        }
+        let cells = &mut CellsThemselves { rt };
+        self.tasks
+            .resume_due(cells, host, self.remote.due(rt, now).as_slice(), now);
         let gave_way = all_again || !self.round.is_empty() || self.tasks.gave_way();
         let heard = self
             .poller
@@ -187,27 +191,26 @@ impl<T, A: Allocator> EventLoop<T, A> {
         self.remote.has_slept();
         heard?;
         let all_told = self.remote.take_told(rt, &mut self.told);
-        self.resume_round(rt, host);
+        self.resume_round(cells, host);
         if all_told {
-            self.tasks.resume_all(rt, host, Why::Named);
+            self.tasks.resume_all(cells, host, Why::Named);
         }
         if all_again {
-            self.tasks.resume_all(rt, host, Why::Again);
+            self.tasks.resume_all(cells, host, Why::Again);
         }
         Ok(())
     }
 
     // Has the tasks go on of the events, those that were told, and those that gave way.
-    fn resume_round<R: Wait, H: Host<Task = T>>(&mut self, rt: &R, host: &mut H) {
-        let agenda = Agenda {
-            events: self.poller.events(),
-            told: self.told.as_slice(),
-            gave_way: self.round.as_slice(),
-        };
-        for number in 0..agenda.len() {
-            if let Some(step) = agenda.step(number) {
-                self.tasks.resume(rt, host, step);
-            }
-        }
+    fn resume_round<C: Telling, H: Host<Task = T>>(&mut self, cells: &mut C, host: &mut H)
+        ensures made { MakesSteps (H.tells host.old) (H.tells host.new)
+            (tasks_of self.old) (tasks_of self.new)
+            (steps_of (events_in self.old) (told_in self.old) (round_in self.old)) }
+    {
+        self.tasks.resume_ready(cells, host, self.poller.events());
+        self.tasks
+            .resume_each(cells, host, self.told.as_slice(), Why::Named);
+        self.tasks
+            .resume_each(cells, host, self.round.as_slice(), Why::Again);
     }
 }

@@ -1,7 +1,7 @@
 //! Sockets that never wait, and a poller that tells the descriptors in a table what is ready and
 //! what time it is: Go's network poller, over `epoll`.
 //!
-//! `addr`, `sock` and `open` have the sockets, `resources` what a descriptor makes of them. `batch`
+//! `addr`, `peer`, `sock` and `open` have the sockets, `resources` what a descriptor makes of them. `batch`
 //! and `poll_timeout` decide what a poll's events say and how long a poll waits, `poller` polls,
 //! `holding` puts sockets into its table, and `timer_alarms` has deadlines wake it.
 #![tactic(auto)]
@@ -16,6 +16,7 @@ mod loop_remote;
 mod loop_token;
 mod named_tasks;
 mod open;
+mod peer;
 mod poll_timeout;
 mod polled_events;
 mod poller;
@@ -24,9 +25,10 @@ mod resuming;
 mod sock;
 mod system_error;
 mod tasks;
+mod telling;
 mod timer_alarms;
 
-pub use addr::Addr;
+pub use addr::{Addr, MAX_PATH_BYTES};
 pub use agenda::{Step, Why, step_of_event, step_of_timer};
 pub use batch::{Ev, MAX_EVENTS, Ready, batch_of};
 pub use event_loop::EventLoop;
@@ -35,6 +37,7 @@ pub use loop_remote::{LoopRemote, RemoteAlarms};
 pub use loop_token::{LAST_SERIAL, MAX_PLACES, Place, Side};
 pub use named_tasks::MAX_NAMED;
 pub use open::{connect, listen};
+pub use peer::PeerStream;
 pub use poll_timeout::{MAX_WAIT_MS, sleep_ms, wait_ms};
 pub use poller::{HasCell, Poller};
 pub use resources::{ListenRes, NoWrites, ReadHalf, SockRes, WriteHalf};

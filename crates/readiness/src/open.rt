@@ -1,11 +1,12 @@
 //! How sockets are opened.
 
-ghost use Rattle.std.specs.Prelude.{◌≡◌, IfOk, IfErr};
-ghost use Rattle.readiness.specs.Sockets.{is_tcp, is_tcp_listener, is_tcp_addr};
+ghost use Rattle.std.specs.Prelude.{◌≡◌, IfOk, IfErr, None};
+ghost use Rattle.readiness.specs.Sockets.{is_tcp, is_tcp_listener, is_tcp_addr, peer_of};
 ghost use Rattle.readiness.specs.SystemErrors.{IsConnectKind};
 ghost use Rattle.rwloops.specs.declared.outcome.DevKind.{DevKind};
 
 use crate::addr::Addr;
+use crate::peer::PeerStream;
 use crate::sock::{Listen, Sock};
 use crate::system_error::connect_kind_of;
 use mio::net::{TcpListener, TcpStream, UnixListener, UnixStream};
@@ -21,14 +22,18 @@ fn socket_address(bytes: [u8; 4], port: u16) -> SocketAddr {
 
 fn begin<R: Net>(rt: &R, addr: &Addr) -> io::Result<Sock>
     ensures family { IfOk result (λ sock. is_tcp sock ≡ is_tcp_addr addr.now) }
+    ensures no_peer { IfOk result (λ sock. peer_of sock ≡ None) }
 {
     match addr {
         Addr::Tcp(bytes, port) => {
             let stream = TcpStream::connect(rt, socket_address(*bytes, *port))?;
             let _ = stream.set_nodelay(true);
-            Ok(Sock::Tcp(stream))
+            Ok(Sock::Tcp(PeerStream { stream, peer: None }))
         }
-        Addr::Unix(path) => Ok(Sock::Unix(UnixStream::connect(rt, path.as_str())?)),
+        Addr::Unix(path) => {
+            let stream = UnixStream::connect(rt, path.as_str())?;
+            Ok(Sock::Unix(PeerStream { stream, peer: None }))
+        }
     }
 }
 
@@ -40,6 +45,7 @@ fn begin<R: Net>(rt: &R, addr: &Addr) -> io::Result<Sock>
 /// full.
 pub fn connect<R: Net>(rt: &R, addr: &Addr) -> Result<Sock, DevKind>
     ensures family { IfOk result (λ sock. is_tcp sock ≡ is_tcp_addr addr.now) }
+    ensures no_peer { IfOk result (λ sock. peer_of sock ≡ None) }
     ensures kinds { IfErr result IsConnectKind }
 {
     match begin(rt, addr) {

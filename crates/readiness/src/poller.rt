@@ -7,14 +7,15 @@ ghost use Rattle.std.specs.Prelude.{◌≡◌, ◌⊎◌, ◌≤◌, length, IfO
 ghost use Rattle.std.specs.Arc.{arc_value};
 ghost use Rattle.rwloops.specs.declared.fault.Fault.{Fault};
 ghost use Rattle.rwloops.specs.declared.outcome.DevKind.{DevKind};
-ghost use Rattle.readiness.specs.Poller.{waker_of};
+ghost use Rattle.readiness.specs.Poller.{waker_of, heard_by};
 
-use crate::batch::{Ev, batch_of};
+use crate::batch::Ev;
 use crate::loop_token::waker_token;
 use crate::poll_timeout::{MAX_WAIT_MS, wait_ms};
 use crate::polled_events::PolledEvents;
 use crate::sock::{Listen, Sock};
-use base_types::{Dir, OutOfMemory};
+use crate::telling::{CellsThemselves, notify_entries, tick_entries};
+use base_types::OutOfMemory;
 use conntable::ConnTable;
 use deadline_core::Timers;
 use fd_descriptor::PollCell;
@@ -46,22 +47,6 @@ pub struct Poller<A: Allocator = Global> {
     waker: Arc<Waker, A>,
 }
 
-// Tells the entries what the events make ready, while the table is held.
-fn notify_entries<R: Wait, T: HasCell, B: Allocator>(rt: &R, events: &[Ev], table: &ConnTable<T, B>)
-    requires few { length events.now ≤ 256 }
-{
-    for ready in batch_of(events, table).as_slice() {
-        if let Some(entry) = table.by_id(ready.id) {
-            if ready.read {
-                entry.cell().notify(rt, Dir::Read);
-            }
-            if ready.write {
-                entry.cell().notify(rt, Dir::Write);
-            }
-        }
-    }
-}
-
 // Shows the clock to the entries whose timers are due, and gives the earliest moment that is left.
 // A key whose entry is gone is passed over.
 fn tick_due<R: Wait, T: HasCell, B: Allocator, C: Allocator>(
@@ -75,14 +60,12 @@ fn tick_due<R: Wait, T: HasCell, B: Allocator, C: Allocator>(
         return next;
     }
     let due = timers.lock(rt).due(now);
-    {
-        let table = table.lock(rt);
-        for (id, _) in due.as_slice() {
-            if let Some(entry) = table.by_id(*id) {
-                entry.cell().tick(rt, now);
-            }
-        }
-    }
+    tick_entries(
+        &mut CellsThemselves { rt },
+        &table.lock(rt),
+        now,
+        due.as_slice(),
+    );
     timers.lock(rt).next()
 }
 
@@ -157,6 +140,7 @@ impl<A: Allocator> Poller<A> {
 
     /// What the last wait said.
     pub(crate) fn events(&self) -> &[Ev]
+        ensures own { result.now ≡ heard_by self.now }
         ensures few { length result.now ≤ 256 }
     {
         self.polled.evs()
@@ -181,7 +165,7 @@ impl<A: Allocator> Poller<A> {
         self.polled.poll(&mut self.poll, wait_ms(now, next))?;
         let evs = self.polled.evs();
         if !evs.is_empty() {
-            notify_entries(rt, evs, &table.lock(rt));
+            notify_entries(&mut CellsThemselves { rt }, &table.lock(rt), evs);
         }
         Ok(())
     }

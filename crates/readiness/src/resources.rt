@@ -60,12 +60,12 @@ impl<A: Allocator> TryRead for ReadHalf<A> {
     // busy neighbour for milliseconds, and a spin keeps it from the peer.
     fn try_read(&mut self, buf: &mut [u8]) -> Outcome {
         outcome_of(match &*self.sock {
-            Sock::Tcp(stream) => {
-                let mut reader = stream;
+            Sock::Tcp(tcp) => {
+                let mut reader = &tcp.stream;
                 reader.read(buf)
             }
-            Sock::Unix(stream) => {
-                let mut reader = stream;
+            Sock::Unix(unix) => {
+                let mut reader = &unix.stream;
                 reader.read(buf)
             }
         })
@@ -81,12 +81,12 @@ impl<A: Allocator> TryWrite for WriteHalf<A> {
         ensures kept { count_in result ≡ 0 → known_made self.new ≡ known_made self.old }
     {
         let outcome = outcome_of(match &*self.sock {
-            Sock::Tcp(stream) => {
-                let mut writer = stream;
+            Sock::Tcp(tcp) => {
+                let mut writer = &tcp.stream;
                 writer.write(bytes)
             }
-            Sock::Unix(stream) => {
-                let mut writer = stream;
+            Sock::Unix(unix) => {
+                let mut writer = &unix.stream;
                 writer.write(bytes)
             }
         });
@@ -122,8 +122,8 @@ impl<A: Allocator> HalfClose for WriteHalf<A> {
             return Err(kind);
         }
         let done = match &*self.sock {
-            Sock::Tcp(stream) => stream.shutdown(Shutdown::Write),
-            Sock::Unix(stream) => stream.shutdown(Shutdown::Write),
+            Sock::Tcp(tcp) => tcp.stream.shutdown(Shutdown::Write),
+            Sock::Unix(unix) => unix.stream.shutdown(Shutdown::Write),
         };
         match done {
             Ok(()) => Ok(()),

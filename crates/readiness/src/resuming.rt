@@ -1,52 +1,89 @@
-//! How a loop's tasks go on.
+//! How a loop's tasks go on: steps, one after the other.
 
-ghost use Rattle.std.specs.Prelude.{◌≡◌, ℕ, [], None};
+ghost use Rattle.std.specs.Prelude.{◌≡◌, ℕ, [], ◌∷◌, None, IfSome, is_some, map};
+ghost use Rattle.base_types.specs.declared.direction.Dir.{Dir};
+ghost use Rattle.rwloops.specs.Waits.{Tells};
+ghost use Rattle.readiness.specs.Agenda.{event_step, due_step, step_for};
+ghost use Rattle.readiness.specs.HostCalls.{Resumed, Ended};
 ghost use Rattle.readiness.specs.Tasks.{task_in, next_serial, gone_again, SameTasks, OthersKept};
+ghost use Rattle.readiness.specs.Resuming.{TicksFor, MakesStep, MakesSteps};
 ghost use Rattle.readiness.specs.declared.tasks.Turn.{Turn};
 
-use crate::agenda::{Step, Why};
+use crate::agenda::{Step, Why, step_of_event, step_of_timer};
+use crate::batch::Ev;
 use crate::loop_token::{LAST_SERIAL, MAX_PLACES, place_for, place_of, serial_of};
 use crate::tasks::{Host, Slot, Tasks, Turn};
+use crate::telling::Telling;
+use base_types::Dir;
 use slab::Slab;
 use std::alloc::Allocator;
 use std::mem;
-use std::sync::Wait;
 
-// Ticks the cell of a due timer's descriptor.
-fn tick<R: Wait, H: Host>(rt: &R, host: &H, task: &H::Task, why: Why) {
+// Shows the clock to the cell of a due timer's descriptor.
+fn tick<C: Telling, H: Host>(cells: &mut C, host: &H, task: &H::Task, why: Why)
+    ensures { TicksFor (H.has_cell host.now task.now)
+        (C.tells cells.old) (C.tells cells.new) why }
+{
     if let Why::Due { side, now, .. } = why {
         if let Some(cell) = host.cell(task, side) {
-            cell.tick(rt, now);
+            cells.tick(cell, now);
         }
     }
 }
 
 impl<T, A: Allocator> Tasks<T, A> {
     // Has the task that a token names go on.
-    fn go_on<R: Wait, H: Host<Task = T>>(&mut self, rt: &R, host: &mut H, step: Step) -> Turn
+    fn go_on<C: Telling, H: Host<Task = T>>(
+        &mut self,
+        cells: &mut C,
+        host: &mut H,
+        step: Step,
+    ) -> Turn
         ensures passed { task_in self.old step.token ≡ None → result ≡ Turn.Waits }
         ensures kept { task_in self.old step.token ≡ None → SameTasks self.old self.new }
+        ensures silent { task_in self.old step.token ≡ None
+            → Tells (H.tells host.old) (H.tells host.new) [] }
+        ensures ticked { IfSome (task_in self.old step.token) (λ task.
+            TicksFor (H.has_cell host.old task) (C.tells cells.old) (C.tells cells.new) step.why) }
+        ensures stays { is_some (task_in self.new step.token)
+            ≡ is_some (task_in self.old step.token) }
+        ensures resumed { IfSome (task_in self.old step.token) (λ task.
+            IfSome (task_in self.new step.token) (λ left. Tells (H.tells host.old) (H.tells host.new)
+            (Resumed task step.why result left ∷ []))) }
         ensures others { OthersKept self.old self.new step.token }
     {
         match self.slots.get_mut(place_of(step.token)) {
             Some(slot) if slot.serial == serial_of(step.token) => {
-                tick(rt, host, &slot.task, step.why);
+                tick(cells, host, &slot.task, step.why);
                 host.resume(&mut slot.task, step.why)
             }
             _ => Turn::Waits,
         }
     }
 
-    /// Has the task of a step go on, and does what it answers: it comes again in the next turn, or
-    /// it is handed to the host, with its place free. A step whose task is gone is passed over.
-    pub(crate) fn resume<R: Wait, H: Host<Task = T>>(&mut self, rt: &R, host: &mut H, step: Step)
-        ensures others { OthersKept self.old self.new step.token }
-        ensures passed { task_in self.old step.token ≡ None → SameTasks self.old self.new }
+    // A task that gave way comes now.
+    fn come_to(&mut self, step: Step)
+        ensures kept { SameTasks self.old self.new }
     {
         if step.why == Why::Again {
             self.come(step.token);
         }
-        match self.go_on(rt, host, step) {
+    }
+
+    /// Has the task of a step go on, and does what it answers: it comes again in the next turn, or
+    /// it is handed to the host, with its place free. A step whose task is gone is passed over.
+    pub(crate) fn resume<C: Telling, H: Host<Task = T>>(
+        &mut self,
+        cells: &mut C,
+        host: &mut H,
+        step: Step,
+    )
+        ensures others { OthersKept self.old self.new step.token }
+        ensures passed { task_in self.old step.token ≡ None → SameTasks self.old self.new }
+        ensures made { MakesStep (H.tells host.old) (H.tells host.new) self.old self.new step }
+    {
+        self.come_to(step);
+        match self.go_on(cells, host, step) {
             Turn::Waits => {}
             Turn::Again => self.give_way(step.token),
             Turn::Over => self.end(host, step.token),
@@ -57,6 +94,8 @@ impl<T, A: Allocator> Tasks<T, A> {
     pub(crate) fn end<H: Host<Task = T>>(&mut self, host: &mut H, token: u64)
         ensures others { OthersKept self.old self.new token }
         ensures gone { task_in self.new token ≡ None }
+        ensures handed { IfSome (task_in self.old token) (λ task.
+            Tells (H.tells host.old) (H.tells host.new) (Ended task ∷ [])) }
     {
         if let Some(task) = self.take(token) {
             host.over(task);
@@ -89,16 +128,65 @@ impl<T, A: Allocator> Tasks<T, A> {
         Some(place_for(place, slot.serial).first)
     }
 
-    /// Has all tasks go on.
-    pub(crate) fn resume_all<R: Wait, H: Host<Task = T>>(
+    /// Makes the step of each timer that is due.
+    pub(crate) fn resume_due<C: Telling, H: Host<Task = T>>(
         &mut self,
-        rt: &R,
+        cells: &mut C,
+        host: &mut H,
+        due: &[(u64, Dir)],
+        now: u64,
+    )
+        ensures { MakesSteps (H.tells host.old) (H.tells host.new) self.old self.new
+            (map (λ timer. due_step timer.0 timer.1 now) due.now) }
+    {
+        for timer in due {
+            let (key, dir) = *timer;
+            self.resume(cells, host, step_of_timer(key, dir, now));
+        }
+    }
+
+    /// Makes the step of each event.
+    pub(crate) fn resume_ready<C: Telling, H: Host<Task = T>>(
+        &mut self,
+        cells: &mut C,
+        host: &mut H,
+        events: &[Ev],
+    )
+        ensures { MakesSteps (H.tells host.old) (H.tells host.new) self.old self.new
+            (map event_step events.now) }
+    {
+        for event in events {
+            self.resume(cells, host, step_of_event(*event));
+        }
+    }
+
+    /// Has each of the tasks that these tokens name go on, for this reason.
+    pub(crate) fn resume_each<C: Telling, H: Host<Task = T>>(
+        &mut self,
+        cells: &mut C,
+        host: &mut H,
+        tokens: &[u64],
+        why: Why,
+    )
+        ensures { MakesSteps (H.tells host.old) (H.tells host.new) self.old self.new
+            (map (step_for why) tokens.now) }
+    {
+        for token in tokens {
+            let token = *token;
+            self.resume(cells, host, Step { token, why });
+        }
+    }
+
+    /// Has all tasks go on.
+    pub(crate) fn resume_all<C: Telling, H: Host<Task = T>>(
+        &mut self,
+        cells: &mut C,
         host: &mut H,
         why: Why,
     ) {
         for place in 0..self.slots.capacity() {
             if let Some(token) = self.token_at(place) {
-                self.resume(rt, host, Step { token, why });
+                self.resume(cells, host, Step { token, why });
             }
         }
     }

@@ -2,22 +2,31 @@
 //! exec.
 
 ghost use Rattle.std.specs.Prelude.{◌≡◌, IfErr, IfSome, IfOk, true};
-ghost use Rattle.readiness.specs.Sockets.{is_tcp, is_tcp_listener};
+ghost use Rattle.std.specs.Option.{option_map};
+ghost use Rattle.std.specs.Path.{path_bytes};
+ghost use Rattle.readiness.specs.Peers.{ipv4_kept, path_kept};
+ghost use Rattle.readiness.specs.Sockets.{is_tcp, is_tcp_listener, is_tcp_addr, peer_of};
+ghost use Rattle.readiness.specs.Sockets.{tcp_sock, unix_stream_in, path_in};
 ghost use Rattle.rwloops.specs.declared.outcome.DevKind.{DevKind};
 
+use crate::addr::{Addr, MAX_PATH_BYTES};
+use crate::peer::{PeerStream, ipv4_of, path_of};
+use arrayvec::ArrayString;
 use mio::net::{TcpListener, TcpStream, UnixListener, UnixStream};
 use mio::{Interest, Registry, Token};
 use rwloops::DevKind;
 use std::io;
+use std::net::SocketAddr;
+use std::path::Path;
 
 /// A connection, made or being made. A TCP one that comes from `connect` or from a listener sends
 /// small writes at once (`TCP_NODELAY`), as Go's do.
 #[derive(Drop)]
 pub enum Sock {
     /// Over TCP.
-    Tcp(TcpStream),
+    Tcp(PeerStream<TcpStream, ([u8; 4], u16)>),
     /// Over a Unix socket.
-    Unix(UnixStream),
+    Unix(PeerStream<UnixStream, ArrayString<MAX_PATH_BYTES>>),
 }
 
 /// What connections are accepted from.
@@ -47,18 +56,62 @@ impl Sock {
         let both = Interest::READABLE | Interest::WRITABLE;
         let token = Token(token as usize);
         or_other(match self {
-            Sock::Tcp(stream) => registry.register(stream, token, both),
-            Sock::Unix(stream) => registry.register(stream, token, both),
+            Sock::Tcp(tcp) => registry.register(&mut tcp.stream, token, both),
+            Sock::Unix(unix) => registry.register(&mut unix.stream, token, both),
         })
+    }
+
+    /// The peer's address, as the system's accept gave it. A socket that comes from `connect` has
+    /// none, nor has a Unix one whose peer has no path, or one of more than 100 bytes.
+    pub fn peer(&self) -> Option<Addr>
+        ensures own { result ≡ peer_of self.now }
+        ensures family { IfSome result (λ addr. is_tcp_addr addr ≡ is_tcp self.now) }
+    {
+        match self {
+            Sock::Tcp(tcp) => match &tcp.peer {
+                Some(peer) => {
+                    let bytes = peer.0;
+                    Some(Addr::Tcp(bytes, peer.1))
+                }
+                None => None,
+            },
+            Sock::Unix(unix) => match &unix.peer {
+                Some(path) => Some(Addr::Unix(*path)),
+                None => None,
+            },
+        }
     }
 
     /// Whether the connection is made, also where it has ended in one direction since.
     pub(crate) fn is_connected(&self) -> bool {
         match self {
-            Sock::Tcp(stream) => stream.peer_addr().is_ok(),
+            Sock::Tcp(tcp) => tcp.stream.peer_addr().is_ok(),
             Sock::Unix(_) => true,
         }
     }
+}
+
+// A connection of what TCP's accept gave: the stream, and the peer's address.
+fn accepted_tcp(accepted: (TcpStream, SocketAddr)) -> Sock
+    ensures { result ≡ tcp_sock accepted.0 (ipv4_kept accepted.1) }
+{
+    let (stream, addr) = accepted;
+    let _ = stream.set_nodelay(true);
+    Sock::Tcp(PeerStream {
+        stream,
+        peer: ipv4_of(addr),
+    })
+}
+
+// A connection of what the accept of a Unix listener gave: the stream, and the peer's path.
+fn accepted_unix(stream: UnixStream, path: Option<Path<'_>>) -> Sock
+    ensures stream { unix_stream_in result ≡ Some stream }
+    ensures path { path_in result ≡ path_kept (option_map path_bytes path.entry) }
+{
+    Sock::Unix(PeerStream {
+        stream,
+        peer: path_of(path),
+    })
 }
 
 impl Listen {
@@ -90,14 +143,10 @@ impl Listen {
         ensures family { IfOk result (λ sock. is_tcp sock ≡ is_tcp_listener self.now) }
     {
         match self {
-            Listen::Tcp(listener) => {
-                let (stream, _) = listener.accept()?;
-                let _ = stream.set_nodelay(true);
-                Ok(Sock::Tcp(stream))
-            }
+            Listen::Tcp(listener) => Ok(accepted_tcp(listener.accept()?)),
             Listen::Unix(listener) => {
-                let (stream, _) = listener.accept()?;
-                Ok(Sock::Unix(stream))
+                let (stream, addr) = listener.accept()?;
+                Ok(accepted_unix(stream, addr.as_pathname()))
             }
         }
     }

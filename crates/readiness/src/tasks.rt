@@ -28,21 +28,39 @@ pub enum Turn {
 
 /// What a program does with the tasks of a loop.
 pub trait Host {
+    ghost use Rattle.std.specs.Prelude.{List, ◌∷◌, Option};
+    ghost use Rattle.std.specs.Option.{option_copied};
+    ghost use Rattle.fd_descriptor.specs.declared.poll_cell.PollCell.{PollCell};
+    ghost use Rattle.readiness.specs.declared.loop_token.Side.{Side};
+    ghost use Rattle.readiness.specs.HostCalls.{HostCall, Resumed, Ended};
+
     /// A task.
     type Task;
 
+    /// This list is told: each task that was resumed or has ended so far, newest first. Whoever
+    /// keeps no such list leaves it out.
+    ghost tells: { Self → List (HostCall Self.Task) → Type 0 } = { λ _ _. ⊥ };
+
+    /// This may be the cell on that side of a task. Whoever has nothing to say of it leaves it out.
+    ghost has_cell: { Self → Self.Task → Side → Option PollCell → Type 0 } = { λ _ _ _ _. Unit {0} };
+
     /// The cell of the descriptor on this side of a task, where it has one, so that due timers tick
     /// it.
-    fn cell<'a>(&self, task: &'a Self::Task, side: Side) -> Option<&'a PollCell>;
+    fn cell<'a>(&self, task: &'a Self::Task, side: Side) -> Option<&'a PollCell>
+        ensures own { has_cell self.now task.now side (option_copied result) };
 
     /// Has a task go on, and says what came of it. It must not wait.
     ///
     /// A task answers `Waits` only after a try that would block, since the poller tells edges. It
     /// bounds what it does at a time, and answers `Again` where it could do more.
-    fn resume(&mut self, task: &mut Self::Task, why: Why) -> Turn;
+    fn resume(&mut self, task: &mut Self::Task, why: Why) -> Turn
+        ensures told { (calls : List (HostCall Self.Task)) → tells self.old calls
+            → tells self.new (Resumed task.old why result task.new ∷ calls) };
 
     /// Takes a task that has ended, whose place is free again.
-    fn over(&mut self, task: Self::Task);
+    fn over(&mut self, task: Self::Task)
+        ensures told { (calls : List (HostCall Self.Task)) → tells self.old calls
+            → tells self.new (Ended task ∷ calls) };
 }
 
 /// Why a loop has no place more.

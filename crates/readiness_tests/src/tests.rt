@@ -28,6 +28,7 @@ mod memory;
 mod moments;
 mod open_files;
 mod paths;
+mod peers;
 mod resets;
 mod waiting;
 mod watch;

@@ -18,7 +18,7 @@ pub(super) fn own_path(rt: &HostRuntime, name: &str) -> Option<ArrayString<100>>
 }
 
 /// The path made longer, to exactly so many bytes, if it takes them.
-fn lengthened(path: ArrayString<100>, len: usize) -> Option<ArrayString<100>> {
+pub(super) fn lengthened(path: ArrayString<100>, len: usize) -> Option<ArrayString<100>> {
     let mut path = path;
     for _ in 0..len.saturating_sub(path.len()) {
         if path.try_push_str("x").is_err() {

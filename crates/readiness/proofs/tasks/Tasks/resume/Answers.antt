@@ -1,0 +1,37 @@
+use Rattle.std.proofs.Common.{refl, sym, ◌∙◌}
+use Rattle.readiness.specs.Tasks.{task_in}
+use Rattle.readiness.specs.declared.tasks.Turn.TheVariants.{Waits, Again}
+use Rattle.readiness.proofs.ResumingLemmas.{step_made, stays_so, over_so}
+use Rattle.readiness.proofs.tasks.Tasks.resume.Goals as goal
+
+pub returns-in-Waits-clause-made : goal.returns-in-Waits-clause-made
+returns-in-Waits-clause-made g c = step_made (g.H.Host.tells c.args.host.now) (g.H.Host.tells c.go_on.new.host)
+    c.args.self.now c.go_on.new.self c.args.step (task_in c.come_to.new.self c.args.step.token)
+    (sym (c.come_to.ensures.kept c.args.step.token))
+    (λ other away. c.in-Waits.ensures.others other away ∙ c.come_to.ensures.kept other)
+    (stays_so (g.H.Host.tells c.args.host.now) (g.H.Host.tells c.go_on.new.host)
+    c.args.self.now c.go_on.new.self c.args.step Waits (task_in c.come_to.new.self c.args.step.token)
+    (task_in c.go_on.new.self c.args.step.token) (λ task one. refl) (λ one. refl) c.in-Waits.ensures.stays
+    (λ none token. c.in-Waits.ensures.kept none token ∙ c.come_to.ensures.kept token)
+    c.in-Waits.ensures.silent c.in-Waits.ensures.resumed refl)
+
+pub returns-in-Again-clause-made : goal.returns-in-Again-clause-made
+returns-in-Again-clause-made g c = step_made (g.H.Host.tells c.args.host.now) (g.H.Host.tells c.go_on.new.host)
+    c.args.self.now c.give_way.new.self c.args.step (task_in c.come_to.new.self c.args.step.token)
+    (sym (c.come_to.ensures.kept c.args.step.token))
+    (λ other away. c.give_way.ensures.kept other ∙ (c.in-Again.ensures.others other away ∙ c.come_to.ensures.kept other))
+    (stays_so (g.H.Host.tells c.args.host.now) (g.H.Host.tells c.go_on.new.host)
+    c.args.self.now c.give_way.new.self c.args.step Again (task_in c.come_to.new.self c.args.step.token)
+    (task_in c.go_on.new.self c.args.step.token) (λ task one. refl) (λ one. refl) c.in-Again.ensures.stays
+    (λ none token. c.give_way.ensures.kept token ∙ (c.in-Again.ensures.kept none token ∙ c.come_to.ensures.kept token))
+    c.in-Again.ensures.silent c.in-Again.ensures.resumed (c.give_way.ensures.kept c.args.step.token))
+
+pub returns-in-Over-clause-made : goal.returns-in-Over-clause-made
+returns-in-Over-clause-made g c = step_made (g.H.Host.tells c.args.host.now) (g.H.Host.tells c.end.new.host)
+    c.args.self.now c.end.new.self c.args.step (task_in c.come_to.new.self c.args.step.token)
+    (sym (c.come_to.ensures.kept c.args.step.token))
+    (λ other away. c.end.ensures.others other away ∙ (c.in-Over.ensures.others other away ∙ c.come_to.ensures.kept other))
+    (over_so (g.H.Host.tells c.args.host.now) (g.H.Host.tells c.go_on.new.host) (g.H.Host.tells c.end.new.host)
+    c.args.self.now c.end.new.self c.args.step (task_in c.come_to.new.self c.args.step.token)
+    (task_in c.go_on.new.self c.args.step.token) c.in-Over.ensures.stays c.in-Over.ensures.passed
+    c.in-Over.ensures.resumed c.end.ensures.handed c.end.ensures.gone)
