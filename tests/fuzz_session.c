@@ -106,6 +106,11 @@ static int is_fault(const char *reply, size_t size) {
            is(reply, size, "error 409 closed") || is(reply, size, "error 409 draining");
 }
 
+// What is shown is of the id that was asked for.
+static int shows(const char *line, size_t length, const char *reply, size_t size) {
+    return size > length && memcmp(reply, line, length) == 0 && begins(reply + length, size - length, " rule ");
+}
+
 static int answers(const char *line, size_t length, const char *reply, size_t size) {
     if (is(line, length, "list"))
         return begins(reply, size, "ids");
@@ -115,6 +120,11 @@ static int answers(const char *line, size_t length, const char *reply, size_t si
         return is(reply, size, "ok");
     if (begins(line, length, "close ") || begins(line, length, "drain ") || begins(line, length, "deadline "))
         return is(reply, size, "ok") || is_fault(reply, size);
+    if (is(line, length, "reload"))
+        return begins(reply, size, "rules ") || begins(reply, size, "bad rules: ") || is(reply, size, "cannot read rules") ||
+               begins(reply, size, "cannot listen ");
+    if (begins(line, length, "show "))
+        return shows(line, length, reply, size) || is_fault(reply, size);
     return is(reply, size, "error 400 bad command");
 }
 

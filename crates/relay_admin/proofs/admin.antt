@@ -3,3 +3,4 @@ pub mod LineTranscripts
 pub mod OneDialogue
 pub mod SessionEnds
 pub mod SessionLemmas
+pub mod ShownLines

@@ -1,19 +1,27 @@
 -- What the grammars and the transcripts have to be.
-use Rattle.std.specs.Prelude.{◌≡◌, ◌↔◌, ℕ, List}
+use Rattle.std.specs.Prelude.{◌≡◌, ◌↔◌, ℕ, List, [], ◌∷◌, ◌++◌, Some}
+use Rattle.stream_base.specs.Lines.{Lacks, line_feed}
 use Rattle.relay_admin.specs.declared.admin.command.Command.{Command}
 use Rattle.relay_admin.specs.declared.admin.end.AdminEnd.{AdminEnd}
 use Rattle.relay_admin.specs.declared.rules.file.RulesFault.{RulesFault}
 use Rattle.relay_admin.specs.rules.Addr.{Address, IsAddress, address_text}
 use Rattle.relay_admin.specs.rules.Grammar.{Entry, SpellsRule}
 use Rattle.relay_admin.specs.rules.Fault.{SaysRules, SaysFault}
+use Rattle.relay_admin.specs.rules.Reading.{address_at}
 use Rattle.relay_admin.specs.admin.Command.{SpellsCommand}
 use Rattle.relay_admin.specs.admin.Reply.{Exchange}
+use Rattle.relay_admin.specs.admin.Shown.{Particulars, AreParticulars, shown_text}
 use Rattle.relay_admin.specs.admin.Transcript.{IsTranscriptOf, ended, questions_of}
 
 -- addresses of one text are one address, and one address has one text
 abbrev pub OneTextAnAddress : Type 0
 OneTextAnAddress = (one other : Address) → IsAddress one → IsAddress other
     → (address_text one ≡ address_text other) ↔ (one ≡ other)
+
+-- an address is read where its text stands alone, and nowhere else
+abbrev pub ReadsItsText : Type 0
+ReadsItsText = (text : List ℕ) (address : Address)
+    → (address_at text ≡ Some address) ↔ (text ≡ address_text address) × IsAddress address
 
 -- a line spells one rule at most
 abbrev pub OneRuleALine : Type 0
@@ -48,3 +56,8 @@ OneDialogueAText =
     → IsTranscriptOf text exchanges replies (ended end)
     → IsTranscriptOf text exchanges' replies' (ended end')
     → (questions_of exchanges ≡ questions_of exchanges') × (end ≡ end')
+
+-- what is shown is one line, whatever path a peer has
+abbrev pub OneLineAShow : Type 0
+OneLineAShow = (p : Particulars) → AreParticulars p
+    → (line : List ℕ) × Lacks line_feed line × (shown_text p ≡ line ++ line_feed ∷ [])

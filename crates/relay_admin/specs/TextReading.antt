@@ -1,4 +1,4 @@
--- Reading a text from left to right, as the code does. No public clause cites this module.
+-- Reading a text from left to right, as the code does. Public clauses cite `Views` alone.
 use Rattle.std.specs.Prelude.{◌≡◌, ◌==◌, ◌+◌, ◌-◌, ◌*◌, ℕ, ◌&&◌, List, [], ◌∷◌, Option, Some, None}
 use Rattle.std.specs.Prelude.{nat_le, codes, if◌then◌else◌}
 use Rattle.std.specs.Fmt.{decimal}

@@ -4,4 +4,5 @@ pub mod Devices
 pub mod Progress
 pub mod Reply
 pub mod ReplyBytes
+pub mod Shown
 pub mod Transcript

@@ -6,6 +6,7 @@
 //! | an end by a command | `end`: how it is told; `command`: `Command::end`, and `end_of` |
 //! | a question to the desk | `desk`: the question, its row in `ask`, a new answer |
 //! | a reply | `reply_text`: its words; `reply`: which answer has it |
+//! | a word of what is shown | `shown`: its field, and its place in the line |
 
 pub mod command;
 pub mod desk;
@@ -16,3 +17,4 @@ pub mod reply;
 pub mod reply_bytes;
 pub mod reply_text;
 pub mod session;
+pub mod shown;

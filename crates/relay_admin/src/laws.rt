@@ -4,19 +4,27 @@ ghost use Rattle.std.specs.Prelude.{◌≡◌, ◌∷◌, ◌++◌, [], codes};
 ghost use Rattle.relay_admin.specs.declared.admin.command.TheConstants.{MAX_DEADLINE_MS, MAX_ID};
 ghost use Rattle.relay_admin.specs.declared.admin.dialogue.TheConstants.{MAX_LINES, MAX_LINE_BYTES};
 ghost use Rattle.relay_admin.specs.declared.admin.reply_text.TheConstants.{BAD_COMMAND, BUSY};
-ghost use Rattle.relay_admin.specs.declared.admin.reply_text.TheConstants.{CLOSED};
+ghost use Rattle.relay_admin.specs.declared.admin.reply_text.TheConstants.{CANNOT_LISTEN, CLOSED};
+ghost use Rattle.relay_admin.specs.declared.admin.reply_text.TheConstants.{CANNOT_READ};
 ghost use Rattle.relay_admin.specs.declared.admin.reply_text.TheConstants.{DONE, DRAINING};
 ghost use Rattle.relay_admin.specs.declared.admin.reply_text.TheConstants.{NO_SUCH_CONNECTION};
 ghost use Rattle.relay_admin.specs.declared.admin.reply_text.TheConstants.{OUT_OF_MEMORY};
+ghost use Rattle.relay_admin.specs.declared.rules.addr.TheConstants.{MAX_ADDR_BYTES};
 ghost use Rattle.relay_admin.specs.declared.rules.addr.TheConstants.{MAX_PATH_BYTES};
 ghost use Rattle.relay_admin.specs.declared.rules.file.TheConstants.{MAX_BYTES, MAX_RULES};
 ghost use Rattle.relay_admin.specs.declared.rules.rule.TheConstants.{MAX_IDLE_MS, MAX_NAME_BYTES};
 ghost use Rattle.relay_admin.specs.Laws.{NoRulesWithFault, OneCommandALine, OneDialogueAText};
-ghost use Rattle.relay_admin.specs.Laws.{OneFault, OneListOfRules, OneRuleALine, OneTextAnAddress};
+ghost use Rattle.relay_admin.specs.Laws.{OneFault, OneLineAShow, OneListOfRules, OneRuleALine};
+ghost use Rattle.relay_admin.specs.Laws.{OneTextAnAddress, ReadsItsText};
 
 /// Two addresses are one exactly where their texts are one.
 pub fn one_text_an_address()
     ensures { OneTextAnAddress }
+{}
+
+/// What `addr_of` reads of a text is the address whose text that is, and nothing where it is none's.
+pub fn an_address_is_read_from_its_text()
+    ensures { ReadsItsText }
 {}
 
 /// A text has one verdict: these rules and no others, or this fault and no other, and never both.
@@ -34,6 +42,12 @@ pub fn one_dialogue_a_text()
     ensures text { OneDialogueAText }
 {}
 
+/// What is shown of a connection is one line, whatever path its peer has chosen: no client can make
+/// one reply look like two.
+pub fn a_show_is_one_line()
+    ensures { OneLineAShow }
+{}
+
 /// The limits of a rules file in figures. The definitions follow the code's constants, so that this
 /// alone says which they are.
 pub fn the_limits_of_rules_in_figures()
@@ -41,6 +55,7 @@ pub fn the_limits_of_rules_in_figures()
     ensures rules { MAX_RULES ≡ 64 }
     ensures name_bytes { MAX_NAME_BYTES ≡ 16 }
     ensures path_bytes { MAX_PATH_BYTES ≡ 100 }
+    ensures addr_bytes { MAX_ADDR_BYTES ≡ 105 }
     ensures idle_ms { MAX_IDLE_MS ≡ 86400000 }
 {}
 
@@ -52,8 +67,9 @@ pub fn the_limits_of_a_session_in_figures()
     ensures deadline_ms { MAX_DEADLINE_MS ≡ 86400000 }
 {}
 
-/// The replies that are always the same, in words, each with its line feed. The definitions follow
-/// the code's texts, so that this alone says which they are.
+/// The replies that are always the same, in words, each with its line feed, and the words of one
+/// before the name that follows. The definitions follow the code's texts, so that this alone says
+/// which they are.
 pub fn the_fixed_replies_in_words()
     ensures done { DONE.now ≡ codes "ok" ++ 10 ∷ [] }
     ensures bad_command { BAD_COMMAND.now ≡ codes "error 400 bad command" ++ 10 ∷ [] }
@@ -62,4 +78,6 @@ pub fn the_fixed_replies_in_words()
     ensures draining { DRAINING.now ≡ codes "error 409 draining" ++ 10 ∷ [] }
     ensures busy { BUSY.now ≡ codes "error 409 busy" ++ 10 ∷ [] }
     ensures no_memory { OUT_OF_MEMORY.now ≡ codes "error 507 out of memory" ++ 10 ∷ [] }
+    ensures cannot_read { CANNOT_READ.now ≡ codes "cannot read rules" ++ 10 ∷ [] }
+    ensures cannot_listen { CANNOT_LISTEN.now ≡ codes "cannot listen " }
 {}

@@ -2,16 +2,41 @@
 
 ghost use Rattle.std.specs.Prelude.{None};
 
-use relay_admin::{Desk, DeskAnswer};
+use arrayvec::ArrayString;
+use relay_admin::{Addr, Desk, DeskAnswer, RulesFault, Shown, ShownSide, Verdict};
 use std::alloc::Global;
 
-/// A desk with these ids and totals, which counts its questions. Its connection 1 can be drained.
+/// A text in a value of its own, and none of it where it is too long.
+pub(super) fn held<const N: usize>(text: &str) -> ArrayString<N> {
+    match ArrayString::from(text) {
+        Ok(held) => held,
+        Err(_) => ArrayString::new(),
+    }
+}
+
+/// A client of the rule `web` from a TCP port, with this id.
+pub(super) fn shown_client(id: u64) -> Shown {
+    Shown {
+        id,
+        rule: held("web"),
+        side: ShownSide::Client,
+        peer: Some(Addr::Tcp([127, 0, 0, 1], 51234)),
+        up: 12,
+        down: 0,
+        age_ms: 3500,
+        quiet_ms: 1200,
+    }
+}
+
+/// A desk with these ids and totals, which counts its questions. Its connection 1 can be drained,
+/// its connection 7 is shown, and each of its reloads ends otherwise than the one before.
 #[derive(Drop)]
 pub(super) struct FakeDesk {
     pub(super) ids: &'static [u64],
     pub(super) totals: (u64, u64),
     pub(super) asked: u64,
     is_drained: bool,
+    reloads: u64,
 }
 
 impl FakeDesk {
@@ -21,6 +46,7 @@ impl FakeDesk {
             totals: (12, 0),
             asked: 0,
             is_drained: false,
+            reloads: 0,
         }
     }
 
@@ -81,5 +107,32 @@ impl Desk for FakeDesk {
             return DeskAnswer::Draining;
         }
         DeskAnswer::Fine
+    }
+
+    fn show(&mut self, id: u64) -> DeskAnswer {
+        self.count();
+        match id {
+            2 => DeskAnswer::Closed,
+            3 => DeskAnswer::Busy,
+            4 => DeskAnswer::NoMemory,
+            7 => DeskAnswer::Shown(Shown {
+                id,
+                ..shown_client(id)
+            }),
+            _ => DeskAnswer::Unknown,
+        }
+    }
+
+    fn reload(&mut self, _alloc: Global) -> DeskAnswer {
+        self.count();
+        self.reloads = self.reloads.saturating_add(1);
+        match self.reloads {
+            1 => DeskAnswer::Verdict(Verdict::Rules(2)),
+            2 => DeskAnswer::Verdict(Verdict::Bad(RulesFault::SameName(65_536))),
+            3 => DeskAnswer::CannotRead,
+            4 => DeskAnswer::CannotListen(held("web-2")),
+            5 => DeskAnswer::NoMemory,
+            _ => DeskAnswer::Closed,
+        }
     }
 }

@@ -9,6 +9,8 @@ use std::test::Fail;
 use stream_base::reader_source::ReaderSource;
 use stream_base::writer_sink::WriterSink;
 
+const LINES: &str = "list\ntotals\nclose 1\nquit\n";
+
 // What is replied where memory is refused for neither, one or both of the two lines.
 const BOTH: &str = "ids 1001 1002 1003 1004 1005 1006\ntotals up 12 down 0\nok\nok\n";
 
@@ -20,8 +22,8 @@ const NEITHER: &str = "error 507 out of memory\nerror 507 out of memory\nok\nok\
 
 /// What a session of these lines replies where its replies take memory of this heap, if it ends by
 /// `quit` after three questions.
-fn replies_on(alloc: Global, heap: &LocalHeap) -> Option<Vec<u8>> {
-    let mut text = b"list\ntotals\nclose 1\nquit\n".as_slice();
+fn replies_on(alloc: Global, heap: &LocalHeap, lines: &str) -> Option<Vec<u8>> {
+    let mut text = lines.as_bytes();
     let mut source = ReaderSource::new(&mut text);
     let mut replies = Vec::new(alloc);
     let mut sink = WriterSink::new(&mut replies);
@@ -39,7 +41,7 @@ fn refused_memory_is_replied_and_the_session_goes_on(rt: HostRuntime) -> Result<
     let mut refused = 0u32;
     for units in 1..100usize {
         let heap = LocalHeap::new(rt.alloc(), units * 16)?;
-        let replies = replies_on(rt.alloc(), &heap).ok_or("it ends otherwise")?;
+        let replies = replies_on(rt.alloc(), &heap, LINES).ok_or("it ends otherwise")?;
         let replies = replies.as_slice();
         if replies == BOTH.as_bytes() {
             assert!(rt; refused > 2, "{refused} refusals");
@@ -49,6 +51,31 @@ fn refused_memory_is_replied_and_the_session_goes_on(rt: HostRuntime) -> Result<
             || replies == NO_IDS.as_bytes()
             || replies == NEITHER.as_bytes();
         assert!(rt; known, "{units} units");
+        refused = refused.saturating_add(1);
+    }
+    Err(Fail::new("always refused"))
+}
+
+const SHOW_AND_RELOAD: &str = "show 7\nreload\nreload\nquit\n";
+
+const SHOWN: &str = "show 7 rule web side client peer tcp:127.0.0.1:51234 up 12 down 0 age 3500 \
+    quiet 1200\nrules 2\nbad rules: same name at line 65536\nok\n";
+
+const NOT_SHOWN: &str =
+    "error 507 out of memory\nrules 2\nbad rules: same name at line 65536\nok\n";
+
+#[test]
+fn a_reload_that_was_carried_out_is_told_without_memory(rt: HostRuntime) -> Result<(), Fail> {
+    let mut refused = 0u32;
+    for units in 1..100usize {
+        let heap = LocalHeap::new(rt.alloc(), units * 16)?;
+        let replies = replies_on(rt.alloc(), &heap, SHOW_AND_RELOAD).ok_or("it ends otherwise")?;
+        let replies = replies.as_slice();
+        if replies == SHOWN.as_bytes() {
+            assert!(rt; refused > 2, "{refused} refusals");
+            return Ok(());
+        }
+        assert!(rt; replies == NOT_SHOWN.as_bytes(), "{units} units");
         refused = refused.saturating_add(1);
     }
     Err(Fail::new("always refused"))

@@ -19,7 +19,7 @@ const X65: &str = "xxxxxxxxxxxxxxxxxxxxxxxxxxxxxxxxxxxxxxxxxxxxxxxxxxxxxxxxxxxxx
 const BAD: &str = "error 400 bad command\n";
 
 /// Sessions: what is read, what is replied, how it ends, and how often the desk is asked.
-const SESSIONS: [(&str, &str, AdminEnd, u64); 17] = [
+const SESSIONS: [(&str, &str, AdminEnd, u64); 21] = [
     ("", "", AdminEnd::End, 0),
     ("list\n", "ids 1 2\n", AdminEnd::End, 1),
     ("deadline 3 0\n", "ok\n", AdminEnd::End, 1),
@@ -84,7 +84,47 @@ const SESSIONS: [(&str, &str, AdminEnd, u64); 17] = [
         AdminEnd::Quit,
         3,
     ),
+    // docs/admin-protocol.md
+    (
+        "show 7\nshow 9\nreload\nquit\n",
+        SHOWN_AND_RELOADED,
+        AdminEnd::Quit,
+        3,
+    ),
+    (
+        "show 2\nshow 3\nshow 4\nshow 01\nshow\nshow 7 2\n",
+        "error 409 closed\nerror 409 busy\nerror 507 out of memory\nerror 400 bad command\n\
+        error 400 bad command\nerror 400 bad command\n",
+        AdminEnd::End,
+        3,
+    ),
+    (
+        "reload\nreload\nreload\nreload\nreload\nreload\nreload 1\nreload \nstop",
+        RELOADED,
+        AdminEnd::Stop,
+        6,
+    ),
+    (
+        "list\ntotals\nshow 7\ndeadline 1 50\ndrain 1\nclose 1\nreload\nfrob\nquit\n",
+        ALL,
+        AdminEnd::Quit,
+        7,
+    ),
 ];
+
+const SHOWN_AND_RELOADED: &str =
+    "show 7 rule web side client peer tcp:127.0.0.1:51234 up 12 down 0 age 3500 quiet 1200\n\
+    error 404 no such connection\nrules 2\nok\n";
+
+// What the fake desk's reloads have in turn, and lines that are no reload.
+const RELOADED: &str = "rules 2\nbad rules: same name at line 65536\ncannot read rules\n\
+    cannot listen web-2\nerror 507 out of memory\nerror 409 closed\nerror 400 bad command\n\
+    error 400 bad command\nok\n";
+
+// Each command once.
+const ALL: &str = "ids 1 2\ntotals up 12 down 0\n\
+    show 7 rule web side client peer tcp:127.0.0.1:51234 up 12 down 0 age 3500 quiet 1200\n\
+    ok\nok\nok\nrules 2\nerror 400 bad command\nok\n";
 
 /// Plays one session.
 fn play<R: Abort>(rt: &R, alloc: Global, session: &(&str, &str, AdminEnd, u64)) {

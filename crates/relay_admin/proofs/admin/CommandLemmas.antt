@@ -1,15 +1,15 @@
 -- What is read is a command of the grammar, and each command of the grammar is read from its text.
-use Rattle.std.specs.Prelude.{◌≡◌, ◌≢◌, ◌≤◌, ◌<◌, ◌^◌, ◌∷◌, ◌++◌, ◌⊎◌, if◌then◌else◌}
-use Rattle.relay_admin.proofs.Words.{◌∙◌, sym, ap, refl, subst, ℕ, List, Bool, true, false, append-nil}
-use Rattle.relay_admin.proofs.Words.{Option, Some, None, IfSome, IfNone, arith, codes, bytes_eq, decimal, nat_tests}
+use Rattle.std.specs.Prelude.{◌≡◌, ◌≢◌, ◌≤◌, ◌<◌, ◌^◌, ◌∷◌, ◌++◌, ◌⊎◌}
+use Rattle.relay_admin.proofs.Words.{◌∙◌, sym, ap, refl, subst, ℕ, List, true, append-nil}
+use Rattle.relay_admin.proofs.Words.{Option, Some, None, IfSome, IfNone, arith, decimal, nat_tests}
 use Rattle.relay_admin.proofs.Words.{inl, inr}
-use Rattle.relay_admin.proofs.Words.{Command, space, ◌>>=◌, split_at_first, number_within, IsDeadline, IsCommand}
+use Rattle.relay_admin.proofs.Words.{Command, space, split_at_first, number_within, IsDeadline, IsCommand}
 use Rattle.relay_admin.proofs.Words.{AreArguments, arguments_text, words_of, time_text, command_text, SpellsCommand}
 use Rattle.relay_admin.proofs.Words.{time_within, arguments_at, arguments_of_parts, words_at, words_of_parts, Lacks}
 use Rattle.relay_admin.specs.declared.admin.command.Arguments.{Arguments}
 use Rattle.relay_admin.specs.declared.admin.command.Arguments.TheVariants as behind
 use Rattle.relay_admin.specs.declared.admin.command.TheConstants.{MAX_ID, MAX_DEADLINE_MS}
-use Rattle.relay_admin.proofs.TextLemmas.{bind_some, bind_is, same_bytes, split_sound, split_complete, split_lacks}
+use Rattle.relay_admin.proofs.TextLemmas.{bind_some, bind_is, split_sound, split_complete, split_lacks}
 use Rattle.relay_admin.proofs.TextLemmas.{word_lacks, Lacks-word}
 use Rattle.relay_admin.proofs.NumberLemmas.{within_sound, within_complete, Lacks-decimal}
 use Rattle.relay_admin.proofs.GrammarBytes.{digit_no_space}

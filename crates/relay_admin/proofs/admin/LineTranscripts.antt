@@ -7,6 +7,7 @@ use Rattle.relay_admin.specs.declared.admin.end.AdminEnd.{AdminEnd}
 use Rattle.relay_admin.specs.declared.admin.end.AdminEnd.TheVariants as ends
 use Rattle.relay_admin.specs.admin.Command.{SpellsCommand, end_of}
 use Rattle.relay_admin.specs.admin.Reply.{Answer, fine, reply_text, IsReplyTo, Exchange, AddsExchanges, Exchanges}
+use Rattle.relay_admin.specs.admin.Reply.{HasAskedId}
 use Rattle.relay_admin.specs.admin.Transcript.{LineTranscript, too_long, no_command, finishes, asks}
 use Rattle.relay_admin.specs.admin.Progress.{AnswersLine}
 
@@ -34,13 +35,13 @@ last_line_of asked line c end short spells is =
 
 pub asked_line : (asked asked' : Option (List Exchange)) (line : List ℕ) (c : Command) (answer : Answer)
     (reply : List ℕ) → length line ≤ MAX_LINE_BYTES → SpellsCommand line c → end_of c ≡ None
-    → Exchanges asked asked' c answer → IsReplyTo answer reply → AnswersLine asked asked' line reply None
-asked_line asked asked' line c answer reply short spells unended told is =
+    → Exchanges asked asked' c answer → HasAskedId c answer → IsReplyTo answer reply
+    → AnswersLine asked asked' line reply None
+asked_line asked asked' line c answer reply short spells unended told same is =
     record {
       exchanges = record { question = c; answer = answer } ∷ [];
       told = told;
-      are =
-          asks line c answer reply short spells unended is;
+      are = asks line c answer reply short spells unended same is;
     }
 
 -- no command ends the session as its source's end does
@@ -57,4 +58,4 @@ not_end line exchanges reply end h e = no_end line exchanges reply (Some end) h 
     no_end _ _ _ _ (too_long line long) e = absurd (cc)
     no_end _ _ _ _ (no_command line short other) e = absurd (cc)
     no_end _ _ _ _ (finishes line c end short spells is) e = no_command_is_end c (is ∙ e)
-    no_end _ _ _ _ (asks line c answer reply short spells unended is) e = absurd (cc)
+    no_end _ _ _ _ (asks line c answer reply short spells unended same is) e = absurd (cc)

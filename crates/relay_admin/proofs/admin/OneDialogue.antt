@@ -51,7 +51,7 @@ kind_of _ _ _ _ (finishes line c end short spells is) =
       questions = ap (asks_where c) (sym is);
       ends = sym is;
     }))
-kind_of _ _ _ _ (asks line c answer reply short spells unended is) =
+kind_of _ _ _ _ (asks line c answer reply short spells unended same is) =
     inr (inr (record {
       one = c;
       short = short;

@@ -19,6 +19,8 @@ words_of command.Stop = (codes "stop", behind.Nothing)
 words_of (command.CloseConn id) = (codes "close", behind.Id id)
 words_of (command.DrainConn id) = (codes "drain", behind.Id id)
 words_of (command.DeadlineOf id after) = (codes "deadline", behind.IdAndDeadline id after)
+words_of (command.Show id) = (codes "show", behind.Id id)
+words_of command.Reload = (codes "reload", behind.Nothing)
 
 -- how the session ends by a command; where it doesn't, the desk is asked
 abbrev pub end_of : Command → Option AdminEnd

@@ -3,10 +3,15 @@ use Rattle.std.specs.Prelude.{◌≡◌, ◌⊎◌, ℕ, List, [], ◌∷◌, �
 use Rattle.std.specs.List.{flat_map}
 use Rattle.std.specs.Fmt.{decimal}
 use Rattle.relay_admin.specs.rules.Grammar.{space}
+use Rattle.relay_admin.specs.rules.Verdict.{verdict_line}
+use Rattle.relay_admin.specs.admin.Shown.{Particulars, particulars_of, shown_text}
 use Rattle.relay_admin.specs.declared.admin.command.Command.{Command}
+use Rattle.relay_admin.specs.declared.admin.command.Command.TheVariants as command
 use Rattle.relay_admin.specs.declared.admin.reply_text.TheConstants.{DONE, BAD_COMMAND}
 use Rattle.relay_admin.specs.declared.admin.reply_text.TheConstants.{NO_SUCH_CONNECTION, CLOSED}
 use Rattle.relay_admin.specs.declared.admin.reply_text.TheConstants.{DRAINING, BUSY, OUT_OF_MEMORY}
+use Rattle.relay_admin.specs.declared.admin.reply_text.TheConstants.{CANNOT_READ, CANNOT_LISTEN}
+use Rattle.relay_admin.specs.declared.rules.verdict.Verdict.{Verdict}
 use Rattle.relay_admin.specs.declared.admin.desk.DeskAnswer.{DeskAnswer}
 use Rattle.relay_admin.specs.declared.admin.desk.DeskAnswer.TheVariants as variant
 
@@ -20,6 +25,10 @@ pub data Answer : Type 0 where
   draining : Answer
   busy : Answer
   no_memory : Answer
+  shown : Particulars → Answer
+  verdict : Verdict → Answer
+  cannot_read : Answer
+  cannot_listen : List ℕ → Answer
 
 -- what an answer of the program says
 abbrev pub answer_of : DeskAnswer → Answer
@@ -31,6 +40,10 @@ answer_of variant.Closed = closed
 answer_of variant.Draining = draining
 answer_of variant.Busy = busy
 answer_of variant.NoMemory = no_memory
+answer_of (variant.Shown sight) = shown (particulars_of sight)
+answer_of (variant.Verdict said) = verdict said
+answer_of variant.CannotRead = cannot_read
+answer_of (variant.CannotListen name) = cannot_listen name.bytes
 
 -- the reply to an answer, with its line feed; `ids` and `totals` stand in `src/admin/reply.rt` as
 -- formats, which are no constants that could be cited, so their words are spelled here too
@@ -44,6 +57,10 @@ reply_text closed = CLOSED.now
 reply_text draining = DRAINING.now
 reply_text busy = BUSY.now
 reply_text no_memory = OUT_OF_MEMORY.now
+reply_text (shown particulars) = shown_text particulars
+reply_text (verdict said) = verdict_line said
+reply_text cannot_read = CANNOT_READ.now
+reply_text (cannot_listen name) = CANNOT_LISTEN.now ++ (name ++ 10 ∷ [])
 
 -- the reply to a line that is no command
 abbrev pub bad_command : List ℕ
@@ -54,7 +71,14 @@ abbrev pub IsReplyTo : Answer → List ℕ → Type 0
 IsReplyTo (ids list) reply = (reply ≡ reply_text (ids list)) ⊎ (reply ≡ reply_text no_memory)
 IsReplyTo (totals up down) reply =
     (reply ≡ reply_text (totals up down)) ⊎ (reply ≡ reply_text no_memory)
+IsReplyTo (shown particulars) reply =
+    (reply ≡ reply_text (shown particulars)) ⊎ (reply ≡ reply_text no_memory)
 IsReplyTo answer reply = reply ≡ reply_text answer
+
+-- what is shown to a `show` has the id that was asked for; of all else the desk's word is taken
+abbrev pub HasAskedId : Command → Answer → Type 0
+HasAskedId (command.Show id) (shown particulars) = particulars.id ≡ id
+HasAskedId question answer = Unit {0}
 
 -- a question to the desk, by the command that asks it, and the answer
 pub record Exchange : Type 0 where

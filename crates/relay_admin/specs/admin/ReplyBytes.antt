@@ -6,4 +6,5 @@ use Rattle.relay_admin.specs.declared.admin.reply_bytes.Reply.TheVariants as var
 -- the bytes that are written
 abbrev pub bytes_of : {A : Type 0} → Reply A → List ℕ
 bytes_of (variant.Fixed text) = text.now
+bytes_of (variant.Held text) = text.bytes
 bytes_of (variant.Made text) = text.items

@@ -11,7 +11,7 @@ use Rattle.relay_admin.specs.declared.admin.end.AdminFault.{AdminFault}
 use Rattle.relay_admin.specs.declared.admin.end.AdminFault.TheVariants as faults
 use Rattle.relay_admin.specs.admin.Command.{IsCommand, SpellsCommand, command_text, end_of}
 use Rattle.relay_admin.specs.admin.Reply.{Answer, fine, reply_text, bad_command, IsReplyTo}
-use Rattle.relay_admin.specs.admin.Reply.{Exchange, AddsExchanges}
+use Rattle.relay_admin.specs.admin.Reply.{Exchange, AddsExchanges, HasAskedId}
 
 -- a line, what is asked for it, the reply, and how the session ends by it, if it does
 pub data LineTranscript : List ℕ → List Exchange → List ℕ → Option AdminEnd → Type 0 where
@@ -25,7 +25,7 @@ pub data LineTranscript : List ℕ → List Exchange → List ℕ → Option Adm
       → LineTranscript line [] (reply_text fine) (Some end)
   asks : (line : List ℕ) (c : Command) (answer : Answer) (reply : List ℕ)
       → length line ≤ MAX_LINE_BYTES → SpellsCommand line c → end_of c ≡ None
-      → IsReplyTo answer reply
+      → HasAskedId c answer → IsReplyTo answer reply
       → LineTranscript line (record { question = c; answer = answer } ∷ []) reply None
 
 -- how a transcript stops: as the session ended, or because a reply couldn't be written or flushed

@@ -29,6 +29,10 @@ pub enum Command {
     /// Sets the deadline of both directions to so many milliseconds from now, 0 to 86,400,000, or
     /// to none.
     DeadlineOf(u64, Option<u32>),
+    /// Asks what is known of the connection or listener with this id.
+    Show(u64),
+    /// Takes the rules from their file anew.
+    Reload,
 }
 
 /// What stands behind the word of a command.
@@ -83,11 +87,13 @@ fn command_named(word: &[u8], arguments: Arguments) -> Option<Command>
             b"totals" => Some(Command::Totals),
             b"quit" => Some(Command::Quit),
             b"stop" => Some(Command::Stop),
+            b"reload" => Some(Command::Reload),
             _ => None,
         },
         Arguments::Id(id) => match word {
             b"close" => Some(Command::CloseConn(id)),
             b"drain" => Some(Command::DrainConn(id)),
+            b"show" => Some(Command::Show(id)),
             _ => None,
         },
         Arguments::IdAndDeadline(id, after_ms) => match word {

@@ -3,9 +3,13 @@
 ghost use Rattle.std.specs.Prelude.{◌≡◌, List, Option, None};
 ghost use Rattle.relay_admin.specs.declared.admin.command.Command.TheVariants as commands;
 ghost use Rattle.relay_admin.specs.admin.Command.{end_of};
-ghost use Rattle.relay_admin.specs.admin.Reply.{Exchange, Exchanges, answer_of};
+ghost use Rattle.relay_admin.specs.admin.Reply.{Exchange, Exchanges, HasAskedId, answer_of};
 
 use crate::admin::command::Command;
+use crate::admin::shown::Shown;
+use crate::rules::rule::MAX_NAME_BYTES;
+use crate::rules::verdict::Verdict;
+use arrayvec::ArrayString;
 use std::alloc::Global;
 
 /// What a desk answers to a question.
@@ -27,10 +31,18 @@ pub enum DeskAnswer {
     Busy,
     /// Memory was refused.
     NoMemory,
+    /// What is known of the connection or listener.
+    Shown(Shown),
+    /// What is said of the rules file as it was read. By `Verdict::Rules` its rules are in force.
+    Verdict(Verdict),
+    /// The rules file can't be read.
+    CannotRead,
+    /// The rule of this name can't be listened for.
+    CannotListen(ArrayString<MAX_NAME_BYTES>),
 }
 
-/// What a session asks: once for each `List`, `Totals`, `CloseConn`, `DrainConn` and `DeadlineOf`,
-/// in the order of the lines, and for nothing else.
+/// What a session asks: once for each `List`, `Totals`, `CloseConn`, `DrainConn`, `DeadlineOf`,
+/// `Show` and `Reload`, in the order of the lines, and for nothing else.
 pub trait Desk {
     // The questions so far with their answers, where the desk still tells them.
     ghost exchanges: { Self → Option (List Exchange) };
@@ -61,13 +73,27 @@ pub trait Desk {
     fn deadline(&mut self, alloc: Global, id: u64, after_ms: Option<u32>) -> DeskAnswer
         ensures { Exchanges (exchanges self.old) (exchanges self.new)
             (commands.DeadlineOf id after_ms) (answer_of result) };
+
+    /// What is known of the connection or listener with this id: `Shown`, `Unknown` or `NoMemory`.
+    fn show(&mut self, id: u64) -> DeskAnswer
+        ensures told { Exchanges (exchanges self.old) (exchanges self.new)
+            (commands.Show id) (answer_of result) }
+        ensures asked { HasAskedId (commands.Show id) (answer_of result) };
+
+    /// Puts the rules in force that their file has now: `Verdict`, `CannotRead`, `CannotListen`,
+    /// `NoMemory`, or `Closed` where the relay is stopping. Nothing changes but by
+    /// `Verdict::Rules`.
+    fn reload(&mut self, alloc: Global) -> DeskAnswer
+        ensures { Exchanges (exchanges self.old) (exchanges self.new)
+            commands.Reload (answer_of result) };
 }
 
 /// Asks the desk what a command asks.
 pub(crate) fn ask<D: Desk>(alloc: Global, desk: &mut D, command: &Command) -> DeskAnswer
     requires { end_of command.now ≡ None }
-    ensures { Exchanges (D.exchanges desk.old) (D.exchanges desk.new)
+    ensures told { Exchanges (D.exchanges desk.old) (D.exchanges desk.new)
         command.now (answer_of result) }
+    ensures asked { HasAskedId command.now (answer_of result) }
 {
     match *command {
         Command::List => desk.ids(alloc),
@@ -75,6 +101,8 @@ pub(crate) fn ask<D: Desk>(alloc: Global, desk: &mut D, command: &Command) -> De
         Command::CloseConn(id) => desk.close(id),
         Command::DrainConn(id) => desk.drain(id),
         Command::DeadlineOf(id, after_ms) => desk.deadline(alloc, id, after_ms),
+        Command::Show(id) => desk.show(id),
+        Command::Reload => desk.reload(alloc),
         Command::Quit | Command::Stop => unreachable!(),
     }
 }

@@ -8,7 +8,11 @@ ghost use Rattle.relay_admin.specs.admin.ReplyBytes.{bytes_of};
 use crate::admin::command::Command;
 use crate::admin::desk::DeskAnswer;
 use crate::admin::reply_bytes::Reply;
-use crate::admin::reply_text::{BUSY, CLOSED, DONE, DRAINING, NO_SUCH_CONNECTION, OUT_OF_MEMORY};
+use crate::admin::reply_text::{
+    BUSY, CANNOT_LISTEN, CANNOT_READ, CLOSED, DONE, DRAINING, NO_SUCH_CONNECTION, OUT_OF_MEMORY,
+};
+use crate::rules::rule::MAX_NAME_BYTES;
+use arrayvec::ArrayString;
 use base_types::OutOfMemory;
 use std::alloc::{Allocator, Global};
 
@@ -43,6 +47,13 @@ pub fn reply_in<A: Allocator + Copy>(
         DeskAnswer::Draining => Vec::from_slice(alloc, DRAINING),
         DeskAnswer::Busy => Vec::from_slice(alloc, BUSY),
         DeskAnswer::NoMemory => Vec::from_slice(alloc, OUT_OF_MEMORY),
+        DeskAnswer::Shown(shown) => shown.line(alloc),
+        DeskAnswer::Verdict(verdict) => Vec::from_slice(alloc, verdict.line().as_bytes()),
+        DeskAnswer::CannotRead => Vec::from_slice(alloc, CANNOT_READ),
+        DeskAnswer::CannotListen(name) => Vec::from_slice(
+            alloc,
+            cannot_listen_line(name).as_bytes(),
+        ),
     }
 }
 
@@ -59,7 +70,19 @@ fn ids_reply<A: Allocator + Copy>(alloc: A, ids: &[u64]) -> Result<Vec<u8, A>, O
     Ok(text.into_bytes())
 }
 
-/// The reply to an answer, or that memory was refused. Only `Ids` and `Totals` take memory.
+/// The line that says that the rule of this name can't be listened for.
+fn cannot_listen_line(name: &ArrayString<MAX_NAME_BYTES>) -> ArrayString<64>
+    ensures { result.bytes ≡ reply_text (answers.cannot_listen name.now.bytes) }
+{
+    let mut line = ArrayString::new();
+    line.push_str(CANNOT_LISTEN);
+    line.push_str(name.as_str());
+    line.push_str("\n");
+    line
+}
+
+/// The reply to an answer, or that memory was refused. Only `Ids`, `Totals` and `Shown` take
+/// memory: a reload that was carried out is never told as a want of it.
 pub(crate) fn reply_to<A: Allocator + Copy>(alloc: A, answer: &DeskAnswer) -> Reply<A>
     ensures { IsReplyTo (answer_of answer.now) (bytes_of result) }
 {
@@ -72,6 +95,10 @@ pub(crate) fn reply_to<A: Allocator + Copy>(alloc: A, answer: &DeskAnswer) -> Re
         DeskAnswer::Draining => Reply::Fixed(DRAINING),
         DeskAnswer::Busy => Reply::Fixed(BUSY),
         DeskAnswer::NoMemory => Reply::Fixed(OUT_OF_MEMORY),
+        DeskAnswer::Shown(_) => made_or_refused(reply_in(alloc, answer)),
+        DeskAnswer::Verdict(verdict) => Reply::Held(verdict.line()),
+        DeskAnswer::CannotRead => Reply::Fixed(CANNOT_READ),
+        DeskAnswer::CannotListen(name) => Reply::Held(cannot_listen_line(name)),
     }
 }
 

@@ -2,12 +2,15 @@
 
 ghost use Rattle.std.specs.Prelude.{◌≡◌};
 
+use arrayvec::ArrayString;
 use std::alloc::Allocator;
 
-/// The bytes of a reply: a fixed text, or one that was made and is freed with the value.
+/// The bytes of a reply: a fixed text, one that lies in the value itself, or one that was made and
+/// is freed with the value.
 #[derive(Drop)]
 pub(crate) enum Reply<A: Allocator> {
     Fixed(&'static [u8]),
+    Held(ArrayString<64>),
     Made(Vec<u8, A>),
 }
 
@@ -20,6 +23,7 @@ impl<A: Allocator> Reply<A> {
     {
         match self {
             Reply::Fixed(text) => text,
+            Reply::Held(text) => text.as_bytes(),
             Reply::Made(text) => text.as_slice(),
         }
     }

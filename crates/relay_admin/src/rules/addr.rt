@@ -1,17 +1,24 @@
 //! Where a rule listens and where it connects to.
 
-ghost use Rattle.std.specs.Prelude.{◌≡◌, ◌≤◌, true, length};
+ghost use Rattle.std.specs.Prelude.{◌≡◌, ◌≤◌, ◌+◌, ◌++◌, true, length, slice_index};
 ghost use Rattle.std.specs.List.{list_all};
-ghost use Rattle.relay_admin.specs.rules.Addr.{address_of, is_path, is_visible};
+ghost use Rattle.std.specs.Fmt.{decimal};
+ghost use Rattle.arrayvec.specs.ArrayString.{array_string_len};
+ghost use Rattle.relay_admin.specs.rules.Addr.{address_of, address_text, is_path, is_visible};
+ghost use Rattle.relay_admin.specs.rules.Addr.{tcp, unix};
 ghost use Rattle.relay_admin.specs.rules.Reading.{address_at, path_at, tcp_at, same_address};
 ghost use Rattle.relay_admin.specs.TextReading.{Views};
 
 use crate::text::{number_between, split_once};
 use arrayvec::ArrayString;
+use itoa::Buffer;
 use std::str;
 
 /// The most bytes of a path.
 pub const MAX_PATH_BYTES: usize = 100;
+
+/// The most bytes of an address's text: those of a path, and "unix:" before it.
+pub const MAX_ADDR_BYTES: usize = MAX_PATH_BYTES + 5;
 
 /// An address: `Tcp` has the four bytes of an IPv4 address and a port, `Unix` the path of a socket.
 #[derive(Clone, Copy, Debug, PartialEq, Eq, Drop)]
@@ -20,9 +27,56 @@ pub enum Addr {
     Unix(ArrayString<MAX_PATH_BYTES>),
 }
 
-/// The address that a text spells, and none where it spells none.
+impl Addr {
+    /// The address as a rules file spells it, at most 105 bytes.
+    pub fn text(&self) -> ArrayString<MAX_ADDR_BYTES>
+        ensures { result.bytes ≡ address_text (address_of self.now) }
+    {
+        match self {
+            Addr::Tcp(bytes, port) => tcp_text(bytes, *port),
+            Addr::Unix(path) => unix_text(path.as_str()),
+        }
+    }
+}
+
+fn tcp_text(bytes: &[u8; 4], port: u16) -> ArrayString<MAX_ADDR_BYTES>
+    ensures { result.bytes ≡ address_text (tcp (slice_index bytes.now 0) (slice_index bytes.now 1)
+        (slice_index bytes.now 2) (slice_index bytes.now 3) port) }
+{
+    let mut text = ArrayString::new();
+    push_number(&mut text, "tcp:", u16::from(bytes[0]));
+    push_number(&mut text, ".", u16::from(bytes[1]));
+    push_number(&mut text, ".", u16::from(bytes[2]));
+    push_number(&mut text, ".", u16::from(bytes[3]));
+    push_number(&mut text, ":", port);
+    text
+}
+
+/// Puts these words and a number behind the text.
+fn push_number(text: &mut ArrayString<MAX_ADDR_BYTES>, words: &str, number: u16)
+    requires { array_string_len text.old + length words.now + 5 ≤ MAX_ADDR_BYTES }
+    ensures bytes { text.new.bytes ≡ text.old.bytes ++ (words.now ++ decimal number) }
+    ensures short { array_string_len text.new ≤ array_string_len text.old + length words.now + 5 }
+{
+    let mut digits = Buffer::new();
+    text.push_str(words);
+    text.push_str(digits.format(number));
+}
+
+/// The text of the address with this path; of no path, that of an unnamed socket.
+pub(crate) fn unix_text(path: &str) -> ArrayString<MAX_ADDR_BYTES>
+    requires { length path.now ≤ MAX_PATH_BYTES }
+    ensures { result.bytes ≡ address_text (unix path.now) }
+{
+    let mut text = ArrayString::new();
+    text.push_str("unix:");
+    text.push_str(path);
+    text
+}
+
+/// The address that a text spells, as the rules file has it, and none where it spells none.
 #[tactic(auto, unfolding(crate::specs::rules::Reading::address_at))]
-pub(crate) fn addr_of(text: &[u8]) -> Option<Addr>
+pub fn addr_of(text: &[u8]) -> Option<Addr>
     ensures { Views address_of result (address_at text.now) }
 {
     let (kind, rest) = split_once(text, b':')?;
@@ -75,7 +129,7 @@ fn path_of(text: &[u8]) -> Option<Addr>
     }
 }
 
-fn is_path_text(text: &[u8]) -> bool
+pub(crate) fn is_path_text(text: &[u8]) -> bool
     ensures { result ≡ is_path text.now }
 {
     if text.is_empty() || text[0] != b'/' {

@@ -17,4 +17,4 @@ returns-in-Some-end g c =
 pub returns-in-None : goal.returns-in-None
 returns-in-None g c =
     asked_line _ _ c.args.line.now c.in-Some.command _ (bytes_of c.reply_to.result) c.requires c.in-Some.ensures.command
-    (sym c.end.ensures ∙ c.in-None.is) c.ask-answer.ensures c.reply_to.ensures
+    (sym c.end.ensures ∙ c.in-None.is) c.ask-answer.ensures.told c.ask-answer.ensures.asked c.reply_to.ensures
