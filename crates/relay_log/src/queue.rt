@@ -96,7 +96,8 @@ impl<A: Allocator> LogQueue<A> {
         Ok(())
     }
 
-    fn lose(&mut self)
+    /// Counts a line as lost that no push came to, since there was no memory for its text.
+    pub fn lose(&mut self)
         ensures { Loses self.old self.new }
     {
         self.lost = self.lost.saturating_add(1);

@@ -1,0 +1,4 @@
+pub mod Batch
+pub mod LogFile
+pub mod Run
+pub mod Turn

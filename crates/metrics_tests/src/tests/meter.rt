@@ -1,0 +1,96 @@
+//! A snapshot whose figures all differ, and a meter whose figures tell how often they were read.
+
+use arrayvec::ArrayString;
+use base_types::OutOfMemory;
+use relay_metrics::{CarriedBytes, Ends, Figures, Metered, Refusals, RuleFigures};
+use std::alloc::Global;
+use std::sync::atomic::{AtomicU64, Ordering};
+
+/// A rule that carried something.
+fn web() -> Option<RuleFigures> {
+    Some(RuleFigures {
+        name: ArrayString::from("web").ok()?,
+        connections: 3,
+        accepted: 167,
+        bytes: CarriedBytes {
+            up: 101,
+            down: u64::MAX,
+        },
+        refused: Refusals {
+            full: 5,
+            no_target: 6,
+        },
+        ends: Ends {
+            eof: 20,
+            idle: 21,
+            closed: 22,
+            drained: 23,
+            read: 24,
+            write: 25,
+            no_target: 26,
+        },
+    })
+}
+
+/// A rule with a name as long as may be, to which nobody came.
+fn unused() -> Option<RuleFigures> {
+    Some(RuleFigures {
+        name: ArrayString::from("db-0123456789abc").ok()?,
+        connections: 0,
+        accepted: 0,
+        bytes: CarriedBytes::default(),
+        refused: Refusals::default(),
+        ends: Ends::default(),
+    })
+}
+
+/// A snapshot of two loops and two rules.
+pub(super) fn made(alloc: Global) -> Option<Figures> {
+    let mut figures = Figures::new(alloc);
+    figures.up_ms = 83_045;
+    figures.turns.push(1_000).ok()?;
+    figures.turns.push(7).ok()?;
+    figures.admin_sessions = 2;
+    figures.connections_limit = 512;
+    figures.reloads = 1;
+    figures.bytes = CarriedBytes { up: 202, down: 303 };
+    figures.log_lines = 40;
+    figures.log_lost_lines = 4;
+    figures.rules.push(web()?).ok()?;
+    figures.rules.push(unused()?).ok()?;
+    Some(figures)
+}
+
+/// What a snapshot is read from. Its admin sessions are the reads that were made, this one with
+/// them, and each other figure is 0.
+#[derive(Drop)]
+pub(super) struct Meter {
+    reads: AtomicU64,
+    /// How many reads are refused memory, from the first on.
+    refuses: u64,
+}
+
+impl Meter {
+    pub(super) fn new() -> Meter {
+        Meter::refusing(0)
+    }
+
+    /// One that has memory only after so many reads.
+    pub(super) fn refusing(refuses: u64) -> Meter {
+        Meter {
+            reads: AtomicU64::new(0),
+            refuses,
+        }
+    }
+}
+
+impl Metered for Meter {
+    fn read(&self, figures: &mut Figures) -> Result<(), OutOfMemory> {
+        let before = self.reads.fetch_add(1, Ordering::SeqCst);
+        figures.admin_sessions = before.saturating_add(1);
+        if before < self.refuses {
+            return Err(OutOfMemory);
+        }
+        Ok(())
+    }
+}

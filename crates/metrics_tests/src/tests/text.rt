@@ -1,0 +1,141 @@
+//! The text of a snapshot, line by line, as the text format of Prometheus has it.
+
+use super::meter::made;
+use relay_metrics::Figures;
+use std::alloc::Global;
+
+/// The text of the made snapshot.
+pub(super) const MADE: &str = "\
+# HELP pollrelay_up_seconds Seconds since the relay began.\n\
+# TYPE pollrelay_up_seconds gauge\n\
+pollrelay_up_seconds 83.045\n\
+# HELP pollrelay_loops Event loops.\n\
+# TYPE pollrelay_loops gauge\n\
+pollrelay_loops 2\n\
+# HELP pollrelay_turns_total Turns of each event loop.\n\
+# TYPE pollrelay_turns_total counter\n\
+pollrelay_turns_total{loop=\"0\"} 1000\n\
+pollrelay_turns_total{loop=\"1\"} 7\n\
+# HELP pollrelay_admin_sessions_total Admin sessions that began.\n\
+# TYPE pollrelay_admin_sessions_total counter\n\
+pollrelay_admin_sessions_total 2\n\
+# HELP pollrelay_connections_limit The most connections that may stand at once.\n\
+# TYPE pollrelay_connections_limit gauge\n\
+pollrelay_connections_limit 512\n\
+# HELP pollrelay_reloads_total Times that the rules were put in force anew.\n\
+# TYPE pollrelay_reloads_total counter\n\
+pollrelay_reloads_total 1\n\
+# HELP pollrelay_bytes_total Bytes written to targets (up) and to clients (down).\n\
+# TYPE pollrelay_bytes_total counter\n\
+pollrelay_bytes_total{way=\"up\"} 202\n\
+pollrelay_bytes_total{way=\"down\"} 303\n\
+# HELP pollrelay_log_lines_total Lines that went to the log.\n\
+# TYPE pollrelay_log_lines_total counter\n\
+pollrelay_log_lines_total 40\n\
+# HELP pollrelay_log_lost_lines_total Lines that found no room on their way to the log.\n\
+# TYPE pollrelay_log_lost_lines_total counter\n\
+pollrelay_log_lost_lines_total 4\n\
+# HELP pollrelay_rule_connections Connections that stand now.\n\
+# TYPE pollrelay_rule_connections gauge\n\
+pollrelay_rule_connections{rule=\"web\"} 3\n\
+pollrelay_rule_connections{rule=\"db-0123456789abc\"} 0\n\
+# HELP pollrelay_rule_accepted_total Connections that were accepted.\n\
+# TYPE pollrelay_rule_accepted_total counter\n\
+pollrelay_rule_accepted_total{rule=\"web\"} 167\n\
+pollrelay_rule_accepted_total{rule=\"db-0123456789abc\"} 0\n\
+# HELP pollrelay_rule_bytes_total Bytes written to the target (up) and to clients (down).\n\
+# TYPE pollrelay_rule_bytes_total counter\n\
+pollrelay_rule_bytes_total{rule=\"web\",way=\"up\"} 101\n\
+pollrelay_rule_bytes_total{rule=\"web\",way=\"down\"} 18446744073709551615\n\
+pollrelay_rule_bytes_total{rule=\"db-0123456789abc\",way=\"up\"} 0\n\
+pollrelay_rule_bytes_total{rule=\"db-0123456789abc\",way=\"down\"} 0\n\
+# HELP pollrelay_rule_refused_total Connections that were refused as they came, by cause.\n\
+# TYPE pollrelay_rule_refused_total counter\n\
+pollrelay_rule_refused_total{rule=\"web\",cause=\"full\"} 5\n\
+pollrelay_rule_refused_total{rule=\"web\",cause=\"no_target\"} 6\n\
+pollrelay_rule_refused_total{rule=\"db-0123456789abc\",cause=\"full\"} 0\n\
+pollrelay_rule_refused_total{rule=\"db-0123456789abc\",cause=\"no_target\"} 0\n\
+# HELP pollrelay_rule_ends_total Connections that ended, by cause.\n\
+# TYPE pollrelay_rule_ends_total counter\n\
+pollrelay_rule_ends_total{rule=\"web\",cause=\"eof\"} 20\n\
+pollrelay_rule_ends_total{rule=\"web\",cause=\"idle\"} 21\n\
+pollrelay_rule_ends_total{rule=\"web\",cause=\"closed\"} 22\n\
+pollrelay_rule_ends_total{rule=\"web\",cause=\"drained\"} 23\n\
+pollrelay_rule_ends_total{rule=\"web\",cause=\"read\"} 24\n\
+pollrelay_rule_ends_total{rule=\"web\",cause=\"write\"} 25\n\
+pollrelay_rule_ends_total{rule=\"web\",cause=\"no_target\"} 26\n\
+pollrelay_rule_ends_total{rule=\"db-0123456789abc\",cause=\"eof\"} 0\n\
+pollrelay_rule_ends_total{rule=\"db-0123456789abc\",cause=\"idle\"} 0\n\
+pollrelay_rule_ends_total{rule=\"db-0123456789abc\",cause=\"closed\"} 0\n\
+pollrelay_rule_ends_total{rule=\"db-0123456789abc\",cause=\"drained\"} 0\n\
+pollrelay_rule_ends_total{rule=\"db-0123456789abc\",cause=\"read\"} 0\n\
+pollrelay_rule_ends_total{rule=\"db-0123456789abc\",cause=\"write\"} 0\n\
+pollrelay_rule_ends_total{rule=\"db-0123456789abc\",cause=\"no_target\"} 0\n";
+
+/// What stands in the text of a snapshot without a loop and without a rule: lines that say what the
+/// figures are, and those figures that have neither loop nor rule.
+const NOTHING_YET: [&str; 9] = [
+    "pollrelay_up_seconds 0.000",
+    "pollrelay_loops 0",
+    "pollrelay_admin_sessions_total 0",
+    "pollrelay_connections_limit 0",
+    "pollrelay_reloads_total 0",
+    "pollrelay_bytes_total{way=\"up\"} 0",
+    "pollrelay_bytes_total{way=\"down\"} 0",
+    "pollrelay_log_lines_total 0",
+    "pollrelay_log_lost_lines_total 0",
+];
+
+/// The text of a snapshot.
+fn spelled(alloc: Global, figures: &Figures) -> Option<String> {
+    String::from_utf8(figures.text(alloc).ok()?).ok()
+}
+
+/// Whether the text of a snapshot has this line.
+fn has_line(alloc: Global, figures: &Figures, line: &str) -> bool {
+    match spelled(alloc, figures) {
+        Some(text) => text.as_str().lines().any(|one| one == line),
+        None => false,
+    }
+}
+
+#[test]
+fn a_snapshot_is_spelled_family_by_family(rt: HostRuntime) {
+    let figures = made(rt.alloc()).expect(&rt, "a snapshot");
+    let text = spelled(rt.alloc(), &figures).expect(&rt, "a text");
+    holds!(rt; text.as_str() == MADE);
+}
+
+/// The lines of the text that say what figures are, or those that tell one.
+fn lines_that(text: &str, are_comments: bool) -> usize {
+    text.lines()
+        .filter(|line| line.starts_with("# ") == are_comments)
+        .count()
+}
+
+#[test]
+fn without_loops_and_rules_the_same_families_are_said(rt: HostRuntime) {
+    let figures = Figures::new(rt.alloc());
+    let text = spelled(rt.alloc(), &figures).expect(&rt, "a text");
+    for line in NOTHING_YET {
+        holds!(rt; has_line(rt.alloc(), &figures, line), line);
+    }
+    holds!(rt; lines_that(text.as_str(), false) == NOTHING_YET.len(), "no other figure");
+    holds!(rt; lines_that(text.as_str(), true) == lines_that(MADE, true), "each family");
+}
+
+#[test]
+fn milliseconds_are_spelled_as_seconds_with_three_digits(rt: HostRuntime) {
+    let mut figures = Figures::new(rt.alloc());
+    for (ms, line) in [
+        (9, "pollrelay_up_seconds 0.009"),
+        (10, "pollrelay_up_seconds 0.010"),
+        (999, "pollrelay_up_seconds 0.999"),
+        (1_000, "pollrelay_up_seconds 1.000"),
+        (86_400_100, "pollrelay_up_seconds 86400.100"),
+        (u64::MAX, "pollrelay_up_seconds 18446744073709551.615"),
+    ] {
+        figures.up_ms = ms;
+        holds!(rt; has_line(rt.alloc(), &figures, line), line);
+    }
+}

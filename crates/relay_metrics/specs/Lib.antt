@@ -1,0 +1,5 @@
+pub mod Answer
+pub mod Family
+pub mod Figures
+pub mod Sample
+pub mod Text

@@ -1,0 +1,106 @@
+-- How a snapshot is spelled: the text format of Prometheus, version 0.0.4. The figures of a family
+-- stand together, behind what is said of the family.
+use Rattle.std.specs.Prelude.{ℕ, ◌+◌, List, [], ◌∷◌, ◌++◌, codes, length}
+use Rattle.std.specs.List.{flat_map}
+use Rattle.std.specs.Fmt.{decimal}
+use Rattle.relay_metrics.specs.declared.family.Family.{Family}
+use Rattle.relay_metrics.specs.declared.family.Family.TheVariants as family
+use Rattle.relay_metrics.specs.declared.figures.CarriedBytes.{CarriedBytes}
+use Rattle.relay_metrics.specs.declared.figures.Ends.{Ends}
+use Rattle.relay_metrics.specs.declared.figures.Figures.{Figures}
+use Rattle.relay_metrics.specs.declared.figures.Refusals.{Refusals}
+use Rattle.relay_metrics.specs.declared.figures.RuleFigures.{RuleFigures}
+use Rattle.relay_metrics.specs.Family.{head_text, name_text}
+use Rattle.relay_metrics.specs.Sample.{rule_sample_text, sample_text, seconds_text}
+use Rattle.relay_metrics.specs.Sample.{single_text, value_text}
+
+-- how long the relay stands, in seconds
+unfoldable pub up_text : ℕ → List ℕ
+up_text ms = head_text family.Up ++ (name_text family.Up ++ value_text (seconds_text ms))
+
+-- the turns of loops, of which the first has this place
+unfoldable pub turns_from : ℕ → List ℕ → List ℕ
+turns_from place [] = []
+turns_from place (n ∷ turns) =
+    sample_text family.Turns (codes "loop") (decimal place) n ++ turns_from (place + 1) turns
+
+-- the family of the turns of all loops, whose places begin with 0
+unfoldable pub turns_text : List ℕ → List ℕ
+turns_text turns = head_text family.Turns ++ turns_from 0 turns
+
+-- the family of all bytes, both ways
+unfoldable pub bytes_text : CarriedBytes → List ℕ
+bytes_text bytes = head_text family.Bytes
+    ++ (sample_text family.Bytes (codes "way") (codes "up") bytes.up
+    ++ sample_text family.Bytes (codes "way") (codes "down") bytes.down)
+
+-- a rule's bytes, both ways
+unfoldable pub rule_bytes_text : List ℕ → CarriedBytes → List ℕ
+rule_bytes_text rule bytes =
+    rule_sample_text family.RuleBytes rule (codes "way") (codes "up") bytes.up
+    ++ rule_sample_text family.RuleBytes rule (codes "way") (codes "down") bytes.down
+
+-- a rule's figure for one cause
+unfoldable pub cause_text : Family → List ℕ → List ℕ → ℕ → List ℕ
+cause_text f rule cause n = rule_sample_text f rule (codes "cause") cause n
+
+-- a rule's refused connections, for each cause
+unfoldable pub refused_text : List ℕ → Refusals → List ℕ
+refused_text rule refused = cause_text family.RuleRefused rule (codes "full") refused.full
+    ++ cause_text family.RuleRefused rule (codes "no_target") refused.no_target
+
+-- a rule's connections that ended with no fault, for each cause
+unfoldable pub whole_ends_text : List ℕ → Ends → List ℕ
+whole_ends_text rule ends = cause_text family.RuleEnds rule (codes "eof") ends.eof
+    ++ (cause_text family.RuleEnds rule (codes "idle") ends.idle
+    ++ (cause_text family.RuleEnds rule (codes "closed") ends.closed
+    ++ cause_text family.RuleEnds rule (codes "drained") ends.drained))
+
+-- a rule's connections that ended by a fault, for each cause
+unfoldable pub faults_text : List ℕ → Ends → List ℕ
+faults_text rule ends = cause_text family.RuleEnds rule (codes "read") ends.read
+    ++ (cause_text family.RuleEnds rule (codes "write") ends.write
+    ++ cause_text family.RuleEnds rule (codes "no_target") ends.no_target)
+
+-- a rule's connections that ended, for each cause
+unfoldable pub ends_text : List ℕ → Ends → List ℕ
+ends_text rule ends = whole_ends_text rule ends ++ faults_text rule ends
+
+-- a rule's figures in a family of rules; in other families it has none
+unfoldable pub of_rule : Family → RuleFigures → List ℕ
+of_rule family.RuleConnections r =
+    sample_text family.RuleConnections (codes "rule") r.name.bytes r.connections
+of_rule family.RuleAccepted r =
+    sample_text family.RuleAccepted (codes "rule") r.name.bytes r.accepted
+of_rule family.RuleBytes r = rule_bytes_text r.name.bytes r.bytes
+of_rule family.RuleRefused r = refused_text r.name.bytes r.refused
+of_rule family.RuleEnds r = ends_text r.name.bytes r.ends
+of_rule _ r = []
+
+-- a family of rules: the figures of each rule, in their order
+unfoldable pub rule_family_text : Family → List RuleFigures → List ℕ
+rule_family_text f rules = head_text f ++ flat_map (of_rule f) rules
+
+-- the families of the relay itself
+unfoldable pub relay_text : Figures → List ℕ
+relay_text f = up_text f.up_ms ++ (single_text family.Loops (length f.turns.items)
+    ++ (turns_text f.turns.items ++ (single_text family.AdminSessions f.admin_sessions
+    ++ (single_text family.ConnectionsLimit f.connections_limit
+    ++ single_text family.Reloads f.reloads))))
+
+-- the families of all that it carried and said
+unfoldable pub totals_text : Figures → List ℕ
+totals_text f = bytes_text f.bytes ++ (single_text family.LogLines f.log_lines
+    ++ single_text family.LogLostLines f.log_lost_lines)
+
+-- the families of rules
+unfoldable pub rules_text : List RuleFigures → List ℕ
+rules_text rules = rule_family_text family.RuleConnections rules
+    ++ (rule_family_text family.RuleAccepted rules
+    ++ (rule_family_text family.RuleBytes rules
+    ++ (rule_family_text family.RuleRefused rules
+    ++ rule_family_text family.RuleEnds rules)))
+
+-- the whole text
+unfoldable pub metrics_text : Figures → List ℕ
+metrics_text f = relay_text f ++ (totals_text f ++ rules_text f.rules.items)

@@ -1,0 +1,92 @@
+//! A snapshot of a relay's figures.
+
+ghost use Rattle.relay_metrics.specs.Figures.{IsBlank};
+
+use arrayvec::ArrayString;
+use std::alloc::Global;
+
+/// The bytes that were written to targets, and to clients.
+#[derive(Clone, Copy, Debug, Default, PartialEq, Eq, Drop)]
+pub struct CarriedBytes {
+    pub up: u64,
+    pub down: u64,
+}
+
+/// The connections of a rule that were refused as they came.
+#[derive(Clone, Copy, Debug, Default, PartialEq, Eq, Drop)]
+pub struct Refusals {
+    /// As many stood as may.
+    pub full: u64,
+    /// Its target wasn't reached.
+    pub no_target: u64,
+}
+
+/// The connections of a rule that ended, by how they did.
+#[derive(Clone, Copy, Debug, Default, PartialEq, Eq, Drop)]
+pub struct Ends {
+    /// Both ends of file were passed on.
+    pub eof: u64,
+    /// No byte passed for the idle time of the rule.
+    pub idle: u64,
+    /// An admin session closed it.
+    pub closed: u64,
+    /// It ended what it had begun after a drain.
+    pub drained: u64,
+    /// A read failed.
+    pub read: u64,
+    /// A write failed.
+    pub write: u64,
+    /// The target refused it after it was let in.
+    pub no_target: u64,
+}
+
+/// What is told of a rule. Its name stands in the text as it is, between quotation marks: neither
+/// they nor a backslash nor a line feed stands in it, as in no name of a rules file.
+#[derive(Clone, Copy, Debug, PartialEq, Eq, Drop)]
+pub struct RuleFigures {
+    pub name: ArrayString<16>,
+    /// The connections that stand now.
+    pub connections: u64,
+    pub accepted: u64,
+    pub bytes: CarriedBytes,
+    pub refused: Refusals,
+    pub ends: Ends,
+}
+
+/// What is told of a relay. It is made once, and filled anew for each reader, in the same memory.
+#[derive(Drop)]
+pub struct Figures {
+    /// Milliseconds since it began.
+    pub up_ms: u64,
+    /// The turns of each loop, by its place.
+    pub turns: Vec<u64>,
+    pub admin_sessions: u64,
+    /// The most connections that may stand at once.
+    pub connections_limit: u64,
+    pub reloads: u64,
+    pub bytes: CarriedBytes,
+    /// The lines that went to the log; 0 where none is written.
+    pub log_lines: u64,
+    pub log_lost_lines: u64,
+    /// One for each rule, in the order of the text; no name stands there twice.
+    pub rules: Vec<RuleFigures>,
+}
+
+impl Figures {
+    /// All figures at 0, with no loop and no rule. It takes no memory.
+    pub fn new(alloc: Global) -> Figures
+        ensures { IsBlank result }
+    {
+        Figures {
+            up_ms: 0,
+            turns: Vec::new(alloc),
+            admin_sessions: 0,
+            connections_limit: 0,
+            reloads: 0,
+            bytes: CarriedBytes { up: 0, down: 0 },
+            log_lines: 0,
+            log_lost_lines: 0,
+            rules: Vec::new(alloc),
+        }
+    }
+}

@@ -1,0 +1,146 @@
+//! What the text says of rules: a family's figures of all of them stand together.
+
+ghost use Rattle.std.specs.Prelude.{◌≡◌, ◌++◌, OnOk};
+ghost use Rattle.relay_metrics.specs.Text.{cause_text, ends_text, faults_text, of_rule};
+ghost use Rattle.relay_metrics.specs.Text.{refused_text, rule_bytes_text, rule_family_text};
+ghost use Rattle.relay_metrics.specs.Text.{rules_text, whole_ends_text};
+
+use crate::family::Family;
+use crate::figures::{CarriedBytes, Ends, Refusals, RuleFigures};
+use crate::sample::{write_rule_sample, write_sample};
+use base_types::OutOfMemory;
+use std::alloc::Allocator;
+
+/// The families of rules.
+#[tactic(auto, unfolding(crate::specs::Text::rules_text))]
+pub(crate) fn write_rules<A: Allocator>(
+    into: &mut Vec<u8, A>,
+    rules: &[RuleFigures],
+) -> Result<(), OutOfMemory>
+    ensures { OnOk result (into.new.items ≡ into.old.items ++ rules_text rules.now) }
+{
+    write_family(into, Family::RuleConnections, rules)?;
+    write_family(into, Family::RuleAccepted, rules)?;
+    write_family(into, Family::RuleBytes, rules)?;
+    write_family(into, Family::RuleRefused, rules)?;
+    write_family(into, Family::RuleEnds, rules)
+}
+
+#[tactic(auto, unfolding(crate::specs::Text::rule_family_text))]
+fn write_family<A: Allocator>(
+    into: &mut Vec<u8, A>,
+    family: Family,
+    rules: &[RuleFigures],
+) -> Result<(), OutOfMemory>
+    ensures { OnOk result
+        (into.new.items ≡ into.old.items ++ rule_family_text family rules.now) }
+{
+    family.write_head(into)?;
+    for rule in rules {
+        write_rule(into, family, rule)?;
+    }
+    Ok(())
+}
+
+#[tactic(auto, unfolding(crate::specs::Text::of_rule))]
+fn write_rule<A: Allocator>(
+    into: &mut Vec<u8, A>,
+    family: Family,
+    rule: &RuleFigures,
+) -> Result<(), OutOfMemory>
+    ensures { OnOk result (into.new.items ≡ into.old.items ++ of_rule family rule.now) }
+{
+    let name = rule.name.as_str().as_bytes();
+    match family {
+        Family::RuleConnections => write_sample(into, family, b"rule", name, rule.connections),
+        Family::RuleAccepted => write_sample(into, family, b"rule", name, rule.accepted),
+        Family::RuleBytes => write_bytes(into, name, rule.bytes),
+        Family::RuleRefused => write_refused(into, name, rule.refused),
+        Family::RuleEnds => write_ends(into, name, rule.ends),
+        _ => Ok(()),
+    }
+}
+
+#[tactic(auto, unfolding(crate::specs::Text::rule_bytes_text))]
+fn write_bytes<A: Allocator>(
+    into: &mut Vec<u8, A>,
+    rule: &[u8],
+    bytes: CarriedBytes,
+) -> Result<(), OutOfMemory>
+    ensures { OnOk result (into.new.items ≡ into.old.items ++ rule_bytes_text rule.now bytes) }
+{
+    write_rule_sample(into, Family::RuleBytes, rule, b"way", b"up", bytes.up)?;
+    write_rule_sample(into, Family::RuleBytes, rule, b"way", b"down", bytes.down)
+}
+
+#[tactic(auto, unfolding(crate::specs::Text::cause_text))]
+fn write_cause<A: Allocator>(
+    into: &mut Vec<u8, A>,
+    family: Family,
+    rule: &[u8],
+    cause: &[u8],
+    n: u64,
+) -> Result<(), OutOfMemory>
+    ensures { OnOk result
+        (into.new.items ≡ into.old.items ++ cause_text family rule.now cause.now n) }
+{
+    write_rule_sample(into, family, rule, b"cause", cause, n)
+}
+
+#[tactic(auto, unfolding(crate::specs::Text::refused_text))]
+fn write_refused<A: Allocator>(
+    into: &mut Vec<u8, A>,
+    rule: &[u8],
+    refused: Refusals,
+) -> Result<(), OutOfMemory>
+    ensures { OnOk result (into.new.items ≡ into.old.items ++ refused_text rule.now refused) }
+{
+    write_cause(into, Family::RuleRefused, rule, b"full", refused.full)?;
+    write_cause(
+        into,
+        Family::RuleRefused,
+        rule,
+        b"no_target",
+        refused.no_target,
+    )
+}
+
+#[tactic(auto, unfolding(crate::specs::Text::ends_text))]
+fn write_ends<A: Allocator>(
+    into: &mut Vec<u8, A>,
+    rule: &[u8],
+    ends: Ends,
+) -> Result<(), OutOfMemory>
+    ensures { OnOk result (into.new.items ≡ into.old.items ++ ends_text rule.now ends) }
+{
+    write_whole_ends(into, rule, ends)?;
+    write_faults(into, rule, ends)
+}
+
+#[tactic(auto, unfolding(crate::specs::Text::whole_ends_text))]
+fn write_whole_ends<A: Allocator>(
+    into: &mut Vec<u8, A>,
+    rule: &[u8],
+    ends: Ends,
+) -> Result<(), OutOfMemory>
+    ensures { OnOk result
+        (into.new.items ≡ into.old.items ++ whole_ends_text rule.now ends) }
+{
+    write_cause(into, Family::RuleEnds, rule, b"eof", ends.eof)?;
+    write_cause(into, Family::RuleEnds, rule, b"idle", ends.idle)?;
+    write_cause(into, Family::RuleEnds, rule, b"closed", ends.closed)?;
+    write_cause(into, Family::RuleEnds, rule, b"drained", ends.drained)
+}
+
+#[tactic(auto, unfolding(crate::specs::Text::faults_text))]
+fn write_faults<A: Allocator>(
+    into: &mut Vec<u8, A>,
+    rule: &[u8],
+    ends: Ends,
+) -> Result<(), OutOfMemory>
+    ensures { OnOk result (into.new.items ≡ into.old.items ++ faults_text rule.now ends) }
+{
+    write_cause(into, Family::RuleEnds, rule, b"read", ends.read)?;
+    write_cause(into, Family::RuleEnds, rule, b"write", ends.write)?;
+    write_cause(into, Family::RuleEnds, rule, b"no_target", ends.no_target)
+}

@@ -1,0 +1,3 @@
+pub mod BoundPath
+pub mod HowEnded
+pub mod Shown

@@ -1,0 +1,116 @@
+//! A client that was accepted, and the connection that comes of it.
+
+ghost use Rattle.std.specs.Prelude.{◌≡◌, ◌-◌, ◌/◌, IfSome};
+ghost use Rattle.std.specs.Arc.{arc_value};
+
+use crate::counts::LoopCounts;
+use crate::served_rule::ServedRule;
+use relay_admin::{Addr, Rule, Shown, ShownSide};
+use std::sync::Arc;
+use std::sync::atomic::{AtomicU64, Ordering};
+
+/// A client that was accepted.
+#[derive(Drop)]
+pub struct Acceptance {
+    pub served: Arc<ServedRule>,
+    /// What its rule said then.
+    pub rule: Rule,
+    /// The client's address; an unnamed Unix socket has none.
+    pub client: Option<Addr>,
+    /// The moment, in nanoseconds of the relay's clock.
+    pub at: u64,
+}
+
+impl Acceptance {
+    /// The same once more. It takes no memory; refused is only one that is held too often.
+    pub fn again(&self) -> Option<Acceptance>
+        ensures served { IfSome result (λ same. arc_value same.served
+            ≡ arc_value self.now.served) }
+        ensures rule { IfSome result (λ same. same.rule ≡ self.now.rule) }
+        ensures client { IfSome result (λ same. same.client ≡ self.now.client) }
+        ensures at { IfSome result (λ same. same.at ≡ self.now.at) }
+    {
+        let served = Arc::try_clone(&self.served).ok()?;
+        Some(Acceptance {
+            served,
+            rule: self.rule,
+            client: self.client,
+            at: self.at,
+        })
+    }
+
+    /// The whole milliseconds from then to this moment.
+    pub fn age_ms(&self, now: u64) -> u64
+        ensures { result ≡ (now - self.now.at) / 1000000 }
+    {
+        ms_between(self.at, now)
+    }
+}
+
+/// The whole milliseconds from one moment to another, both in nanoseconds; 0 where that is not
+/// later.
+pub fn ms_between(from: u64, to: u64) -> u64
+    ensures { result ≡ (to - from) / 1000000 }
+{
+    to.saturating_sub(from) / 1_000_000
+}
+
+/// A connection while it stands: whose it is, and how many bytes it has passed on. Its loop alone
+/// notes; anybody may ask.
+#[derive(Drop)]
+pub struct ConnectionFacts {
+    pub acceptance: Acceptance,
+    /// The place of its loop.
+    pub home: usize,
+    up: AtomicU64,
+    down: AtomicU64,
+    last: AtomicU64,
+}
+
+impl ConnectionFacts {
+    /// A connection of this client, at the place `home` among the loops, that has passed nothing.
+    pub fn new(acceptance: Acceptance, home: usize) -> ConnectionFacts
+        ensures acceptance { result.acceptance ≡ acceptance }
+        ensures home { result.home ≡ home }
+    {
+        let last = AtomicU64::new(acceptance.at);
+        ConnectionFacts {
+            acceptance,
+            home,
+            up: AtomicU64::new(0),
+            down: AtomicU64::new(0),
+            last,
+        }
+    }
+
+    /// What its loop counts of its rule.
+    pub fn counts(&self) -> Option<&LoopCounts> {
+        self.acceptance.served.counts.of_loop(self.home)
+    }
+
+    /// By this moment so many bytes in all were written to the target, and so many to the client.
+    pub fn note_bytes(&self, up: u64, down: u64, now: u64) {
+        let was_up = self.up.swap(up, Ordering::SeqCst);
+        let was_down = self.down.swap(down, Ordering::SeqCst);
+        self.last.store(now, Ordering::SeqCst);
+        if let Some(counts) = self.counts() {
+            counts.up.add(up.saturating_sub(was_up));
+            counts.down.add(down.saturating_sub(was_down));
+        }
+    }
+
+    /// The bytes that were written to the target.
+    pub fn up(&self) -> u64 {
+        self.up.load(Ordering::SeqCst)
+    }
+
+    /// The bytes that were written to the client.
+    pub fn down(&self) -> u64 {
+        self.down.load(Ordering::SeqCst)
+    }
+
+    /// When bytes were written last, or when it was accepted.
+    pub fn last(&self) -> u64 {
+        self.last.load(Ordering::SeqCst)
+    }
+}

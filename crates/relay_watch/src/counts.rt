@@ -1,0 +1,176 @@
+//! What is counted of a rule, for whoever watches the relay. No count is ever taken back, and none
+//! decides anything. Each loop counts in a place of its own, so that loops don't wait for each
+//! other; whoever asks adds them up.
+
+ghost use Rattle.std.specs.Prelude.{◌≡◌};
+
+use base_types::OutOfMemory;
+use relay_log::ended::Ended;
+use std::alloc::Global;
+use std::sync::atomic::{AtomicU64, Ordering};
+
+/// A number that only rises.
+#[derive(Drop)]
+pub struct Counter {
+    count: AtomicU64,
+}
+
+impl Counter {
+    pub fn new() -> Counter {
+        Counter {
+            count: AtomicU64::new(0),
+        }
+    }
+
+    pub fn add(&self, more: u64) {
+        self.count.fetch_add(more, Ordering::SeqCst);
+    }
+
+    pub fn get(&self) -> u64 {
+        self.count.load(Ordering::SeqCst)
+    }
+}
+
+/// How connections ended, by causes.
+#[derive(Drop)]
+pub struct EndCounts {
+    pub eof: Counter,
+    pub idle: Counter,
+    pub closed: Counter,
+    pub drained: Counter,
+    pub read: Counter,
+    pub write: Counter,
+    pub no_target: Counter,
+}
+
+impl EndCounts {
+    fn new() -> EndCounts {
+        EndCounts {
+            eof: Counter::new(),
+            idle: Counter::new(),
+            closed: Counter::new(),
+            drained: Counter::new(),
+            read: Counter::new(),
+            write: Counter::new(),
+            no_target: Counter::new(),
+        }
+    }
+
+    // The count of this cause. A connection that was set up was never refused as `Full`.
+    fn of(&self, how: Ended) -> &Counter {
+        match how {
+            Ended::Eof => &self.eof,
+            Ended::Idle => &self.idle,
+            Ended::Closed | Ended::Full => &self.closed,
+            Ended::Drained => &self.drained,
+            Ended::Read(_) => &self.read,
+            Ended::Write(_) => &self.write,
+            Ended::NoTarget => &self.no_target,
+        }
+    }
+
+    fn sum(&self) -> u64 {
+        let faults = self.read.get().saturating_add(self.write.get());
+        let told = self.closed.get().saturating_add(self.drained.get());
+        let silent = self.eof.get().saturating_add(self.idle.get());
+        faults
+            .saturating_add(told)
+            .saturating_add(silent)
+            .saturating_add(self.no_target.get())
+    }
+}
+
+/// What one loop counts of a rule.
+#[derive(Drop)]
+pub struct LoopCounts {
+    /// The connections that were set up.
+    begun: Counter,
+    pub up: Counter,
+    pub down: Counter,
+    /// The connections that weren't, since there is no target, or no room.
+    pub no_target: Counter,
+    pub no_room: Counter,
+    pub ends: EndCounts,
+}
+
+impl LoopCounts {
+    fn new() -> LoopCounts {
+        LoopCounts {
+            begun: Counter::new(),
+            up: Counter::new(),
+            down: Counter::new(),
+            no_target: Counter::new(),
+            no_room: Counter::new(),
+            ends: EndCounts::new(),
+        }
+    }
+
+    /// A connection was set up.
+    pub fn note_begin(&self) {
+        self.begun.add(1);
+    }
+
+    /// A connection has ended so.
+    pub fn note_end(&self, how: Ended) {
+        self.ends.of(how).add(1);
+    }
+
+    /// A client wasn't served, since there is no target, or no room.
+    pub fn note_refused(&self, how: Ended) {
+        match how {
+            Ended::NoTarget => self.no_target.add(1),
+            _ => self.no_room.add(1),
+        }
+    }
+
+    /// How many connections stand. The ends are read first, so that none is counted that never
+    /// began.
+    pub fn standing(&self) -> u64 {
+        let ended = self.ends.sum();
+        self.begun.get().saturating_sub(ended)
+    }
+}
+
+/// What is counted of a rule.
+#[derive(Drop)]
+pub struct RuleCounts {
+    /// The clients that were accepted, and of those the ones that were dropped, since as many
+    /// connections stood as may.
+    pub accepted: Counter,
+    pub full: Counter,
+    by_loop: Vec<LoopCounts>,
+}
+
+impl RuleCounts {
+    pub fn new(alloc: Global, loops: usize) -> Result<RuleCounts, OutOfMemory> {
+        let mut by_loop = Vec::new(alloc);
+        for _ in 0..loops {
+            by_loop.push(LoopCounts::new())?;
+        }
+        Ok(RuleCounts {
+            accepted: Counter::new(),
+            full: Counter::new(),
+            by_loop,
+        })
+    }
+
+    /// The bytes that all connections of the rule have passed up and down.
+    pub fn bytes(&self) -> (u64, u64) {
+        let (mut up, mut down) = (0u64, 0u64);
+        for counts in self.by_loop.iter() {
+            up = up.saturating_add(counts.up.get());
+            down = down.saturating_add(counts.down.get());
+        }
+        (up, down)
+    }
+
+    /// Those of each loop, by the places of their homes.
+    pub fn loops(&self) -> &[LoopCounts] {
+        self.by_loop.as_slice()
+    }
+
+    /// Those of one loop, by the place of its home.
+    pub fn of_loop(&self, home: usize) -> Option<&LoopCounts> {
+        self.by_loop.get(home)
+    }
+}
