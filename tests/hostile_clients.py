@@ -23,6 +23,7 @@ class Targets:
     """A TCP and a Unix listening socket, from which the run itself takes the connections that the relay makes."""
 
     def __init__(self, folder):
+        self.folder = folder
         tcp, self.tcp_address = listener()
         unix, self.unix_address = listener(f"{folder}/target")
         self.accepts = {"tcp": tcp, "unix": unix}

@@ -58,6 +58,10 @@ class Run:
         self.standing = []
         self.relay = self.rest = None
 
+    def options(self):
+        """What the relay is asked for beside its rules and its admin socket."""
+        return ()
+
     def addresses(self):
         yield "tcp", f"tcp:127.0.0.1:{self.port}"
         yield "unix", f"unix:{self.relay.folder}/in.sock"
@@ -161,10 +165,10 @@ class Run:
             self.wrong.append(f"it left {self.relay.sockets()}")
 
 
-def rest_of(targets, env):
+def rest_of(targets, env, kind=Run):
     """Threads and descriptors of a relay that has served, and serves nobody now."""
-    run = Run(targets, free_port(), random.Random(0))
-    with Relay(targets.rules(run.port), env=env) as relay:
+    run = kind(targets, free_port(), random.Random(0))
+    with Relay(targets.rules(run.port), env=env, options=run.options()) as relay:
         run.relay = relay
         run.open_each()
         run.pass_and_end(1_000)
@@ -177,12 +181,12 @@ def rest_of(targets, env):
     return rest
 
 
-def single_run(targets, env, rest, seed, before=(), most=1, size=20_000, may_lose_lines=0):
+def single_run(targets, env, rest, seed, before=(), most=1, size=20_000, may_lose_lines=0, kind=Run):
     """A run in which calls fail, at most so many of them noticed: what came of it, whether one failed, and what is wrong."""
-    run = Run(targets, free_port(), random.Random(seed), most)
+    run = kind(targets, free_port(), random.Random(seed), most)
     targets.drain()
     try:
-        relay = Relay(targets.rules(run.port), env=env, before=before)
+        relay = Relay(targets.rules(run.port), env=env, before=before, options=run.options())
     except StartFault as fault:
         return f"the start: {said_of(fault.errors)[0].strip()}", said_of(fault.errors)[1], start_fault(fault, may_lose_lines)
     with relay:

@@ -19,7 +19,7 @@ expect() {
 [ -x "$program" ] || { echo "build the program first"; exit 1; }
 
 # Words.
-for words in "check" "frob" "--help" "help" "-V" "--" "trace x" ""; do
+for words in "check" "frob" "--help" "help" "-V" "-- trace" "trace x" ""; do
     said=$(printf '1 incref\n' | "$program" ${words:-""} 2>&1); status=$?
     expect "words '$words'" "bad command line 2" "$said $status"
 done
@@ -27,6 +27,10 @@ said=$(printf '1 incref\n' | "$program" "$(printf '\377')" 2>&1); status=$?
 expect "a word that isn't UTF-8" "bad command line 2" "$said $status"
 said=$(printf '1 incref\n' | "$program" trace 2>&1); status=$?
 expect "the word trace" "held 0000000000000008 0 0 - 0" "$said $status"
+for words in "--" "trace --"; do
+    said=$(printf '1 incref\n' | "$program" $words 2>&1); status=$?
+    expect "the end of options '$words'" "held 0000000000000008 0 0 - 0" "$said $status"
+done
 
 # Devices.
 said=$(printf '1 incref\n' | "$program" 2>&1 >/dev/full); status=$?

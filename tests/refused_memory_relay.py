@@ -1,11 +1,13 @@
 #!/usr/bin/env python3
 """Refuses each request for memory of a running relay in turn.
 
-    python3 tests/refused_memory_relay.py [--most N] [single | drought | mappings]..
+    python3 tests/refused_memory_relay.py [--most N] [single | watched | drought | mappings]..
 
 single    the Nth allocation is refused, for N from 1 until a run meets no refusal. Before `listening 2` the relay ends with status 3 and
           one line; later one connection is dropped, or one session or its reply, and all others go on. After `stop` the totals are
           exactly the bytes that arrived, and no thread, descriptor or Unix path is left.
+watched   the same of a relay with a log and metrics, whose sessions show a connection and reload the rules too, and of which a
+          scraper asks. The log's lines are whole, and with those that it says were lost they are at least the connections that stood.
 drought   every allocation is refused while connections stand: the bytes of one without an idle time go on, and the relay stops with totals that
           fit. Where memory comes back, new connections are served.
 mappings  the Nth mmap, mprotect, brk or clone3 of each thread is refused by strace, also those of threads' stacks and of the C library's own.
@@ -18,32 +20,98 @@ import collections
 import random
 import shutil
 import signal
+import socket
 import subprocess
 import sys
 import tempfile
 import time
 
-from hostile_clients import Desk, Misses, Targets, exchange
+from hostile_clients import WAIT_SECONDS, Desk, Misses, Targets, exchange
 from hostile_run import Run, kind_of, library, rest_of, said_of, single_run, summary, tell
+from log_lines import LINE, LOST
 from relay_process import PROGRAM, Checks, Relay, allow_descriptors, free_port
+
+SCRAPE = b"GET /metrics HTTP/1.1\r\nHost: x\r\nConnection: close\r\n\r\n"
+
+
+class Watched(Run):
+    """A relay with a log and metrics, whose sessions show and reload too, and of which a scraper asks."""
+
+    def __init__(self, *words):
+        super().__init__(*words)
+        self.metrics, self.log, self.stood = free_port(), f"{self.targets.folder}/log", 0
+
+    def options(self):
+        open(self.log, "wb").close()
+        return "--log", self.log, "--metrics", f"tcp:127.0.0.1:{self.metrics}"
+
+    def open(self, kind, address):
+        taken = super().open(kind, address)
+        self.stood += taken is not None
+        return taken
+
+    def look(self, desk):
+        super().look(desk)
+        for line, front in (("show 1", "show 1 rule "), ("reload", "rules 2")):
+            reply = desk.ask(line)
+            if not reply.startswith(front):
+                self.wrong.append(f"{line!r} was answered {reply!r}")
+        self.scrape()
+
+    def scrape(self):
+        """One answer with the figures, where one before it may have been dropped or refused."""
+        for _ in range(self.tries):
+            came = b""
+            try:
+                with socket.create_connection(("127.0.0.1", self.metrics), WAIT_SECONDS) as sock:
+                    sock.sendall(SCRAPE)
+                    while part := sock.recv(65536):
+                        came += part
+            except OSError as fault:
+                self.misses.add(f"a scrape ended: {fault!r}")
+                continue
+            if came.startswith(b"HTTP/1.1 200 ") and b"\npollrelay_bytes_total{" in came:
+                return
+            self.misses.add(f"a scrape was answered {came[:24]}")
+        self.wrong.append("no figures are given any more")
+
+    def stop(self, desk, may_lose_lines=0):
+        super().stop(desk, may_lose_lines)
+        with open(self.log, encoding="utf-8") as file:
+            text = file.read()
+        lines = text.split("\n")
+        lost = sum(int(found[1]) for line in lines if (found := LOST.fullmatch(line)))
+        whole = sum(LINE.fullmatch(line) is not None for line in lines)
+        broken = [line for line in lines[:-1] if not LINE.fullmatch(line) and not LOST.fullmatch(line)]
+        if broken or lines[-1] != "" or whole + lost < self.stood:
+            self.wrong.append(f"the log has {whole} lines, lost {lost}, of {self.stood} connections; not whole: {broken} {lines[-1]!r}")
+
+
+def each_refused(checks, folder, most, name, kind):
+    """Each allocation of such a run refused in turn."""
+    made, kinds = library("refuse_nth", folder), collections.Counter()
+    targets = Targets(folder)
+    rest = rest_of(targets, {"LD_PRELOAD": made, "REFUSE": "0"}, kind)
+    for number in range(1, most + 1):
+        came, was_refused, wrong = single_run(targets, {"LD_PRELOAD": made, "REFUSE": str(number)}, rest, number, kind=kind)
+        if not was_refused:
+            tell(checks, f"{name}: a run that meets no refusal", came, wrong)
+            break
+        kinds[kind_of(came)] += 1
+        tell(checks, f"{name}: allocation {number}", came, wrong)
+    else:
+        checks.holds(f"{name}: refusals end", False, f"not after {most}")
+    checks.holds(f"{name}: allocations were refused", sum(kinds.values()) > 20, f"{sum(kinds.values())}")
+    summary(name, kinds)
+    targets.close()
 
 
 def single(checks, folder, most):
-    made, kinds = library("refuse_nth", folder), collections.Counter()
-    targets = Targets(folder)
-    rest = rest_of(targets, {"LD_PRELOAD": made, "REFUSE": "0"})
-    for number in range(1, most + 1):
-        came, was_refused, wrong = single_run(targets, {"LD_PRELOAD": made, "REFUSE": str(number)}, rest, number)
-        if not was_refused:
-            tell(checks, "single: a run that meets no refusal", came, wrong)
-            break
-        kinds[kind_of(came)] += 1
-        tell(checks, f"single: allocation {number}", came, wrong)
-    else:
-        checks.holds("single: refusals end", False, f"not after {most}")
-    checks.holds("single: allocations were refused", sum(kinds.values()) > 20, f"{sum(kinds.values())}")
-    summary("single", kinds)
-    targets.close()
+    each_refused(checks, folder, most, "single", Run)
+
+
+def watched(checks, folder, most):
+    each_refused(checks, folder, most, "watched", Watched)
 
 
 def drought_run(targets, env, comes_back, seed):
@@ -149,7 +217,7 @@ def mappings(checks, folder, most):
     targets.close()
 
 
-STAGES = {"single": single, "drought": drought, "mappings": mappings}
+STAGES = {"single": single, "watched": watched, "drought": drought, "mappings": mappings}
 
 
 def main():

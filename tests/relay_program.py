@@ -64,6 +64,11 @@ def command_lines(checks, folder):
         ["serve", "--rules", pipe, "--admin", "/a", "--loops", "2", "--loops", "2"], ["check", "--rules", pipe, "--loops", "2"],
         *(["serve", "--rules", pipe, "--admin", "/a", "--connections", it] for it in ("", "0", "2001", "02", "+2", "two")),
         ["serve", "--rules", pipe, "--admin", "/a", "--connections=2", "--connections=2"], ["check", "--rules", pipe, "--connections", "2"],
+        *(["serve", "--rules", pipe, "--admin", "/a", *more] for more in (
+            ["--log"], ["--log", ""], ["--log="], ["--log=a", "--log=a"], ["--metrics"], ["--metrics", ""], ["--metrics", "x"],
+            ["--metrics", "tcp:1.2.3:4"], ["--metrics", "tcp:1.2.3.4:0"], ["--metrics=unix:m"], ["--metrics=unix:/m", "--metrics=unix:/m"],
+        )),
+        ["check", "--rules", pipe, "--log=a"], ["check", "--rules", pipe, "--metrics=unix:/m"],
         ["serve", "--rules", pipe, "--admin", "/a", "x"], ["trace", "--rules", pipe], [b"\xff"], ["check", "--rules", b"\xff"],
     ]
     for words in refused:

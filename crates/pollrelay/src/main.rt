@@ -3,16 +3,18 @@
 #![tactic(auto)]
 
 use base_types::OutOfMemory;
-use relay::{Capacity, Loops, PairLimit, serve, text_of};
-use relay_admin::check_status;
+use log_writer::{LogFile, open_log};
+use relay::{Capacity, Loops, Outlets, PairLimit, serve, text_of};
+use relay_admin::{Addr, check_status};
 use relay_command::{Fault, Job, NO_MEMORY, job_of, trace_status};
 use relay_ledger::PARTS;
 use std::alloc::Global;
-use std::fs::Files;
+use std::fs::{File, Files};
 use std::io::ErrorKind;
 use std::marker::Brand;
 use std::net::{Net, TcpListener, TcpStream};
 use std::process::ExitCode;
+use std::random::RandomSource;
 use std::sync::Wait;
 use std::sync::ledger::Blank;
 use std::thread::Threads;
@@ -49,15 +51,37 @@ fn run_trace(rt: &HostRuntime) -> ExitCode {
     ExitCode::from(status)
 }
 
+/// Opens the log at a path, if one is asked for.
+fn log_at<R>(rt: &R, path: Option<String>) -> Result<Option<LogFile<File, R>>, Fault>
+where
+    R: Files<File = File> + Eprint + Copy,
+{
+    let Some(path) = path else {
+        return Ok(None);
+    };
+    match open_log(rt, path.as_str()) {
+        Ok(file) => Ok(Some(file)),
+        Err(_) => Err(Fault::Log),
+    }
+}
+
 /// Runs a relay until an admin session says stop.
 // (the bounds are those of `serve`, and of who prints)
-fn run_relay<R>(rt: R, rules: &String, admin: &String, capacity: Capacity) -> ExitCode
+fn run_relay<R>(
+    rt: R,
+    rules: &String,
+    admin: &String,
+    capacity: Capacity,
+    log: Option<String>,
+    metrics: Option<Addr>,
+) -> ExitCode
 where
     R: Wait
         + Threads
         + Net<Listener = TcpListener, Stream = TcpStream>
         + Clock
-        + Files
+        + Files<File = File>
+        + RandomSource
         + Print
         + Eprint
         + AllocGlobal
@@ -66,9 +90,24 @@ where
         + Sync
         + 'static,
 {
+    let log = match log_at(&rt, log) {
+        Ok(log) => log,
+        Err(fault) => return told(&rt, fault),
+    };
+    let outlets = Outlets { log, metrics };
     let (up, down) = (Blank::new(PARTS), Blank::new(PARTS));
     let mut output = io::writer(&rt);
-    match serve::<Brand, Brand, R, _>(rt, rules, admin, capacity, up, down, &mut output) {
+    let served = serve::<Brand, Brand, _, R, _>(
+        rt,
+        rules,
+        admin,
+        capacity,
+        outlets,
+        up,
+        down,
+        &mut output,
+    );
+    match served {
         Ok(()) => ExitCode::from(0),
         Err(fault) => told(&rt, Fault::Relay(fault)),
     }
@@ -107,13 +146,15 @@ fn main(rt: HostRuntime) -> ExitCode {
                 admin,
                 loops,
                 pairs,
+                log,
+                metrics,
             },
         ) => {
             let capacity = Capacity {
                 loops: loops.unwrap_or_else(|| Loops::by_processors(&rt)),
                 pairs: pairs.unwrap_or_else(|| PairLimit::by_default()),
             };
-            run_relay(rt, &rules, &admin, capacity)
+            run_relay(rt, &rules, &admin, capacity, log, metrics)
         }
         Err(fault) => told(&rt, fault),
     }

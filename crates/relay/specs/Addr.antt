@@ -8,3 +8,8 @@ use Rattle.readiness.specs.declared.addr.Addr.TheVariants as socket
 abbrev pub socket_address : RuleAddr → Addr
 socket_address (rule.Tcp bytes port) = socket.Tcp bytes port
 socket_address (rule.Unix path) = socket.Unix path
+
+-- the same address in the terms of rules
+abbrev pub rule_address : Addr → RuleAddr
+rule_address (socket.Tcp bytes port) = rule.Tcp bytes port
+rule_address (socket.Unix path) = rule.Unix path

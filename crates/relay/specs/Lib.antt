@@ -1,9 +1,16 @@
 pub mod Addr
 pub mod Connection
 pub mod Deadlines
+pub mod Delivering
 pub mod Desk
+pub mod Ending
+pub mod Handle
 pub mod Loops
 pub mod Output
+pub mod RelayEnd
+pub mod Reload
 pub mod ServeFault
 pub mod Session
+pub mod Stopping
+pub mod Subject
 pub mod Worker

@@ -1,19 +1,24 @@
 //! Accepting by a rule, as a task of the main thread's loop: it goes on when its listener may be
 //! ready, and delivers to the loops.
 
-ghost use Rattle.std.specs.Prelude.{◌≡◌, ⊤, true, false, None};
+ghost use Rattle.std.specs.Prelude.{◌≡◌, ⊤, true, false, None, IfSome};
+ghost use Rattle.std.specs.Arc.{arc_value};
 ghost use Rattle.relay.specs.Connection.{turn_of};
 
+use crate::address::rule_address;
 use crate::clock::Moments;
 use crate::closing::Closer;
-use crate::shared::{Accepted, Shared};
+use crate::shared::Shared;
 use deadline_core::Dirs;
 use fd_descriptor::{Alarms, FdHandle, PollCell, ReadUnderWay};
 use readiness::{Host, ListenRes, Place, RemoteAlarms, Side, Sock, Turn, Why};
 use relay_core::{AcceptEnded, AcceptStep, Accepting, PollAcceptGate, has_come, pause_end};
+use relay_watch::connection_facts::Acceptance;
+use relay_watch::served_rule::ServedRule;
 use rwloops::Fault;
 use std::sync::ledger::Ledger;
 use std::sync::{Arc, Wait};
+use std::time::Clock;
 
 /// A rule's listener, as its task has it. The handle isn't there exactly while an accept is under
 /// way.
@@ -68,14 +73,46 @@ impl<R: Wait + Copy> RuleListener<R> {
 
 // Accepts from a rule's listener, and delivers to the loops.
 #[derive(Drop)]
-struct RuleGate<'a, U: Ledger, D: Ledger, R: Wait + Copy> {
+struct RuleGate<'a, U: Ledger, D: Ledger, R: Wait + Copy, C> {
     rt: R,
-    rule: usize,
+    clock: &'a C,
+    served: &'a Arc<ServedRule>,
     listener: &'a mut RuleListener<R>,
     shared: &'a Shared<U, D>,
 }
 
-impl<'a, U: Ledger, D: Ledger, R: Wait + Copy> PollAcceptGate for RuleGate<'a, U, D, R> {
+impl<'a, U, D, R, C> RuleGate<'a, U, D, R, C>
+where
+    U: Ledger,
+    D: Ledger,
+    R: Wait + Copy,
+    C: Moments,
+{
+    // What is known of a client that this listener gave just now: the listener's own rule serves
+    // it.
+    fn acceptance(&self, client: Option<relay_admin::Addr>) -> Option<Acceptance>
+        ensures own { IfSome result (λ acceptance.
+            arc_value acceptance.served ≡ arc_value self.now.served.now) }
+        ensures client { IfSome result (λ acceptance. acceptance.client ≡ client) }
+    {
+        let served = Arc::try_clone(self.served).ok()?;
+        let rule = served.rule(&self.rt);
+        Some(Acceptance {
+            served,
+            rule,
+            client,
+            at: self.clock.now(),
+        })
+    }
+}
+
+impl<'a, U, D, R, C> PollAcceptGate for RuleGate<'a, U, D, R, C>
+where
+    U: Ledger,
+    D: Ledger,
+    R: Wait + Clock + Copy,
+    C: Moments,
+{
     type T = Sock;
 
     // What a listener gave can't be told.
@@ -88,11 +125,17 @@ impl<'a, U: Ledger, D: Ledger, R: Wait + Copy> PollAcceptGate for RuleGate<'a, U
     }
 
     fn deliver(&mut self, taken: Sock) {
-        let accepted = Accepted {
-            sock: taken,
-            rule: self.rule,
-        };
-        self.shared.deliver(&self.rt, accepted);
+        if let Some(acceptance) = self.acceptance(peer_of(&taken)) {
+            self.shared.deliver(&self.rt, taken, acceptance);
+        }
+    }
+}
+
+// The client's address, in the terms of rules.
+fn peer_of(sock: &Sock) -> Option<relay_admin::Addr> {
+    match sock.peer() {
+        Some(addr) => Some(rule_address(&addr)),
+        None => None,
     }
 }
 
@@ -108,16 +151,22 @@ fn turn_after(step: &AcceptStep) -> Turn
 }
 
 // Has a task accept by its rule.
-fn accept_on<'a, U: Ledger, D: Ledger, R: Wait + Copy>(
+fn accept_on<'a, U: Ledger, D: Ledger, R: Wait + Clock + Copy, C: Moments>(
     rt: R,
-    rule: usize,
-    listener: &'a mut RuleListener<R>,
+    clock: &'a C,
     shared: &'a Shared<U, D>,
-    accepting: &mut Accepting,
+    task: &'a mut RuleTask<R>,
 ) -> AcceptStep {
+    let RuleTask {
+        served,
+        listener,
+        accepting,
+        ..
+    } = task;
     accepting.resume(&mut RuleGate {
         rt,
-        rule,
+        clock,
+        served,
         listener,
         shared,
     })
@@ -126,7 +175,7 @@ fn accept_on<'a, U: Ledger, D: Ledger, R: Wait + Copy>(
 /// Accepts by a rule until its listener is closed or drained, or fails too often.
 #[derive(Drop)]
 pub(crate) struct RuleTask<R: Wait + Copy> {
-    pub(crate) rule: usize,
+    pub(crate) served: Arc<ServedRule>,
     pub(crate) place: Place,
     pub(crate) listener: RuleListener<R>,
     pub(crate) accepting: Accepting,
@@ -192,7 +241,7 @@ impl<U, D, R, C> Host for AcceptHost<U, D, R, C>
 where
     U: Ledger,
     D: Ledger,
-    R: Wait + Copy,
+    R: Wait + Clock + Copy,
     C: Moments,
 {
     type Task = RuleTask<R>;
@@ -208,13 +257,7 @@ where
         if self.is_paused(task) {
             return Turn::Waits;
         }
-        let step = accept_on(
-            self.rt,
-            task.rule,
-            &mut task.listener,
-            &*self.shared,
-            &mut task.accepting,
-        );
+        let step = accept_on(self.rt, &self.clock, &*self.shared, task);
         match step {
             AcceptStep::Pauses(ms) => self.pause(task, ms),
             AcceptStep::Ended(ended) => self.end(&task.listener, ended),

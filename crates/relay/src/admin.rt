@@ -84,6 +84,7 @@ where
 
     // A session that says stop has the main thread stop the relay; the next accept is then refused.
     fn deliver(&mut self, taken: Sock) {
+        self.waits.shared.sessions.add(1);
         if self.session(taken) == Some(AdminEnd::Stop) {
             self.waits.shared.stop();
         }

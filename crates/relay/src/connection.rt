@@ -4,34 +4,32 @@ ghost use Rattle.std.specs.Prelude.{◌≡◌, ◌↔◌, true};
 ghost use Rattle.relay_core.specs.PairTasks.{HasToClose, MayGoOn};
 ghost use Rattle.relay_core.specs.declared.pair_tasks.PairNext.{PairNext};
 ghost use Rattle.relay_core.specs.declared.ways.Way.{Way};
+ghost use Rattle.relay_core.specs.PairTasks.{standing_of, standing_after, other_way};
 ghost use Rattle.relay.specs.Connection.{GoesOn, side_of_pair};
+ghost use Rattle.relay.specs.Ending as spec;
 
-use crate::clock::RelayClock;
+use crate::clock::{Moments, RelayClock};
 use crate::closing::Closer;
+use crate::settled::{Settlement, settle};
 use crate::shared::Shared;
 use crate::task_gate::TaskGate;
 use base_types::Dir;
 use fd_descriptor::PollCell;
 use readiness::{RemoteAlarms, Side, Why};
-use relay_core::{Copying, LOOP_BUFFER_BYTES, PairNext, PairTasks, Step, Way, Ways};
+use relay_core::{
+    Copying, Ended, LOOP_BUFFER_BYTES, PairNext, PairTasks, Standing, Step, Way, Ways,
+};
 use relay_ledger::{Book, CarriedShare};
+use relay_log::ended::Ended as How;
+use relay_watch::connection_facts::ConnectionFacts;
+use relay_watch::how_ended::how_of;
+use relay_watch::log_lines::tell_end;
 use std::sync::ledger::Ledger;
 use std::sync::{Arc, Mutex, Wait};
 use std::time::Clock;
 
 /// What a way copies through.
 pub(crate) type Gate<R> = TaskGate<R, RelayClock<R>, RemoteAlarms<R>>;
-
-/// Has the book take back a share, so that none piles up.
-pub(crate) fn settle<L: Ledger, R: Wait>(
-    rt: &R,
-    book: &Mutex<Book<L>>,
-    share: Option<CarriedShare<L>>,
-) {
-    if let Some(share) = share {
-        book.lock(rt).settle(share.into_share());
-    }
-}
 
 /// One way: its gate, how far it came, and its share of the book.
 #[derive(Drop)]
@@ -40,6 +38,8 @@ pub(crate) struct WayCopy<L: Ledger, R: Wait + Clock + Copy> {
     pub(crate) copying: Copying,
     /// It isn't there while the way goes on.
     pub(crate) share: Option<CarriedShare<L>>,
+    /// The bytes that were written so far.
+    pub(crate) passed: u64,
 }
 
 impl<L: Ledger, R: Wait + Clock + Copy> WayCopy<L, R> {
@@ -55,16 +55,20 @@ impl<L: Ledger, R: Wait + Clock + Copy> WayCopy<L, R> {
         let step = self
             .copying
             .resume(rt, &mut self.gate, book, &mut share, buf);
+        self.passed = share.amount();
         self.share = Some(CarriedShare::new(share));
         step
     }
 
     // Ends what is under way, and gives the share.
-    fn leave(self) -> Option<CarriedShare<L>> {
+    fn leave(self) -> Option<CarriedShare<L>>
+        ensures { result ≡ self.share }
+    {
         let WayCopy {
             gate,
             copying: _,
             share,
+            passed: _,
         } = self;
         drop(gate);
         share
@@ -87,7 +91,7 @@ impl ConnSide {
     }
 }
 
-/// A connection: both its sides, how far its ways are, and the ways.
+/// A connection: both its sides, how far its ways are, and the ways; and what others know of it.
 #[derive(Drop)]
 pub(crate) struct Connection<U: Ledger, D: Ledger, R: Wait + Clock + Copy> {
     pub(crate) client: ConnSide,
@@ -95,6 +99,34 @@ pub(crate) struct Connection<U: Ledger, D: Ledger, R: Wait + Clock + Copy> {
     pub(crate) tasks: PairTasks,
     pub(crate) up: WayCopy<U, R>,
     pub(crate) down: WayCopy<D, R>,
+    pub(crate) facts: Arc<ConnectionFacts>,
+    /// The end of the way that failed first, if one did.
+    pub(crate) failure: Option<Ended>,
+}
+
+// How a connection ended of which no way has failed, and whose ways stand so. Where one goes on
+// still, the relay has ended it.
+fn how_unfailed(up: Standing, down: Standing) -> How
+    ensures { result ≡ spec.how_unfailed up down }
+{
+    match up {
+        Standing::Over => match down {
+            Standing::Over => How::Eof,
+            _ => How::Closed,
+        },
+        _ => How::Closed,
+    }
+}
+
+// The end of a way that failed, where a step is that.
+fn failure_in(step: &Step) -> Option<Ended>
+    ensures { result ≡ spec.failure_in step.now }
+{
+    match step {
+        Step::Ended(Ended::Eof) => None,
+        Step::Ended(ended) => Some(*ended),
+        _ => None,
+    }
 }
 
 // A side in the words of pairs: the client's has the first token of its place.
@@ -150,29 +182,73 @@ impl<U: Ledger, D: Ledger, R: Wait + Clock + Copy> Connection<U, D, R> {
         let ways = self.ways(why);
         if ways.up {
             let step = self.up.go_on(rt, &shared.up, buf);
-            self.tasks.note(Way::Up, &step);
+            self.note(Way::Up, &step);
         }
         if ways.down && self.tasks.next() != PairNext::Closes {
             let step = self.down.go_on(rt, &shared.down, buf);
-            self.tasks.note(Way::Down, &step);
+            self.note(Way::Down, &step);
         }
         self.tasks.next()
     }
 
+    // Notes how far a way came, and the first end that is a failure.
+    fn note(&mut self, way: Way, step: &Step)
+        ensures noted { standing_of self.new.tasks way ≡ standing_after step.now }
+        ensures kept { standing_of self.new.tasks (other_way way)
+            ≡ standing_of self.old.tasks (other_way way) }
+        ensures failure { self.new.failure ≡ spec.failure_after self.old.failure step.now }
+    {
+        if self.failure.is_none() {
+            self.failure = failure_in(step);
+        }
+        self.tasks.note(way, step);
+    }
+
+    /// Has others know how many bytes it has passed, where there are more than they know of.
+    pub(crate) fn tell_bytes<C: Moments>(&self, clock: &C) {
+        let (up, down) = (self.up.passed, self.down.passed);
+        if up != self.facts.up() || down != self.facts.down() {
+            self.facts.note_bytes(up, down, clock.now());
+        }
+    }
+
+    // How it ended.
+    fn how(&self) -> How
+        ensures { result ≡ spec.how_connection_ended self.now.failure self.now.tasks }
+    {
+        match &self.failure {
+            Some(ended) => how_of(ended),
+            None => how_unfailed(self.tasks.up, self.tasks.down),
+        }
+    }
+
     /// Ends it. First its calls under way end, so that no close waits for them; then both sides are
-    /// closed, and the books take the shares back.
-    pub(crate) fn end(self, rt: &R, shared: &Shared<U, D>) {
+    /// closed, and the books take the shares back, however it ended.
+    pub(crate) fn end(self, rt: &R, shared: &Shared<U, D>, now: u64) -> Settlement<U, D>
+        ensures up { result.up ≡ self.up.share }
+        ensures down { result.down ≡ self.down.share }
+    {
+        let how = self.how();
         let Connection {
             client,
             target,
             tasks: _,
             up,
             down,
+            facts,
+            failure: _,
         } = self;
         let (up, down) = (up.leave(), down.leave());
         shared.close(rt, client.id, Closer::ItsLoop);
         shared.close(rt, target.id, Closer::ItsLoop);
-        settle(rt, &shared.up, up);
-        settle(rt, &shared.down, down);
+        let up = settle(rt, &shared.up, up);
+        let down = settle(rt, &shared.down, down);
+        if let Some(counts) = facts.counts() {
+            counts.note_end(how);
+        }
+        if let Some(log) = &shared.log {
+            tell_end(rt, log, &facts, (client.id, target.id), now, how);
+        }
+        Settlement { up, down }
     }
 }

@@ -10,6 +10,7 @@ use crate::clock::Moments;
 use crate::closing::Closer;
 use crate::entry::{Handle, Owner};
 use crate::shared::Shared;
+use crate::totals::{Total, Totals};
 use deadline_core::{Deadline, Dirs};
 use fd_descriptor::Setting;
 use relay_admin::{Desk, DeskAnswer};
@@ -18,6 +19,7 @@ use rwloops::Fault;
 use std::alloc::Global;
 use std::sync::Wait;
 use std::sync::ledger::Ledger;
+use std::time::Clock;
 
 /// A desk for one session.
 #[derive(Drop)]
@@ -101,7 +103,13 @@ impl<'a, U: Ledger, D: Ledger, R: Wait + Copy, C: Moments> RelayDesk<'a, U, D, R
     }
 }
 
-impl<'a, U: Ledger, D: Ledger, R: Wait + Copy, C: Moments> Desk for RelayDesk<'a, U, D, R, C> {
+impl<'a, U, D, R, C> Desk for RelayDesk<'a, U, D, R, C>
+where
+    U: Ledger,
+    D: Ledger,
+    R: Wait + Clock + Copy,
+    C: Moments,
+{
     // What other threads do to the table and the books in between isn't known.
     ghost exchanges = { λ _. None };
 
@@ -113,9 +121,9 @@ impl<'a, U: Ledger, D: Ledger, R: Wait + Copy, C: Moments> Desk for RelayDesk<'a
     }
 
     fn totals(&mut self) -> DeskAnswer {
-        let up = self.shared.up.lock(&self.rt).total();
-        let down = self.shared.down.lock(&self.rt).total();
-        DeskAnswer::Totals(up, down)
+        let up = Total::of(&*self.shared.up.lock(&self.rt));
+        let down = Total::of(&*self.shared.down.lock(&self.rt));
+        Totals { up, down }.answer()
     }
 
     fn close(&mut self, id: u64) -> DeskAnswer {
@@ -134,5 +142,20 @@ impl<'a, U: Ledger, D: Ledger, R: Wait + Copy, C: Moments> Desk for RelayDesk<'a
             Ok((mut handle, owner)) => self.set_deadline(&mut handle, &owner, after_ms),
             Err(answer) => answer,
         }
+    }
+
+    fn show(&mut self, id: u64) -> DeskAnswer {
+        let table = self.shared.table.lock(&self.rt);
+        let Some(entry) = table.by_id(id) else {
+            return DeskAnswer::Unknown;
+        };
+        DeskAnswer::Shown(entry.shown(&self.rt, id, self.clock.now()))
+    }
+
+    // The main thread, whose loop accepts, carries it out.
+    fn reload(&mut self, _alloc: Global) -> DeskAnswer {
+        self.shared.reload.ask(&self.rt);
+        self.shared.main.wake();
+        self.shared.reload.wait(&self.rt, &self.shared.stop)
     }
 }

@@ -2,13 +2,20 @@
 
 ghost use Rattle.std.specs.Prelude.{◌≡◌, ⊤, IfSome, IfOk};
 ghost use Rattle.std.specs.Arc.{arc_value};
+ghost use Rattle.deadline_core.specs.declared.deadline.Dirs.{Dirs};
+ghost use Rattle.fd_descriptor.specs.HandleCalls.{TellsWhoClosed, TellsWhoDrained};
 ghost use Rattle.readiness.specs.EventLoop.{remote_of};
+ghost use Rattle.relay.specs.Handle.{closes_of, drains_of};
 
 use crate::closing::{Closer, Closes};
 use crate::setting::set_by;
 use deadline_core::Dirs;
 use fd_descriptor::{Alarms, AtEviction, FdHandle, Nobody, Setting};
 use readiness::{ListenRes, LoopRemote, RemoteAlarms, SockRes};
+use relay_admin::{Shown, ShownSide};
+use relay_watch::connection_facts::ConnectionFacts;
+use relay_watch::served_rule::ServedRule;
+use relay_watch::shown::{shown_listener, shown_side};
 use rwloops::Fault;
 use std::sync::{Arc, Mutex, Wait};
 
@@ -27,14 +34,21 @@ impl Handle {
         }
     }
 
-    fn close<R: Wait, E: AtEviction>(&mut self, rt: &R, told: &E) -> Result<(), Fault> {
+    fn close<R: Wait, E: AtEviction>(&mut self, rt: &R, told: &E) -> Result<(), Fault>
+        ensures closer { TellsWhoClosed result (closes_of self.old) (closes_of self.new) }
+        ensures no_drain { drains_of self.new ≡ drains_of self.old }
+    {
         match self {
             Handle::Conn(handle) => handle.close_telling(rt, told),
             Handle::Listener(handle) => handle.close_telling(rt, told),
         }
     }
 
-    pub(crate) fn drain<R: Wait>(&mut self, rt: &R) -> Result<(), Fault> {
+    /// Drains it, and leaves it open.
+    pub(crate) fn drain<R: Wait>(&mut self, rt: &R) -> Result<(), Fault>
+        ensures drainer { TellsWhoDrained result (drains_of self.old) (drains_of self.new) }
+        ensures no_close { closes_of self.new ≡ closes_of self.old }
+    {
         match self {
             Handle::Conn(handle) => handle.drain(rt),
             Handle::Listener(handle) => handle.drain(rt),
@@ -46,12 +60,22 @@ impl Handle {
         rt: &R,
         alarms: &A,
         setting: Setting,
-    ) -> Result<(), Fault> {
+    ) -> Result<(), Fault>
+        ensures no_close { closes_of self.new ≡ closes_of self.old }
+        ensures no_drain { drains_of self.new ≡ drains_of self.old }
+    {
         match self {
             Handle::Conn(handle) => set_by(rt, handle, alarms, setting),
             Handle::Listener(handle) => set_by(rt, handle, alarms, setting),
         }
     }
+}
+
+/// Alarms of a descriptor: by which key they are armed, and for which directions.
+#[derive(Clone, Copy, Drop)]
+struct Armed {
+    key: u64,
+    dirs: Dirs,
 }
 
 /// The task that has a descriptor: the remote of its loop, and the token by which the loop knows
@@ -79,6 +103,17 @@ impl Owner {
         Some(Owner { remote, token })
     }
 
+    /// The alarms that its descriptor may have.
+    fn armed(&self) -> Armed
+        ensures key { result.key ≡ self.now.token }
+        ensures both { result.dirs ≡ Dirs.Both }
+    {
+        Armed {
+            key: self.token,
+            dirs: Dirs::Both,
+        }
+    }
+
     /// Where deadlines ask to be told of their moments. It takes no memory.
     pub(crate) fn alarms<R: Wait + Copy>(&self, rt: R) -> Option<RemoteAlarms<R>>
         ensures own { IfSome result (λ alarms. remote_of alarms ≡ arc_value self.now.remote) }
@@ -101,22 +136,53 @@ impl<'a, R: Wait> AtEviction for Telling<'a, R> {
     }
 }
 
+/// What an entry is of.
+#[derive(Drop)]
+pub(crate) enum Subject {
+    /// A side of a connection.
+    Side(Arc<ConnectionFacts>, ShownSide),
+    /// A rule's listener.
+    Listener(Arc<ServedRule>),
+}
+
+impl Subject {
+    // What is shown of it, which has this id, at this moment.
+    fn shown<R: Wait>(&self, rt: &R, id: u64, now: u64) -> Shown
+        ensures { result.id ≡ id }
+    {
+        match self {
+            Subject::Side(facts, side) => shown_side(facts, id, *side, now),
+            Subject::Listener(served) => shown_listener(rt, served, id, now),
+        }
+    }
+}
+
 /// A connection's side or a listener: whose it is, and a handle that the desk takes shares of and
 /// that whoever takes the entry out closes.
 #[derive(Drop)]
 pub(crate) struct Entry {
     handle: Mutex<Handle>,
     owner: Owner,
+    subject: Subject,
 }
 
 impl Entry {
-    pub(crate) fn new(handle: Handle, owner: Owner) -> Entry
-        ensures { result.owner ≡ owner }
+    pub(crate) fn new(handle: Handle, owner: Owner, subject: Subject) -> Entry
+        ensures owner { result.owner ≡ owner }
+        ensures subject { result.subject ≡ subject }
     {
         Entry {
             handle: Mutex::new(handle),
             owner,
+            subject,
         }
+    }
+
+    /// What is shown of it at this moment, which stands under this id.
+    pub(crate) fn shown<R: Wait>(&self, rt: &R, id: u64, now: u64) -> Shown
+        ensures { result.id ≡ id }
+    {
+        self.subject.shown(rt, id, now)
     }
 
     /// A handle of its own, and whose task is to be told of what is done by it.
@@ -145,7 +211,8 @@ impl Closes for Entry {
 
     fn disarm<R: Wait + Copy>(self, rt: &R) {
         if let Some(alarms) = self.owner.alarms(*rt) {
-            alarms.disarm(self.owner.token, Dirs::Both);
+            let armed = self.owner.armed();
+            alarms.disarm(armed.key, armed.dirs);
         }
     }
 }

@@ -1,7 +1,7 @@
 //! Why a relay doesn't run, or can't go on.
 
 ghost use Rattle.std.specs.Prelude.{◌≡◌};
-ghost use Rattle.relay.specs.ServeFault.{poller_fault};
+ghost use Rattle.relay.specs.ServeFault.{metrics_fault, poller_fault};
 
 use arrayvec::ArrayString;
 use relay_admin::{RulesFault, Verdict};
@@ -11,7 +11,8 @@ use thiserror::Error;
 /// Why a relay doesn't run, or can't go on. The texts are the lines on standard error.
 #[derive(Clone, Copy, Debug, PartialEq, Eq, Drop, Error)]
 pub enum ServeFault {
-    /// The rules file can't be read.
+    /// The rules file can't be read. The text is `relay_admin`'s `CANNOT_READ` too, and that of
+    /// `Listen` its `CANNOT_LISTEN`: an attribute can cite no constant, and a test compares them.
     #[error("cannot read rules")]
     RulesFile,
     /// The rules are bad; the text is the verdict on them.
@@ -23,6 +24,9 @@ pub enum ServeFault {
     /// The admin socket can't be opened.
     #[error("cannot listen admin")]
     Admin,
+    /// The address of the metrics can't be listened on.
+    #[error("cannot listen metrics")]
+    Metrics,
     /// The poller or standard output failed.
     #[error("relay fault: device")]
     Device,
@@ -39,6 +43,16 @@ impl ServeFault {
         match fault {
             Fault::OutOfMemory => ServeFault::Memory,
             _ => ServeFault::Device,
+        }
+    }
+
+    /// What a refusal of the server of metrics is to the relay.
+    pub(crate) fn of_metrics(fault: Fault) -> ServeFault
+        ensures { result ≡ metrics_fault fault }
+    {
+        match fault {
+            Fault::OutOfMemory => ServeFault::Memory,
+            _ => ServeFault::Metrics,
         }
     }
 

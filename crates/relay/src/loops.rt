@@ -8,8 +8,9 @@ ghost use Rattle.relay.specs.Loops.{loop_count};
 use crate::clock::{Moments, RelayClock};
 use crate::connection::Connection;
 use crate::fault::ServeFault;
+use crate::home::{Accepted, Home};
 use crate::loop_buffer::LoopBuffer;
-use crate::shared::{Accepted, Home, Shared};
+use crate::shared::Shared;
 use fd_descriptor::PollCell;
 use readiness::{EventLoop, Host, Side, Turn, Why};
 use relay_core::PairNext;
@@ -70,7 +71,7 @@ pub(crate) type ConnLoop<U, D, R> = EventLoop<Connection<U, D, R>>;
 pub(crate) struct LoopHost<U: Ledger, D: Ledger, R: Wait + Clock + Copy> {
     pub(crate) rt: R,
     pub(crate) alloc: Global,
-    pub(crate) start: Instant,
+    pub(crate) clock: RelayClock<R>,
     /// The place of its home.
     pub(crate) home: usize,
     pub(crate) shared: Arc<Shared<U, D>>,
@@ -88,24 +89,31 @@ impl<U: Ledger, D: Ledger, R: Wait + Clock + Copy> Host for LoopHost<U, D, R> {
         Some(task.cell(side))
     }
 
-    fn resume(&mut self, task: &mut Connection<U, D, R>, why: Why) -> Turn
+    fn resume(&mut self, task: &mut Connection<U, D, R>, why: Why) -> Turn {
+        self.go_on_with(task, why)
+    }
+
+    fn over(&mut self, task: Connection<U, D, R>) {
+        task.end(&self.rt, &self.shared, self.clock.now());
+        self.note_end();
+    }
+}
+
+impl<U: Ledger, D: Ledger, R: Wait + Clock + Copy> LoopHost<U, D, R> {
+    // Has a connection go on, and says what follows for its loop.
+    fn go_on_with(&mut self, task: &mut Connection<U, D, R>, why: Why) -> Turn
         ensures over { result ≡ Turn.Over ↔ HasToClose task.new.tasks }
         ensures again { result ≡ Turn.Again ↔ MayGoOn task.new.tasks }
     {
-        match task.go_on(&self.rt, &self.shared, why, self.buf.bytes.as_mut_slice()) {
+        let next = task.go_on(&self.rt, &self.shared, why, self.buf.bytes.as_mut_slice());
+        task.tell_bytes(&self.clock);
+        match next {
             PairNext::Waits => Turn::Waits,
             PairNext::Again => Turn::Again,
             PairNext::Closes => Turn::Over,
         }
     }
 
-    fn over(&mut self, task: Connection<U, D, R>) {
-        task.end(&self.rt, &self.shared);
-        self.note_end();
-    }
-}
-
-impl<U: Ledger, D: Ledger, R: Wait + Clock + Copy> LoopHost<U, D, R> {
     fn home(&self) -> Option<&Home> {
         self.shared.homes.get(self.home)
     }
@@ -114,6 +122,12 @@ impl<U: Ledger, D: Ledger, R: Wait + Clock + Copy> LoopHost<U, D, R> {
     fn note_end(&self) {
         if let Some(home) = self.home() {
             home.note_end();
+        }
+    }
+
+    fn note_turn(&self) {
+        if let Some(home) = self.home() {
+            home.turns.add(1);
         }
     }
 
@@ -130,7 +144,7 @@ impl<U: Ledger, D: Ledger, R: Wait + Net + Clock + Copy> LoopHost<U, D, R> {
         let mut taken = mem::replace(&mut self.taken, Vec::new(self.alloc));
         self.take_inbox(&mut taken);
         for accepted in taken.drain(..) {
-            if self.set_up(tasks, accepted).is_none() {
+            if !self.set_up(tasks, accepted) {
                 self.note_end();
             }
         }
@@ -140,11 +154,12 @@ impl<U: Ledger, D: Ledger, R: Wait + Net + Clock + Copy> LoopHost<U, D, R> {
     // Turns until the relay stops, or the poller fails.
     fn turn_until_stop(&mut self, tasks: &mut ConnLoop<U, D, R>) -> Result<(), ServeFault> {
         let rt = self.rt;
-        let clock = RelayClock::new(rt, self.start);
         for _ in rt.forever() {
-            if let Err(fault) = tasks.turn(&rt, clock.now(), self) {
+            let now = self.clock.now();
+            if let Err(fault) = tasks.turn(&rt, now, self) {
                 return Err(ServeFault::of_poller(fault));
             }
+            self.note_turn();
             if self.shared.is_stopped() {
                 return Ok(());
             }
@@ -184,7 +199,7 @@ where
     let mut host = LoopHost {
         rt,
         alloc,
-        start,
+        clock: RelayClock::new(rt, start),
         home,
         shared,
         taken: Vec::new(alloc),

@@ -1,22 +1,24 @@
 //! Opening: the pollers, the listeners in the rules' order, and the admin socket.
 
-ghost use Rattle.std.specs.Prelude.{◌≡◌};
-ghost use Rattle.relay.specs.Addr.{socket_address};
+ghost use Rattle.std.specs.Prelude.{◌≡◌, IfErr};
+ghost use Rattle.relay.specs.declared.fault.ServeFault.{ServeFault};
 
 use crate::accepting::{RuleListener, RuleTask};
+use crate::address::socket_address;
 use crate::admin::AdminSocket;
-use crate::bound_paths::BoundPaths;
-use crate::entry::{Entry, Handle, Owner};
+use crate::entry::{Entry, Handle, Owner, Subject};
 use crate::fault::ServeFault;
+use crate::home::Home;
 use crate::loops::{ConnLoop, Loops};
-use crate::shared::{Home, Route};
 use crate::threads::Unstarted;
 use arrayvec::ArrayString;
 use conntable::ConnTable;
 use fd_descriptor::FdHandle;
-use readiness::{Addr, EventLoop, HoldFault, ListenRes, Place, Poller, Waker, listen};
+use readiness::{Addr, EventLoop, HoldFault, Listen, ListenRes, Poller, Waker, listen};
 use relay_admin::Rule;
 use relay_core::Accepting;
+use relay_watch::bound_path::BoundPath;
+use relay_watch::served_rule::ServedRule;
 use std::alloc::Global;
 use std::fs::Files;
 use std::net::Net;
@@ -27,13 +29,10 @@ use std::time::Clock;
 /// The token of the admin socket with its own poller.
 const ADMIN_TOKEN: u64 = 1;
 
-/// The loop that accepts, with its tasks, and what they are found by.
+/// The loop that accepts, with its tasks, and the table in which their listeners stand.
 #[derive(Drop)]
 pub(crate) struct Acceptors<R: Wait + Copy> {
     pub(crate) tasks: EventLoop<RuleTask<R>>,
-    /// The tokens of the tasks.
-    pub(crate) tokens: Vec<u64>,
-    pub(crate) routes: Vec<Route>,
     pub(crate) table: ConnTable<Entry>,
 }
 
@@ -43,16 +42,6 @@ pub(crate) struct Opened<U: Ledger, D: Ledger, R: Wait + Clock + Copy> {
     pub(crate) acceptors: Acceptors<R>,
     pub(crate) homes: Vec<Home>,
     pub(crate) unstarted: Unstarted<U, D, R>,
-}
-
-/// The same address in the terms of sockets.
-pub(crate) fn address_of(addr: &relay_admin::Addr) -> Addr
-    ensures { result ≡ socket_address addr.now }
-{
-    match addr {
-        relay_admin::Addr::Tcp(bytes, port) => Addr::Tcp(*bytes, *port),
-        relay_admin::Addr::Unix(path) => Addr::Unix(*path),
-    }
 }
 
 fn poller<R: Net>(rt: &R, alloc: Global) -> Result<(Poller, Arc<Waker>), ServeFault> {
@@ -74,11 +63,99 @@ fn event_loop<T, R: Net>(rt: &R, alloc: Global) -> Result<EventLoop<T>, ServeFau
 }
 
 // What is refused for want of memory, or by a table of which nothing but memory can be short yet.
-fn need<T>(given: Option<T>) -> Result<T, ServeFault> {
+fn need<T>(given: Option<T>) -> Result<T, ServeFault>
+    ensures { IfErr result (λ fault. fault ≡ ServeFault.Memory) }
+{
     match given {
         Some(value) => Ok(value),
         None => Err(ServeFault::Memory),
     }
+}
+
+/// The rules as a relay with so many loops serves them, none of which has a listener yet.
+pub(crate) fn served_rules(
+    alloc: Global,
+    rules: &[Rule],
+    loops: usize,
+) -> Result<Vec<Arc<ServedRule>>, ServeFault>
+    ensures faults { IfErr result (λ fault. fault ≡ ServeFault.Memory) }
+{
+    let mut all = Vec::new(alloc);
+    for rule in rules {
+        let served = need(ServedRule::new(alloc, rule, loops).ok())?;
+        need(all.push(served).ok())?;
+    }
+    Ok(all)
+}
+
+/// Listens at a rule's address.
+pub(crate) fn bind<R: Wait + Net + Files>(
+    rt: &R,
+    served: &ServedRule,
+) -> Result<Listen, ServeFault> {
+    match listen(rt, &socket_address(&served.listen)) {
+        Ok(socket) => {
+            served.note_bound(rt);
+            Ok(socket)
+        }
+        Err(_) => Err(ServeFault::Listen(served.rule(rt).name)),
+    }
+}
+
+// A descriptor of a rule's listener, which stands in the table.
+fn listener_in<R: Wait + Copy>(
+    table: &mut ConnTable<Entry>,
+    handle: FdHandle<ListenRes>,
+    owner: Owner,
+    served: &Arc<ServedRule>,
+) -> Option<RuleListener<R>> {
+    let mut handle = handle;
+    let cell = handle.cell().ok()?;
+    let subject = Subject::Listener(Arc::try_clone(served).ok()?);
+    let entry = Entry::new(Handle::Listener(handle.share().ok()?), owner, subject);
+    let (id, _) = table.insert(entry).ok()?;
+    Some(RuleListener {
+        id,
+        cell,
+        handle: Some(handle),
+        under_way: None,
+    })
+}
+
+/// Has a task accept from this socket from the next turn on; its descriptor stands in the table
+/// under the next id. After a fault no task is left, and an entry may be, of the id that the rule
+/// then has.
+pub(crate) fn hold_rule<R: Wait + Copy>(
+    alloc: Global,
+    tasks: &mut EventLoop<RuleTask<R>>,
+    table: &mut ConnTable<Entry>,
+    socket: Listen,
+    served: Arc<ServedRule>,
+    now: u64,
+) -> Result<(), ServeFault> {
+    let place = need(tasks.vacant().ok())?;
+    let opened = tasks.poller().open_listener(alloc, socket, place.first);
+    let handle = match opened {
+        Ok(handle) => handle,
+        Err(HoldFault::Device(_)) => return Err(ServeFault::Device),
+        Err(_) => return Err(ServeFault::Memory),
+    };
+    let owner = Owner {
+        remote: need(tasks.remote().ok())?,
+        token: place.first,
+    };
+    let listener = need(listener_in(table, handle, owner, &served))?;
+    served.note_listener(listener.id, place.first, now);
+    let task = RuleTask {
+        served,
+        place,
+        listener,
+        accepting: Accepting::new(),
+        paused_until: None,
+    };
+    need(tasks.put(task).ok())?;
+    tasks.again(place.first);
+    Ok(())
 }
 
 impl<R: Wait + Copy> Acceptors<R> {
@@ -86,73 +163,20 @@ impl<R: Wait + Copy> Acceptors<R> {
     fn new<N: Net>(rt: &N, alloc: Global) -> Result<Acceptors<R>, ServeFault> {
         Ok(Acceptors {
             tasks: event_loop(rt, alloc)?,
-            tokens: Vec::new(alloc),
-            routes: Vec::new(alloc),
             table: ConnTable::new(alloc),
         })
     }
 
-    // A descriptor of a listener, which stands in the table.
-    fn hold(&mut self, handle: FdHandle<ListenRes>, place: Place) -> Option<RuleListener<R>> {
-        let mut handle = handle;
-        let owner = Owner {
-            remote: self.tasks.remote().ok()?,
-            token: place.first,
-        };
-        let cell = handle.cell().ok()?;
-        let entry = Entry::new(Handle::Listener(handle.share().ok()?), owner);
-        let (id, _) = self.table.insert(entry).ok()?;
-        Some(RuleListener {
-            id,
-            cell,
-            handle: Some(handle),
-            under_way: None,
-        })
-    }
-
-    // Puts the task of a rule into its place.
-    fn put(&mut self, rule: &Rule, place: Place, listener: RuleListener<R>) -> Option<()> {
-        let task = RuleTask {
-            rule: self.tokens.len(),
-            place,
-            listener,
-            accepting: Accepting::new(),
-            paused_until: None,
-        };
-        let route = Route {
-            target: address_of(&rule.target),
-            idle_ms: rule.idle_ms,
-        };
-        self.tokens.push(place.first).ok()?;
-        self.routes.push(route).ok()?;
-        self.tasks.put(task).ok()?;
-        Some(())
-    }
-
     // Listens for a rule, under the table's next id.
-    fn listen<N: Net + Files>(
+    fn listen<N: Wait + Net + Files>(
         &mut self,
         rt: &N,
         alloc: Global,
-        rule: &Rule,
-        bound: &mut BoundPaths<'_>,
+        served: &Arc<ServedRule>,
     ) -> Result<(), ServeFault> {
-        let Ok(socket) = listen(rt, &address_of(&rule.listen)) else {
-            return Err(ServeFault::Listen(rule.name));
-        };
-        bound.note_listener();
-        let place = need(self.tasks.vacant().ok())?;
-        let handle = match self
-            .tasks
-            .poller()
-            .open_listener(alloc, socket, place.first)
-        {
-            Ok(handle) => handle,
-            Err(HoldFault::Device(_)) => return Err(ServeFault::Device),
-            Err(_) => return Err(ServeFault::Memory),
-        };
-        let listener = need(self.hold(handle, place))?;
-        need(self.put(rule, place, listener))
+        let socket = bind(rt, served)?;
+        let served = need(Arc::try_clone(served).ok())?;
+        hold_rule(alloc, &mut self.tasks, &mut self.table, socket, served, 0)
     }
 }
 
@@ -162,7 +186,7 @@ fn open_admin<R: Net + Files>(
     alloc: Global,
     poller: Poller,
     path: &str,
-    bound: &mut BoundPaths<'_>,
+    bound: &mut Option<BoundPath>,
 ) -> Result<AdminSocket, ServeFault> {
     if path.is_empty() {
         return Err(ServeFault::Admin);
@@ -173,7 +197,7 @@ fn open_admin<R: Net + Files>(
     let Ok(mut socket) = listen(rt, &Addr::Unix(path)) else {
         return Err(ServeFault::Admin);
     };
-    bound.note_admin();
+    *bound = Some(BoundPath::of(&relay_admin::Addr::Unix(path)));
     if poller.register_listener(&mut socket, ADMIN_TOKEN).is_err() {
         return Err(ServeFault::Device);
     }
@@ -201,21 +225,21 @@ fn open_loops<U: Ledger, D: Ledger, R: Wait + Net + Clock + Copy>(
     Ok((all, homes))
 }
 
-/// Opens all of a relay's sockets. After a fault none of them is left, and `bound` says which paths
-/// are.
+/// Opens all of a relay's sockets. After a fault none of them is left. The rules say which of them
+/// have bound their addresses, and `bound` whether the admin socket has.
 pub(crate) fn open<U: Ledger, D: Ledger, R: Wait + Net + Files + Clock + Copy>(
     rt: &R,
     alloc: Global,
-    rules: &[Rule],
+    rules: &[Arc<ServedRule>],
     admin: &str,
     loops: Loops,
-    bound: &mut BoundPaths<'_>,
+    bound: &mut Option<BoundPath>,
 ) -> Result<Opened<U, D, R>, ServeFault> {
     let mut acceptors = Acceptors::new(rt, alloc)?;
     let (admin_poller, admin_waker) = poller(rt, alloc)?;
     let (loops, homes) = open_loops(rt, alloc, loops)?;
-    for rule in rules {
-        acceptors.listen(rt, alloc, rule, bound)?;
+    for served in rules {
+        acceptors.listen(rt, alloc, served)?;
     }
     let admin = open_admin(rt, alloc, admin_poller, admin, bound)?;
     Ok(Opened {

@@ -6,9 +6,11 @@ ghost use Rattle.relay.specs.Output.{listening_line, totals_line};
 ghost use Rattle.relay.specs.declared.fault.ServeFault.{ServeFault};
 
 use crate::fault::ServeFault;
+use crate::totals::Totals;
 use arrayvec::ArrayString;
 use itoa::Buffer;
 use std::io::Write;
+use std::sync::ledger::Ledger;
 use stream_base::sink::deliver_to;
 use stream_base::writer_sink::WriterSink;
 
@@ -40,17 +42,20 @@ pub(crate) fn write_listening<W: Write>(writer: &mut W, rules: u64) -> Result<()
 }
 
 /// Says how many bytes were copied to the targets, and how many to the clients.
-pub(crate) fn write_totals<W: Write>(writer: &mut W, up: u64, down: u64) -> Result<(), ServeFault>
-    ensures said { OnOk result
-        (Appends (W.contents writer.old) (W.contents writer.new) (totals_line up down)) }
+pub(crate) fn write_totals<U: Ledger, D: Ledger, W: Write>(
+    writer: &mut W,
+    totals: &Totals<U, D>,
+) -> Result<(), ServeFault>
+    ensures said { OnOk result (Appends (W.contents writer.old) (W.contents writer.new)
+        (totals_line totals.now.up.bytes totals.now.down.bytes)) }
     ensures faults { IfErr result (λ fault. fault ≡ ServeFault.Device) }
 {
     let mut line = ArrayString::new();
     let mut digits = Buffer::new();
     line.push_str("up ");
-    line.push_str(digits.format(up));
+    line.push_str(digits.format(totals.up.bytes));
     line.push_str(" down ");
-    line.push_str(digits.format(down));
+    line.push_str(digits.format(totals.down.bytes));
     line.push_str("\n");
     write_line(writer, &line)
 }

@@ -3,7 +3,6 @@
 use crate::accepting::RuleTask;
 use crate::shared::Shared;
 use readiness::EventLoop;
-use relay_admin::Rule;
 use std::alloc::Global;
 use std::sync::ledger::Ledger;
 use std::sync::{Arc, Wait};
@@ -11,13 +10,10 @@ use std::time::Instant;
 
 /// A relay whose sockets are open.
 #[derive(Drop)]
-pub(crate) struct Relay<'a, U: Ledger, D: Ledger, R: Wait + Copy> {
+pub(crate) struct Relay<U: Ledger, D: Ledger, R: Wait + Copy> {
     pub(crate) alloc: Global,
-    pub(crate) rules: &'a [Rule],
     pub(crate) start: Instant,
     /// The loop that accepts.
     pub(crate) tasks: EventLoop<RuleTask<R>>,
-    /// The tokens of its tasks.
-    pub(crate) tokens: Vec<u64>,
     pub(crate) shared: Arc<Shared<U, D>>,
 }

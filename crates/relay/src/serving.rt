@@ -1,228 +1,82 @@
 //! A relay from its rules file to its end.
 
-ghost use Rattle.std.specs.Prelude.{◌≡◌, ◌⊎◌, Err, OnOk, IfErr};
+ghost use Rattle.std.specs.Prelude.{◌≡◌, ◌⊎◌, OnOk, IfErr};
 ghost use Rattle.relay_ledger.specs.declared.book.TheConstants.{PARTS};
 ghost use Rattle.relay.specs.Output.{WritesBothLines, SaysItListens};
 ghost use Rattle.relay.specs.ServeFault.{IsRunFault};
 ghost use Rattle.relay.specs.declared.fault.ServeFault.{ServeFault};
 
-use crate::accepting::AcceptHost;
-use crate::admin::AdminSocket;
-use crate::bound_paths::BoundPaths;
+use crate::assembling::{Parts, opened};
 use crate::bounds::{RelayRuntime, SharedLedger};
 use crate::capacity::Capacity;
-use crate::clock::RelayClock;
-use crate::entry::Entry;
 use crate::fault::ServeFault;
-use crate::loops::ConnLoop;
-use crate::opening::{Acceptors, Opened, open};
-use crate::output::{write_listening, write_totals};
-use crate::relay::Relay;
+use crate::opening::served_rules;
+use crate::outlets::Outlets;
+use crate::output::write_totals;
 use crate::rules_file::rules_in;
-use crate::shared::{Home, Route, Shared};
-use crate::threads::{Helpers, Unstarted};
-use conntable::ConnTable;
-use readiness::LoopRemote;
-use relay_admin::Rule;
-use relay_core::PairLimit;
+use crate::running::run_with_figures;
+use crate::shared::ServedRules;
+use crate::totals::Totals;
+use log_writer::{Log, LogThread};
+use relay_admin::Addr;
 use relay_ledger::Book;
-use std::alloc::{AllocError, Global};
+use relay_watch::bound_path::BoundPath;
+use std::alloc::Global;
 use std::fs::Files;
 use std::io::Write;
 use std::net::{Net, TcpListener, TcpStream};
-use std::sync::atomic::AtomicBool;
+use std::random::RandomSource;
 use std::sync::ledger::{Blank, Ledger};
 use std::sync::{Arc, Mutex, Wait};
 use std::thread::Threads;
-use std::time::{Clock, Instant};
+use std::time::Clock;
 
-// What the threads share, over an opened relay's acceptors.
-fn shared_of<U: Ledger, D: Ledger>(
-    alloc: Global,
-    table: ConnTable<Entry>,
-    routes: Vec<Route>,
-    main: Arc<LoopRemote>,
-    homes: Vec<Home>,
-    limit: PairLimit,
-    up: Book<U>,
-    down: Book<D>,
-) -> Result<Arc<Shared<U, D>>, AllocError> {
-    let shared = Shared {
-        table: Mutex::new(table),
-        routes,
-        main,
-        homes,
-        up: Mutex::new(up),
-        down: Mutex::new(down),
-        stop: AtomicBool::new(false),
-        limit,
-    };
-    let shared = Arc::new(alloc, shared)?;
-    Ok(shared)
-}
-
-// The relay over what was opened.
-fn relay_over<'a, U: Ledger, D: Ledger, R: Wait + Clock + Copy>(
-    alloc: Global,
-    rules: &'a [Rule],
-    start: Instant,
-    acceptors: Acceptors<R>,
-    homes: Vec<Home>,
-    limit: PairLimit,
-    up: Book<U>,
-    down: Book<D>,
-) -> Result<Relay<'a, U, D, R>, ServeFault> {
-    let Acceptors {
-        tasks,
-        tokens,
-        routes,
-        table,
-    } = acceptors;
-    let Ok(main) = tasks.remote() else {
-        return Err(ServeFault::Memory);
-    };
-    let Ok(shared) = shared_of(alloc, table, routes, main, homes, limit, up, down) else {
-        return Err(ServeFault::Memory);
-    };
-    Ok(Relay {
-        alloc,
-        rules,
-        start,
-        tasks,
-        tokens,
-        shared,
-    })
-}
-
-// Opens the relay's sockets, and gives it what its threads share.
-fn opened<'a, U: Ledger, D: Ledger, R: Wait + Net + Files + Clock + Copy>(
-    rt: &R,
-    alloc: Global,
-    rules: &'a [Rule],
-    admin: &str,
+/// Where a relay is steered and watched, and how large it is.
+#[derive(Clone, Copy, Drop)]
+struct Asked<'a> {
+    admin: &'a str,
+    metrics: &'a Option<Addr>,
     capacity: Capacity,
-    up: Book<U>,
-    down: Book<D>,
-    bound: &mut BoundPaths<'_>,
-) -> Result<(Relay<'a, U, D, R>, Arc<Shared<U, D>>, Unstarted<U, D, R>), ServeFault> {
-    let Ok(start) = Instant::now(rt) else {
-        return Err(ServeFault::Device);
+}
+
+// A log that is written to this writer, by a thread that was started.
+fn started_log<L, R>(rt: R, alloc: Global, writer: L) -> Result<(Arc<Log>, LogThread), ServeFault>
+where
+    L: Write + Drop + Send + 'static,
+    R: Wait + Threads + Clock + Copy + Send + 'static,
+    ensures faults { IfErr result (λ fault. fault ≡ ServeFault.Memory) }
+{
+    let Ok(log) = Arc::new(alloc, Log::new(alloc)) else {
+        return Err(ServeFault::Memory);
     };
-    let Opened {
-        acceptors,
-        homes,
-        unstarted,
-    } = open(rt, alloc, rules, admin, capacity.loops, bound)?;
-    let relay = relay_over(
-        alloc,
-        rules,
-        start,
-        acceptors,
-        homes,
-        capacity.pairs,
-        up,
-        down,
-    )?;
-    match Arc::try_clone(&relay.shared) {
-        Ok(shared) => Ok((relay, shared, unstarted)),
+    let Ok(own) = Arc::try_clone(&log) else {
+        return Err(ServeFault::Memory);
+    };
+    match LogThread::start(rt, own, writer) {
+        Ok(thread) => Ok((log, thread)),
         Err(_) => Err(ServeFault::Memory),
     }
 }
 
-// Says that a relay listens whose threads were started.
-fn tell_start<W: Write>(
-    started: Result<(), ServeFault>,
-    rules: u64,
-    writer: &mut W,
-) -> Result<(), ServeFault>
-    ensures refused { IfErr started (λ fault. result ≡ Err fault) }
-    ensures said { OnOk result (SaysItListens (W.contents writer.old) (W.contents writer.new)) }
-    ensures faults { OnOk started (IfErr result (λ fault. IsRunFault fault)) }
-{
-    started?;
-    write_listening(writer, rules)
-}
-
-// Starts the relay's threads, says that it listens, and runs it until it is stopped. The threads
-// are started first, so that nothing which is refused after the line ends it.
-fn start_and_run<U, D, R, W: Write>(
-    relay: &mut Relay<'_, U, D, R>,
-    host: &mut AcceptHost<U, D, R, RelayClock<R>>,
-    helpers: &mut Helpers,
-    loops: Vec<ConnLoop<U, D, R>>,
-    admin: AdminSocket,
-    writer: &mut W,
-) -> Result<(), ServeFault>
-where
-    U: SharedLedger,
-    D: SharedLedger,
-    R: RelayRuntime,
-    ensures said { OnOk result (SaysItListens (W.contents writer.old) (W.contents writer.new)) }
-    ensures faults { IfErr result (λ fault. IsRunFault fault) }
-{
-    let started = helpers.start(host.rt, relay, loops, admin);
-    tell_start(started, relay.rules.len() as u64, writer)?;
-    relay.turn_until_stop(host)
-}
-
-// The totals of a relay that ran well, or else why it didn't.
-fn totals_after(
-    ran: Result<(), ServeFault>,
-    gathered: Result<(u64, u64), ServeFault>,
-) -> Result<(u64, u64), ServeFault>
-    ensures ran { IfErr ran (λ fault. result ≡ Err fault) }
-    ensures gathered { OnOk ran (result ≡ gathered) }
-{
-    match ran {
-        Ok(()) => gathered,
-        Err(fault) => Err(fault),
+// Removes the paths that a relay has bound.
+fn remove_paths<R: Wait + Files>(rt: &R, rules: &ServedRules, admin: Option<BoundPath>) {
+    for served in rules.lock(rt).iter() {
+        served.remove_path(rt);
+    }
+    if let Some(path) = admin {
+        path.remove(rt);
     }
 }
 
-// An opened relay to its end, whatever comes.
-fn run_to_the_end<U, D, R, W: Write>(
-    rt: R,
-    relay: Relay<'_, U, D, R>,
-    shared: Arc<Shared<U, D>>,
-    unstarted: Unstarted<U, D, R>,
-    writer: &mut W,
-) -> Result<(u64, u64), ServeFault>
-where
-    U: SharedLedger,
-    D: SharedLedger,
-    R: RelayRuntime,
-    ensures said { OnOk result (SaysItListens (W.contents writer.old) (W.contents writer.new)) }
-    ensures faults { IfErr result (λ fault. IsRunFault fault) }
-{
-    let mut relay = relay;
-    let Unstarted {
-        loops,
-        admin,
-        admin_waker,
-    } = unstarted;
-    let mut helpers = Helpers::none(relay.alloc, admin_waker);
-    let mut host = AcceptHost {
-        rt,
-        clock: RelayClock::new(rt, relay.start),
-        shared,
-        unarmed: None,
-    };
-    let ran = start_and_run(&mut relay, &mut host, &mut helpers, loops, admin, writer);
-    let gathered = relay.end(host, helpers);
-    totals_after(ran, gathered)
-}
-
-// A relay by these rules, of which no bound path is left.
-fn relayed<U, D, R, W: Write>(
+// Opens a relay of these parts, and runs it to its end.
+fn opened_and_run<U, D, R, W: Write>(
     rt: R,
     alloc: Global,
-    rules: &[Rule],
-    admin: &str,
-    capacity: Capacity,
-    up: Book<U>,
-    down: Book<D>,
+    asked: Asked<'_>,
+    parts: Parts<U, D>,
+    bound: &mut Option<BoundPath>,
     writer: &mut W,
-) -> Result<(u64, u64), ServeFault>
+) -> Result<Totals<U, D>, ServeFault>
 where
     U: SharedLedger,
     D: SharedLedger,
@@ -231,13 +85,93 @@ where
     ensures unwritten { IfErr result (λ fault. IsRunFault fault
         ⊎ (W.contents writer.new ≡ W.contents writer.old)) }
 {
-    let mut bound = BoundPaths::new(rules, admin);
-    let totals = match opened(&rt, alloc, rules, admin, capacity, up, down, &mut bound) {
-        Ok((relay, shared, unstarted)) => run_to_the_end(rt, relay, shared, unstarted, writer),
+    match opened(&rt, alloc, asked.admin, asked.capacity, parts, bound) {
+        Ok((relay, shared, unstarted)) => {
+            run_with_figures(rt, relay, shared, unstarted, asked.metrics, writer)
+        }
         Err(refused) => Err(refused),
+    }
+}
+
+// A relay by these rules, of which no bound path is left.
+fn relayed<U, D, R, W: Write>(
+    rt: R,
+    alloc: Global,
+    asked: Asked<'_>,
+    parts: Parts<U, D>,
+    writer: &mut W,
+) -> Result<Totals<U, D>, ServeFault>
+where
+    U: SharedLedger,
+    D: SharedLedger,
+    R: RelayRuntime + Files,
+    ensures said { OnOk result (SaysItListens (W.contents writer.old) (W.contents writer.new)) }
+    ensures unwritten { IfErr result (λ fault. IsRunFault fault
+        ⊎ (W.contents writer.new ≡ W.contents writer.old)) }
+{
+    let Ok(rules) = Arc::try_clone(&parts.rules) else {
+        return Err(ServeFault::Memory);
     };
-    bound.remove_all(&rt);
+    let mut bound = None;
+    let totals = opened_and_run(rt, alloc, asked, parts, &mut bound, writer);
+    remove_paths(&rt, &rules, bound);
     totals
+}
+
+// A relay by these rules, with its log.
+fn relayed_and_logged<U, D, L, R, W: Write>(
+    rt: R,
+    alloc: Global,
+    asked: Asked<'_>,
+    parts: Parts<U, D>,
+    log: Option<L>,
+    writer: &mut W,
+) -> Result<Totals<U, D>, ServeFault>
+where
+    U: SharedLedger,
+    D: SharedLedger,
+    L: Write + Drop + Send + 'static,
+    R: RelayRuntime + Files,
+    ensures said { OnOk result (SaysItListens (W.contents writer.old) (W.contents writer.new)) }
+    ensures unwritten { IfErr result (λ fault. IsRunFault fault
+        ⊎ (W.contents writer.new ≡ W.contents writer.old)) }
+{
+    let Some(log) = log else {
+        return relayed(rt, alloc, asked, parts, writer);
+    };
+    let (log, thread) = started_log(rt, alloc, log)?;
+    let mut parts = parts;
+    parts.log = Some(log);
+    let totals = relayed(rt, alloc, asked, parts, writer);
+    thread.finish(&rt);
+    totals
+}
+
+// The parts of a relay by the rules file at this path.
+fn parts_of<U: Ledger, D: Ledger, R: Files>(
+    rt: &R,
+    alloc: Global,
+    path: &str,
+    capacity: Capacity,
+    up: Book<U>,
+    down: Book<D>,
+) -> Result<Parts<U, D>, ServeFault> {
+    let rules = rules_in(rt, alloc, path)?;
+    let rules = served_rules(alloc, rules.as_slice(), capacity.loops.count)?;
+    let Ok(rules) = Arc::new(alloc, Mutex::new(rules)) else {
+        return Err(ServeFault::Memory);
+    };
+    let Ok(rules_path) = String::from_str(alloc, path) else {
+        return Err(ServeFault::Memory);
+    };
+    Ok(Parts {
+        rules,
+        rules_path,
+        limit: capacity.pairs,
+        log: None,
+        up,
+        down,
+    })
 }
 
 /// Runs a relay by the rules file at the path `rules`, with its admin socket at the path `admin`,
@@ -248,11 +182,12 @@ where
 /// Whatever comes, no thread, no socket and no path that it bound is left.
 // (its bounds are spelt out: a program that calls it over `RelayRuntime` isn't covered by the
 // prover)
-pub fn serve<U, D, R, W: Write>(
+pub fn serve<U, D, L, R, W: Write>(
     rt: R,
     rules: &String,
     admin: &String,
     capacity: Capacity,
+    outlets: Outlets<L>,
     up: Blank,
     down: Blank,
     writer: &mut W,
@@ -260,11 +195,13 @@ pub fn serve<U, D, R, W: Write>(
 where
     U: Ledger + Send + Sync + 'static,
     D: Ledger + Send + Sync + 'static,
+    L: Write + Drop + Send + 'static,
     R: Wait
         + Threads
         + Net<Listener = TcpListener, Stream = TcpStream>
         + Clock
         + Files
+        + RandomSource
         + AllocGlobal
         + Copy
         + Send
@@ -284,16 +221,13 @@ where
 {
     let alloc = rt.alloc();
     let (up, down) = (Book::<U>::new(up), Book::<D>::new(down));
-    let rules = rules_in(&rt, alloc, rules.as_str())?;
-    let (up, down) = relayed(
-        rt,
-        alloc,
-        rules.as_slice(),
-        admin.as_str(),
+    let Outlets { log, metrics } = outlets;
+    let parts = parts_of(&rt, alloc, rules.as_str(), capacity, up, down)?;
+    let asked = Asked {
+        admin: admin.as_str(),
+        metrics: &metrics,
         capacity,
-        up,
-        down,
-        writer,
-    )?;
-    write_totals(writer, up, down)
+    };
+    let totals = relayed_and_logged(rt, alloc, asked, parts, log, writer)?;
+    write_totals(writer, &totals)
 }

@@ -3,67 +3,31 @@
 ghost use Rattle.std.specs.Prelude.{◌≡◌, [], length, Some, IfSome};
 ghost use Rattle.std.specs.Arc.{arc_value};
 ghost use Rattle.base_types.specs.declared.direction.Dir.{Dir};
-ghost use Rattle.fd_descriptor.specs.CellKey.{key_of_cell};
-ghost use Rattle.fd_descriptor.specs.FdHandle.{key_of};
 ghost use Rattle.relay_core.specs.declared.pair_tasks.Standing.{Standing};
 
-use crate::clock::RelayClock;
+use crate::address::socket_address;
+use crate::clock::Moments;
 use crate::closing::Closer;
-use crate::connection::{ConnSide, Connection, WayCopy, settle};
-use crate::entry::{Entry, Handle, Owner};
+use crate::connection::{ConnSide, Connection, WayCopy};
+use crate::entry::{Entry, Owner};
+use crate::home::Accepted;
 use crate::idle_time::IdleTime;
 use crate::loops::{ConnLoop, LoopHost};
-use crate::shared::Accepted;
+use crate::new_side::{NewSide, new_side, subjects};
+use crate::settled::settle;
 use crate::task_gate::TaskGate;
 use base_types::Dir;
-use fd_descriptor::{FdHandle, PollCell};
-use readiness::{Poller, RemoteAlarms, Sock, SockRes, connect};
+use fd_descriptor::FdHandle;
+use readiness::{RemoteAlarms, Sock, SockRes, connect};
 use relay_core::{Copying, InsertedSides, PairTasks, Step, Way};
 use relay_ledger::{Book, CarriedShare};
+use relay_log::ended::Ended as How;
+use relay_watch::connection_facts::{Acceptance, ConnectionFacts};
 use std::alloc::Global;
 use std::net::Net;
 use std::sync::ledger::Ledger;
 use std::sync::{Arc, Mutex, Wait};
 use std::time::Clock;
-
-/// A side that isn't in the table yet: its descriptor, by the handles that each holder gets, and
-/// its alarms, none of which is armed.
-#[derive(Drop)]
-struct NewSide<R: Wait + Copy> {
-    cell: Arc<PollCell>,
-    reader: FdHandle<SockRes>,
-    writer: FdHandle<SockRes>,
-    alarms: RemoteAlarms<R>,
-    entry: Entry,
-}
-
-// A descriptor of a socket, of which the poller tells under this token, and whose alarms have it.
-fn new_side<R: Wait + Copy>(
-    rt: R,
-    alloc: Global,
-    poller: &Poller,
-    sock: Sock,
-    owner: Owner,
-) -> Option<NewSide<R>>
-    ensures key { IfSome result (λ side. key_of side.reader ≡ owner.token) }
-    ensures writer { IfSome result (λ side. key_of side.writer ≡ owner.token) }
-    ensures cell { IfSome result (λ side. key_of_cell (arc_value side.cell) ≡ owner.token) }
-    ensures owner { IfSome result (λ side. side.entry.owner ≡ owner) }
-{
-    let mut reader = poller.open(alloc, sock, owner.token).ok()?;
-    let cell = reader.cell().ok()?;
-    let writer = reader.share().ok()?;
-    let handle = reader.share().ok()?;
-    let alarms = owner.alarms(rt)?;
-    let entry = Entry::new(Handle::Conn(handle), owner);
-    Some(NewSide {
-        cell,
-        reader,
-        writer,
-        alarms,
-        entry,
-    })
-}
 
 // A pair of which both reads are under way. Its sides were just registered, so that the poller
 // tells of what is there already.
@@ -100,7 +64,7 @@ impl<U: Ledger, D: Ledger, R: Wait + Net + Clock + Copy> LoopHost<U, D, R> {
         ensures target { IfSome result (λ way. way.gate.target ≡ Some target) }
         ensures idle { IfSome result (λ way. way.gate.idle.idle_ms ≡ idle_ms) }
     {
-        let idle = IdleTime::new(RelayClock::new(self.rt, self.start), idle_ms);
+        let idle = IdleTime::new(self.clock, idle_ms);
         let mut gate = TaskGate::new(self.rt, idle, alarms, source, target);
         gate.begin_read().ok()?;
         let copying = Copying::new(self.alloc).ok()?;
@@ -108,6 +72,7 @@ impl<U: Ledger, D: Ledger, R: Wait + Net + Clock + Copy> LoopHost<U, D, R> {
             gate,
             copying,
             share: None,
+            passed: 0,
         })
     }
 
@@ -147,17 +112,22 @@ impl<U: Ledger, D: Ledger, R: Wait + Net + Clock + Copy> LoopHost<U, D, R> {
         &self,
         client: NewSide<R>,
         target: NewSide<R>,
-        idle_ms: Option<u32>,
+        facts: Arc<ConnectionFacts>,
         inserted: &mut InsertedSides,
     ) -> Option<Connection<U, D, R>>
         requires none_inserted { inserted.old ≡ [] }
         ensures up { IfSome result (λ c. c.up.gate.target ≡ Some target.writer) }
         ensures down { IfSome result (λ c. c.down.gate.target ≡ Some client.writer) }
-        ensures up_idle { IfSome result (λ c. c.up.gate.idle.idle_ms ≡ idle_ms) }
-        ensures down_idle { IfSome result (λ c. c.down.gate.idle.idle_ms ≡ idle_ms) }
+        ensures up_idle { IfSome result (λ c. c.up.gate.idle.idle_ms
+            ≡ (arc_value facts).acceptance.rule.idle_ms) }
+        ensures down_idle { IfSome result (λ c. c.down.gate.idle.idle_ms
+            ≡ (arc_value facts).acceptance.rule.idle_ms) }
+        ensures facts { IfSome result (λ c. c.facts ≡ facts) }
+        ensures unfailed { IfSome result (λ c. c.failure ≡ None) }
         ensures client { IfSome result (λ c. c.client.cell ≡ client.cell) }
         ensures target { IfSome result (λ c. c.target.cell ≡ target.cell) }
     {
+        let idle_ms = facts.acceptance.rule.idle_ms;
         let (client_id, target_id) = self.insert_sides(client.entry, target.entry, inserted)?;
         let mut up = self.way(
             inserted,
@@ -182,20 +152,22 @@ impl<U: Ledger, D: Ledger, R: Wait + Net + Clock + Copy> LoopHost<U, D, R> {
             tasks: reading_tasks(),
             up,
             down,
+            facts,
+            failure: None,
         })
     }
 
-    // Connects to the target, and makes a connection of both sockets.
-    fn connect_sides(
+    // A connection of both sockets.
+    fn sides(
         &self,
         tasks: &mut ConnLoop<U, D, R>,
-        accepted: Accepted,
+        client: Sock,
+        target: Sock,
+        facts: Arc<ConnectionFacts>,
         inserted: &mut InsertedSides,
     ) -> Option<Connection<U, D, R>>
         requires none_inserted { inserted.old ≡ [] }
     {
-        let route = self.shared.routes.get(accepted.rule)?;
-        let target = connect(&self.rt, &route.target).ok()?;
         let place = tasks.vacant().ok()?;
         let first = Owner {
             remote: tasks.remote().ok()?,
@@ -205,9 +177,42 @@ impl<U: Ledger, D: Ledger, R: Wait + Net + Clock + Copy> LoopHost<U, D, R> {
             remote: tasks.remote().ok()?,
             token: place.second,
         };
-        let client = new_side(self.rt, self.alloc, tasks.poller(), accepted.sock, first)?;
-        let target = new_side(self.rt, self.alloc, tasks.poller(), target, second)?;
-        self.join_sides(client, target, route.idle_ms, inserted)
+        let (of_client, of_target) = subjects(&facts)?;
+        let poller = tasks.poller();
+        let client = new_side(self.rt, self.alloc, poller, client, first, of_client)?;
+        let target = new_side(self.rt, self.alloc, poller, target, second, of_target)?;
+        self.join_sides(client, target, facts, inserted)
+    }
+
+    // Connects to the target, and makes a connection of both sockets; or says why not.
+    fn connect_sides(
+        &self,
+        tasks: &mut ConnLoop<U, D, R>,
+        sock: Sock,
+        acceptance: &Acceptance,
+        inserted: &mut InsertedSides,
+    ) -> Result<Connection<U, D, R>, How>
+        requires none_inserted { inserted.old ≡ [] }
+    {
+        let Some(facts) = self.facts(acceptance) else {
+            return Err(How::Full);
+        };
+        let Ok(target) = connect(&self.rt, &socket_address(&acceptance.rule.target)) else {
+            return Err(How::NoTarget);
+        };
+        match self.sides(tasks, sock, target, facts, inserted) {
+            Some(connection) => Ok(connection),
+            None => Err(How::Full),
+        }
+    }
+
+    // What is known of a connection with this client.
+    fn facts(&self, acceptance: &Acceptance) -> Option<Arc<ConnectionFacts>>
+        ensures rule { IfSome result (λ facts.
+            (arc_value facts).acceptance.rule ≡ acceptance.now.rule) }
+    {
+        let facts = ConnectionFacts::new(acceptance.again()?, self.home);
+        Arc::new(self.alloc, facts).ok()
     }
 
     // Takes out and closes what a set-up that failed had inserted.
@@ -218,19 +223,41 @@ impl<U: Ledger, D: Ledger, R: Wait + Net + Clock + Copy> LoopHost<U, D, R> {
         }
     }
 
-    /// Sets a connection up. An accepted socket whose setting up is refused is dropped, and nothing
-    /// is left of it.
-    pub(crate) fn set_up(&self, tasks: &mut ConnLoop<U, D, R>, accepted: Accepted) -> Option<()> {
+    // A client isn't served, since there is no target, or no room.
+    fn refuse(&self, acceptance: &Acceptance, how: How) {
+        if let Some(counts) = acceptance.served.counts.of_loop(self.home) {
+            counts.note_refused(how);
+        }
+        let now = self.clock.now();
+        self.shared.tell_refused(&self.rt, acceptance, now, how);
+    }
+
+    // A connection is about to go on.
+    fn note_begin(&self, acceptance: &Acceptance) {
+        if let Some(counts) = acceptance.served.counts.of_loop(self.home) {
+            counts.note_begin();
+        }
+    }
+
+    /// Sets a connection up, and says whether it stands. An accepted socket whose setting up is
+    /// refused is dropped, and nothing is left of it.
+    pub(crate) fn set_up(&self, tasks: &mut ConnLoop<U, D, R>, accepted: Accepted) -> bool {
+        let Accepted { sock, acceptance } = accepted;
         let mut inserted = InsertedSides::none();
-        let Some(connection) = self.connect_sides(tasks, accepted, &mut inserted) else {
-            self.undo(inserted);
-            return None;
+        let connection = match self.connect_sides(tasks, sock, &acceptance, &mut inserted) {
+            Ok(connection) => connection,
+            Err(how) => {
+                self.undo(inserted);
+                self.refuse(&acceptance, how);
+                return false;
+            }
         };
+        self.note_begin(&acceptance);
         match tasks.put(connection) {
-            Ok(_) => Some(()),
+            Ok(_) => true,
             Err(connection) => {
-                connection.end(&self.rt, &self.shared);
-                None
+                connection.end(&self.rt, &self.shared, self.clock.now());
+                false
             }
         }
     }

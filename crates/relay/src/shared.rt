@@ -5,75 +5,35 @@
 
 use crate::closing::{Closer, close_by_id};
 use crate::entry::Entry;
+use crate::home::{Accepted, Home};
 use crate::loops::MAX_LOOPS;
+use crate::reload_wish::ReloadWish;
+use crate::stopping::{ByItsFlag, stop_all};
 use arrayvec::ArrayVec;
 use conntable::ConnTable;
-use readiness::{Addr, LoopRemote, Sock};
+use log_writer::Log;
+use readiness::{LoopRemote, Sock};
 use relay_core::{PairLimit, place_of_pair};
 use relay_ledger::Book;
+use relay_log::ended::Ended;
+use relay_watch::connection_facts::Acceptance;
+use relay_watch::counts::Counter;
+use relay_watch::log_lines::tell_refused;
+use relay_watch::served_rule::ServedRule;
 use rwloops::Fault;
-use std::mem;
-use std::sync::atomic::{AtomicBool, AtomicU64, Ordering};
+use std::sync::atomic::{AtomicBool, Ordering};
 use std::sync::ledger::Ledger;
 use std::sync::{Arc, Mutex, Wait};
+use std::time::Clock;
 
-/// Where a rule's clients are taken to.
-#[derive(Drop)]
-pub(crate) struct Route {
-    pub(crate) target: Addr,
-    pub(crate) idle_ms: Option<u32>,
-}
-
-/// An accepted socket, with the place of its rule.
-#[derive(Drop)]
-pub(crate) struct Accepted {
-    pub(crate) sock: Sock,
-    pub(crate) rule: usize,
-}
-
-/// What others reach a loop by.
-#[derive(Drop)]
-pub(crate) struct Home {
-    pub(crate) remote: Arc<LoopRemote>,
-    inbox: Mutex<Vec<Accepted>>,
-    /// How many connections it has, those in its inbox among them.
-    connections: AtomicU64,
-}
-
-impl Home {
-    pub(crate) fn new(remote: Arc<LoopRemote>, inbox: Vec<Accepted>) -> Home {
-        Home {
-            remote,
-            inbox: Mutex::new(inbox),
-            connections: AtomicU64::new(0),
-        }
-    }
-
-    // Delivers an accepted socket. One that the inbox has no memory for is dropped.
-    fn deliver<R: Wait>(&self, rt: &R, accepted: Accepted) {
-        self.connections.fetch_add(1, Ordering::SeqCst);
-        if self.inbox.lock(rt).push(accepted).is_err() {
-            self.note_end();
-        }
-        self.remote.wake();
-    }
-
-    /// One of its connections is no more, or was never set up.
-    pub(crate) fn note_end(&self) {
-        self.connections.fetch_sub(1, Ordering::SeqCst);
-    }
-
-    /// Changes the inbox for this list, which is empty.
-    pub(crate) fn give_all<R: Wait>(&self, rt: &R, taken: &mut Vec<Accepted>) {
-        mem::swap(&mut *self.inbox.lock(rt), taken);
-    }
-}
+/// The rules that are served, as all threads have them.
+pub(crate) type ServedRules = Arc<Mutex<Vec<Arc<ServedRule>>>>;
 
 #[derive(Drop)]
 pub(crate) struct Shared<U: Ledger, D: Ledger> {
     pub(crate) table: Mutex<ConnTable<Entry>>,
-    /// Each rule's, in the rules' order.
-    pub(crate) routes: Vec<Route>,
+    /// The rules that are served, in the order of their file, as it was read last.
+    pub(crate) rules: ServedRules,
     /// The remote of the main thread's loop, which accepts.
     pub(crate) main: Arc<LoopRemote>,
     /// The loops', by their places.
@@ -83,24 +43,55 @@ pub(crate) struct Shared<U: Ledger, D: Ledger> {
     pub(crate) stop: AtomicBool,
     /// How many connections stand at once.
     pub(crate) limit: PairLimit,
+    /// Where the rules file is.
+    pub(crate) rules_path: String,
+    /// By which a session has the main thread reload.
+    pub(crate) reload: ReloadWish,
+    pub(crate) log: Option<Arc<Log>>,
+    pub(crate) sessions: Counter,
+    pub(crate) reloads: Counter,
 }
 
 impl<U: Ledger, D: Ledger> Shared<U, D> {
-    /// Delivers an accepted socket to the loop with the fewest connections. One beyond the most
-    /// pairs is dropped. The main thread alone delivers.
-    pub(crate) fn deliver<R: Wait>(&self, rt: &R, accepted: Accepted) {
+    // The loop with the fewest connections; none where as many stand as may.
+    fn place(&self) -> Option<&Home> {
         let mut counts = ArrayVec::<u64, MAX_LOOPS>::new();
         let mut all = 0u64;
         for home in self.homes.iter() {
-            let count = home.connections.load(Ordering::SeqCst);
+            let count = home.connections();
             all = all.saturating_add(count);
             let _ = counts.try_push(count);
         }
-        let Some(place) = place_of_pair(counts.as_slice(), all as usize, self.limit) else {
+        self.homes.get(place_of_pair(counts.as_slice(), all as usize, self.limit)?)
+    }
+
+    /// Delivers a socket that was accepted just now to the loop with the fewest connections. One
+    /// beyond the most pairs is dropped. The main thread alone delivers.
+    pub(crate) fn deliver<R: Wait + Clock>(&self, rt: &R, sock: Sock, acceptance: Acceptance) {
+        acceptance.served.note_accept(acceptance.at);
+        let Some(told) = acceptance.again() else {
             return;
         };
-        if let Some(home) = self.homes.get(place) {
-            home.deliver(rt, accepted);
+        let is_there = match self.place() {
+            Some(home) => home.deliver(rt, Accepted { sock, acceptance }),
+            None => false,
+        };
+        if !is_there {
+            told.served.counts.full.add(1);
+            self.tell_refused(rt, &told, told.at, Ended::Full);
+        }
+    }
+
+    /// Tells the log, if there is one, of a client that isn't served.
+    pub(crate) fn tell_refused<R: Wait + Clock>(
+        &self,
+        rt: &R,
+        acceptance: &Acceptance,
+        now: u64,
+        how: Ended,
+    ) {
+        if let Some(log) = &self.log {
+            tell_refused(rt, log, acceptance, now, how);
         }
     }
 
@@ -116,11 +107,11 @@ impl<U: Ledger, D: Ledger> Shared<U, D> {
 
     /// Tells the main thread and all loops that no more turns are wanted.
     pub(crate) fn stop(&self) {
-        self.stop.store(true, Ordering::SeqCst);
-        self.main.wake();
-        for home in self.homes.iter() {
-            home.remote.wake();
-        }
+        let mut by = ByItsFlag {
+            stop: &self.stop,
+            main: &*self.main,
+        };
+        stop_all(&mut by, self.homes.as_slice());
     }
 
     pub(crate) fn is_stopped(&self) -> bool {

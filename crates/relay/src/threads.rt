@@ -83,7 +83,7 @@ impl Helpers {
     fn start_loops<U, D, R>(
         &mut self,
         rt: R,
-        relay: &Relay<'_, U, D, R>,
+        relay: &Relay<U, D, R>,
         loops: Vec<ConnLoop<U, D, R>>,
     ) -> Result<(), ServeFault>
     where
@@ -121,7 +121,7 @@ impl Helpers {
     pub(crate) fn start<U, D, R>(
         &mut self,
         rt: R,
-        relay: &Relay<'_, U, D, R>,
+        relay: &Relay<U, D, R>,
         loops: Vec<ConnLoop<U, D, R>>,
         admin: AdminSocket,
     ) -> Result<(), ServeFault>
@@ -159,19 +159,14 @@ impl Helpers {
     }
 
     /// Waits for all of them. A loop's fault is the relay's.
-    pub(crate) fn join<R: Threads>(self, rt: &R) -> Result<(), ServeFault>
+    pub(crate) fn join<R: Threads>(&mut self, rt: &R) -> Result<(), ServeFault>
         ensures faults { IfErr result (λ fault. fault ≡ ServeFault.Device) }
     {
-        let Helpers {
-            loops,
-            admin,
-            admin_waker: _,
-        } = self;
-        if let Some(admin) = admin {
+        if let Some(admin) = self.admin.take() {
             admin.join(rt);
         }
         let mut turned = true;
-        for one in loops {
+        for one in self.loops.drain(..) {
             turned = one.join(rt).is_ok() && turned;
         }
         if turned {

@@ -7,15 +7,17 @@ use crate::accepting::AcceptHost;
 use crate::clock::{Moments, RelayClock};
 use crate::fault::ServeFault;
 use crate::relay::Relay;
+use std::fs::Files;
+use std::net::Net;
 use std::sync::Wait;
 use std::sync::ledger::Ledger;
 use std::time::Clock;
 
-impl<'a, U: Ledger, D: Ledger, R: Wait + Clock + Copy> Relay<'a, U, D, R> {
-    // Has all accept tasks go on.
-    fn accept_again(&mut self) {
-        for token in self.tokens.iter() {
-            self.tasks.again(*token);
+impl<U: Ledger, D: Ledger, R: Wait + Net + Files + Clock + Copy> Relay<U, D, R> {
+    // Has the accept tasks of all rules go on.
+    fn accept_again(&mut self, rt: &R) {
+        for served in self.shared.rules.lock(rt).iter() {
+            self.tasks.again(served.token());
         }
     }
 
@@ -27,7 +29,6 @@ impl<'a, U: Ledger, D: Ledger, R: Wait + Clock + Copy> Relay<'a, U, D, R> {
         ensures faults { IfErr result (λ fault. IsRunFault fault) }
     {
         let rt = host.rt;
-        self.accept_again();
         for _ in rt.forever() {
             if let Err(fault) = self.tasks.turn(&rt, host.clock.now(), host) {
                 return Err(ServeFault::of_poller(fault));
@@ -35,8 +36,9 @@ impl<'a, U: Ledger, D: Ledger, R: Wait + Clock + Copy> Relay<'a, U, D, R> {
             if self.shared.is_stopped() {
                 return Ok(());
             }
+            self.reload_if_asked(&rt, host.clock.now());
             if host.takes_unarmed() {
-                self.accept_again();
+                self.accept_again(&rt);
             }
         }
         unreachable!()

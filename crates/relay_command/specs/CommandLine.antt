@@ -13,21 +13,25 @@ use Rattle.clap.specs.declared.builder.action.ArgAction.TheVariants.{Set}
 use Rattle.stream_base.specs.Decimal.{number_of}
 use Rattle.relay.specs.Loops.{loop_count}
 use Rattle.relay_core.specs.PairLimit.{pair_count}
+use Rattle.relay_admin.specs.TextReading.{◌>>=◌}
+use Rattle.relay_admin.specs.rules.Addr.{Address, address_of}
+use Rattle.relay_admin.specs.rules.Reading.{address_at}
 use Rattle.relay_command.specs.declared.job.Job.{Job}
 use Rattle.relay_command.specs.declared.job.Job.TheVariants as job
 
--- a job with its texts, and how many loops and pairs a relay is asked for
+-- a job with its texts, how many loops and pairs a relay is asked for, and where its metrics are
 pub data Asked : Type 0 where
   Trace : Asked
   Check : (rules : Text) → Asked
-  Serve : (rules admin : Text) → (loops pairs : Option ℕ) → Asked
+  Serve : (rules admin : Text) → (loops pairs : Option ℕ) → (log : Option Text) →
+      (metrics : Option Address) → Asked
 
 abbrev pub asked_of : Job → Asked
 asked_of job.Trace = Trace
 asked_of (job.Check rules) = Check (string_bytes rules)
-asked_of (job.Serve rules admin loops pairs) =
+asked_of (job.Serve rules admin loops pairs log metrics) =
     Serve (string_bytes rules) (string_bytes admin) (option_map (λ l. l.count) loops)
-    (option_map (λ p. p.count) pairs)
+    (option_map (λ p. p.count) pairs) (option_map string_bytes log) (option_map address_of metrics)
 
 -- an option that has to be there, with one value
 abbrev pub required_option : Text → Rule
@@ -41,14 +45,21 @@ optional_option name = record (new_rule name) { long = Some name; action = Some 
 abbrev pub check_app : App
 check_app = with_rule (new_app (codes "check")) (required_option (codes "rules"))
 
+-- `serve` with the options that have to be there
+abbrev pub serve_needs : App
+serve_needs =
+    with_rule (with_rule (new_app (codes "serve")) (required_option (codes "rules")))
+    (required_option (codes "admin"))
+
 abbrev pub serve_app : App
 serve_app =
     with_rule
     (with_rule
-    (with_rule (with_rule (new_app (codes "serve")) (required_option (codes "rules")))
-    (required_option (codes "admin")))
-    (optional_option (codes "loops")))
-    (optional_option (codes "connections"))
+    (with_rule
+    (with_rule serve_needs (optional_option (codes "loops")))
+    (optional_option (codes "connections")))
+    (optional_option (codes "log")))
+    (optional_option (codes "metrics"))
 
 -- the program as `clap` sees it: three commands, and no name ahead of the words
 abbrev pub program : App
@@ -81,14 +92,25 @@ abbrev pub pairs_given : Option Text → Option (Option ℕ)
 pairs_given None = Some None
 pairs_given (Some text) = option_map Some (pairs_in text)
 
+-- the log that an option asks for, which may be left out; none where its path has no byte
+abbrev pub log_given : Option Text → Option (Option Text)
+log_given None = Some None
+log_given (Some []) = None
+log_given (Some (byte ∷ path)) = Some (Some (byte ∷ path))
+
+-- the metrics' address that an option asks for, which may be left out; none where its text has none
+abbrev pub metrics_given : Option Text → Option (Option Address)
+metrics_given None = Some None
+metrics_given (Some text) = option_map Some (address_at text)
+
 -- the job of `serve` with its options, or none
 abbrev pub served_job : List Row → Option Asked
-served_job rows =
-    option_and_then
-    (λ loops. option_map
-    (Serve (value_of (codes "rules") rows) (value_of (codes "admin") rows) loops)
-    (pairs_given (first_of (codes "connections") rows)))
-    (loops_given (first_of (codes "loops") rows))
+served_job rows = do
+  loops ← loops_given (first_of (codes "loops") rows)
+  pairs ← pairs_given (first_of (codes "connections") rows)
+  log ← log_given (first_of (codes "log") rows)
+  metrics ← metrics_given (first_of (codes "metrics") rows)
+  Some (Serve (value_of (codes "rules") rows) (value_of (codes "admin") rows) loops pairs log metrics)
 
 -- the job of a command with its options, or none
 abbrev pub named_job : Text → List Row → Option Asked

@@ -18,6 +18,9 @@ pub enum Fault {
     TraceWrite,
     #[error("trace fault: memory")]
     TraceMemory,
+    /// The log can't be opened.
+    #[error("cannot open log")]
+    Log,
     /// A relay doesn't run, or a rules file can't be read.
     #[error("{0}")]
     Relay(ServeFault),
@@ -33,7 +36,7 @@ impl Fault {
     {
         match self {
             Fault::BadCommandLine => 2,
-            Fault::TraceRead | Fault::TraceWrite | Fault::TraceMemory => 3,
+            Fault::TraceRead | Fault::TraceWrite | Fault::TraceMemory | Fault::Log => 3,
             Fault::Relay(ServeFault::BadRules(_)) => 1,
             Fault::Relay(_) => 3,
         }

@@ -12,11 +12,14 @@ ghost use Rattle.relay_command.specs.CommandLine as spec;
 ghost use Rattle.relay_command.specs.CommandLine.{program, required_option, serve_app, value_of};
 ghost use Rattle.relay_command.specs.CommandLine.{loops_given, loops_in, optional_option};
 ghost use Rattle.relay_command.specs.CommandLine.{pairs_given, pairs_in, served_job};
+ghost use Rattle.relay_command.specs.CommandLine.{log_given, metrics_given, serve_needs};
+ghost use Rattle.relay_admin.specs.rules.Addr.{address_of};
 
 use base_types::OutOfMemory;
 use clap::error::ErrorKind;
 use clap::{Arg, ArgAction, ArgMatches, Command};
 use relay::{Loops, PairLimit};
+use relay_admin::{Addr, addr_of};
 use std::alloc::Global;
 use stream_base::decimal::parse_decimal;
 
@@ -31,12 +34,15 @@ pub enum Job {
     },
     /// Run the relay by the rules file at `rules`, with its admin socket at `admin`, on so many
     /// loops, or on as many as suit the machine, with so many connections at once, or with the
-    /// default.
+    /// default, with its log in the file at `log`, or without one, and with its metrics at the
+    /// address `metrics`, or nowhere.
     Serve {
         rules: String,
         admin: String,
         loops: Option<Loops>,
         pairs: Option<PairLimit>,
+        log: Option<String>,
+        metrics: Option<Addr>,
     },
 }
 
@@ -66,15 +72,25 @@ fn check<'a>(alloc: Global) -> Result<Command<'a>, OutOfMemory>
     Command::new(alloc, "check").arg(option(alloc, "rules"))
 }
 
-fn serve<'a>(alloc: Global) -> Result<Command<'a>, OutOfMemory>
-    ensures app { IfOk result (λ command. app_of command ≡ serve_app) }
+// `serve` with the options that have to be there.
+fn serve_needs<'a>(alloc: Global) -> Result<Command<'a>, OutOfMemory>
+    ensures app { IfOk result (λ command. app_of command ≡ serve_needs) }
     ensures local { IfOk result (λ command. (out-Command command).has_globals ≡ false) }
 {
     Command::new(alloc, "serve")
         .arg(option(alloc, "rules"))?
-        .arg(option(alloc, "admin"))?
+        .arg(option(alloc, "admin"))
+}
+
+fn serve<'a>(alloc: Global) -> Result<Command<'a>, OutOfMemory>
+    ensures app { IfOk result (λ command. app_of command ≡ serve_app) }
+    ensures local { IfOk result (λ command. (out-Command command).has_globals ≡ false) }
+{
+    serve_needs(alloc)?
         .arg(optional(alloc, "loops"))?
-        .arg(optional(alloc, "connections"))
+        .arg(optional(alloc, "connections"))?
+        .arg(optional(alloc, "log"))?
+        .arg(optional(alloc, "metrics"))
 }
 
 fn command<'a>(alloc: Global) -> Result<Command<'a>, OutOfMemory>
@@ -140,6 +156,35 @@ fn pairs_asked(given: Option<&str>) -> Option<Option<PairLimit>>
     }
 }
 
+// The path of the log that an option asks for, if it is there; none where the path has no byte.
+fn log_asked(alloc: Global, given: Option<&str>) -> Result<Option<Option<String>>, OutOfMemory>
+    ensures { IfOk result (λ log. option_map (option_map string_bytes) log
+        ≡ log_given (option_map (λ text. text.now) given.entry)) }
+{
+    match given {
+        None => Ok(Some(None)),
+        Some(path) if path.is_empty() => Ok(None),
+        Some(path) => {
+            let path = String::from_str(alloc, path)?;
+            Ok(Some(Some(path)))
+        }
+    }
+}
+
+// The address for metrics that an option asks for, if it is there; none where its text spells none.
+fn metrics_asked(given: Option<&str>) -> Option<Option<Addr>>
+    ensures { option_map (option_map address_of) result
+        ≡ metrics_given (option_map (λ text. text.now) given.entry) }
+{
+    match given {
+        None => Some(None),
+        Some(text) => match addr_of(text.as_bytes()) {
+            Some(addr) => Some(Some(addr)),
+            None => None,
+        },
+    }
+}
+
 // The value of an option that may be left out.
 fn given<'a>(matches: &ArgMatches<'a>, id: &str) -> Option<&'a str>
     ensures { option_map (λ text. text.now) result
@@ -160,11 +205,19 @@ fn serve_job(alloc: Global, matches: &ArgMatches<'_>) -> Result<Option<Job>, Out
     let Some(pairs) = pairs_asked(given(matches, "connections")) else {
         return Ok(None);
     };
+    let Some(log) = log_asked(alloc, given(matches, "log"))? else {
+        return Ok(None);
+    };
+    let Some(metrics) = metrics_asked(given(matches, "metrics")) else {
+        return Ok(None);
+    };
     Ok(Some(Job::Serve {
         rules,
         admin,
         loops,
         pairs,
+        log,
+        metrics,
     }))
 }
 
@@ -211,8 +264,9 @@ fn options_of<'a>(words: &'a [&'a str]) -> &'a [&'a str]
 /// The job that the words after the program's name ask for, and `None` where they ask for none.
 /// No word and the word `trace` ask for [`Job::Trace`]; `check` with `--rules` and `serve` with
 /// `--rules` and `--admin`, in any order, for the others. `serve` may have `--loops` too, with a
-/// number from 1 to 64 in digits without a zero ahead, and `--connections`, with one from 1 to
-/// 2,000. A value follows its option as the next word, which begins with no `-`, or behind a `=`. A
+/// number from 1 to 64 in digits without a zero ahead, `--connections`, with one from 1 to 2,000,
+/// `--log`, with the path of a file, and `--metrics`, with an address as the rules file has it. A
+/// value follows its option as the next word, which begins with no `-`, or behind a `=`. A
 /// `--` ends the options: what follows it is an operand, and no command has one. The only fault is
 /// want of memory.
 pub fn job_of(alloc: Global, words: &[&str]) -> Result<Option<Job>, OutOfMemory>

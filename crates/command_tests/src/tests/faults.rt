@@ -2,6 +2,7 @@
 
 use arrayvec::ArrayString;
 use relay::ServeFault;
+use relay_admin::{Command, DeskAnswer, reply_of};
 use relay_command::{Fault, NO_MEMORY};
 use std::alloc::Global;
 use std::prelude::HostRuntime;
@@ -26,8 +27,14 @@ fn each_fault_has_its_line_and_status(rt: HostRuntime) {
         (Fault::TraceRead, "trace fault: read", 3),
         (Fault::TraceWrite, "trace fault: write", 3),
         (Fault::TraceMemory, "trace fault: memory", 3),
+        (Fault::Log, "cannot open log", 3),
         (Fault::Relay(ServeFault::RulesFile), "cannot read rules", 3),
         (Fault::Relay(ServeFault::Admin), "cannot listen admin", 3),
+        (
+            Fault::Relay(ServeFault::Metrics),
+            "cannot listen metrics",
+            3,
+        ),
         (Fault::Relay(ServeFault::Device), "relay fault: device", 3),
         (NO_MEMORY, "relay fault: memory", 3),
     ] {
@@ -35,4 +42,29 @@ fn each_fault_has_its_line_and_status(rt: HostRuntime) {
     }
     let is_told = is_listening_told(rt.alloc(), "web-1", "cannot listen web-1", 3);
     assert!(&rt; is_told, "cannot listen web-1");
+}
+
+/// Whether a session is told of a reload what `serve` prints where it doesn't start.
+fn is_told_alike(alloc: Global, fault: ServeFault, answer: &DeskAnswer) -> bool {
+    let Ok(line) = format!(in alloc; "{fault}\n") else {
+        return false;
+    };
+    let Ok(reply) = reply_of(alloc, &Command::Reload, answer) else {
+        return false;
+    };
+    reply.as_slice() == line.as_bytes()
+}
+
+#[test]
+fn a_reload_is_told_what_serve_prints(rt: HostRuntime) {
+    let fault = ServeFault::RulesFile;
+    let is_unread_alike = is_told_alike(rt.alloc(), fault, &DeskAnswer::CannotRead);
+    assert!(&rt; is_unread_alike, "cannot read rules");
+    let name = ArrayString::from("web-1");
+    assert!(&rt; name.is_ok(), "web-1");
+    if let Ok(name) = name {
+        let fault = ServeFault::Listen(name);
+        let is_unheard_alike = is_told_alike(rt.alloc(), fault, &DeskAnswer::CannotListen(name));
+        assert!(&rt; is_unheard_alike, "cannot listen web-1");
+    }
 }

@@ -1,9 +1,11 @@
 //! The words that ask for a job, and words that ask for none.
 
 use relay::{Loops, PairLimit};
+use relay_admin::{Addr, addr_of};
 use relay_command::{Job, job_of};
-use std::alloc::Global;
+use std::alloc::{AllocError, Global};
 use std::prelude::HostRuntime;
+use std::test::Fail;
 
 /// Whether these words ask for this job, or for none.
 fn is_job(alloc: Global, words: &[&str], job: &Option<Job>) -> bool {
@@ -32,7 +34,39 @@ fn served(
         admin,
         loops,
         pairs,
+        log: None,
+        metrics: None,
     })
+}
+
+/// The job of `serve --rules F --admin A` with these two options.
+fn served_with(alloc: Global, log: Option<&str>, metrics: Option<Addr>) -> Option<Job> {
+    let log = match log {
+        Some(path) => Some(String::from_str(alloc, path).ok()?),
+        None => None,
+    };
+    Some(Job::Serve {
+        rules: String::from_str(alloc, "F").ok()?,
+        admin: String::from_str(alloc, "A").ok()?,
+        loops: None,
+        pairs: None,
+        log,
+        metrics,
+    })
+}
+
+const SERVE: [&str; 5] = ["serve", "--rules", "F", "--admin", "A"];
+
+/// The words of `serve` with these behind them.
+fn serve_with<'a>(alloc: Global, words: &[&'a str]) -> Result<Vec<&'a str>, AllocError> {
+    let mut all = Vec::new(alloc);
+    for word in SERVE {
+        all.push(word)?;
+    }
+    for word in words {
+        all.push(*word)?;
+    }
+    Ok(all)
 }
 
 #[test]
@@ -164,4 +198,65 @@ fn no_other_words_are_taken(rt: HostRuntime) {
     for words in refused {
         assert!(&rt; is_job(rt.alloc(), words, &None), "{words:?}");
     }
+}
+
+#[test]
+fn serve_takes_a_log_and_an_address_for_metrics(rt: HostRuntime) -> Result<(), Fail> {
+    let alloc = rt.alloc();
+    let tcp = addr_of(b"tcp:127.0.0.1:9090");
+    let unix = addr_of(b"unix:/run/metrics.sock");
+    assert!(&rt; tcp.is_some() && unix.is_some());
+    let rows: [(&[&str], Option<&str>, Option<Addr>); 6] = [
+        (&["--log", "/var/log/relay"], Some("/var/log/relay"), None),
+        (&["--log=-"], Some("-"), None),
+        (&["--log", "-"], Some("-"), None),
+        (&["--metrics", "tcp:127.0.0.1:9090"], None, tcp),
+        (&["--metrics=unix:/run/metrics.sock"], None, unix),
+        (
+            &["--metrics=tcp:127.0.0.1:9090", "--log=a b"],
+            Some("a b"),
+            tcp,
+        ),
+    ];
+    for (words, log, metrics) in rows {
+        let all = serve_with(alloc, words)?;
+        let job = served_with(alloc, log, metrics);
+        assert!(&rt;
+            job.is_some() && is_job(alloc, all.as_slice(), &job),
+            "{words:?}"
+        );
+    }
+    Ok(())
+}
+
+#[test]
+fn serve_takes_no_other_log_or_address(rt: HostRuntime) -> Result<(), Fail> {
+    let rows: [&[&str]; 15] = [
+        &["--log"],
+        &["--log", ""],
+        &["--log="],
+        &["--log", "--metrics", "unix:/m"],
+        &["--log=a", "--log=a"],
+        &["--metrics"],
+        &["--metrics", ""],
+        &["--metrics", "x"],
+        &["--metrics", "tcp:1.2.3:4"],
+        &["--metrics", "tcp:1.2.3.4:0"],
+        &["--metrics", "tcp:1.2.3.4:65536"],
+        &["--metrics", "tcp:01.2.3.4:80"],
+        &["--metrics", "unix:run/m"],
+        &["--metrics", "127.0.0.1:9090"],
+        &["--metrics=unix:/m", "--metrics=unix:/m"],
+    ];
+    for words in rows {
+        let all = serve_with(rt.alloc(), words)?;
+        assert!(&rt; is_job(rt.alloc(), all.as_slice(), &None), "{words:?}");
+    }
+    for words in [
+        ["check", "--rules", "F", "--log=a"],
+        ["check", "--rules", "F", "--metrics=unix:/m"],
+    ] {
+        assert!(&rt; is_job(rt.alloc(), &words, &None), "{words:?}");
+    }
+    Ok(())
 }

@@ -1,10 +1,9 @@
 //! Drains by an admin session: of a side of a pair, and of a listener.
 
+use super::places::{Place, place_to, place_to_own};
+use super::streams::{accepted, has_ended, hears, reach, says};
 use super::watch::Watch;
-use super::{
-    Place, Running, TURNS, accepted, has_ended, hears, is_text, place_to, place_to_own, reach,
-    says, served,
-};
+use super::{Running, TURNS, is_text, served};
 use std::net::{TcpListener, TcpStream};
 use std::thread;
 use std::time::Duration;
@@ -30,7 +29,7 @@ fn waiting_pair(
 }
 
 /// Whether nobody listens at the port any more.
-fn is_refused(rt: &HostRuntime, port: u16) -> bool {
+pub(super) fn is_refused(rt: &HostRuntime, port: u16) -> bool {
     for _ in 0..TURNS {
         if TcpStream::connect(rt, ("127.0.0.1", port)).is_err() {
             return true;

@@ -1,10 +1,9 @@
 //! Bytes through the relay and back.
 
+use super::places::{Place, is_there, own_path, place_to};
+use super::streams::{free_port, heard, reach, says, target};
 use super::watch::Watch;
-use super::{
-    Place, Running, free_port, heard, is_text, is_there, own_path, place_to, reach, says, served,
-    target,
-};
+use super::{Running, is_text, served};
 use std::net::{Shutdown, TcpListener};
 use std::{io, thread};
 

@@ -1,8 +1,9 @@
 //! The end of a relay: it comes at once, and no thread outlives it.
 
 use super::live_threads::live_threads;
+use super::places::{Place, place_to};
 use super::watch::Watch;
-use super::{Place, Running, place_to, served_on};
+use super::{Running, no_outlets, served_on};
 use relay::{Capacity, Loops, PairLimit, ServeFault, serve};
 use relay_ledger::PARTS;
 use std::fs::Files;
@@ -10,6 +11,7 @@ use std::io::{ErrorKind, Write};
 use std::marker::Brand;
 use std::net::{Net, TcpListener, TcpStream};
 use std::process::Abort;
+use std::random::RandomSource;
 use std::sync::Wait;
 use std::sync::ledger::Blank;
 use std::thread::Threads;
@@ -54,6 +56,7 @@ where
         + Net<Listener = TcpListener, Stream = TcpStream>
         + Clock
         + Files
+        + RandomSource
         + Abort
         + AllocGlobal
         + Copy
@@ -66,7 +69,8 @@ where
     let pairs = PairLimit::by_default();
     let capacity = Capacity { loops, pairs };
     let (rules, admin) = (&place.rules, &place.admin);
-    serve::<Brand, Brand, R, _>(rt, rules, admin, capacity, up, down, &mut Broken)
+    let outlets = no_outlets();
+    serve::<Brand, Brand, _, R, _>(rt, rules, admin, capacity, outlets, up, down, &mut Broken)
 }
 
 #[test]

@@ -1,11 +1,10 @@
 //! Many connections on one loop: each has its turn, and what an admin session does reaches a loop
 //! that sleeps.
 
+use super::places::{Place, place_to_own};
+use super::streams::{accepted, free_port, has_ended, hears, reach, says, target};
 use super::watch::Watch;
-use super::{
-    Place, Running, accepted, free_port, has_ended, hears, place_to_own, reach, says, served_on,
-    target,
-};
+use super::{Running, served_on};
 use std::alloc::Global;
 use std::io::{Read, Write};
 use std::net::{Shutdown, TcpListener, TcpStream};

@@ -1,7 +1,9 @@
 //! The most pairs that stand at once: the default, which takes some 2,100 descriptors, and fewer.
 
+use super::places::{Place, place_to};
+use super::streams::{hears, reach, target};
 use super::watch::Watch;
-use super::{Place, Running, TURNS, hears, place_to, reach, served_at, target};
+use super::{Running, TURNS, no_outlets, served_at};
 use relay::{Capacity, Loops, PairLimit};
 use std::alloc::Global;
 use std::io::Write;
@@ -85,7 +87,8 @@ fn the_next_after_the_most_pairs_is_dropped_until_one_ends(rt: HostRuntime) {
             socket,
         } = place;
         let capacity = Capacity { loops, pairs };
-        let thread = thread::spawn(&rt, move || served_at(rt, &rules, &socket, capacity));
+        let run = move || served_at(rt, &rules, &socket, capacity, no_outlets());
+        let thread = thread::spawn(&rt, run);
         let thread = thread.expect(&rt, "thread");
         let running = Running { thread, admin };
         let _clients = most_clients(&rt, port, count).expect(&rt, "a pair too few is served");

@@ -1,8 +1,10 @@
 //! Peers that don't read: what is sent to them waits, and a deadline ends the wait.
 
 use super::loops::{sends, takes, talking_pair};
+use super::places::{Place, place_to_own};
+use super::streams::{has_ended, says};
 use super::watch::Watch;
-use super::{Place, Running, has_ended, place_to_own, says, served_on};
+use super::{Running, served_on};
 use std::alloc::Global;
 use std::io::Write;
 use std::net::{Shutdown, TcpStream};

@@ -1,12 +1,14 @@
 //! What keeps a relay from starting, which of two faults it tells, and that no path is left.
 
+use super::places::{Place, is_there, own_path, write_empty};
+use super::served;
 use super::watch::Watch;
-use super::{Place, is_there, own_path, served, write_empty};
 use arrayvec::ArrayString;
 use relay::ServeFault;
 use std::fs::Files;
 use std::net::{Net, TcpListener, TcpStream};
 use std::process::Abort;
+use std::random::RandomSource;
 use std::sync::Wait;
 use std::thread::Threads;
 use std::time::Clock;
@@ -23,6 +25,7 @@ where
         + Net<Listener = TcpListener, Stream = TcpStream>
         + Clock
         + Files
+        + RandomSource
         + Abort
         + AllocGlobal
         + Copy

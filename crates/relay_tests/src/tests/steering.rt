@@ -1,7 +1,9 @@
 //! Pairs that are ended: by an admin session, by a deadline, by silence, by a stop.
 
+use super::places::{Place, place_to_own};
+use super::streams::{accepted, has_ended, hears, reach, says};
 use super::watch::Watch;
-use super::{Place, Running, TURNS, accepted, has_ended, hears, place_to_own, reach, says, served};
+use super::{Running, TURNS, served};
 use std::io::Write;
 use std::thread;
 use std::time::Duration;

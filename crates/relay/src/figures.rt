@@ -1,0 +1,87 @@
+//! The relay's figures, for its metrics.
+
+use crate::address::socket_address;
+use crate::bounds::{RelayRuntime, SharedLedger};
+use crate::clock::{Moments, RelayClock};
+use crate::fault::ServeFault;
+use crate::shared::Shared;
+use base_types::OutOfMemory;
+use metrics_server::{LIMIT_NS, MetricsServer, Running};
+use relay_admin::Addr;
+use relay_metrics::{CarriedBytes, Figures, Metered};
+use relay_watch::bound_path::BoundPath;
+use relay_watch::rule_figures::rule_figures;
+use std::alloc::Global;
+use std::fs::Files;
+use std::sync::ledger::Ledger;
+use std::sync::{Arc, Wait};
+use std::time::Clock;
+
+/// What reads a running relay's figures.
+#[derive(Drop)]
+pub(crate) struct RelayFigures<U: Ledger, D: Ledger, R: Wait + Clock + Copy> {
+    rt: R,
+    clock: RelayClock<R>,
+    shared: Arc<Shared<U, D>>,
+}
+
+impl<U: Ledger, D: Ledger, R: Wait + Clock + Copy> RelayFigures<U, D, R> {
+    fn read_whole(&self, figures: &mut Figures) {
+        let shared = &self.shared;
+        figures.up_ms = self.clock.now() / 1_000_000;
+        figures.admin_sessions = shared.sessions.get();
+        figures.connections_limit = shared.limit.count as u64;
+        figures.reloads = shared.reloads.get();
+        figures.bytes = CarriedBytes {
+            up: shared.up.lock(&self.rt).total(),
+            down: shared.down.lock(&self.rt).total(),
+        };
+        if let Some(log) = &shared.log {
+            let counts = log.counts(&self.rt);
+            figures.log_lines = counts.pushed;
+            figures.log_lost_lines = counts.lost;
+        }
+    }
+}
+
+impl<U: Ledger, D: Ledger, R: Wait + Clock + Copy> Metered for RelayFigures<U, D, R> {
+    fn read(&self, figures: &mut Figures) -> Result<(), OutOfMemory> {
+        self.read_whole(figures);
+        figures.turns.clear();
+        for home in self.shared.homes.iter() {
+            figures.turns.push(home.turns.get())?;
+        }
+        figures.rules.clear();
+        for served in self.shared.rules.lock(&self.rt).iter() {
+            figures.rules.push(rule_figures(&self.rt, served))?;
+        }
+        Ok(())
+    }
+}
+
+/// Serves the figures of a relay at this address from now on. Where that is refused, no path of
+/// its listener is left.
+pub(crate) fn serve_figures<U, D, R>(
+    rt: R,
+    alloc: Global,
+    addr: &Addr,
+    clock: RelayClock<R>,
+    shared: Arc<Shared<U, D>>,
+) -> Result<Running, ServeFault>
+where
+    U: SharedLedger,
+    D: SharedLedger,
+    R: RelayRuntime + Files,
+{
+    let figures = RelayFigures { rt, clock, shared };
+    match MetricsServer::open(rt, alloc, &socket_address(addr), LIMIT_NS, figures) {
+        Ok(server) => match server.start() {
+            Ok(running) => Ok(running),
+            Err(fault) => {
+                BoundPath::of(addr).remove(&rt);
+                Err(ServeFault::of_metrics(fault))
+            }
+        },
+        Err(fault) => Err(ServeFault::of_metrics(fault)),
+    }
+}

@@ -1,0 +1,199 @@
+//! New rules for a relay that runs. The main thread, whose loop accepts, reads them and binds the
+//! addresses that are new; then it has the rules that stay say what is new, and closes the
+//! listeners of those that have gone.
+
+ghost use Rattle.std.specs.Prelude.{◌≡◌};
+ghost use Rattle.relay.specs.Reload.{answer_of_fault};
+
+use crate::closing::Closer;
+use crate::fault::ServeFault;
+use crate::opening::{bind, hold_rule};
+use crate::relay::Relay;
+use crate::rules_file::text_of;
+use relay_admin::{Addr, DeskAnswer, Rule, Rules, Verdict};
+use relay_watch::served_rule::ServedRule;
+use std::alloc::Global;
+use std::fs::Files;
+use std::mem;
+use std::net::Net;
+use std::sync::ledger::Ledger;
+use std::sync::{Arc, Wait};
+
+/// A rule of the file, as it is to be served.
+#[derive(Drop)]
+struct Planned {
+    rule: Rule,
+    served: Arc<ServedRule>,
+    /// Its address is to be bound.
+    is_new: bool,
+}
+
+// What a session is answered where a reload is refused.
+fn answer_of_fault(fault: ServeFault) -> DeskAnswer
+    ensures { result ≡ answer_of_fault fault }
+{
+    match fault {
+        ServeFault::RulesFile => DeskAnswer::CannotRead,
+        ServeFault::Listen(name) => DeskAnswer::CannotListen(name),
+        ServeFault::Memory => DeskAnswer::NoMemory,
+        _ => DeskAnswer::Closed,
+    }
+}
+
+// Whether a rule listens at this address.
+fn is_listened_at(rules: &[Rule], addr: &Addr) -> bool {
+    for rule in rules {
+        if rule.listen == *addr {
+            return true;
+        }
+    }
+    false
+}
+
+// A list of the same rules.
+fn listed(alloc: Global, planned: &[Planned]) -> Result<Vec<Arc<ServedRule>>, ServeFault> {
+    let mut list = Vec::new(alloc);
+    for one in planned {
+        let Ok(served) = Arc::try_clone(&one.served) else {
+            return Err(ServeFault::Memory);
+        };
+        if list.push(served).is_err() {
+            return Err(ServeFault::Memory);
+        }
+    }
+    Ok(list)
+}
+
+impl<U: Ledger, D: Ledger, R: Wait + Net + Files + Copy> Relay<U, D, R> {
+    // The rule with this listening address, if its listener stands. Of one whose listener has gone
+    // the path goes too, so that another can be bound.
+    fn standing(&self, rt: &R, listen: &Addr) -> Option<Arc<ServedRule>> {
+        let rules = self.shared.rules.lock(rt);
+        for served in rules.iter() {
+            if served.listen == *listen {
+                if self.shared.table.lock(rt).by_id(served.id()).is_some() {
+                    return Arc::try_clone(served).ok();
+                }
+                served.remove_path(rt);
+            }
+        }
+        None
+    }
+
+    // A rule of the file, as it is to be served.
+    fn planned(&self, rt: &R, rule: &Rule) -> Result<Planned, ServeFault> {
+        if let Some(served) = self.standing(rt, &rule.listen) {
+            return Ok(Planned {
+                rule: *rule,
+                served,
+                is_new: false,
+            });
+        }
+        match ServedRule::new(self.alloc, rule, self.shared.homes.len()) {
+            Ok(served) => Ok(Planned {
+                rule: *rule,
+                served,
+                is_new: true,
+            }),
+            Err(_) => Err(ServeFault::Memory),
+        }
+    }
+
+    // The rules of the file, as they are to be served.
+    fn all_planned(&self, rt: &R, rules: &[Rule]) -> Result<Vec<Planned>, ServeFault> {
+        let mut all = Vec::new(self.alloc);
+        for rule in rules {
+            if all.push(self.planned(rt, rule)?).is_err() {
+                return Err(ServeFault::Memory);
+            }
+        }
+        Ok(all)
+    }
+
+    // Listens for a rule that is new, and accepts there from the next turn on.
+    fn listen_anew(&mut self, rt: &R, one: &Planned, now: u64) -> Result<(), ServeFault> {
+        let socket = bind(rt, &one.served)?;
+        let Ok(served) = Arc::try_clone(&one.served) else {
+            return Err(ServeFault::Memory);
+        };
+        let mut table = self.shared.table.lock(rt);
+        hold_rule(
+            self.alloc,
+            &mut self.tasks,
+            &mut *table,
+            socket,
+            served,
+            now,
+        )
+    }
+
+    // Ends the listener of a rule, if it has one: first its task, so that no accept is under way,
+    // for which the close would wait.
+    fn end_listener(&mut self, rt: &R, served: &ServedRule) {
+        let task = self.tasks.take(served.token());
+        drop(task);
+        self.shared.close(rt, served.id(), Closer::ItsLoop);
+        served.remove_path(rt);
+    }
+
+    // Listens for all rules that are new, or for none.
+    fn listen_for(&mut self, rt: &R, planned: &[Planned], now: u64) -> Result<(), ServeFault> {
+        let mut listened = Ok(());
+        for one in planned {
+            if one.is_new && listened.is_ok() {
+                listened = self.listen_anew(rt, one, now);
+            }
+        }
+        if listened.is_err() {
+            for one in planned {
+                if one.is_new {
+                    self.end_listener(rt, &one.served);
+                }
+            }
+        }
+        listened
+    }
+
+    // Serves these rules from now on; or, after a fault, those of before.
+    fn serve_rules(&mut self, rt: &R, rules: &[Rule], now: u64) -> Result<(), ServeFault> {
+        let planned = self.all_planned(rt, rules)?;
+        let list = listed(self.alloc, planned.as_slice())?;
+        self.listen_for(rt, planned.as_slice(), now)?;
+        for one in planned.iter() {
+            one.served.change(rt, &one.rule);
+        }
+        let before = mem::replace(&mut *self.shared.rules.lock(rt), list);
+        for served in before.iter() {
+            if !is_listened_at(rules, &served.listen) {
+                self.end_listener(rt, served);
+            }
+        }
+        self.shared.reloads.add(1);
+        Ok(())
+    }
+
+    // Reads the rules file again, and serves its rules from now on. Where it can't be read, is bad,
+    // or has a new address that can't be listened on, nothing changes.
+    fn reload(&mut self, rt: &R, now: u64) -> DeskAnswer {
+        let text = match text_of(rt, self.alloc, self.shared.rules_path.as_str()) {
+            Ok(text) => text,
+            Err(fault) => return answer_of_fault(fault),
+        };
+        let rules = match Rules::parse(text.as_slice()) {
+            Ok(rules) => rules,
+            Err(fault) => return DeskAnswer::Verdict(Verdict::Bad(fault)),
+        };
+        match self.serve_rules(rt, rules.as_slice(), now) {
+            Ok(()) => DeskAnswer::Verdict(Verdict::Rules(rules.as_slice().len() as u32)),
+            Err(fault) => answer_of_fault(fault),
+        }
+    }
+
+    /// Reloads where a session has asked for it.
+    pub(crate) fn reload_if_asked(&mut self, rt: &R, now: u64) {
+        if self.shared.reload.take(rt) {
+            let answer = self.reload(rt, now);
+            self.shared.reload.answer(rt, answer);
+        }
+    }
+}
