@@ -4,6 +4,7 @@ use super::{any_port, nanos_since, socks};
 use fd_descriptor::{Alarms, Deadline, Dirs, Fault, FdHandle, PollCell};
 use readiness::{EventLoop, Host, Place, RemoteAlarms, Side, Sock, SockRes, Turn, Why};
 use std::alloc::Global;
+use std::fs::Files;
 use std::net::Net;
 use std::process::Abort;
 use std::sync::{Arc, Wait};
@@ -204,12 +205,17 @@ fn a_deadline_expires_by_the_loops_timers(rt: HostRuntime) {
     holds!(rt; read == Err(Fault::DeadlineExceeded), "its cell was ticked");
 }
 
+/// A connection whose other end is closed.
+fn left_alone<R: Net + Files + Clock + Abort>(rt: &R) -> Sock {
+    let (near, _far) = socks(rt, &any_port());
+    near
+}
+
 #[test]
 fn an_event_of_both_directions_names_its_side(rt: HostRuntime) {
     let mut tasks = new_loop(&rt, rt.alloc());
     let mut ledger = Ledger::new();
-    let (near, far) = socks(&rt, &any_port());
-    drop(far);
+    let near = left_alone(&rt);
     let task = on_second_side(&rt, rt.alloc(), &mut tasks, near, 2);
     let _place = puts(&rt, &mut tasks, task);
     holds!(rt; tasks.turn(&rt, 0, &mut ledger).is_ok());

@@ -6,6 +6,7 @@ use arrayvec::ArrayString;
 use fd_descriptor::DevKind;
 use libc::net as c;
 use readiness::{Addr, Listen, connect, listen};
+use std::net::Net;
 use std::os::fd::AsRawFd;
 use std::{env, fs, process};
 
@@ -44,18 +45,23 @@ fn a_path_of_100_bytes_serves_and_101_are_no_address(rt: HostRuntime) {
     watch.end(&rt);
 }
 
+/// What a connect to this address fails with.
+fn refusal<R: Net>(rt: &R, addr: &Addr) -> Option<DevKind> {
+    connect(rt, addr).err()
+}
+
 #[test]
 fn a_stale_path_refuses(rt: HostRuntime) {
     let path = own_path(&rt, "stale").expect(&rt, "a path");
     let addr = Addr::Unix(path);
-    let nowhere = connect(&rt, &addr).err();
+    let nowhere = refusal(&rt, &addr);
     holds!(rt; nowhere == Some(DevKind::Other), "no such path");
     let listener = listening(&rt, &addr);
     holds!(rt; listener.port().is_none());
     let taken = listen(&rt, &addr).err();
     holds!(rt; taken == Some(DevKind::Other), "taken");
     drop(listener);
-    let stale = connect(&rt, &addr).err();
+    let stale = refusal(&rt, &addr);
     holds!(rt; stale == Some(DevKind::Refused), "stale");
     let stays = listen(&rt, &addr).err();
     holds!(rt; stays == Some(DevKind::Other), "it stays");
@@ -71,7 +77,7 @@ fn a_full_unix_queue_is_told_at_once(rt: HostRuntime) {
         assert_eq!(rt; c::listen(listener.as_raw_fd(), 1), 0);
     }
     let _queued = [connected(&rt, &addr), connected(&rt, &addr)];
-    let full = connect(&rt, &addr).err();
+    let full = refusal(&rt, &addr);
     holds!(rt; full == Some(DevKind::Other));
     holds!(rt; fs::remove_file(&rt, path.as_str()).is_ok());
 }
