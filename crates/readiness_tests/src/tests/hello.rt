@@ -59,15 +59,22 @@ fn hello_passes_each_way_over_a_unix_socket(rt: HostRuntime) {
     watch.end(&rt);
 }
 
+/// A descriptor whose peer closed its end with bytes that it hadn't read.
+fn reset<R: Wait + Net + Files + Clock + Abort + Copy + Drop>(
+    world: &World<R>,
+) -> FdHandle<SockRes> {
+    let (near, _far) = socks(&world.rt, &any_port());
+    let mut near = world.add(near);
+    holds!(world.rt; near.write(&world.rt, b"unread") == Ok(6));
+    near
+}
+
 #[test]
 fn a_peer_that_resets_is_told_as_reset(rt: HostRuntime) {
     let watch = Watch::start(rt, rt.alloc());
     let world = World::new(rt, rt.alloc());
-    let (near, far) = socks(&rt, &any_port());
-    let mut near = world.add(near);
+    let mut near = reset(&world);
     let turning = Turning::start(world);
-    holds!(rt; near.write(&rt, b"unread") == Ok(6));
-    drop(far);
     let read = near.read(&rt, &mut [0; 8]);
     holds!(rt; read == Err(Fault::Device(DevKind::Reset)));
     let fault = Fault::Device(DevKind::BrokenPipe);

@@ -33,15 +33,20 @@ struct Desk {
     bytes: u64,
 }
 
+fn keep<T: Drop>(list: &mut Vec<T>, item: T) {
+    let _ = list.push(item);
+}
+
 impl Desk {
     fn accept(&mut self, listener: &mut Listen) -> Turn {
         for _ in 0..64u32 {
-            match listener.try_accept() {
-                AcceptOutcome::Took(sock) => {
-                    let _ = self.accepted.push(sock);
-                }
+            let taken = match listener.try_accept() {
+                AcceptOutcome::Took(sock) => Some(sock),
                 AcceptOutcome::WouldBlock => return Turn::Waits,
-                _ => {}
+                _ => None,
+            };
+            if let Some(sock) = taken {
+                keep(&mut self.accepted, sock);
             }
         }
         Turn::Again

@@ -173,13 +173,17 @@ fn sets_up<R: Wait + Net + Copy + Drop>(rt: R, alloc: Global, near: Sock) -> Opt
     handle.set_deadline(&rt, Deadline::At(100), 0, &alarms).ok()
 }
 
+/// The same over a connection whose other end is closed then.
+fn sets_up_one_end<R: Wait + Net + Files + Clock + Abort + Copy + Drop>(rt: R, alloc: Global) {
+    let (near, _far) = socks(&rt, &any_port());
+    let _ = sets_up(rt, alloc, near);
+}
+
 /// Holds where memory is refused as well: `tests/refused_memory.sh` refuses each allocation in
 /// turn.
 #[test]
 fn a_refused_setting_up_leaves_no_file_open(rt: HostRuntime) {
     let before = next_file(&rt);
-    let (near, far) = socks(&rt, &any_port());
-    let _ = sets_up(rt, rt.alloc(), near);
-    drop(far);
+    sets_up_one_end(rt, rt.alloc());
     holds!(rt; next_file(&rt) == before);
 }
