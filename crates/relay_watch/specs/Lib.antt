@@ -1,3 +1,4 @@
 pub mod BoundPath
+pub mod Counts
 pub mod HowEnded
 pub mod Shown

@@ -1,7 +1,8 @@
 //! A client that was accepted, and the connection that comes of it.
 
-ghost use Rattle.std.specs.Prelude.{◌≡◌, ◌-◌, ◌/◌, IfSome};
+ghost use Rattle.std.specs.Prelude.{◌≡◌, ◌-◌, ◌/◌, IfSome, option_copied};
 ghost use Rattle.std.specs.Arc.{arc_value};
+ghost use Rattle.relay_watch.specs.Counts.{counts_of_loop};
 
 use crate::counts::LoopCounts;
 use crate::served_rule::ServedRule;
@@ -40,7 +41,7 @@ impl Acceptance {
     }
 
     /// The whole milliseconds from then to this moment.
-    pub fn age_ms(&self, now: u64) -> u64
+    pub(crate) fn age_ms(&self, now: u64) -> u64
         ensures { result ≡ (now - self.now.at) / 1000000 }
     {
         ms_between(self.at, now)
@@ -49,7 +50,7 @@ impl Acceptance {
 
 /// The whole milliseconds from one moment to another, both in nanoseconds; 0 where that is not
 /// later.
-pub fn ms_between(from: u64, to: u64) -> u64
+pub(crate) fn ms_between(from: u64, to: u64) -> u64
     ensures { result ≡ (to - from) / 1000000 }
 {
     to.saturating_sub(from) / 1_000_000
@@ -84,7 +85,10 @@ impl ConnectionFacts {
     }
 
     /// What its loop counts of its rule.
-    pub fn counts(&self) -> Option<&LoopCounts> {
+    pub fn counts(&self) -> Option<&LoopCounts>
+        ensures { option_copied result ≡ counts_of_loop self.now.home
+            (arc_value self.now.acceptance.served).counts }
+    {
         self.acceptance.served.counts.of_loop(self.home)
     }
 
@@ -110,7 +114,7 @@ impl ConnectionFacts {
     }
 
     /// When bytes were written last, or when it was accepted.
-    pub fn last(&self) -> u64 {
+    pub(crate) fn last(&self) -> u64 {
         self.last.load(Ordering::SeqCst)
     }
 }

@@ -44,6 +44,8 @@ pub struct EndCounts {
 }
 
 impl EndCounts {
+    ghost use Rattle.relay_watch.specs.Counts as spec;
+
     fn new() -> EndCounts {
         EndCounts {
             eof: Counter::new(),
@@ -56,8 +58,11 @@ impl EndCounts {
         }
     }
 
-    // The count of this cause. A connection that was set up was never refused as `Full`.
-    fn of(&self, how: Ended) -> &Counter {
+    // The count of this cause. A connection that was set up was never refused as `Full`. To a proof
+    // all counts are alike, so the clause says where in memory this one lies.
+    fn of(&self, how: Ended) -> &Counter
+        ensures { result.ref_ptr ≡ spec.count_of how self.entry.ref_ptr }
+    {
         match how {
             Ended::Eof => &self.eof,
             Ended::Idle => &self.idle,
@@ -94,6 +99,8 @@ pub struct LoopCounts {
 }
 
 impl LoopCounts {
+    ghost use Rattle.relay_watch.specs.Counts as spec;
+
     fn new() -> LoopCounts {
         LoopCounts {
             begun: Counter::new(),
@@ -117,15 +124,22 @@ impl LoopCounts {
 
     /// A client wasn't served, since there is no target, or no room.
     pub fn note_refused(&self, how: Ended) {
+        self.refusals(how).add(1);
+    }
+
+    // The count of the clients that weren't served so, told as in `EndCounts::of`.
+    fn refusals(&self, how: Ended) -> &Counter
+        ensures { result.ref_ptr ≡ spec.refusal_of how self.entry.ref_ptr }
+    {
         match how {
-            Ended::NoTarget => self.no_target.add(1),
-            _ => self.no_room.add(1),
+            Ended::NoTarget => &self.no_target,
+            _ => &self.no_room,
         }
     }
 
     /// How many connections stand. The ends are read first, so that none is counted that never
     /// began.
-    pub fn standing(&self) -> u64 {
+    pub(crate) fn standing(&self) -> u64 {
         let ended = self.ends.sum();
         self.begun.get().saturating_sub(ended)
     }
@@ -138,11 +152,17 @@ pub struct RuleCounts {
     /// connections stood as may.
     pub accepted: Counter,
     pub full: Counter,
-    by_loop: Vec<LoopCounts>,
+    pub(crate) by_loop: Vec<LoopCounts>,
 }
 
 impl RuleCounts {
-    pub fn new(alloc: Global, loops: usize) -> Result<RuleCounts, OutOfMemory> {
+    ghost use Rattle.std.specs.Prelude.{IfOk, option_copied};
+    ghost use Rattle.relay_watch.specs.Counts as spec;
+
+    /// Those of a rule of a relay with so many loops.
+    pub(crate) fn new(alloc: Global, loops: usize) -> Result<RuleCounts, OutOfMemory>
+        ensures { IfOk result (λ counts. spec.loops_of counts ≡ loops) }
+    {
         let mut by_loop = Vec::new(alloc);
         for _ in 0..loops {
             by_loop.push(LoopCounts::new())?;
@@ -155,7 +175,7 @@ impl RuleCounts {
     }
 
     /// The bytes that all connections of the rule have passed up and down.
-    pub fn bytes(&self) -> (u64, u64) {
+    pub(crate) fn bytes(&self) -> (u64, u64) {
         let (mut up, mut down) = (0u64, 0u64);
         for counts in self.by_loop.iter() {
             up = up.saturating_add(counts.up.get());
@@ -165,12 +185,14 @@ impl RuleCounts {
     }
 
     /// Those of each loop, by the places of their homes.
-    pub fn loops(&self) -> &[LoopCounts] {
+    pub(crate) fn loops(&self) -> &[LoopCounts] {
         self.by_loop.as_slice()
     }
 
     /// Those of one loop, by the place of its home.
-    pub fn of_loop(&self, home: usize) -> Option<&LoopCounts> {
+    pub fn of_loop(&self, home: usize) -> Option<&LoopCounts>
+        ensures { option_copied result ≡ spec.counts_of_loop home self.now }
+    {
         self.by_loop.get(home)
     }
 }

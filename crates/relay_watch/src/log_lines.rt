@@ -1,6 +1,6 @@
 //! The lines that a connection's end and a refused client bring to the log.
 
-ghost use Rattle.std.specs.Prelude.{◌≡◌};
+ghost use Rattle.std.specs.Prelude.{◌≡◌, Option, Some, None, option_map};
 
 use crate::connection_facts::{Acceptance, ConnectionFacts};
 use log_writer::Log;
@@ -19,6 +19,94 @@ fn moment_now<R: Clock>(rt: &R) -> Moment {
     }
 }
 
+// What a line says of how it went, beside who and when.
+#[derive(Drop)]
+struct Outcome {
+    // The ids of the client's side and of the target's; a client that wasn't served has none.
+    ids: Option<(u64, u64)>,
+    up: u64,
+    down: u64,
+    how: Ended,
+}
+
+impl Outcome {
+    // A client that wasn't served: nothing has passed.
+    fn refused(how: Ended) -> Outcome
+        ensures ids { result.ids ≡ None }
+        ensures up { result.up ≡ 0 }
+        ensures down { result.down ≡ 0 }
+        ensures how { result.how ≡ how }
+    {
+        Outcome {
+            ids: None,
+            up: 0,
+            down: 0,
+            how,
+        }
+    }
+
+    // A connection that has ended, with the bytes that it has passed by now.
+    fn ended(facts: &ConnectionFacts, ids: (u64, u64), how: Ended) -> Outcome
+        ensures ids { result.ids ≡ Some ids }
+        ensures how { result.how ≡ how }
+    {
+        Outcome {
+            ids: Some(ids),
+            up: facts.up(),
+            down: facts.down(),
+            how,
+        }
+    }
+
+    // Its line, with the texts of its parties.
+    fn line<'a>(
+        &self,
+        moment: Moment,
+        rule: &'a str,
+        client: &'a str,
+        target: &'a str,
+        milliseconds: u64,
+    ) -> LogLine<'a>
+        ensures moment { result.moment ≡ moment }
+        ensures rule { result.rule.now ≡ rule.now }
+        ensures client_id { result.client_id ≡ option_map (λ ids. ids.0) self.now.ids }
+        ensures target_id { result.target_id ≡ option_map (λ ids. ids.1) self.now.ids }
+        ensures client { result.client.now ≡ client.now }
+        ensures target { result.target.now ≡ target.now }
+        ensures up { result.up ≡ self.now.up }
+        ensures down { result.down ≡ self.now.down }
+        ensures milliseconds { result.milliseconds ≡ milliseconds }
+        ensures ended { result.ended ≡ self.now.how }
+    {
+        LogLine {
+            moment,
+            rule,
+            client_id: self.ids.map(|ids| ids.0),
+            target_id: self.ids.map(|ids| ids.1),
+            client,
+            target,
+            up: self.up,
+            down: self.down,
+            milliseconds,
+            ended: self.how,
+        }
+    }
+}
+
+// Tells of what became of a client that was accepted.
+fn tell<R: Wait + Clock>(rt: &R, log: &Log, acceptance: &Acceptance, now: u64, outcome: &Outcome) {
+    let client_text = peer_name(&acceptance.client);
+    let target_text = acceptance.rule.target.text();
+    let line = outcome.line(
+        moment_now(rt),
+        acceptance.rule.name.as_str(),
+        client_text.as_str(),
+        target_text.as_str(),
+        acceptance.age_ms(now),
+    );
+    log.push(rt, &line);
+}
+
 /// Tells of a client that was accepted and not served.
 pub fn tell_refused<R: Wait + Clock>(
     rt: &R,
@@ -27,23 +115,7 @@ pub fn tell_refused<R: Wait + Clock>(
     now: u64,
     how: Ended,
 ) {
-    let client = peer_name(&acceptance.client);
-    let target = acceptance.rule.target.text();
-    log.push(
-        rt,
-        &LogLine {
-            moment: moment_now(rt),
-            rule: acceptance.rule.name.as_str(),
-            client_id: None,
-            target_id: None,
-            client: client.as_str(),
-            target: target.as_str(),
-            up: 0,
-            down: 0,
-            milliseconds: acceptance.age_ms(now),
-            ended: how,
-        },
-    );
+    tell(rt, log, acceptance, now, &Outcome::refused(how));
 }
 
 /// Tells of a connection that has ended, whose sides had these ids.
@@ -55,22 +127,6 @@ pub fn tell_end<R: Wait + Clock>(
     now: u64,
     how: Ended,
 ) {
-    let acceptance = &facts.acceptance;
-    let client = peer_name(&acceptance.client);
-    let target = acceptance.rule.target.text();
-    log.push(
-        rt,
-        &LogLine {
-            moment: moment_now(rt),
-            rule: acceptance.rule.name.as_str(),
-            client_id: Some(ids.0),
-            target_id: Some(ids.1),
-            client: client.as_str(),
-            target: target.as_str(),
-            up: facts.up(),
-            down: facts.down(),
-            milliseconds: acceptance.age_ms(now),
-            ended: how,
-        },
-    );
+    let outcome = Outcome::ended(facts, ids, how);
+    tell(rt, log, &facts.acceptance, now, &outcome);
 }

@@ -1,6 +1,8 @@
 //! A rule as a running relay serves it.
 
-ghost use Rattle.std.specs.Prelude.{◌≡◌};
+ghost use Rattle.std.specs.Prelude.{◌≡◌, IfOk};
+ghost use Rattle.std.specs.Arc.{arc_value};
+ghost use Rattle.relay_watch.specs.Counts.{loops_of};
 
 use crate::bound_path::BoundPath;
 use crate::counts::RuleCounts;
@@ -30,7 +32,10 @@ pub struct ServedRule {
 
 impl ServedRule {
     /// A rule without a listener, of a relay with so many loops.
-    pub fn new(alloc: Global, rule: &Rule, loops: usize) -> Result<Arc<ServedRule>, OutOfMemory> {
+    pub fn new(alloc: Global, rule: &Rule, loops: usize) -> Result<Arc<ServedRule>, OutOfMemory>
+        ensures listen { IfOk result (λ served. (arc_value served).listen ≡ rule.now.listen) }
+        ensures loops { IfOk result (λ served. loops_of (arc_value served).counts ≡ loops) }
+    {
         let served = ServedRule {
             listen: rule.listen,
             rule: Mutex::new(*rule),
@@ -81,12 +86,12 @@ impl ServedRule {
     }
 
     /// When it began to listen.
-    pub fn since(&self) -> u64 {
+    pub(crate) fn since(&self) -> u64 {
         self.since.load(Ordering::SeqCst)
     }
 
     /// When it accepted last, or when it began to listen.
-    pub fn last(&self) -> u64 {
+    pub(crate) fn last(&self) -> u64 {
         self.last.load(Ordering::SeqCst)
     }
 
