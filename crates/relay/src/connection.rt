@@ -16,9 +16,7 @@ use crate::task_gate::TaskGate;
 use base_types::Dir;
 use fd_descriptor::PollCell;
 use readiness::{RemoteAlarms, Side, Why};
-use relay_core::{
-    Copying, Ended, LOOP_BUFFER_BYTES, PairNext, PairTasks, Standing, Step, Way, Ways,
-};
+use relay_core::{Copying, Ended, LoopMemory, PairNext, PairTasks, Standing, Step, Way, Ways};
 use relay_ledger::{Book, CarriedShare};
 use relay_log::ended::Ended as How;
 use relay_watch::connection_facts::ConnectionFacts;
@@ -43,18 +41,15 @@ pub(crate) struct WayCopy<L: Ledger, R: Wait + Clock + Copy> {
 }
 
 impl<L: Ledger, R: Wait + Clock + Copy> WayCopy<L, R> {
-    // Goes on. Without a share, or without a whole buffer, it has nothing to do.
-    fn go_on(&mut self, rt: &R, book: &Mutex<Book<L>>, buf: &mut [u8]) -> Step {
-        let Some(buf) = buf.as_mut_array::<LOOP_BUFFER_BYTES>() else {
-            return Step::Waits(Dir::Read);
-        };
+    // Goes on. Without a share it has nothing to do.
+    fn go_on(&mut self, rt: &R, book: &Mutex<Book<L>>, memory: &mut LoopMemory) -> Step {
         let Some(carried) = self.share.take() else {
             return Step::Waits(Dir::Read);
         };
         let mut share = carried.into_share();
         let step = self
             .copying
-            .resume(rt, &mut self.gate, book, &mut share, buf);
+            .resume(rt, &mut self.gate, book, &mut share, memory);
         self.passed = share.amount();
         self.share = Some(CarriedShare::new(share));
         step
@@ -170,7 +165,7 @@ impl<U: Ledger, D: Ledger, R: Wait + Clock + Copy> Connection<U, D, R> {
         rt: &R,
         shared: &Shared<U, D>,
         why: Why,
-        buf: &mut [u8],
+        memory: &mut LoopMemory,
     ) -> PairNext
         ensures closes { result ≡ PairNext.Closes ↔ HasToClose self.new.tasks }
         ensures again { result ≡ PairNext.Again ↔ MayGoOn self.new.tasks }
@@ -181,11 +176,11 @@ impl<U: Ledger, D: Ledger, R: Wait + Clock + Copy> Connection<U, D, R> {
     {
         let ways = self.ways(why);
         if ways.up {
-            let step = self.up.go_on(rt, &shared.up, buf);
+            let step = self.up.go_on(rt, &shared.up, memory);
             self.note(Way::Up, &step);
         }
         if ways.down && self.tasks.next() != PairNext::Closes {
-            let step = self.down.go_on(rt, &shared.down, buf);
+            let step = self.down.go_on(rt, &shared.down, memory);
             self.note(Way::Down, &step);
         }
         self.tasks.next()

@@ -27,7 +27,6 @@ mod fd_gate;
 mod figures;
 mod home;
 mod idle_time;
-mod loop_buffer;
 mod loops;
 mod new_side;
 mod opening;

@@ -9,11 +9,10 @@ use crate::clock::{Moments, RelayClock};
 use crate::connection::Connection;
 use crate::fault::ServeFault;
 use crate::home::{Accepted, Home};
-use crate::loop_buffer::LoopBuffer;
 use crate::shared::Shared;
 use fd_descriptor::PollCell;
 use readiness::{EventLoop, Host, Side, Turn, Why};
-use relay_core::PairNext;
+use relay_core::{LoopMemory, PairNext};
 use std::alloc::Global;
 use std::mem;
 use std::net::{Net, TcpListener, TcpStream};
@@ -79,7 +78,7 @@ pub(crate) struct LoopHost<U: Ledger, D: Ledger, R: Wait + Clock + Copy> {
     /// change places, so that a turn takes no memory for a list.
     taken: Vec<Accepted>,
     /// It is lent to each task while that goes on.
-    buf: LoopBuffer,
+    memory: LoopMemory,
 }
 
 impl<U: Ledger, D: Ledger, R: Wait + Clock + Copy> Host for LoopHost<U, D, R> {
@@ -105,7 +104,7 @@ impl<U: Ledger, D: Ledger, R: Wait + Clock + Copy> LoopHost<U, D, R> {
         ensures over { result ≡ Turn.Over ↔ HasToClose task.new.tasks }
         ensures again { result ≡ Turn.Again ↔ MayGoOn task.new.tasks }
     {
-        let next = task.go_on(&self.rt, &self.shared, why, self.buf.bytes.as_mut_slice());
+        let next = task.go_on(&self.rt, &self.shared, why, &mut self.memory);
         task.tell_bytes(&self.clock);
         match next {
             PairNext::Waits => Turn::Waits,
@@ -177,7 +176,7 @@ pub(crate) struct Lot<U: Ledger, D: Ledger, R: Wait + Clock + Copy> {
     pub(crate) home: usize,
     pub(crate) shared: Arc<Shared<U, D>>,
     pub(crate) tasks: ConnLoop<U, D, R>,
-    pub(crate) buf: LoopBuffer,
+    pub(crate) memory: LoopMemory,
 }
 
 /// A loop from its first turn to its end. One whose poller fails stops the relay.
@@ -193,7 +192,7 @@ where
         home,
         shared,
         tasks,
-        buf,
+        memory,
     } = lot;
     let mut tasks = tasks;
     let mut host = LoopHost {
@@ -203,7 +202,7 @@ where
         home,
         shared,
         taken: Vec::new(alloc),
-        buf,
+        memory,
     };
     let turned = host.turn_until_stop(&mut tasks);
     tasks.end_all(&mut host);

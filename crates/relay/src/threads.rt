@@ -8,12 +8,11 @@ use crate::admin_waits::AdminWaits;
 use crate::bounds::{RelayRuntime, SharedLedger};
 use crate::clock::RelayClock;
 use crate::fault::ServeFault;
-use crate::loop_buffer::LoopBuffer;
 use crate::loops::{ConnLoop, Lot, run_loop};
 use crate::pair::STACK_BYTES;
 use crate::relay::Relay;
 use readiness::Waker;
-use relay_core::AcceptGate;
+use relay_core::{AcceptGate, LoopMemory};
 use std::alloc::Global;
 use std::sync::ledger::Ledger;
 use std::sync::{Arc, Wait};
@@ -100,7 +99,7 @@ impl Helpers {
             let Ok(shared) = Arc::try_clone(&relay.shared) else {
                 return Err(ServeFault::Memory);
             };
-            let Ok(buf) = LoopBuffer::new(relay.alloc) else {
+            let Ok(memory) = LoopMemory::new(relay.alloc) else {
                 return Err(ServeFault::Memory);
             };
             let lot = Lot {
@@ -109,7 +108,7 @@ impl Helpers {
                 home,
                 shared,
                 tasks,
-                buf,
+                memory,
             };
             let _ = self.loops.push(spawn_loop(rt, lot)?);
             home = home.saturating_add(1);

@@ -1,5 +1,6 @@
 pub mod CopyTrace
 pub mod Passing
+pub mod Lending
 pub mod AcceptTrace
 pub mod Accepting
 pub mod Pair

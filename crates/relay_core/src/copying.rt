@@ -88,7 +88,8 @@ fn copy_once<G: CopyGate, L: Ledger, R: Wait>(
     ensures copied { IfErr result (λ ended.
         IsCopied (G.tells gate.old) (G.tells gate.new) share.old share.new ended) }
 {
-    match read_once(gate, buf) {
+    let most = buf.len();
+    match read_once(gate, buf, most) {
         Ok(Some(count)) => match offer(rt, gate, book, share, &buf[..count]) {
             Ok(_) => Ok(count),
             Err(step) => Err(end_of(step)),

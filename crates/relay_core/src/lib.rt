@@ -11,6 +11,7 @@ mod gate;
 mod idle;
 mod kept;
 pub mod laws;
+mod lent;
 mod pair;
 mod pair_limit;
 mod pair_tasks;
@@ -28,6 +29,7 @@ pub use buffers::{BUFFER_BYTES, FIRST_BUFFER_BYTES, LOOP_BUFFER_BYTES, copy_by_n
 pub use copying::{Ended, copy_worker};
 pub use gate::CopyGate;
 pub use idle::{has_come, idle_deadline, pause_end, silence_end};
+pub use lent::LoopMemory;
 pub use pair::{InsertedSides, end_closes_pair, has_room_for_pair};
 pub use pair_limit::{DEFAULT_PAIRS, MAX_PAIRS, PairLimit};
 pub use pair_tasks::{PairNext, PairTasks, Standing, Ways};

@@ -23,10 +23,16 @@ pub enum Step {
     Ended(Ended),
 }
 
-/// Reads once. It gives how many bytes were read, and `None` at the reader's end.
-pub(crate) fn read_once<G: PollGate>(gate: &mut G, buf: &mut [u8]) -> Result<Option<usize>, Step>
-    requires room { 0 < length buf.old }
-    ensures within { IfOk result (λ read. IfSome read (λ count. count ≤ length buf.new)) }
+/// Reads once, into so many bytes of the buffer at most. It gives how many bytes were read, and
+/// `None` at the reader's end.
+pub(crate) fn read_once<G: PollGate>(
+    gate: &mut G,
+    buf: &mut [u8],
+    most: usize,
+) -> Result<Option<usize>, Step>
+    requires room { 0 < most }
+    requires within { most ≤ length buf.old }
+    ensures within { IfOk result (λ read. IfSome read (λ count. count ≤ most)) }
     ensures some { IfOk result (λ read. IfSome read (λ count. 0 < count)) }
     ensures bytes { IfOk result (λ read. IfSome read (λ count. (amount : ℕ)
         → IsPassing G.takes (G.tells gate.old) (G.tells gate.new) amount amount (Bytes [])
@@ -40,7 +46,7 @@ pub(crate) fn read_once<G: PollGate>(gate: &mut G, buf: &mut [u8]) -> Result<Opt
         (λ ended. (amount : ℕ) → IsPassed G.takes (G.tells gate.old) (G.tells gate.new)
         amount amount (Bytes []) ended 1)) }
 {
-    match gate.poll_read(buf) {
+    match gate.poll_read(&mut buf[..most]) {
         None => Err(Step::Waits(Dir::Read)),
         Some(Ok(count)) => Ok(Some(count)),
         Some(Err(Fault::EndOfFile)) => Ok(None),

@@ -1,11 +1,12 @@
 //! The copy as a value that goes on when it is told to, so that one thread has many of them.
 
-ghost use Rattle.std.specs.Prelude.{◌≡◌, ◌<◌, ◌≤◌, [], length, IfOk, IfErr};
+ghost use Rattle.std.specs.Prelude.{◌≡◌, ◌<◌, ◌≤◌, [], length, take, IfOk, IfErr};
 ghost use Rattle.relay_core.specs.Passing.{Bytes, IsPassing, IsPassed, IsStop};
 ghost use Rattle.relay_core.specs.Passing.{next_dir, unwritten, IfWaits, IfEnded};
 
 use crate::kept::Kept;
-use crate::passing::{Step, close_once, offer, read_once};
+use crate::lent::LoopMemory;
+use crate::passing::{Step, close_once, offer};
 use crate::poll_gate::PollGate;
 use base_types::OutOfMemory;
 use relay_ledger::{Book, Share};
@@ -19,8 +20,8 @@ use std::sync::{Mutex, Wait};
 /// below have the figure itself, so that another value is refused.
 pub const TURNS_IN_A_ROW: u32 = 8;
 
-/// A copy between two of its calls. It keeps what it read and couldn't write yet; the buffer that
-/// it reads into is lent. Contracts see what it has to do next.
+/// A copy between two of its calls. It keeps what it read and couldn't write yet; what it reads
+/// into is lent. Contracts see what it has to do next.
 #[derive(Drop)]
 pub struct Copying<A: Allocator = Global> {
     kept: Kept<A>,
@@ -32,11 +33,11 @@ impl<A: Allocator> Model for Copying<A> {
 
     ghost Value = { Rest };
 
-    ghost view = { λ c. rest_of c.at_end c.kept };
+    ghost view = { λ c. rest_of c.at_end c.kept.bytes };
 }
 
 impl<A: Allocator> Copying<A> {
-    /// A copy before its first call. It takes all the memory that it will ever have.
+    /// A copy before its first call. What it takes more of memory later it can do without.
     pub fn new(alloc: A) -> Result<Copying<A>, OutOfMemory>
         ensures { IfOk result (λ copying. copying ≡ Bytes []) }
     {
@@ -55,10 +56,8 @@ impl<A: Allocator> Copying<A> {
         gate: &mut G,
         book: &Mutex<Book<L>>,
         share: &mut Share<L>,
-        buf: &mut [u8],
+        memory: &mut LoopMemory<A>,
     ) -> Step
-        requires room { 0 < length buf.old }
-        requires fits { length buf.old ≤ 65536 }
         ensures again { result ≡ Step.Again → IsPassing G.takes (G.tells gate.old)
             (G.tells gate.new) share.old share.new self.old self.new 8 8 }
         ensures waits { IfWaits result (λ _. IsPassing G.takes (G.tells gate.old)
@@ -69,7 +68,7 @@ impl<A: Allocator> Copying<A> {
             (G.tells gate.new) share.old share.new self.old ended 8) }
     {
         for _turn in 0..TURNS_IN_A_ROW {
-            match self.turn(rt, gate, book, share, buf) {
+            match self.turn(rt, gate, book, share, memory) {
                 Ok(()) => {}
                 Err(step) => return step,
             }
@@ -84,10 +83,8 @@ impl<A: Allocator> Copying<A> {
         gate: &mut G,
         book: &Mutex<Book<L>>,
         share: &mut Share<L>,
-        buf: &mut [u8],
+        memory: &mut LoopMemory<A>,
     ) -> Result<(), Step>
-        requires room { 0 < length buf.old }
-        requires fits { length buf.old ≤ 65536 }
         ensures passing { IfOk result (λ _. IsPassing G.takes (G.tells gate.old) (G.tells gate.new)
             share.old share.new self.old self.new 1 1) }
         ensures stopped { IfErr result (IsStop (next_dir self.new) (G.blocked gate.new)
@@ -100,7 +97,7 @@ impl<A: Allocator> Copying<A> {
             return Err(close_once(gate));
         }
         if self.kept.is_empty() {
-            return self.begin(rt, gate, book, share, buf);
+            return self.begin(rt, gate, book, share, memory);
         }
         self.go_on(rt, gate, book, share)
     }
@@ -138,10 +135,8 @@ impl<A: Allocator> Copying<A> {
         gate: &mut G,
         book: &Mutex<Book<L>>,
         share: &mut Share<L>,
-        buf: &mut [u8],
+        memory: &mut LoopMemory<A>,
     ) -> Result<(), Step>
-        requires room { 0 < length buf.old }
-        requires fits { length buf.old ≤ 65536 }
         requires nothing { self.old ≡ Bytes [] }
         ensures passing { IfOk result (λ _. IsPassing G.takes (G.tells gate.old) (G.tells gate.new)
             share.old share.new self.old self.new 1 1) }
@@ -151,8 +146,8 @@ impl<A: Allocator> Copying<A> {
             (λ ended. IsPassed G.takes (G.tells gate.old) (G.tells gate.new) share.old share.new
             self.old ended 1)) }
     {
-        match read_once(gate, buf) {
-            Ok(Some(count)) => self.pass(rt, gate, book, share, &buf[..count]),
+        match memory.read(gate) {
+            Ok(Some(count)) => self.pass(rt, gate, book, share, memory, count),
             Ok(None) => {
                 self.at_end = true;
                 Ok(())
@@ -168,26 +163,28 @@ impl<A: Allocator> Copying<A> {
         gate: &mut G,
         book: &Mutex<Book<L>>,
         share: &mut Share<L>,
-        bytes: &[u8],
+        memory: &mut LoopMemory<A>,
+        count: usize,
     ) -> Result<(), Step>
-        requires some { 0 < length bytes.now }
-        requires fits { length bytes.now ≤ 65536 }
+        requires some { 0 < count }
+        requires within { count ≤ length memory.old.buffer }
+        requires fits { count ≤ memory.old.room }
         requires nothing { self.old ≡ Bytes [] }
         ensures passing { IfOk result (λ _. IsPassing G.takes (G.tells gate.old) (G.tells gate.new)
-            share.old share.new (Bytes bytes.now) self.new 1 0) }
+            share.old share.new (Bytes (take count memory.old.buffer)) self.new 1 0) }
         ensures stopped { IfErr result (IsStop (next_dir self.new) (G.blocked gate.new)
             (IsPassing G.takes (G.tells gate.old) (G.tells gate.new) share.old share.new
-            (Bytes bytes.now) self.new 0 0)
+            (Bytes (take count memory.old.buffer)) self.new 0 0)
             (λ ended. IsPassed G.takes (G.tells gate.old) (G.tells gate.new) share.old share.new
-            (Bytes bytes.now) ended 0)) }
+            (Bytes (take count memory.old.buffer)) ended 0)) }
     {
-        match offer(rt, gate, book, share, bytes) {
-            Ok(count) => {
-                self.kept.keep(&bytes[count..]);
+        match offer(rt, gate, book, share, memory.first(count)) {
+            Ok(taken) => {
+                memory.keep(taken, count, &mut self.kept);
                 Ok(())
             }
             Err(step) => {
-                self.kept.keep(bytes);
+                memory.keep(0, count, &mut self.kept);
                 Err(step)
             }
         }

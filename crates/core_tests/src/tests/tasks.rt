@@ -9,12 +9,12 @@ use linked_list_allocator::LocalHeap;
 use relay_core::laws::{accepts_join, bytes_pass_in_parts, parts_join};
 use relay_core::{
     ACCEPTS_IN_A_ROW, AcceptEnded, AcceptStep, Accepting, Copying, Ended, LOOP_BUFFER_BYTES,
-    PairNext, PairTasks, PollAcceptGate, PollGate, Side, Standing, Step, TURNS_IN_A_ROW, Way, Ways,
-    loop_of,
+    LoopMemory, PairNext, PairTasks, PollAcceptGate, PollGate, Side, Standing, Step,
+    TURNS_IN_A_ROW, Way, Ways, loop_of,
 };
 use relay_ledger::{Book, PARTS};
 use rwloops::{DevKind, Fault, WriteFault};
-use std::alloc::Allocator;
+use std::alloc::{AllocGlobal, Allocator};
 use std::marker::Brand;
 use std::sync::ledger::{Blank, Ledger};
 use std::sync::{Mutex, Wait};
@@ -36,6 +36,8 @@ struct PacedGate {
     next_read: u8,
     next_written: u8,
     in_order: bool,
+    // The fewest and the most bytes that a read asked for.
+    asked: (usize, usize),
 }
 
 impl PacedGate {
@@ -48,6 +50,7 @@ impl PacedGate {
             next_read: 0,
             next_written: 0,
             in_order: true,
+            asked: (usize::MAX, 0),
         }
     }
 
@@ -69,6 +72,8 @@ impl PollGate for PacedGate {
     ghost blocked = { λ _ _. ⊤ };
 
     fn poll_read(&mut self, buf: &mut [u8]) -> Option<Result<usize, Fault>> {
+        let (fewest, most) = self.asked;
+        self.asked = (fewest.min(buf.len()), most.max(buf.len()));
         let Some((count, later)) = self.reads.split_first() else {
             return Some(Err(Fault::EndOfFile));
         };
@@ -115,7 +120,7 @@ impl PollGate for PacedGate {
 
 /// How a copy went that was resumed to its end: how often it waited to read and to write, and said
 /// `Again`; its end; its share's amount; whether the bytes were in order, and how many were
-/// written.
+/// written, of 256; the fewest and the most bytes that a read asked for.
 #[derive(Clone, Copy, Debug, PartialEq, Eq, Drop)]
 struct Course {
     to_read: u32,
@@ -125,13 +130,17 @@ struct Course {
     amount: u64,
     in_order: bool,
     written: u8,
+    asked: (usize, usize),
 }
+
+const WHOLE: (usize, usize) = (LOOP_BUFFER_BYTES, LOOP_BUFFER_BYTES);
 
 fn resumed<L: Ledger, R: Wait, A: Allocator>(
     rt: &R,
     blank: Blank,
     gate: PacedGate,
     copying: Copying<A>,
+    memory: LoopMemory<A>,
 ) -> Option<Course>
     requires name { blank.name ≡ L.name }
     requires parts { blank.parts ≡ L.parts }
@@ -142,11 +151,10 @@ fn resumed<L: Ledger, R: Wait, A: Allocator>(
         return None;
     };
     let book = Mutex::new(book);
-    let (mut gate, mut copying) = (gate, copying);
-    let mut buf = [0u8; 64];
+    let (mut gate, mut copying, mut memory) = (gate, copying, memory);
     let (mut to_read, mut to_write, mut again) = (0u32, 0u32, 0u32);
     for _ in rt.forever() {
-        match copying.resume(rt, &mut gate, &book, &mut share, &mut buf) {
+        match copying.resume(rt, &mut gate, &book, &mut share, &mut memory) {
             Step::Again => again = again.saturating_add(1),
             Step::Waits(Dir::Read) => to_read = to_read.saturating_add(1),
             Step::Waits(Dir::Write) => to_write = to_write.saturating_add(1),
@@ -161,11 +169,19 @@ fn resumed<L: Ledger, R: Wait, A: Allocator>(
                     amount,
                     in_order: gate.in_order,
                     written: gate.next_written,
+                    asked: gate.asked,
                 });
             }
         }
     }
     unreachable!()
+}
+
+// How a copy with all the memory that it wants goes.
+fn course_of<R: Wait + AllocGlobal>(rt: &R, gate: PacedGate) -> Result<Option<Course>, Fail> {
+    let memory = LoopMemory::new(rt.alloc())?;
+    let copying = Copying::new(rt.alloc())?;
+    Ok(resumed::<Brand, _, _>(rt, Blank::new(PARTS), gate, copying, memory))
 }
 
 #[test]
@@ -174,8 +190,7 @@ fn parts_pass_in_order(rt: HostRuntime) -> Result<(), Fail> {
     bytes_pass_in_parts::<PacedGate>();
     let mut gate = PacedGate::new(&[5, 0, 40, 3, 0, 0, 64], &[2, 0, 1, 1, 1, 40, 1, 0, 0, 1]);
     gate.late_closes = 2;
-    let copying = Copying::new(rt.alloc())?;
-    let course = resumed::<Brand, _, _>(&rt, Blank::new(PARTS), gate, copying);
+    let course = course_of(&rt, gate)?;
     let wanted = Course {
         to_read: 3,
         to_write: 5,
@@ -184,6 +199,7 @@ fn parts_pass_in_order(rt: HostRuntime) -> Result<(), Fail> {
         amount: 112,
         in_order: true,
         written: 112,
+        asked: WHOLE,
     };
     assert_eq!(rt; course, Some(wanted));
     Ok(())
@@ -193,8 +209,7 @@ fn parts_pass_in_order(rt: HostRuntime) -> Result<(), Fail> {
 fn long_copy_gives_others_their_turn(rt: HostRuntime) -> Result<(), Fail> {
     assert_eq!(rt; (TURNS_IN_A_ROW, LOOP_BUFFER_BYTES), (8, 65_536));
     let gate = PacedGate::new(&[1; 20], &[]);
-    let copying = Copying::new(rt.alloc())?;
-    let course = resumed::<Brand, _, _>(&rt, Blank::new(PARTS), gate, copying);
+    let course = course_of(&rt, gate)?;
     let wanted = Course {
         to_read: 0,
         to_write: 0,
@@ -203,6 +218,7 @@ fn long_copy_gives_others_their_turn(rt: HostRuntime) -> Result<(), Fail> {
         amount: 20,
         in_order: true,
         written: 20,
+        asked: WHOLE,
     };
     assert_eq!(rt; course, Some(wanted));
     Ok(())
@@ -212,8 +228,7 @@ fn long_copy_gives_others_their_turn(rt: HostRuntime) -> Result<(), Fail> {
 fn parts_before_a_failed_write_are_credited(rt: HostRuntime) -> Result<(), Fail> {
     let mut gate = PacedGate::new(&[9], &[2, 0, 3]);
     gate.fails = true;
-    let copying = Copying::new(rt.alloc())?;
-    let course = resumed::<Brand, _, _>(&rt, Blank::new(PARTS), gate, copying);
+    let course = course_of(&rt, gate)?;
     let wanted = Course {
         to_read: 0,
         to_write: 1,
@@ -225,39 +240,53 @@ fn parts_before_a_failed_write_are_credited(rt: HostRuntime) -> Result<(), Fail>
         amount: 6,
         in_order: true,
         written: 6,
+        asked: WHOLE,
     };
     assert_eq!(rt; course, Some(wanted));
     Ok(())
 }
 
-// A copy asks for memory once, at its beginning. On a heap with nothing left it goes to its end,
-// with all that it keeps.
+// What a write didn't take of a whole buffer is kept, and the next read asks for as much again.
 #[test]
-fn copy_takes_no_memory_after_its_beginning(rt: HostRuntime) -> Result<(), Fail> {
+fn whole_buffers_are_kept(rt: HostRuntime) -> Result<(), Fail> {
+    let reads = &[LOOP_BUFFER_BYTES, 0, LOOP_BUFFER_BYTES, 7];
+    let gate = PacedGate::new(reads, &[1, 0, 65_000, 0, 535, 0, 65_535, 0, 1, 0]);
+    let wanted = Course {
+        to_read: 1,
+        to_write: 5,
+        again: 0,
+        ended: Ended::Eof,
+        amount: 131_079,
+        in_order: true,
+        written: 7,
+        asked: WHOLE,
+    };
+    assert_eq!(rt; course_of(&rt, gate)?, Some(wanted));
+    Ok(())
+}
+
+// A copy that asks a heap with nothing left for more room goes to its end through its own.
+#[test]
+fn copy_goes_on_where_memory_is_refused(rt: HostRuntime) -> Result<(), Fail> {
     let heap = LocalHeap::new(rt.alloc(), 81_920)?;
+    let memory = LoopMemory::new(&heap)?;
     let mut blocks = fill(rt.alloc(), &heap)?;
+    let mut copying = Copying::new(&heap).ok();
     let mut refusals = 0u32;
-    for _ in 0..8_192 {
-        let used = heap.used();
-        match Copying::new(&heap) {
-            Ok(copying) => {
-                let _rest = fill(rt.alloc(), &heap)?;
-                let gate = PacedGate::new(&[64, 0, 64], &[1, 0, 62, 0, 1, 3, 0]);
-                let course = resumed::<Brand, _, _>(&rt, Blank::new(PARTS), gate, copying);
-                assert_eq!(rt;
-                    course.map(|it| (it.amount, it.in_order)),
-                    Some((128, true))
-                );
-                break;
-            }
-            Err(_) => {
-                assert_eq!(rt; heap.used(), used);
-                refusals = refusals.saturating_add(1);
-            }
+    for _ in 0..blocks.len() {
+        if copying.is_some() {
+            break;
         }
-        assert!(rt; blocks.pop().is_some(), "refused with all memory back");
+        refusals = refusals.saturating_add(1);
+        let _ = blocks.pop();
+        copying = Copying::new(&heap).ok();
     }
-    assert!(rt; refusals > 0);
+    assert_eq!(rt; refusals, 16, "a copy has room for 256 bytes");
+    let gate = PacedGate::new(&[500, 0, 64], &[1, 0, 254, 0, 1, 3, 0]);
+    let copying = copying.expect(&rt, "a copy");
+    let course = resumed::<Brand, _, _>(&rt, Blank::new(PARTS), gate, copying, memory);
+    let course = course.map(|it| (it.amount, it.in_order, it.asked));
+    assert_eq!(rt; course, Some((320, true, (256, 256))));
     Ok(())
 }
 

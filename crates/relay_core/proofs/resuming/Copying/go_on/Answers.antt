@@ -6,7 +6,7 @@ use Rattle.relay_core.proofs.resuming.Copying.go_on.Goals as goal
 -- nothing more of what is kept was taken
 pub returns-in-Err-clause-stopped : goal.returns-in-Err-clause-stopped
 returns-in-Err-clause-stopped g c =
-    let kept : 0 < length (unwritten (rest_of c.self.inside.at_end c.self.inside.kept)) =
+    let kept : 0 < length (unwritten (rest_of c.self.inside.at_end c.self.inside.kept.bytes)) =
     rw c.self.view_is c.requires.some in
     let bytes : c.args.self.now ≡ Bytes c.as_slice.result.now =
     sym c.self.view_is ∙ left_of _ _ kept ∙ ap Bytes (sym c.as_slice.ensures) in

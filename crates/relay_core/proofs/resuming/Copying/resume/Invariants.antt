@@ -1,11 +1,6 @@
-use Rattle.std.proofs.Common.{◌<◌, ◌≤◌, length}
 use Rattle.relay_core.specs.Passing.{IsPassing}
 use Rattle.relay_core.proofs.resuming.Copying.resume.Given as goal
 
 abbrev pub invariant-loop-turn : goal.invariant-loop-turn
-invariant-loop-turn g l = record {
-  room : 0 < length l.buf;
-  fits : length l.buf ≤ 65536;
-  passing : IsPassing g.G.PollGate.takes (g.G.PollGate.tells l.fn.gate) (g.G.PollGate.tells l.gate)
-      l.fn.share l.share l.fn.self l.self l._turn l._turn;
-}
+invariant-loop-turn g l = IsPassing g.G.PollGate.takes (g.G.PollGate.tells l.fn.gate) (g.G.PollGate.tells l.gate)
+    l.fn.share l.share l.fn.self l.self l._turn l._turn

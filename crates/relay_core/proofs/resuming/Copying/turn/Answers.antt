@@ -7,7 +7,7 @@ use Rattle.relay_core.proofs.resuming.Copying.turn.Goals as goal
 pub returns-then-self-clause-stopped : goal.returns-then-self-clause-stopped
 returns-then-self-clause-stopped g c =
     let close : c.args.self.now ≡ Close =
-    sym c.self.view_is ∙ ap (λ at_end. rest_of at_end c.self.inside.kept) c.if-self.true in
+    sym c.self.view_is ∙ ap (λ at_end. rest_of at_end c.self.inside.kept.bytes) c.if-self.true in
     rw close (stop_after refl (λ stays. within 0 1 (omega arith) (omega arith) (stays c.args.share.now))
     (λ ended over. passed_within 1 (omega arith) (over c.args.share.now)) c.close_once.ensures)
 
