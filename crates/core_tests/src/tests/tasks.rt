@@ -285,8 +285,8 @@ fn copy_goes_on_where_memory_is_refused(rt: HostRuntime) -> Result<(), Fail> {
     let gate = PacedGate::new(&[500, 0, 64], &[1, 0, 254, 0, 1, 3, 0]);
     let copying = copying.expect(&rt, "a copy");
     let course = resumed::<Brand, _, _>(&rt, Blank::new(PARTS), gate, copying, memory);
-    let course = course.map(|it| (it.amount, it.in_order, it.asked));
-    assert_eq!(rt; course, Some((320, true, (256, 256))));
+    let went = course.map(|it| (it.amount, it.in_order, it.asked));
+    assert_eq!(rt; went, Some((320, true, (256, 256))));
     Ok(())
 }
 
