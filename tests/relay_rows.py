@@ -1,5 +1,7 @@
 """Single rows of the running relay: ids, closes, drains, deadlines, idle times, listeners, limits. byte_conservation.py runs them."""
+import os
 import random
+import signal
 import socket
 import tempfile
 import time
@@ -97,6 +99,42 @@ def hello(checks, _):
         checks.expect("hello: what comes back", b"hello", client.recv(6, socket.MSG_WAITALL))
         status, totals, _ = served.relay.stop()
         checks.expect("hello: status and totals", (0, (5, 5)), (status, totals))
+
+
+def while_frozen(relay, act):
+    """Does something of which the relay hears all at once, as it goes on."""
+    relay.process.send_signal(signal.SIGSTOP)
+    os.waitpid(relay.process.pid, os.WUNTRACED)
+    try:
+        act()
+    finally:
+        relay.process.send_signal(signal.SIGCONT)
+
+
+def all_of(sock, wanted):
+    """What arrives of so many bytes before the end, or before the time is over."""
+    try:
+        return sock.recv(len(wanted), socket.MSG_WAITALL)
+    except OSError as fault:
+        return repr(fault)
+
+
+def read_stops(checks, _):
+    """A read that comes short has not always read all: what follows a stop goes through, though the poller tells of it once."""
+    with Served("never", "never") as served, open("/dev/null") as file:
+        (client, target), (other_client, other_target) = served.open(0), served.open(1)
+        passes(client, target), passes(other_client, other_target)
+        while_frozen(served.relay, lambda: [client.send(b"ab"), client.send(b"!", socket.MSG_OOB), client.send(b"cd")])
+        checks.expect("read stops: bytes behind urgent data", b"abcd", all_of(target, b"abcd"))
+        pieces = [(b"e", []), (b"f", [file.fileno()]), (b"g", []), (b"h", [file.fileno()]), (b"i", [])]
+        while_frozen(served.relay, lambda: [socket.send_fds(other_target, [it], fds) for it, fds in pieces])
+        checks.expect("read stops: bytes behind those with a descriptor", b"efghi", all_of(other_client, b"efghi"))
+        while_frozen(served.relay, lambda: [client.send(b"end"), client.shutdown(socket.SHUT_WR)])
+        checks.expect("read stops: the bytes ahead of an end", b"end", all_of(target, b"end"))
+        checks.expect("read stops: the end behind them", b"", all_of(target, b"x"))
+        while_frozen(served.relay, lambda: [target.send(b"last"), target.close()])
+        checks.expect("read stops: the last bytes of the target", b"last", all_of(client, b"last"))
+        checks.expect("read stops: its end", b"", all_of(client, b"x"))
 
 
 def ids(checks, _):
@@ -472,8 +510,8 @@ def sessions(checks, _):
 
 
 ROWS = [
-    hello, ids, many_ids, deadlines, lifted, idle, listeners, drains, drained_in_time, drained_listeners, descriptors, sessions,
-    pairs,
+    hello, read_stops, ids, many_ids, deadlines, lifted, idle, listeners, drains, drained_in_time, drained_listeners, descriptors,
+    sessions, pairs,
 ]
 
 

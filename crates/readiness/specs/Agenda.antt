@@ -1,18 +1,19 @@
 -- What a turn resumes, and in which order.
 use Rattle.std.specs.Prelude.{ℕ, List, ◌++◌, map}
 use Rattle.base_types.specs.declared.direction.Dir.{Dir}
-use Rattle.readiness.specs.Batch.{read_ready, write_ready}
+use Rattle.readiness.specs.Batch.{read_ready, write_ready, stop_ahead}
 use Rattle.readiness.specs.LoopToken.{side_in}
 use Rattle.readiness.specs.declared.batch.Ev.{Ev}
 use Rattle.readiness.specs.declared.agenda.Step.{Step}
 use Rattle.readiness.specs.declared.agenda.Why.{Why}
 use Rattle.readiness.specs.declared.agenda.Why.TheVariants.{Ready, Due, Named, Again}
 
--- an event resumes the task of its token, with the side in the token and what it makes ready
+-- an event resumes the task of its token, with the side in the token, what it makes ready, and
+-- whether reads stop somewhere ahead
 abbrev pub event_step : Ev → Step
 event_step event = record {
   token = event.token;
-  why = Ready (side_in event.token) (read_ready event) (write_ready event);
+  why = Ready (side_in event.token) (read_ready event) (write_ready event) (stop_ahead event);
 }
 
 -- a timer resumes the task whose token is its key

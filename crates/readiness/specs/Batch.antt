@@ -6,7 +6,7 @@ use Rattle.conntable.specs.declared.table.Entry.{Entry}
 use Rattle.conntable.specs.ConnTable.{id_with_token}
 use Rattle.mio.specs.declared.event.event.Event.{Event}
 use Rattle.mio.specs.Event.{event_token, is_readable, is_writable, is_error, is_read_closed}
-use Rattle.mio.specs.Event.{is_write_closed}
+use Rattle.mio.specs.Event.{is_write_closed, is_priority}
 use Rattle.readiness.specs.declared.batch.Ev.{Ev}
 use Rattle.readiness.specs.declared.batch.Ready.{Ready}
 
@@ -19,6 +19,7 @@ ev_of event = record {
   read_closed = is_read_closed event;
   write_closed = is_write_closed event;
   error = is_error event;
+  urgent = is_priority event;
 }
 
 -- a read may go on: there are bytes, or their end, or a fault
@@ -28,6 +29,10 @@ read_ready event = event.readable || (event.read_closed || event.error)
 -- a write may go on: there is room, or its end, or a fault
 abbrev pub write_ready : Ev → Bool
 write_ready event = event.writable || (event.write_closed || event.error)
+
+-- reads stop somewhere ahead: at the peer's end, at a fault, or at urgent data
+abbrev pub stop_ahead : Ev → Bool
+stop_ahead event = event.read_closed || (event.error || event.urgent)
 
 -- what an event makes ready of the entry with this id
 abbrev pub ready_of : Ev → ℕ → Ready

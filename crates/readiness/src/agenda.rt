@@ -11,8 +11,14 @@ use base_types::Dir;
 #[derive(Clone, Copy, Debug, PartialEq, Eq, Drop)]
 pub enum Why {
     /// The poller told of the descriptor on this side: a read or an accept may go on, a write,
-    /// both, or neither.
-    Ready { side: Side, read: bool, write: bool },
+    /// both, or neither. With a stop ahead a read may come short of what is there: it ends at the
+    /// peer's end, at a fault, or at urgent data.
+    Ready {
+        side: Side,
+        read: bool,
+        write: bool,
+        stop_ahead: bool,
+    },
     /// A timer came due, of the descriptor on this side and this direction or of the task itself
     /// under that token. The descriptor's cell has been ticked.
     Due { side: Side, dir: Dir, now: u64 },
@@ -41,6 +47,7 @@ pub fn step_of_event(event: Ev) -> Step
             side: side_of(event.token),
             read: event.readable || event.read_closed || event.error,
             write: event.writable || event.write_closed || event.error,
+            stop_ahead: event.read_closed || event.error || event.urgent,
         },
     }
 }

@@ -26,6 +26,8 @@ pub struct Ev {
     pub write_closed: bool,
     /// The socket has failed.
     pub error: bool,
+    /// There is urgent data, at which reads stop.
+    pub urgent: bool,
 }
 
 /// What may go on of an entry: a read or an accept, a write, both, or neither.
@@ -51,6 +53,7 @@ impl Ev {
             read_closed: event.is_read_closed(),
             write_closed: event.is_write_closed(),
             error: event.is_error(),
+            urgent: event.is_priority(),
         }
     }
 

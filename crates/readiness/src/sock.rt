@@ -53,11 +53,11 @@ impl Sock {
         ensures same { self.new ≡ self.old }
         ensures kinds { IfErr result (λ kind. kind ≡ DevKind.Other) }
     {
-        let both = Interest::READABLE | Interest::WRITABLE;
+        let all = Interest::READABLE | Interest::WRITABLE | Interest::PRIORITY;
         let token = Token(token as usize);
         or_other(match self {
-            Sock::Tcp(tcp) => registry.register(&mut tcp.stream, token, both),
-            Sock::Unix(unix) => registry.register(&mut unix.stream, token, both),
+            Sock::Tcp(tcp) => registry.register(&mut tcp.stream, token, all),
+            Sock::Unix(unix) => registry.register(&mut unix.stream, token, all),
         })
     }
 
@@ -80,6 +80,15 @@ impl Sock {
                 None => None,
             },
         }
+    }
+
+    /// Whether it is over TCP. Then a read that comes short has read all that was there, unless the
+    /// poller told of a stop ahead; over a Unix socket a read also stops behind bytes that carry a
+    /// descriptor.
+    pub fn is_tcp(&self) -> bool
+        ensures { result ≡ is_tcp self.now }
+    {
+        matches!(self, Sock::Tcp(_))
     }
 
     /// Whether the connection is made, also where it has ended in one direction since.

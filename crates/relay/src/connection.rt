@@ -5,7 +5,8 @@ ghost use Rattle.relay_core.specs.PairTasks.{HasToClose, MayGoOn};
 ghost use Rattle.relay_core.specs.declared.pair_tasks.PairNext.{PairNext};
 ghost use Rattle.relay_core.specs.declared.ways.Way.{Way};
 ghost use Rattle.relay_core.specs.PairTasks.{standing_of, standing_after, other_way};
-ghost use Rattle.relay.specs.Connection.{GoesOn, side_of_pair};
+ghost use Rattle.relay_core.specs.SourceState.{resumed};
+ghost use Rattle.relay.specs.Connection.{GoesOn, side_of_pair, stop_told};
 ghost use Rattle.relay.specs.Ending as spec;
 
 use crate::clock::{Moments, RelayClock};
@@ -16,7 +17,9 @@ use crate::task_gate::TaskGate;
 use base_types::Dir;
 use fd_descriptor::PollCell;
 use readiness::{RemoteAlarms, Side, Why};
-use relay_core::{Copying, Ended, LoopMemory, PairNext, PairTasks, Standing, Step, Way, Ways};
+use relay_core::{
+    Copying, Ended, LoopMemory, PairNext, PairTasks, Standing, Step, Way, Ways, source_of,
+};
 use relay_ledger::{Book, CarriedShare};
 use relay_log::ended::Ended as How;
 use relay_watch::connection_facts::ConnectionFacts;
@@ -134,6 +137,18 @@ fn pair_side(side: Side) -> relay_core::Side
     }
 }
 
+// Whether the poller told with this that reads of a way's source stop somewhere ahead.
+fn stop_ahead_of(way: Way, why: Why) -> bool
+    ensures { result ≡ stop_told why way }
+{
+    match why {
+        Why::Ready {
+            side, stop_ahead, ..
+        } => stop_ahead && pair_side(side) == source_of(way),
+        _ => false,
+    }
+}
+
 impl<U: Ledger, D: Ledger, R: Wait + Clock + Copy> Connection<U, D, R> {
     /// The cell of a side.
     pub(crate) fn cell(&self, side: Side) -> &PollCell {
@@ -149,7 +164,9 @@ impl<U: Ledger, D: Ledger, R: Wait + Clock + Copy> Connection<U, D, R> {
         ensures down { result.down ≡ true ↔ GoesOn self.now.tasks why Way.Down }
     {
         match why {
-            Why::Ready { side, read, write } => self.tasks.woken_by(pair_side(side), read, write),
+            Why::Ready {
+                side, read, write, ..
+            } => self.tasks.woken_by(pair_side(side), read, write),
             Why::Due { side, dir, now: _ } => match dir {
                 Dir::Read => self.tasks.woken_by(pair_side(side), true, false),
                 Dir::Write => self.tasks.woken_by(pair_side(side), false, true),
@@ -157,6 +174,18 @@ impl<U: Ledger, D: Ledger, R: Wait + Clock + Copy> Connection<U, D, R> {
             Why::Named => self.tasks.not_over(),
             Why::Again => self.tasks.ready(),
         }
+    }
+
+    // Has both ways know what its loop heard of their sources, also one that doesn't go on by it.
+    fn hear(&mut self, why: Why)
+        ensures up { self.new.up.gate.source_state
+            ≡ resumed self.old.up.gate.source_state (stop_told why Way.Up) }
+        ensures down { self.new.down.gate.source_state
+            ≡ resumed self.old.down.gate.source_state (stop_told why Way.Down) }
+        ensures tasks { self.new.tasks ≡ self.old.tasks }
+    {
+        self.up.gate.resume(stop_ahead_of(Way::Up, why));
+        self.down.gate.resume(stop_ahead_of(Way::Down, why));
     }
 
     /// Goes on by what its loop heard, and says what follows.
@@ -175,6 +204,7 @@ impl<U: Ledger, D: Ledger, R: Wait + Clock + Copy> Connection<U, D, R> {
             → self.new.tasks.down ≡ self.old.tasks.down }
     {
         let ways = self.ways(why);
+        self.hear(why);
         if ways.up {
             let step = self.up.go_on(rt, &shared.up, memory);
             self.note(Way::Up, &step);

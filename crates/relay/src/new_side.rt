@@ -4,13 +4,17 @@ ghost use Rattle.std.specs.Prelude.{◌≡◌, IfSome};
 ghost use Rattle.std.specs.Arc.{arc_value};
 ghost use Rattle.fd_descriptor.specs.CellKey.{key_of_cell};
 ghost use Rattle.fd_descriptor.specs.FdHandle.{key_of};
+ghost use Rattle.readiness.specs.Sockets.{is_tcp};
+ghost use Rattle.relay_core.specs.SourceState.{unknown_source};
 ghost use Rattle.relay_admin.specs.declared.admin.shown.ShownSide.{ShownSide};
 ghost use Rattle.relay.specs.Subject.{IsSideOf};
 
 use crate::entry::{Entry, Handle, Owner, Subject};
+use crate::task_gate::Source;
 use fd_descriptor::{FdHandle, PollCell};
 use readiness::{Poller, RemoteAlarms, Sock, SockRes};
 use relay_admin::ShownSide;
+use relay_core::SourceState;
 use relay_watch::connection_facts::ConnectionFacts;
 use std::alloc::Global;
 use std::sync::{Arc, Wait};
@@ -20,7 +24,7 @@ use std::sync::{Arc, Wait};
 #[derive(Drop)]
 pub(crate) struct NewSide<R: Wait + Copy> {
     pub(crate) cell: Arc<PollCell>,
-    pub(crate) reader: FdHandle<SockRes>,
+    pub(crate) source: Source,
     pub(crate) writer: FdHandle<SockRes>,
     pub(crate) alarms: RemoteAlarms<R>,
     pub(crate) entry: Entry,
@@ -61,12 +65,14 @@ pub(crate) fn new_side<R: Wait + Copy>(
     owner: Owner,
     subject: Subject,
 ) -> Option<NewSide<R>>
-    ensures key { IfSome result (λ side. key_of side.reader ≡ owner.token) }
+    ensures key { IfSome result (λ side. key_of side.source.handle ≡ owner.token) }
+    ensures source { IfSome result (λ side. side.source.state ≡ unknown_source (is_tcp sock)) }
     ensures writer { IfSome result (λ side. key_of side.writer ≡ owner.token) }
     ensures cell { IfSome result (λ side. key_of_cell (arc_value side.cell) ≡ owner.token) }
     ensures owner { IfSome result (λ side. side.entry.owner ≡ owner) }
     ensures subject { IfSome result (λ side. side.entry.subject ≡ subject) }
 {
+    let state = SourceState::new(sock.is_tcp());
     let made = new_handles(alloc, poller, sock, owner.token)?;
     let alarms = owner.alarms(rt)?;
     let NewHandles {
@@ -78,7 +84,10 @@ pub(crate) fn new_side<R: Wait + Copy>(
     let entry = Entry::new(Handle::Conn(handle), owner, subject);
     Some(NewSide {
         cell,
-        reader,
+        source: Source {
+            handle: reader,
+            state,
+        },
         writer,
         alarms,
         entry,

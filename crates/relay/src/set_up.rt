@@ -15,7 +15,7 @@ use crate::idle_time::IdleTime;
 use crate::loops::{ConnLoop, LoopHost};
 use crate::new_side::{NewSide, new_side, subjects};
 use crate::settled::settle;
-use crate::task_gate::TaskGate;
+use crate::task_gate::{Source, TaskGate};
 use base_types::Dir;
 use fd_descriptor::FdHandle;
 use readiness::{RemoteAlarms, Sock, SockRes, connect};
@@ -57,7 +57,7 @@ impl<U: Ledger, D: Ledger, R: Wait + Net + Clock + Copy> LoopHost<U, D, R> {
         inserted: &InsertedSides,
         alarms: RemoteAlarms<R>,
         idle_ms: Option<u32>,
-        source: FdHandle<SockRes>,
+        source: Source,
         target: FdHandle<SockRes>,
     ) -> Option<WayCopy<L, R>>
         requires both { length inserted.now ≡ 2 }
@@ -133,14 +133,14 @@ impl<U: Ledger, D: Ledger, R: Wait + Net + Clock + Copy> LoopHost<U, D, R> {
             inserted,
             client.alarms,
             idle_ms,
-            client.reader,
+            client.source,
             target.writer,
         )?;
         let mut down = self.way(
             inserted,
             target.alarms,
             idle_ms,
-            target.reader,
+            target.source,
             client.writer,
         )?;
         let (up_share, down_share) = self.open_shares()?;

@@ -1,8 +1,10 @@
 //! What a task copies through: two descriptors, of which one is read and the other written, by
 //! calls that give way where they would wait.
 
-ghost use Rattle.std.specs.Prelude.{◌≡◌, ◌≤◌, ⊤, length, true, Some, None, OnOk, is_some};
+ghost use Rattle.std.specs.Prelude.{◌≡◌, ◌≤◌, ◌↔◌, ⊤, length, true, Some, None};
+ghost use Rattle.std.specs.Prelude.{OnOk, IfOk, IfSome, IfNone, is_some};
 ghost use Rattle.rwloops.specs.TryNow.{IsPartOf};
+ghost use Rattle.relay_core.specs.SourceState.{resumed, ReadsAll};
 
 use crate::clock::Moments;
 use crate::idle_time::IdleTime;
@@ -10,14 +12,25 @@ use crate::setting::set_by;
 use base_types::Dir;
 use fd_descriptor::{Alarms, FdHandle, ReadUnderWay, WriteUnderWay};
 use readiness::SockRes;
-use relay_core::PollGate;
+use relay_core::{PollGate, SourceState};
 use rwloops::{Fault, Progress, WriteFault};
 use std::sync::Wait;
+
+/// What a task reads from: a descriptor, and what is known of its socket.
+#[derive(Drop)]
+pub(crate) struct Source {
+    pub(crate) handle: FdHandle<SockRes>,
+    pub(crate) state: SourceState,
+}
 
 /// Reads from `source` and writes to `target`. A call that would wait stays under way, with its
 /// half's lock, and goes on when it is made again: a drain lets it end. With an idle time each read
 /// and each write first sets the deadline of its own direction to that long from when it begins;
 /// where that is refused it is the answer, of a write with count 0.
+///
+/// A source that is known to be empty isn't read, and the answer is that it would block. A close, a
+/// drain or a deadline that ends the read is told where its way is resumed next, as after a read
+/// that did block.
 ///
 /// A handle isn't there exactly while its call is under way.
 #[derive(Drop)]
@@ -26,6 +39,7 @@ pub(crate) struct TaskGate<R: Wait + Copy, C, A> {
     idle: IdleTime<C>,
     alarms: A,
     source: Option<FdHandle<SockRes>>,
+    source_state: SourceState,
     target: Option<FdHandle<SockRes>>,
     reading: Option<ReadUnderWay<SockRes, R>>,
     writing: Option<WriteUnderWay<SockRes, R>>,
@@ -37,10 +51,11 @@ impl<R: Wait + Copy, C: Moments, A: Alarms> TaskGate<R, C, A> {
         rt: R,
         idle: IdleTime<C>,
         alarms: A,
-        source: FdHandle<SockRes>,
+        source: Source,
         target: FdHandle<SockRes>,
     ) -> TaskGate<R, C, A>
-        ensures source { result.source ≡ Some source }
+        ensures source { result.source ≡ Some source.handle }
+        ensures state { result.source_state ≡ source.state }
         ensures target { result.target ≡ Some target }
         ensures idle { result.idle ≡ idle }
     {
@@ -48,16 +63,30 @@ impl<R: Wait + Copy, C: Moments, A: Alarms> TaskGate<R, C, A> {
             rt,
             idle,
             alarms,
-            source: Some(source),
+            source: Some(source.handle),
+            source_state: source.state,
             target: Some(target),
             reading: None,
             writing: None,
         }
     }
 
+    /// The way of this gate is resumed; `stop_ahead` is what the poller told of its source, where it
+    /// is resumed for that.
+    pub(crate) fn resume(&mut self, stop_ahead: bool)
+        ensures state { self.new.source_state ≡ resumed self.old.source_state stop_ahead }
+        ensures source { self.new.source ≡ self.old.source }
+        ensures target { self.new.target ≡ self.old.target }
+        ensures reading { self.new.reading ≡ self.old.reading }
+        ensures writing { self.new.writing ≡ self.old.writing }
+    {
+        self.source_state.resume(stop_ahead);
+    }
+
     /// Begins a read, where none is under way.
     pub(crate) fn begin_read(&mut self) -> Result<(), Fault>
         ensures begun { OnOk result (is_some self.new.reading ≡ true) }
+        ensures state { self.new.source_state ≡ self.old.source_state }
         ensures target { self.new.target ≡ self.old.target }
         ensures writing { self.new.writing ≡ self.old.writing }
         ensures idle { self.new.idle ≡ self.old.idle }
@@ -182,14 +211,25 @@ where
 
     ghost blocked = { λ _ _. ⊤ };
 
-    fn poll_read(&mut self, buf: &mut [u8]) -> Option<Result<usize, Fault>> {
+    fn poll_read(&mut self, buf: &mut [u8]) -> Option<Result<usize, Fault>>
+        ensures noted { IfSome result (λ answer. IfOk answer (λ count.
+            self.new.source_state.is_empty ≡ true
+            ↔ ReadsAll self.old.source_state (length buf.old) count)) }
+        ensures unread { IfNone result (self.new.source_state ≡ self.old.source_state) }
+    {
         if let Err(fault) = self.begin_read() {
             return Some(Err(fault));
+        }
+        if self.source_state.is_empty {
+            return None;
         }
         let Some(reading) = &mut self.reading else {
             return Some(Err(Fault::Closed));
         };
         let answer = reading.try_read(buf)?;
+        if let Ok(count) = answer {
+            self.source_state.note_read(buf.len(), count);
+        }
         self.end_read();
         Some(answer)
     }

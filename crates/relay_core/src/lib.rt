@@ -20,6 +20,7 @@ mod placing;
 mod poll_accept;
 mod poll_gate;
 mod resuming;
+mod source_state;
 mod waiting;
 mod ways;
 
@@ -38,4 +39,5 @@ pub use placing::{loop_of, place_of_pair};
 pub use poll_accept::PollAcceptGate;
 pub use poll_gate::PollGate;
 pub use resuming::{Copying, TURNS_IN_A_ROW};
+pub use source_state::SourceState;
 pub use ways::{Side, Way, deadline_side, sink_of, source_of};
