@@ -7,4 +7,5 @@ pub mod Pair
 pub mod PairLimit
 pub mod PairTasks
 pub mod Placing
+pub mod SourceState
 pub mod Laws
