@@ -211,3 +211,14 @@ exit
 # fails | loops | -DSTOP_ONCE_QUIET -DNOTHING_IS_REFUSED -DEVENTS=0 -DLOOP_FAILS -DEND_WAKES_NO_ADMIN | the end wakes no admin thread
 # fails | loops | -DSTOP_ONCE_QUIET -DNOTHING_IS_REFUSED -DEVENTS=0 -DMAIN_FAILS -DADMIN_IS_WOKEN_BEFORE_STOP_IS_SET | the admin thread is woken before stop is set
 # fails | loops | -DSTOP_ONCE_QUIET -DNOTHING_IS_REFUSED -DEVENTS=0 -DLOOP_FAILS -DADMIN_LOOKS_NOT_AT_STOP | a woken admin thread doesn't look whether the relay has stopped
+#
+# Which reads a task leaves out.
+# sound | short_reads | | bytes, urgent data and an end over TCP
+# sound | short_reads | -DOVER_UNIX | bytes, a descriptor and an end over a Unix socket
+# fails | short_reads | -DFULL_READ_IS_THE_LAST | a read that filled its room is taken for the last
+# fails | short_reads | -DSHORT_READ_AT_A_STOP_IS_THE_LAST | a short read is taken for the last though a stop is ahead
+# fails | short_reads | -DOVER_UNIX -DSHORT_READ_OVER_UNIX_IS_THE_LAST | a short read over a Unix socket is taken for the last
+# fails | short_reads | -DPOLLER_TELLS_NO_END | the poller doesn't tell that the peer's end is ahead
+# fails | short_reads | -DPOLLER_TELLS_NO_URGENT_DATA | the poller doesn't tell of urgent data
+# fails | short_reads | -DSTOP_AHEAD_IS_FORGOTTEN | what was told of a stop holds for one turn alone
+# fails | short_reads | -DRESUMED_SOURCE_STAYS_EMPTY | a source that was empty isn't read when its task is resumed

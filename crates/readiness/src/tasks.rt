@@ -51,8 +51,9 @@ pub trait Host {
 
     /// Has a task go on, and says what came of it. It must not wait.
     ///
-    /// A task answers `Waits` only after a try that would block, since the poller tells edges. It
-    /// bounds what it does at a time, and answers `Again` where it could do more.
+    /// A task answers `Waits` only after a try that would block, since the poller tells edges; a
+    /// read over TCP that came short will do, where the poller has told of no stop ahead. It bounds
+    /// what it does at a time, and answers `Again` where it could do more.
     fn resume(&mut self, task: &mut Self::Task, why: Why) -> Turn
         ensures told { (calls : List (HostCall Self.Task)) → tells self.old calls
             → tells self.new (Resumed task.old why result task.new ∷ calls) };
