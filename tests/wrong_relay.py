@@ -245,6 +245,8 @@ class Relay:
                 if FAULT == "drain_drops_bytes_it_counts" and sink.drained:
                     with self.lock:
                         self.total[way] += len(data)
+                while left_behind(source.sock, data) and not self.stopped:
+                    time.sleep(0.05)
                 while FAULT == "stalls_when_full" and self.pairs >= MOST_PAIRS and not self.stopped:
                     time.sleep(0.05)
                 for count in sink.write(spoiled(data)):
@@ -412,6 +414,16 @@ class Relay:
 def endpoint(text):
     host, port = text.split(":")
     return host, int(port)
+
+
+def left_behind(sock, data):
+    """Whether a wrong relay leaves what is there already, behind a read that came short."""
+    if len(data) == BUFFER or FAULT not in ("leaves_bytes_behind_a_stop", "leaves_the_end_behind_bytes"):
+        return False
+    try:
+        return (sock.recv(1, socket.MSG_PEEK) == b"") == (FAULT == "leaves_the_end_behind_bytes")
+    except OSError:
+        return False
 
 
 def spoiled(data):
