@@ -159,6 +159,7 @@ impl<R: Wait + Copy, C: Moments, A: Alarms> TaskGate<R, C, A> {
 
     fn end_read(&mut self)
         ensures ended { self.new.reading ≡ None }
+        ensures state { self.new.source_state ≡ self.old.source_state }
         ensures target { self.new.target ≡ self.old.target }
         ensures writing { self.new.writing ≡ self.old.writing }
     {
@@ -227,10 +228,10 @@ where
             return Some(Err(Fault::Closed));
         };
         let answer = reading.try_read(buf)?;
+        self.end_read();
         if let Ok(count) = answer {
             self.source_state.note_read(buf.len(), count);
         }
-        self.end_read();
         Some(answer)
     }
 
