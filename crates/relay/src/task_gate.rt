@@ -1,7 +1,7 @@
 //! What a task copies through: two descriptors, of which one is read and the other written, by
 //! calls that give way where they would wait.
 
-ghost use Rattle.std.specs.Prelude.{◌≡◌, ◌≤◌, ◌↔◌, ⊤, length, true, Some, None};
+ghost use Rattle.std.specs.Prelude.{◌≡◌, ◌≤◌, ◌<◌, ◌↔◌, ⊤, length, true, Some, None};
 ghost use Rattle.std.specs.Prelude.{OnOk, IfOk, IfSome, IfNone, is_some};
 ghost use Rattle.rwloops.specs.TryNow.{IsPartOf};
 ghost use Rattle.relay_core.specs.SourceState.{resumed, ReadsAll};
@@ -178,6 +178,34 @@ impl<R: Wait + Copy, C: Moments, A: Alarms> TaskGate<R, C, A> {
         }
     }
 
+    // Begins a read, where none is under way, tries it unless nothing is left there, and notes what
+    // it gave.
+    fn read(&mut self, buf: &mut [u8]) -> Option<Result<usize, Fault>>
+        ensures within { IfSome result (λ answer. IfOk answer (λ count. count ≤ length buf.old)) }
+        ensures some { 0 < length buf.old → IfSome result (λ answer. IfOk answer (λ count.
+            0 < count)) }
+        ensures noted { IfSome result (λ answer. IfOk answer (λ count.
+            self.new.source_state.is_empty ≡ true
+            ↔ ReadsAll self.old.source_state (length buf.old) count)) }
+        ensures unread { IfNone result (self.new.source_state ≡ self.old.source_state) }
+    {
+        if let Err(fault) = self.begin_read() {
+            return Some(Err(fault));
+        }
+        if self.source_state.is_empty {
+            return None;
+        }
+        let Some(reading) = &mut self.reading else {
+            return Some(Err(Fault::Closed));
+        };
+        let answer = reading.try_read(buf)?;
+        self.end_read();
+        if let Ok(count) = answer {
+            self.source_state.note_read(buf.len(), count);
+        }
+        Some(answer)
+    }
+
     // Begins a write, where none is under way, and tries it.
     fn try_write(&mut self, bytes: &[u8]) -> Progress
         ensures part { IsPartOf (length bytes.now) result }
@@ -212,27 +240,8 @@ where
 
     ghost blocked = { λ _ _. ⊤ };
 
-    fn poll_read(&mut self, buf: &mut [u8]) -> Option<Result<usize, Fault>>
-        ensures noted { IfSome result (λ answer. IfOk answer (λ count.
-            self.new.source_state.is_empty ≡ true
-            ↔ ReadsAll self.old.source_state (length buf.old) count)) }
-        ensures unread { IfNone result (self.new.source_state ≡ self.old.source_state) }
-    {
-        if let Err(fault) = self.begin_read() {
-            return Some(Err(fault));
-        }
-        if self.source_state.is_empty {
-            return None;
-        }
-        let Some(reading) = &mut self.reading else {
-            return Some(Err(Fault::Closed));
-        };
-        let answer = reading.try_read(buf)?;
-        self.end_read();
-        if let Ok(count) = answer {
-            self.source_state.note_read(buf.len(), count);
-        }
-        Some(answer)
+    fn poll_read(&mut self, buf: &mut [u8]) -> Option<Result<usize, Fault>> {
+        self.read(buf)
     }
 
     // A write of which a part was taken stays under way: the rest is offered to the same call.
