@@ -21,7 +21,11 @@ pub enum Why {
     },
     /// A timer came due, of the descriptor on this side and this direction or of the task itself
     /// under that token. The descriptor's cell has been ticked.
-    Due { side: Side, dir: Dir, now: u64 },
+    Due {
+        side: Side,
+        dir: Dir,
+        now: u64,
+    },
     /// Somebody named the task, after doing something to it.
     Named,
     /// It gave way in the turn before.

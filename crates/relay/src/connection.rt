@@ -143,7 +143,9 @@ fn stop_ahead_of(way: Way, why: Why) -> bool
 {
     match why {
         Why::Ready {
-            side, stop_ahead, ..
+            side,
+            stop_ahead,
+            ..
         } => stop_ahead && pair_side(side) == source_of(way),
         _ => false,
     }
@@ -165,7 +167,10 @@ impl<U: Ledger, D: Ledger, R: Wait + Clock + Copy> Connection<U, D, R> {
     {
         match why {
             Why::Ready {
-                side, read, write, ..
+                side,
+                read,
+                write,
+                ..
             } => self.tasks.woken_by(pair_side(side), read, write),
             Why::Due { side, dir, now: _ } => match dir {
                 Dir::Read => self.tasks.woken_by(pair_side(side), true, false),

@@ -58,7 +58,10 @@ impl Ledger {
 
     fn note(&mut self, number: usize, why: Why) {
         if let Why::Ready {
-            side, read, write, ..
+            side,
+            read,
+            write,
+            ..
         } = why
         {
             self.both_ready = self.both_ready.saturating_add((read && write) as u32);
