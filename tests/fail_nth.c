@@ -8,6 +8,7 @@
 //
 // "[failed]" on standard error says that a call failed, once. A call that fails as if nothing were ready (EAGAIN, ENOTCONN) has the poller told
 // of the socket once more, as the system tells of what becomes ready later: a poller of edges would wait for ever else.
+// So has a read or a write that took one byte: by epoll(7) one that comes short has used up what was there, and what is left came later.
 // A failed accept takes its connection off the queue where the error says that it is gone.
 #define _GNU_SOURCE
 #include <dlfcn.h>
@@ -115,7 +116,12 @@ static int fail(int fd) {
         if (is_failed(#name, CALLER)) {                                                                                \
             if (error != 0)                                                                                            \
                 return error < 0 ? (ssize_t)count : fail(fd);                                                          \
-            count = count > 1 && count != EVENT_BYTES ? 1 : count;                                                     \
+            if (count > 1 && count != EVENT_BYTES) {                                                                   \
+                count = 1;                                                                                             \
+                ssize_t moved = it(__VA_ARGS__);                                                                       \
+                tell_again(fd);                                                                                        \
+                return moved;                                                                                          \
+            }                                                                                                          \
         }                                                                                                              \
         return it(__VA_ARGS__);                                                                                        \
     }

@@ -7,7 +7,7 @@ single  each call fails once, at its Nth time, with each error that its manual n
         has no such call; past 12 in growing steps, with --whole in steps of one.
 bursts  several calls in a row fail.
 storms  every call is interrupted so many times before it is served.
-short   every read and write moves one byte.
+short   every read and write moves one byte, and what is left comes later.
 planted calls that lie, as a relay would that loses or invents bytes, or leaves a descriptor: each has to be found.
 
 A fault before `listening 2` ends the relay with status 3 and one line. A later one costs one connection, or one admin session. Everybody
