@@ -1,5 +1,6 @@
 -- The tasks of a loop, as callers see them.
-use Rattle.std.specs.Prelude.{◌≡◌, ◌≢◌, ◌==◌, ◌<◌, ◌≤◌, ◌+◌, ℕ, List, Option, Some, None, if◌then◌else◌}
+use Rattle.std.specs.Prelude.{◌≡◌, ◌≢◌, ◌⊎◌, ◌==◌, ◌<◌, ◌≤◌, ◌+◌, ℕ, Bool, true, List, Contains}
+use Rattle.std.specs.Prelude.{Option, Some, None, if◌then◌else◌}
 use Rattle.slab.specs.Slab.{Slab, get, slab_len, HasRoomFor}
 use Rattle.readiness.specs.LoopToken.{place_in, serial_in, place_at}
 use Rattle.readiness.specs.declared.loop_token.Place.{Place}
@@ -14,10 +15,23 @@ module _ {T : Type 0} where
   task_with serial None = None
   task_with serial (Some slot) = if slot.serial == serial then Some slot.task else None
 
+  -- whether the task in a slot gave way since it came last, if it has this serial
+  abbrev pub gave_way_with : ℕ → Option (Slot T) → Option Bool
+  gave_way_with serial None = None
+  gave_way_with serial (Some slot) = if slot.serial == serial then Some slot.gave_way else None
+
 module _ {T A : Type 0} where
   -- the task that a token names
   abbrev pub task_in : Tasks T A → ℕ → Option T
   task_in tasks token = task_with (serial_in token) (get tasks.slots (place_in token))
+
+  -- whether the task that a token names gave way since it came last
+  abbrev pub gave_way_in : Tasks T A → ℕ → Option Bool
+  gave_way_in tasks token = gave_way_with (serial_in token) (get tasks.slots (place_in token))
+
+  -- what a token names comes in the next turn: it is listed, or all tasks come
+  abbrev pub ComesNext : Tasks T A → ℕ → Type 0
+  ComesNext tasks token = (tasks.all_again ≡ true) ⊎ Contains tasks.again.items token
 
   -- how many tasks there are
   abbrev pub task_count : Tasks T A → ℕ

@@ -2,10 +2,12 @@
 //! threads tell. Why no wake-up is lost stands at the remote.
 
 ghost use Rattle.std.specs.Prelude.{◌≡◌, ◌≢◌, ◌⊎◌, ◌+◌, ℕ, None, IfOk, OnOk, IfErr, OnErr, IsOk};
+ghost use Rattle.std.specs.Prelude.{Some, false};
 ghost use Rattle.rwloops.specs.declared.fault.Fault.{Fault};
 ghost use Rattle.rwloops.specs.declared.outcome.DevKind.{DevKind};
 ghost use Rattle.readiness.specs.Tasks.{HasPlace, SameTasks, IsPut, RefusesPlace};
 ghost use Rattle.readiness.specs.Tasks.{task_in, next_place, next_serial, task_count};
+ghost use Rattle.readiness.specs.Tasks.{gave_way_in, ComesNext};
 ghost use Rattle.std.specs.Arc.{arc_value};
 ghost use Rattle.readiness.specs.LoopToken.{place_in};
 ghost use Rattle.readiness.specs.Agenda.{steps_of};
@@ -138,6 +140,8 @@ impl<T, A: Allocator> EventLoop<T, A> {
         ensures given { IfOk result (λ place. place ≡ next_place (tasks_of self.old)) }
         ensures put { IfOk result (λ place.
             IsPut (tasks_of self.old) (tasks_of self.new) place task) }
+        ensures stays { IfOk result (λ place.
+            gave_way_in (tasks_of self.new) place.first ≡ Some false) }
         ensures serial { OnOk result
             (next_serial (tasks_of self.new) ≡ next_serial (tasks_of self.old) + 1) }
         ensures returned { IfErr result (λ other. other ≡ task) }
@@ -161,6 +165,8 @@ impl<T, A: Allocator> EventLoop<T, A> {
     /// Has the task that a token names be resumed in the next turn, as one that gave way.
     pub fn again(&mut self, token: u64)
         ensures kept { SameTasks (tasks_of self.old) (tasks_of self.new) }
+        ensures comes { gave_way_in (tasks_of self.old) token ≡ Some false
+            → ComesNext (tasks_of self.new) token }
     {
         self.tasks.give_way(token);
     }

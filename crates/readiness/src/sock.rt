@@ -4,6 +4,7 @@
 ghost use Rattle.std.specs.Prelude.{◌≡◌, IfErr, IfSome, IfOk, true};
 ghost use Rattle.std.specs.Option.{option_map};
 ghost use Rattle.std.specs.Path.{path_bytes};
+ghost use Rattle.mio.specs.Interest.{is_readable, is_writable, is_priority};
 ghost use Rattle.readiness.specs.Peers.{ipv4_kept, path_kept};
 ghost use Rattle.readiness.specs.Sockets.{is_tcp, is_tcp_listener, is_tcp_addr, peer_of};
 ghost use Rattle.readiness.specs.Sockets.{tcp_sock, unix_stream_in, path_in};
@@ -48,16 +49,25 @@ pub(crate) fn or_other(done: io::Result<()>) -> Result<(), DevKind>
     }
 }
 
+// What a connection is watched for: what can be read and written, and urgent data, at which a read
+// over TCP stops.
+fn watched() -> Interest
+    ensures reads { is_readable result ≡ true }
+    ensures writes { is_writable result ≡ true }
+    ensures urgent { is_priority result ≡ true }
+{
+    Interest::READABLE | Interest::WRITABLE | Interest::PRIORITY
+}
+
 impl Sock {
     pub(crate) fn register(&mut self, registry: &Registry, token: u64) -> Result<(), DevKind>
         ensures same { self.new ≡ self.old }
         ensures kinds { IfErr result (λ kind. kind ≡ DevKind.Other) }
     {
-        let all = Interest::READABLE | Interest::WRITABLE | Interest::PRIORITY;
         let token = Token(token as usize);
         or_other(match self {
-            Sock::Tcp(tcp) => registry.register(&mut tcp.stream, token, all),
-            Sock::Unix(unix) => registry.register(&mut unix.stream, token, all),
+            Sock::Tcp(tcp) => registry.register(&mut tcp.stream, token, watched()),
+            Sock::Unix(unix) => registry.register(&mut unix.stream, token, watched()),
         })
     }
 

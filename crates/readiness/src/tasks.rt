@@ -4,9 +4,10 @@
 //! has its token in `again` once; a token whose task is gone is passed over when its turn comes.
 
 ghost use Rattle.std.specs.Prelude.{◌≡◌, ◌≢◌, ◌+◌, ℕ, None, IfOk, OnOk, IfErr, OnErr, IfNone};
-ghost use Rattle.std.specs.Prelude.{IsOk, is_some};
+ghost use Rattle.std.specs.Prelude.{IsOk, is_some, not, Some, false};
 ghost use Rattle.readiness.specs.Tasks.{task_in, next_place, next_serial, HasPlace, SameTasks};
 ghost use Rattle.readiness.specs.Tasks.{IsPut, RefusesPlace, HasNumbers, task_count};
+ghost use Rattle.readiness.specs.Tasks.{gave_way_in, ComesNext};
 ghost use Rattle.readiness.specs.LoopToken.{place_in};
 
 use crate::agenda::Why;
@@ -137,6 +138,7 @@ impl<T, A: Allocator> Tasks<T, A> {
     pub(crate) fn put(&mut self, task: T) -> Result<Place, T>
         ensures given { IfOk result (λ place. place ≡ next_place self.old) }
         ensures put { IfOk result (λ place. IsPut self.old self.new place task) }
+        ensures stays { IfOk result (λ place. gave_way_in self.new place.first ≡ Some false) }
         ensures serial { OnOk result (next_serial self.new ≡ next_serial self.old + 1) }
         ensures returned { IfErr result (λ other. other ≡ task) }
         ensures kept { OnErr result (SameTasks self.old self.new) }
@@ -197,6 +199,7 @@ impl<T, A: Allocator> Tasks<T, A> {
     // before, or there is no such task.
     fn mark(&mut self, token: u64, gave_way: bool) -> bool
         ensures kept { SameTasks self.old self.new }
+        ensures unsaid { gave_way_in self.old token ≡ Some (not gave_way) → result ≡ false }
     {
         if let Some(slot) = self.slots.get_mut(place_of(token)) {
             if slot.serial == serial_of(token) && slot.gave_way != gave_way {
@@ -210,6 +213,7 @@ impl<T, A: Allocator> Tasks<T, A> {
     /// Has the task that a token names come again in the next turn, once.
     pub(crate) fn give_way(&mut self, token: u64)
         ensures kept { SameTasks self.old self.new }
+        ensures comes { gave_way_in self.old token ≡ Some false → ComesNext self.new token }
     {
         if !self.mark(token, true) && self.again.push(token).is_err() {
             self.all_again = true;

@@ -207,6 +207,11 @@ impl<U: Ledger, D: Ledger, R: Wait + Clock + Copy> Connection<U, D, R> {
             → self.new.tasks.up ≡ self.old.tasks.up }
         ensures down { (GoesOn self.old.tasks why Way.Down → ⊥)
             → self.new.tasks.down ≡ self.old.tasks.down }
+        ensures up_heard { (GoesOn self.old.tasks why Way.Up → ⊥) → self.new.up.gate.source_state
+            ≡ resumed self.old.up.gate.source_state (stop_told why Way.Up) }
+        ensures down_heard { (GoesOn self.old.tasks why Way.Down → ⊥)
+            → self.new.down.gate.source_state
+            ≡ resumed self.old.down.gate.source_state (stop_told why Way.Down) }
     {
         let ways = self.ways(why);
         self.hear(why);
@@ -227,6 +232,8 @@ impl<U: Ledger, D: Ledger, R: Wait + Clock + Copy> Connection<U, D, R> {
         ensures kept { standing_of self.new.tasks (other_way way)
             ≡ standing_of self.old.tasks (other_way way) }
         ensures failure { self.new.failure ≡ spec.failure_after self.old.failure step.now }
+        ensures up { self.new.up ≡ self.old.up }
+        ensures down { self.new.down ≡ self.old.down }
     {
         if self.failure.is_none() {
             self.failure = failure_in(step);

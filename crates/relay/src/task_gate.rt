@@ -1,7 +1,7 @@
 //! What a task copies through: two descriptors, of which one is read and the other written, by
 //! calls that give way where they would wait.
 
-ghost use Rattle.std.specs.Prelude.{◌≡◌, ◌≤◌, ◌<◌, ◌↔◌, ⊤, length, true, Some, None};
+ghost use Rattle.std.specs.Prelude.{◌≡◌, ◌≤◌, ◌<◌, ◌↔◌, ⊤, length, true, false, Some, None};
 ghost use Rattle.std.specs.Prelude.{OnOk, IfOk, IfSome, IfNone, is_some};
 ghost use Rattle.rwloops.specs.TryNow.{IsPartOf};
 ghost use Rattle.relay_core.specs.SourceState.{resumed, ReadsAll};
@@ -188,6 +188,8 @@ impl<R: Wait + Copy, C: Moments, A: Alarms> TaskGate<R, C, A> {
             self.new.source_state.is_empty ≡ true
             ↔ ReadsAll self.old.source_state (length buf.old) count)) }
         ensures unread { IfNone result (self.new.source_state ≡ self.old.source_state) }
+        ensures empty { IfSome result (λ answer. OnOk answer
+            (self.old.source_state.is_empty ≡ false)) }
     {
         if let Err(fault) = self.begin_read() {
             return Some(Err(fault));
