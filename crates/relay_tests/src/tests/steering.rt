@@ -47,7 +47,9 @@ fn a_deadline_ends_a_pair_and_one_that_is_lifted_lets_a_listener_accept(rt: Host
     let thread = thread::spawn(&rt, move || served(rt, &rules, &socket));
     let thread = thread.expect(&rt, "thread");
     let running = Running { thread, admin };
-    holds!(rt; running.answers(&rt, "deadline 1 0\n", "ok\n"));
+    holds!(rt; running.answers(&rt, "deadline 1 30\n", "ok\n"));
+    // By then the listener's deadline has come.
+    thread::sleep(&rt, Duration::from_millis(1_000));
     let mut client = reach(&rt, port).expect(&rt, "nobody listens");
     // A thousand faults that follow each other within a millisecond would be over by now.
     thread::sleep(&rt, Duration::from_millis(1_200));
