@@ -33,6 +33,10 @@ module _ {T A : Type 0} where
   abbrev pub ComesNext : Tasks T A → ℕ → Type 0
   ComesNext tasks token = (tasks.all_again ≡ true) ⊎ Contains tasks.again.items token
 
+  -- what was to come in the next turn still is
+  abbrev pub StillCome : Tasks T A → Tasks T A → Type 0
+  StillCome old new = (token : ℕ) → ComesNext old token → ComesNext new token
+
   -- how many tasks there are
   abbrev pub task_count : Tasks T A → ℕ
   task_count tasks = slab_len tasks.slots

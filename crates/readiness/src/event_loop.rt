@@ -7,7 +7,7 @@ ghost use Rattle.rwloops.specs.declared.fault.Fault.{Fault};
 ghost use Rattle.rwloops.specs.declared.outcome.DevKind.{DevKind};
 ghost use Rattle.readiness.specs.Tasks.{HasPlace, SameTasks, IsPut, RefusesPlace};
 ghost use Rattle.readiness.specs.Tasks.{task_in, next_place, next_serial, task_count};
-ghost use Rattle.readiness.specs.Tasks.{gave_way_in, ComesNext};
+ghost use Rattle.readiness.specs.Tasks.{gave_way_in, ComesNext, StillCome};
 ghost use Rattle.std.specs.Arc.{arc_value};
 ghost use Rattle.readiness.specs.LoopToken.{place_in};
 ghost use Rattle.readiness.specs.Agenda.{steps_of};
@@ -82,6 +82,7 @@ impl<T, A: Allocator + Copy> EventLoop<T, A> {
         ensures unused { IfOk result (λ place. (token : ℕ) →
             place_in token ≡ place_in place.first → task_in (tasks_of self.new) token ≡ None) }
         ensures kept { SameTasks (tasks_of self.old) (tasks_of self.new) }
+        ensures come { StillCome (tasks_of self.old) (tasks_of self.new) }
         ensures why { IfErr result (RefusesPlace (tasks_of self.old)) }
     {
         let place = self.tasks.vacant()?;
@@ -142,6 +143,7 @@ impl<T, A: Allocator> EventLoop<T, A> {
             IsPut (tasks_of self.old) (tasks_of self.new) place task) }
         ensures stays { IfOk result (λ place.
             gave_way_in (tasks_of self.new) place.first ≡ Some false) }
+        ensures come { StillCome (tasks_of self.old) (tasks_of self.new) }
         ensures serial { OnOk result
             (next_serial (tasks_of self.new) ≡ next_serial (tasks_of self.old) + 1) }
         ensures returned { IfErr result (λ other. other ≡ task) }
@@ -158,6 +160,7 @@ impl<T, A: Allocator> EventLoop<T, A> {
         ensures others { (other : ℕ) → place_in other ≢ place_in token →
             task_in (tasks_of self.new) other ≡ task_in (tasks_of self.old) other }
         ensures serial { next_serial (tasks_of self.new) ≡ next_serial (tasks_of self.old) }
+        ensures come { StillCome (tasks_of self.old) (tasks_of self.new) }
     {
         self.tasks.take(token)
     }
@@ -167,6 +170,7 @@ impl<T, A: Allocator> EventLoop<T, A> {
         ensures kept { SameTasks (tasks_of self.old) (tasks_of self.new) }
         ensures comes { gave_way_in (tasks_of self.old) token ≡ Some false
             → ComesNext (tasks_of self.new) token }
+        ensures others { StillCome (tasks_of self.old) (tasks_of self.new) }
     {
         self.tasks.give_way(token);
     }
@@ -188,8 +192,9 @@ impl<T, A: Allocator> EventLoop<T, A> {
     {
         let all_again = self.tasks.begin_round(&mut self.round);
         let cells = &mut CellsThemselves { rt };
-        self.tasks
-            .resume_due(cells, host, self.remote.due(rt, now).as_slice(), now);
+        if let Some(due) = self.remote.due(rt, now) {
+            self.tasks.resume_due(cells, host, due.as_slice(), now);
+        }
         let gave_way = all_again || !self.round.is_empty() || self.tasks.gave_way();
         let heard = self
             .poller

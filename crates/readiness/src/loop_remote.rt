@@ -108,12 +108,12 @@ impl<A: Allocator> LoopRemote<A> {
         self.told.lock(rt).take(taken)
     }
 
-    /// Takes out the timers that are due.
-    pub(crate) fn due<R: Wait>(&self, rt: &R, now: u64) -> ArrayVec<(u64, Dir), 256> {
+    /// Takes out the timers that are due, if one is: a list is 4 KiB, too much to clear at each turn.
+    pub(crate) fn due<R: Wait>(&self, rt: &R, now: u64) -> Option<ArrayVec<(u64, Dir), 256>> {
         let mut timers = self.timers.lock(rt);
         match timers.next() {
-            Some(at) if at <= now => timers.due(now),
-            _ => ArrayVec::new(),
+            Some(at) if at <= now => Some(timers.due(now)),
+            _ => None,
         }
     }
 }

@@ -1,6 +1,6 @@
 //! How a loop's tasks go on: steps, one after the other.
 
-ghost use Rattle.std.specs.Prelude.{◌≡◌, ℕ, [], ◌∷◌, None, IfSome, is_some, map};
+ghost use Rattle.std.specs.Prelude.{◌≡◌, ◌↔◌, ℕ, [], ◌∷◌, None, IfSome, is_some, map, false};
 ghost use Rattle.base_types.specs.declared.direction.Dir.{Dir};
 ghost use Rattle.rwloops.specs.Waits.{Tells};
 ghost use Rattle.readiness.specs.Agenda.{event_step, due_step, step_for};
@@ -107,6 +107,8 @@ impl<T, A: Allocator> Tasks<T, A> {
     pub(crate) fn begin_round(&mut self, round: &mut Vec<u64, A>) -> bool
         ensures tokens { round.new.items ≡ gone_again self.old }
         ensures left { gone_again self.new ≡ [] }
+        ensures all { result ≡ self.old.all_again }
+        ensures over { self.new.all_again ≡ false }
         ensures kept { SameTasks self.old self.new }
     {
         round.clear();
@@ -115,7 +117,10 @@ impl<T, A: Allocator> Tasks<T, A> {
     }
 
     /// Whether a task gave way since the round began.
-    pub(crate) fn gave_way(&self) -> bool {
+    pub(crate) fn gave_way(&self) -> bool
+        ensures { result ≡ false
+            ↔ (self.now.all_again ≡ false) × (gone_again self.now ≡ []) }
+    {
         self.all_again || !self.again.is_empty()
     }
 

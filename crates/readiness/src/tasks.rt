@@ -7,7 +7,7 @@ ghost use Rattle.std.specs.Prelude.{◌≡◌, ◌≢◌, ◌+◌, ℕ, None, If
 ghost use Rattle.std.specs.Prelude.{IsOk, is_some, not, Some, false};
 ghost use Rattle.readiness.specs.Tasks.{task_in, next_place, next_serial, HasPlace, SameTasks};
 ghost use Rattle.readiness.specs.Tasks.{IsPut, RefusesPlace, HasNumbers, task_count};
-ghost use Rattle.readiness.specs.Tasks.{gave_way_in, ComesNext};
+ghost use Rattle.readiness.specs.Tasks.{gave_way_in, ComesNext, StillCome};
 ghost use Rattle.readiness.specs.LoopToken.{place_in};
 
 use crate::agenda::Why;
@@ -115,6 +115,7 @@ impl<T, A: Allocator + Copy> Tasks<T, A> {
         ensures unused { IfOk result (λ place. (token : ℕ) →
             place_in token ≡ place_in place.first → task_in self.new token ≡ None) }
         ensures kept { SameTasks self.old self.new }
+        ensures come { StillCome self.old self.new }
         ensures numbers { OnOk result (HasNumbers self.old) }
         ensures why { IfErr result (RefusesPlace self.old) }
     {
@@ -139,6 +140,7 @@ impl<T, A: Allocator> Tasks<T, A> {
         ensures given { IfOk result (λ place. place ≡ next_place self.old) }
         ensures put { IfOk result (λ place. IsPut self.old self.new place task) }
         ensures stays { IfOk result (λ place. gave_way_in self.new place.first ≡ Some false) }
+        ensures come { StillCome self.old self.new }
         ensures serial { OnOk result (next_serial self.new ≡ next_serial self.old + 1) }
         ensures returned { IfErr result (λ other. other ≡ task) }
         ensures kept { OnErr result (SameTasks self.old self.new) }
@@ -182,6 +184,7 @@ impl<T, A: Allocator> Tasks<T, A> {
         ensures others { (other : ℕ) → place_in other ≢ place_in token →
             task_in self.new other ≡ task_in self.old other }
         ensures serial { next_serial self.new ≡ next_serial self.old }
+        ensures come { StillCome self.old self.new }
         ensures unknown { IfNone result (self.new ≡ self.old) }
     {
         if !self.is_named(token) {
@@ -200,6 +203,7 @@ impl<T, A: Allocator> Tasks<T, A> {
     fn mark(&mut self, token: u64, gave_way: bool) -> bool
         ensures kept { SameTasks self.old self.new }
         ensures unsaid { gave_way_in self.old token ≡ Some (not gave_way) → result ≡ false }
+        ensures come { StillCome self.old self.new }
     {
         if let Some(slot) = self.slots.get_mut(place_of(token)) {
             if slot.serial == serial_of(token) && slot.gave_way != gave_way {
@@ -214,8 +218,20 @@ impl<T, A: Allocator> Tasks<T, A> {
     pub(crate) fn give_way(&mut self, token: u64)
         ensures kept { SameTasks self.old self.new }
         ensures comes { gave_way_in self.old token ≡ Some false → ComesNext self.new token }
+        ensures others { StillCome self.old self.new }
     {
-        if !self.mark(token, true) && self.again.push(token).is_err() {
+        if !self.mark(token, true) {
+            self.list(token);
+        }
+    }
+
+    // Lists a token for the next turn. Where memory is refused for it, all tasks come then.
+    fn list(&mut self, token: u64)
+        ensures kept { SameTasks self.old self.new }
+        ensures comes { ComesNext self.new token }
+        ensures others { StillCome self.old self.new }
+    {
+        if self.again.push(token).is_err() {
             self.all_again = true;
         }
     }

@@ -15,7 +15,9 @@ use Rattle.relay_core.specs.declared.ways.Way.{Way}
 use Rattle.relay_core.specs.declared.ways.Way.TheVariants.{Up, Down}
 use Rattle.relay_core.specs.declared.pair_tasks.PairTasks.{PairTasks}
 use Rattle.relay_core.specs.declared.pair_tasks.Standing.TheVariants.{Ready, Over}
+use Rattle.relay_core.specs.declared.source_state.SourceState.{SourceState}
 use Rattle.relay_core.specs.PairTasks.{standing_of, WaitsForEvent}
+use Rattle.relay_core.specs.SourceState.{resumed}
 
 -- the side of a pair whose descriptor is on this side of its place
 abbrev pub side_of_pair : LoopSide → Side
@@ -39,6 +41,10 @@ abbrev pub stop_told : Why → Way → Bool
 stop_told (why.Ready First read write stop_ahead) Up = stop_ahead
 stop_told (why.Ready Second read write stop_ahead) Down = stop_ahead
 stop_told _ _ = false
+
+-- of a way's source it is known what was, with what a loop heard of a stop ahead
+abbrev pub HasHeard : SourceState → SourceState → Why → Way → Type 0
+HasHeard old new why way = new ≡ resumed old (stop_told why way)
 
 -- what a loop does with an accept task after this step: it is over where it ended, and a pause is a
 -- wait

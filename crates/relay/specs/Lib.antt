@@ -9,6 +9,7 @@ pub mod Loops
 pub mod Output
 pub mod RelayEnd
 pub mod Reload
+pub mod ReloadWish
 pub mod ServeFault
 pub mod Session
 pub mod Stopping

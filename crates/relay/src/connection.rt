@@ -5,8 +5,7 @@ ghost use Rattle.relay_core.specs.PairTasks.{HasToClose, MayGoOn};
 ghost use Rattle.relay_core.specs.declared.pair_tasks.PairNext.{PairNext};
 ghost use Rattle.relay_core.specs.declared.ways.Way.{Way};
 ghost use Rattle.relay_core.specs.PairTasks.{standing_of, standing_after, other_way};
-ghost use Rattle.relay_core.specs.SourceState.{resumed};
-ghost use Rattle.relay.specs.Connection.{GoesOn, side_of_pair, stop_told};
+ghost use Rattle.relay.specs.Connection.{GoesOn, HasHeard, side_of_pair, stop_told};
 ghost use Rattle.relay.specs.Ending as spec;
 
 use crate::clock::{Moments, RelayClock};
@@ -183,10 +182,9 @@ impl<U: Ledger, D: Ledger, R: Wait + Clock + Copy> Connection<U, D, R> {
 
     // Has both ways know what its loop heard of their sources, also one that doesn't go on by it.
     fn hear(&mut self, why: Why)
-        ensures up { self.new.up.gate.source_state
-            ≡ resumed self.old.up.gate.source_state (stop_told why Way.Up) }
-        ensures down { self.new.down.gate.source_state
-            ≡ resumed self.old.down.gate.source_state (stop_told why Way.Down) }
+        ensures up { HasHeard self.old.up.gate.source_state self.new.up.gate.source_state why Way.Up }
+        ensures down { HasHeard self.old.down.gate.source_state self.new.down.gate.source_state
+            why Way.Down }
         ensures tasks { self.new.tasks ≡ self.old.tasks }
     {
         self.up.gate.resume(stop_ahead_of(Way::Up, why));
@@ -207,11 +205,11 @@ impl<U: Ledger, D: Ledger, R: Wait + Clock + Copy> Connection<U, D, R> {
             → self.new.tasks.up ≡ self.old.tasks.up }
         ensures down { (GoesOn self.old.tasks why Way.Down → ⊥)
             → self.new.tasks.down ≡ self.old.tasks.down }
-        ensures up_heard { (GoesOn self.old.tasks why Way.Up → ⊥) → self.new.up.gate.source_state
-            ≡ resumed self.old.up.gate.source_state (stop_told why Way.Up) }
-        ensures down_heard { (GoesOn self.old.tasks why Way.Down → ⊥)
-            → self.new.down.gate.source_state
-            ≡ resumed self.old.down.gate.source_state (stop_told why Way.Down) }
+        ensures up_heard { (GoesOn self.old.tasks why Way.Up → ⊥) →
+            HasHeard self.old.up.gate.source_state self.new.up.gate.source_state why Way.Up }
+        ensures down_heard { (GoesOn self.old.tasks why Way.Down → ⊥) →
+            HasHeard self.old.down.gate.source_state self.new.down.gate.source_state
+            why Way.Down }
     {
         let ways = self.ways(why);
         self.hear(why);

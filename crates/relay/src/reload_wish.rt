@@ -1,7 +1,8 @@
 //! How a session has the main thread reload, and waits until it has.
 
-ghost use Rattle.std.specs.Prelude.{◌≡◌, true, false, Some, None};
-ghost use Rattle.relay_admin.specs.declared.admin.desk.DeskAnswer.{DeskAnswer};
+ghost use Rattle.std.specs.Prelude.{◌≡◌, ◌↔◌, true, false};
+ghost use Rattle.relay.specs.declared.reload_wish.WishState.{WishState};
+ghost use Rattle.relay.specs.ReloadWish.{answer_in, left_in};
 
 use relay_admin::DeskAnswer;
 use std::mem;
@@ -16,7 +17,7 @@ const LONGEST_WAIT_MS: u64 = 100;
 /// How far a wish came. The admin thread asks, and takes the answer; the main thread takes the
 /// wish, and always answers it.
 #[derive(Drop)]
-enum State {
+pub(crate) enum WishState {
     Idle,
     Asked,
     Taken,
@@ -26,7 +27,7 @@ enum State {
 /// Where the admin thread and the main thread meet.
 #[derive(Drop)]
 pub(crate) struct ReloadWish {
-    state: Mutex<State>,
+    state: Mutex<WishState>,
     changed: Condvar,
 }
 
@@ -34,29 +35,24 @@ impl ReloadWish {
     /// Nobody has asked.
     pub(crate) fn none() -> ReloadWish {
         ReloadWish {
-            state: Mutex::new(State::Idle),
+            state: Mutex::new(WishState::Idle),
             changed: Condvar::new(),
         }
     }
 
     /// Asks for a reload. The main thread is to be woken next.
     pub(crate) fn ask<R: Wait>(&self, rt: &R) {
-        *self.state.lock(rt) = State::Asked;
+        *self.state.lock(rt) = WishState::Asked;
     }
 
     /// Whether it is asked for; it is to be answered then.
     pub(crate) fn take<R: Wait>(&self, rt: &R) -> bool {
-        let mut state = self.state.lock(rt);
-        let is_asked = matches!(&*state, State::Asked);
-        if is_asked {
-            *state = State::Taken;
-        }
-        is_asked
+        taken(&mut *self.state.lock(rt))
     }
 
     /// The main thread's answer to the wish that it took.
     pub(crate) fn answer<R: Wait>(&self, rt: &R, answer: DeskAnswer) {
-        *self.state.lock(rt) = State::Answered(answer);
+        *self.state.lock(rt) = WishState::Answered(answer);
         self.changed.notify_one();
     }
 
@@ -74,11 +70,29 @@ impl ReloadWish {
     }
 }
 
+// Whether a wish stands that nobody has taken, which is taken by this.
+fn taken(state: &mut WishState) -> bool
+    ensures asked { result ≡ true ↔ state.old ≡ WishState.Asked }
+    ensures taken { result ≡ true → state.new ≡ WishState.Taken }
+    ensures kept { result ≡ false → state.new ≡ state.old }
+{
+    match state {
+        WishState::Asked => {
+            *state = WishState::Taken;
+            true
+        }
+        _ => false,
+    }
+}
+
 // The answer, once there is one. A wish that a relay which has stopped didn't take is withdrawn.
-fn answered(state: &mut State, is_stopped: bool) -> Option<DeskAnswer> {
-    match mem::replace(state, State::Idle) {
-        State::Answered(answer) => Some(answer),
-        State::Asked if is_stopped => Some(DeskAnswer::Closed),
+fn answered(state: &mut WishState, is_stopped: bool) -> Option<DeskAnswer>
+    ensures answer { result ≡ answer_in state.old is_stopped }
+    ensures left { state.new ≡ left_in state.old is_stopped }
+{
+    match mem::replace(state, WishState::Idle) {
+        WishState::Answered(answer) => Some(answer),
+        WishState::Asked if is_stopped => Some(DeskAnswer::Closed),
         other => {
             *state = other;
             None

@@ -1,4 +1,4 @@
-//! Both workers of a pair run at once, and each leaves its share.
+//! Both workers of a pair run at once, and each leaves its share and tells its own end.
 
 ghost use Rattle.std.specs.Prelude.{◌≡◌};
 
@@ -33,6 +33,8 @@ struct OneRound<R: Clock + Drop> {
     own: Arc<AtomicU64>,
     other: Arc<AtomicU64>,
     was_read: bool,
+    /// Whether its close is done, or fails.
+    closes: bool,
 }
 
 impl<R: Clock + Drop> OneRound<R> {
@@ -70,24 +72,40 @@ impl<R: Clock + Drop> CopyGate for OneRound<R> {
     }
 
     fn close_write(&mut self) -> Result<(), Fault> {
-        Ok(())
+        if self.closes {
+            Ok(())
+        } else {
+            Err(Fault::Closed)
+        }
     }
 }
 
-/// Counts the workers that ended.
+/// Counts the workers that ended, by a number of its own for each way to end.
 #[derive(Drop)]
 struct Counted {
     ended: Arc<AtomicU64>,
+    whole: u64,
+    failed: u64,
 }
 
 impl AtEnd for Counted {
-    fn ended(&self, _ended: Ended) {
-        self.ended.fetch_add(1, Ordering::SeqCst);
+    fn ended(&self, ended: Ended) {
+        let count = if ended == Ended::Eof {
+            self.whole
+        } else {
+            self.failed
+        };
+        self.ended.fetch_add(count, Ordering::SeqCst);
     }
 }
 
-/// Whether the worker ended at the reader's end, and the book gathers with its share alone.
-fn leaves<L: Ledger, R: Wait + AllocGlobal>(rt: &R, book: &Mutex<Book<L>>, done: Done<L>) -> bool {
+/// Whether the worker ended so, and the book gathers with its share alone, three bytes.
+fn leaves<L: Ledger, R: Wait + AllocGlobal>(
+    rt: &R,
+    book: &Mutex<Book<L>>,
+    done: Done<L>,
+    so: Ended,
+) -> bool {
     let Done { ended, share } = done;
     let Some(share) = share else {
         return false;
@@ -95,7 +113,7 @@ fn leaves<L: Ledger, R: Wait + AllocGlobal>(rt: &R, book: &Mutex<Book<L>>, done:
     book.lock(rt).settle(share.into_share());
     let gathered = book.lock(rt).gather(Vec::new(rt.alloc()));
     match gathered {
-        Ok(total) => total == 3 && ended == Ended::Eof,
+        Ok(total) => total == 3 && ended == so,
         Err(back) => {
             give_up_all(back);
             false
@@ -103,7 +121,8 @@ fn leaves<L: Ledger, R: Wait + AllocGlobal>(rt: &R, book: &Mutex<Book<L>>, done:
     }
 }
 
-/// The gates of a pair of which each worker waits in its write for the other's.
+/// The gates of a pair of which each worker waits in its write for the other's. The second fails at
+/// its close.
 fn gates<R>(rt: R) -> (OneRound<R>, OneRound<R>)
 where
     R: Abort + AllocGlobal + Clock + Copy + Drop,
@@ -115,12 +134,14 @@ where
         own: shared(&rt, &one),
         other: shared(&rt, &two),
         was_read: false,
+        closes: true,
     };
     let second = OneRound {
         rt,
         own: two,
         other: one,
         was_read: false,
+        closes: false,
     };
     (first, second)
 }
@@ -147,15 +168,19 @@ where
     let (ups, downs) = (shared(&rt, &up_book), shared(&rt, &down_book));
     let first_end = Counted {
         ended: shared(&rt, &ended),
+        whole: 1,
+        failed: 10,
     };
     let second_end = Counted {
         ended: shared(&rt, &ended),
+        whole: 100,
+        failed: 1_000,
     };
     let started = start_pair(rt, first, second, ups, downs, first_end, second_end);
     let (first, second) = started.ok().expect(&rt, "threads");
-    holds!(rt; leaves(&rt, &up_book, first.join(&rt)));
-    holds!(rt; leaves(&rt, &down_book, second.join(&rt)));
-    ended.load(Ordering::SeqCst) == 2
+    holds!(rt; leaves(&rt, &up_book, first.join(&rt), Ended::Eof));
+    holds!(rt; leaves(&rt, &down_book, second.join(&rt), Ended::CloseFault(Fault::Closed)));
+    ended.load(Ordering::SeqCst) == 1_001
 }
 
 #[test]
