@@ -192,7 +192,8 @@ impl<T, A: Allocator> EventLoop<T, A> {
     {
         let all_again = self.tasks.begin_round(&mut self.round);
         let cells = &mut CellsThemselves { rt };
-        if let Some(due) = self.remote.due(rt, now) {
+        if self.remote.has_due(rt, now) {
+            let due = self.remote.due(rt, now);
             self.tasks.resume_due(cells, host, due.as_slice(), now);
         }
         let gave_way = all_again || !self.round.is_empty() || self.tasks.gave_way();

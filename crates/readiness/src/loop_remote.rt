@@ -108,13 +108,17 @@ impl<A: Allocator> LoopRemote<A> {
         self.told.lock(rt).take(taken)
     }
 
-    /// Takes out the timers that are due, if one is: a list is 4 KiB, too much to clear at each turn.
-    pub(crate) fn due<R: Wait>(&self, rt: &R, now: u64) -> Option<ArrayVec<(u64, Dir), 256>> {
-        let mut timers = self.timers.lock(rt);
-        match timers.next() {
-            Some(at) if at <= now => Some(timers.due(now)),
-            _ => None,
+    /// Whether a timer is due, so that no list of 4 KiB is cleared in a turn without one.
+    pub(crate) fn has_due<R: Wait>(&self, rt: &R, now: u64) -> bool {
+        match self.timers.lock(rt).next() {
+            Some(at) => at <= now,
+            None => false,
         }
+    }
+
+    /// Takes out the timers that are due.
+    pub(crate) fn due<R: Wait>(&self, rt: &R, now: u64) -> ArrayVec<(u64, Dir), 256> {
+        self.timers.lock(rt).due(now)
     }
 }
 
