@@ -1,4 +1,5 @@
-//! The tests of `relay_log`. They stand beside it, so that it isn't proved again with its tests.
+//! The tests of `relay_log` and of `log_writer`. They stand apart, since a crate with tests is
+//! proved twice.
 #![tactic(auto)]
 
 #[cfg(test)]

@@ -1,8 +1,4 @@
-//! Rows of moments and lines, a queue at its bound, a long run of pushes and takes, and memory that
-//! is refused.
+//! The tests of `relay_log` and of `log_writer`.
 
-mod lines;
-mod moments;
-mod queues;
-mod refused_memory;
-mod runs;
+mod log_writer;
+mod relay_log;

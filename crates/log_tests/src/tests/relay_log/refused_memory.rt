@@ -1,6 +1,6 @@
 //! Each request for memory is refused once, on heaps of growing size.
 
-use crate::tests::lines::ended;
+use super::lines::ended;
 use linked_list_allocator::LocalHeap;
 use relay_log::ended::Ended;
 use relay_log::queue::{LogQueue, Lost};

@@ -4,18 +4,6 @@
 ghost use Rattle.std.specs.Prelude.{◌≡◌};
 ghost use Rattle.std.specs.Arc.{arc_value};
 
-/// Ends the test's process where this doesn't hold, and says what should. A call costs the proof
-/// of a test less than a branch does. `descriptor_tests` and `relay_tests` have one too: no crate
-/// uses another's tests.
-macro_rules! holds {
-    ($rt:expr; $is:expr) => {
-        $crate::tests::holds(&$rt, $is, stringify!($is))
-    };
-    ($rt:expr; $is:expr, $what:literal) => {
-        $crate::tests::holds(&$rt, $is, $what)
-    };
-}
-
 mod alarms;
 mod batch_rows;
 mod bulk;
@@ -31,8 +19,8 @@ mod paths;
 mod peers;
 mod resets;
 mod waiting;
-mod watch;
 
+use super::{TURNS, comes_to, holds, pause, watch};
 use fd_descriptor::{AcceptOutcome, Fault, FdHandle, PollCell, Resource, TryAccept};
 use readiness::{
     Addr, ConnTable, HasCell, Holds, Listen, ListenRes, Poller, Sock, SockRes, TimerAlarms, Timers,
@@ -46,16 +34,9 @@ use std::sync::atomic::{AtomicU64, Ordering};
 use std::sync::{Arc, Mutex, Wait};
 use std::thread;
 use std::thread::{JoinHandle, Threads};
-use std::time::{Clock, Duration, Instant};
-
-/// The most turns of one millisecond that a test waits.
-const TURNS: u32 = 10_000;
+use std::time::{Clock, Instant};
 
 const LOOPBACK: [u8; 4] = [127, 0, 0, 1];
-
-fn holds<R: Abort>(rt: &R, is: bool, what: &str) {
-    assert!(rt; is, "{what}");
-}
 
 /// What a table holds of a descriptor, of a connection or of a listener. The test alone has
 /// handles.
@@ -298,19 +279,4 @@ fn socks<R: Net + Files + Clock + Abort>(rt: &R, addr: &Addr) -> (Sock, Sock) {
     let mut listener = listening(rt, addr);
     let near = connected(rt, &reach(addr, &listener));
     (near, accept_soon(rt, &mut listener))
-}
-
-fn pause<R: Clock>(rt: &R, ms: u64) {
-    thread::sleep(rt, Duration::from_millis(ms));
-}
-
-/// Waits until the count is at least so much, and says whether it came to that.
-fn comes_to<R: Clock>(rt: &R, count: &AtomicU64, least: u64) -> bool {
-    for _ in 0..TURNS {
-        if count.load(Ordering::SeqCst) >= least {
-            return true;
-        }
-        pause(rt, 1);
-    }
-    false
 }

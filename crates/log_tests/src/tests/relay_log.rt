@@ -1,0 +1,8 @@
+//! Rows of moments and lines, a queue at its bound, a long run of pushes and takes, and memory that
+//! is refused.
+
+mod lines;
+mod moments;
+mod queues;
+mod refused_memory;
+mod runs;
