@@ -2,17 +2,28 @@
 # A first connection: builds pollrelay, starts it in front of an echo server, sends a line through it, asks its admin
 # socket, stops it, and leaves nothing behind.
 #
-#     sh examples/first_connection.sh
+#     sh examples/first_connection.sh              builds it with checks in place of proofs, within two minutes
+#     sh examples/first_connection.sh --proved     proves every crate first, which takes a quarter of an hour and more
 #
-# It needs the Rattle kit's rt on the path, and python3. The first time every crate is proved, which takes minutes, and
-# tells how far it is; later it takes seconds. POLLRELAY names a program that is built already.
+# It needs the Rattle kit's rt on the path, and python3. What was built of the same text is taken as it is, so that a later
+# run takes seconds. POLLRELAY names a program that is built already.
 set -eu
 cd "$(dirname "$0")/.."
 
-program=${POLLRELAY:-$PWD/crates/pollrelay/out/pollrelay}
-if [ -z "${POLLRELAY:-}" ]; then
+case ${1-} in
+    "" | --proved) ;;
+    *) echo "usage: sh examples/first_connection.sh [--proved]" >&2; exit 2 ;;
+esac
+
+if [ -n "${POLLRELAY:-}" ]; then
+    program=$POLLRELAY
+elif [ "${1-}" = --proved ]; then
     echo "Proving and building: python3 tools/build.py pollrelay"
     python3 tools/build.py pollrelay
+    program=$PWD/crates/pollrelay/out/pollrelay
+else
+    echo "Building pollrelay with nothing proved (--proved proves it): python3 tools/unproved.py"
+    program=$(python3 tools/unproved.py)
 fi
 
 scratch=$(mktemp -d)

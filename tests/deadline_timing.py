@@ -1,7 +1,9 @@
 """How late deadlines end reads that wait: 50 tries of 100 ms on the built relay, each set by the admin thread while the poller sleeps.
 
-    python3 tests/deadline_timing.py        asks that none is more than 50 ms late; run it on a quiet machine
+    python3 tests/deadline_timing.py             asks that none is more than 50 ms late; run it on a quiet machine
+    python3 tests/deadline_timing.py --median    asks that of the median alone, which a busy machine bears too
 """
+import statistics
 import sys
 import time
 
@@ -35,8 +37,11 @@ def main():
     checks = Checks()
     with Served("never") as served, Session(served.relay.admin) as session:
         late = [lateness_ms(served, session) for _ in range(TRIES)]
+    bound = float("inf") if "--median" in sys.argv[1:] else MOST_LATE_MS
     for at, each in enumerate(late):
-        checks.holds("a deadline ends its read in time", 0 <= each <= MOST_LATE_MS, f"try {at}: {each:.1f} ms after its moment")
+        checks.holds("a deadline ends its read in time", 0 <= each <= bound, f"try {at}: {each:.1f} ms after its moment")
+    median = statistics.median(late)
+    checks.holds("the median is in time", median <= MOST_LATE_MS, f"{median:.1f} ms after its moment")
     print(f"latest: {max(late):.1f} ms after its moment")
     return checks.end()
 

@@ -15,8 +15,8 @@ import time
 
 ROOT = os.path.dirname(os.path.dirname(os.path.abspath(__file__)))
 PROGRAM = os.path.abspath(os.environ.get("POLLRELAY", f"{ROOT}/crates/pollrelay/out/pollrelay"))
-START_SECONDS = 20
-REPLY_SECONDS = 20
+START_SECONDS = 60
+REPLY_SECONDS = 60
 # 2,000 pairs and 64 listeners take more descriptors than the 1,024 that a shell often gives.
 DESCRIPTORS = 8192
 

@@ -24,7 +24,7 @@ UNKNOWN = b"error 404 no such connection\n"
 DRAINING = b"error 409 draining\n"
 RULE = "relay {} tcp:127.0.0.1:{} tcp:127.0.0.1:9 never\n"
 MOST_LINES = 65_536
-# The bytes of a stream, and the processor time that a thread which copied one has taken at least.
+# The bytes of a stream, and the processor time that a thread which copied one has taken at least, beside an eighth of all.
 STREAM = 64 << 20
 BUSY_NS = 10_000_000
 
@@ -428,7 +428,7 @@ def spread(checks, _):
                 left -= len(taken.recv(min(left, 1 << 20)))
             sending.join()
         grown = [now - then for now, then in zip(sorted(relay.nanoseconds()), before)]
-        busy = sum(one > BUSY_NS for one in grown)
+        busy = sum(one > max(BUSY_NS, sum(grown) / 8) for one in grown)
         checks.expect(f"spread: threads that copied, of {grown}", 2, busy)
         for pair in pairs:
             for sock in pair:
