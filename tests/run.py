@@ -34,7 +34,7 @@ SCRIPTS = {
     "does_not_compile": (["sh", "tests/does_not_compile.sh"], 60),
     "claims": ([sys.executable, "tests/claims.py"], 5),
     **{it: ([sys.executable, f"tests/{it}.py"], 5) for it in
-       ("wrong_bodies_test", "receipts_test", "build_test", "claims_test", "pictures_test")},
+       ("run_test", "wrong_bodies_test", "receipts_test", "build_test", "claims_test", "pictures_test")},
     "man_page": (["sh", "tests/man_page.sh"], 5),
 }
 # Scripts on the running program. Those marked run alone, since they look at the clock.
@@ -60,10 +60,10 @@ class Part:
         env = {**os.environ, "RT_SECONDS": str(TEST_SECONDS), "PYTHONDONTWRITEBYTECODE": "1"}
         if program:
             env["POLLRELAY"] = program
-        given = open(self.stdin, "rb") if self.stdin else subprocess.DEVNULL
-        self.running = subprocess.Popen(
-            self.words, cwd=self.folder, env=env, stdin=given, stdout=self.printed, stderr=self.said, start_new_session=True
-        )
+        with open(self.stdin or os.devnull, "rb") as given:
+            self.running = subprocess.Popen(
+                self.words, cwd=self.folder, env=env, stdin=given, stdout=self.printed, stderr=self.said, start_new_session=True
+            )
 
     def seconds(self):
         return time.monotonic() - self.began
@@ -172,6 +172,8 @@ class Run:
             print(f"    alone: sh tests/run.sh {part.name}", flush=True)
         if part.name == PROGRAM:
             self.note_program(part, failed)
+        part.said.close()
+        part.printed.close()
 
     def note_program(self, part, failed):
         """Parts on the program can't run where it wasn't built: each has failed."""
