@@ -56,6 +56,13 @@ pub(crate) fn ms_between(from: u64, to: u64) -> u64
     to.saturating_sub(from) / 1_000_000
 }
 
+// How many bytes more there are now than there were.
+fn more_than(was: u64, now: u64) -> u64
+    ensures { result ≡ now - was }
+{
+    now.saturating_sub(was)
+}
+
 /// A connection while it stands: whose it is, and how many bytes it has passed on. Its loop alone
 /// notes; anybody may ask.
 #[derive(Drop)]
@@ -98,8 +105,8 @@ impl ConnectionFacts {
         let was_down = self.down.swap(down, Ordering::SeqCst);
         self.last.store(now, Ordering::SeqCst);
         if let Some(counts) = self.counts() {
-            counts.up.add(up.saturating_sub(was_up));
-            counts.down.add(down.saturating_sub(was_down));
+            counts.up.add(more_than(was_up, up));
+            counts.down.add(more_than(was_down, down));
         }
     }
 

@@ -2,7 +2,7 @@
 //! decides anything. Each loop counts in a place of its own, so that loops don't wait for each
 //! other; whoever asks adds them up.
 
-ghost use Rattle.std.specs.Prelude.{◌≡◌};
+ghost use Rattle.std.specs.Prelude.{◌≡◌, ◌-◌};
 
 use base_types::OutOfMemory;
 use relay_log::ended::Ended;
@@ -85,6 +85,13 @@ impl EndCounts {
     }
 }
 
+// How many of those that began stand, where so many have ended.
+fn standing_of(begun: u64, ended: u64) -> u64
+    ensures { result ≡ begun - ended }
+{
+    begun.saturating_sub(ended)
+}
+
 /// What one loop counts of a rule.
 #[derive(Drop)]
 pub struct LoopCounts {
@@ -141,7 +148,7 @@ impl LoopCounts {
     /// began.
     pub(crate) fn standing(&self) -> u64 {
         let ended = self.ends.sum();
-        self.begun.get().saturating_sub(ended)
+        standing_of(self.begun.get(), ended)
     }
 }
 

@@ -1,10 +1,13 @@
 //! The lines that a connection's end and a refused client bring to the log.
 
 ghost use Rattle.std.specs.Prelude.{◌≡◌, Option, Some, None, option_map};
+ghost use Rattle.relay_admin.specs.rules.Addr.{address_of, address_text};
+ghost use Rattle.relay_admin.specs.admin.Shown.{peer_of, peer_text};
 
 use crate::connection_facts::{Acceptance, ConnectionFacts};
+use arrayvec::ArrayString;
 use log_writer::Log;
-use relay_admin::peer_name;
+use relay_admin::{MAX_ADDR_BYTES, peer_name};
 use relay_log::ended::Ended;
 use relay_log::line::LogLine;
 use relay_log::moment::Moment;
@@ -93,15 +96,35 @@ impl Outcome {
     }
 }
 
+// The texts of a client and of its target.
+#[derive(Drop)]
+struct Parties {
+    client: ArrayString<MAX_ADDR_BYTES>,
+    target: ArrayString<MAX_ADDR_BYTES>,
+}
+
+impl Parties {
+    // Those of a client that was accepted, by its own address and by what its rule said then.
+    fn of(acceptance: &Acceptance) -> Parties
+        ensures client { result.client.bytes ≡ peer_text (peer_of acceptance.now.client) }
+        ensures target { result.target.bytes
+            ≡ address_text (address_of acceptance.now.rule.target) }
+    {
+        Parties {
+            client: peer_name(&acceptance.client),
+            target: acceptance.rule.target.text(),
+        }
+    }
+}
+
 // Tells of what became of a client that was accepted.
 fn tell<R: Wait + Clock>(rt: &R, log: &Log, acceptance: &Acceptance, now: u64, outcome: &Outcome) {
-    let client_text = peer_name(&acceptance.client);
-    let target_text = acceptance.rule.target.text();
+    let parties = Parties::of(acceptance);
     let line = outcome.line(
         moment_now(rt),
         acceptance.rule.name.as_str(),
-        client_text.as_str(),
-        target_text.as_str(),
+        parties.client.as_str(),
+        parties.target.as_str(),
         acceptance.age_ms(now),
     );
     log.push(rt, &line);
