@@ -1,10 +1,10 @@
 #!/usr/bin/env python3
-"""Lists the wrong bodies that the gate has refused: crate, the function that is refused, and what the body does.
+"""Lists the wrong bodies that the gate has refused: crate, the function that is refused, and the body's name, which says what it
+does, with its first comment, a line that begins with `#`, where it has one.
 
     python3 tools/wrong_bodies_list.py [CRATE..]
 
-What a body does is its first line that begins with `#`, and else its name. Those of `must-fail/` are refused in a check of the
-whole crate, which names no function.
+Those of `must-fail/` are refused in a check of the whole crate, which names no function.
 """
 import pathlib
 import re
@@ -16,7 +16,7 @@ ROOT = pathlib.Path(__file__).resolve().parent.parent
 def row(path):
     text = path.read_text(encoding="utf-8")
     refused, comment = re.search(r"^refused: \w+::(.*)", text, re.M), re.search(r"^# *(.*)", text, re.M)
-    return path.parts[-3], refused[1] if refused else "(must-fail)", comment[1] if comment else path.stem.replace("_", " ")
+    return path.parts[-3], refused[1] if refused else "(must-fail)", f"{path.stem}: {comment[1]}" if comment else path.stem
 
 
 def main(names):
