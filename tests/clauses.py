@@ -9,8 +9,8 @@ cites it may then mean another. It passes where `tests/clauses.changes` has a li
 
     CRATE FUNCTION KIND:NAME gone|changed|new REASON
 
-`*` in place of KIND:NAME stands for all of a function, type or definition of which nothing is left. A line that names nothing
-which changed fails too. The last line is `N passed, M failed`.
+`*` in place of KIND:NAME stands for all of a function, type or definition of which nothing is left, and `* *` for all of a crate
+of which nothing is left. A line that names nothing which changed fails too. The last line is `N passed, M failed`.
 """
 
 import argparse
@@ -91,11 +91,11 @@ def said_of(lines):
 def judged(found, said, now):
     """The differences that no line names, and the lines that name none."""
     left, used = [], set()
-    whole = {it[:2] for it in now}
+    stands = {it[:end] for it in now for end in (1, 2)}
     for key, word in sorted(found.items()):
-        every = Key(key.crate, key.where, "*")
-        named = key if key in said else every if every in said and key[:2] not in whole else None
-        if named and said[named] == word:
+        wider = [Key(*key[:end], *"**"[end - 1 :]) for end in (2, 1) if key[:end] not in stands]
+        named = next((it for it in [key, *wider] if said.get(it) == word), None)
+        if named:
             used.add(named)
         else:
             left.append((key, word))
@@ -120,7 +120,7 @@ def compare(promises):
         print(f"{' '.join(key)} {TOLD[word]}\n    if that is meant, add to {CHANGES}: {' '.join(key)} {word} REASON")
     wrong += [f"{CHANGES}: nothing became of this so: {' '.join(it)} {said[it]}" for it in idle]
     if left:
-        print("    both texts of each: python3 tools/clauses.py REVISION")
+        print(f"    both texts of each: python3 tools/clauses.py $(git log -1 --format=%h {LIST})")
     print(*wrong, sep="\n", end="\n" if wrong else "")
     came = sum(it.what != "-" for it in now.keys() - before.keys())
     print(f"{came} new, {len(said) - len(idle)} changes with a reason")

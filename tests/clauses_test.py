@@ -222,6 +222,14 @@ class Clauses(unittest.TestCase):
         self.write("crates/made/src/queue.rt", QUEUE[:start] + QUEUE[end:])
         self.assertEqual(self.told(), [])
 
+    def test_a_crate_that_is_gone_is_named_as_a_whole_and_only_then(self):
+        self.says("low * * gone nobody used it")
+        self.fails_with("tests/clauses.changes: nothing became of this so: low * *")
+        os.remove(f"{self.folder}/crates/low/specs/Room.antt")
+        self.assertEqual(self.told(), [])
+        self.says("made * * gone nobody used it")
+        self.fails_with("low room_of definition is gone", "tests/clauses.changes: nothing became of this so: made * *")
+
     def test_a_line_without_a_reason_fails(self):
         self.queue("        ensures { Fits self.new }\n", "")
         self.says("made Queue::push ensures:#1 gone   ")
