@@ -1,6 +1,8 @@
 -- What is read is a command of the grammar, and each command of the grammar is read from its text.
 use Rattle.std.specs.Prelude.{◌≡◌, ◌≢◌, ◌≤◌, ◌<◌, ◌^◌, ◌∷◌, ◌++◌, ◌⊎◌}
-use Rattle.relay_admin.proofs.Words.{◌∙◌, sym, ap, refl, subst, ℕ, List, true, append-nil}
+use Rattle.std.specs.Prelude.{if◌then◌else◌}
+use Rattle.relay_admin.proofs.Words.{◌∙◌, sym, ap, refl, subst, ℕ, List, Bool, true, false, append-nil}
+use Rattle.relay_admin.proofs.Words.{codes, bytes_eq}
 use Rattle.relay_admin.proofs.Words.{Option, Some, None, IfSome, IfNone, arith, decimal, nat_tests}
 use Rattle.relay_admin.proofs.Words.{inl, inr}
 use Rattle.relay_admin.proofs.Words.{Command, space, split_at_first, number_within, IsDeadline, IsCommand}
@@ -8,9 +10,11 @@ use Rattle.relay_admin.proofs.Words.{AreArguments, arguments_text, words_of, tim
 use Rattle.relay_admin.proofs.Words.{time_within, arguments_at, arguments_of_parts, words_at, words_of_parts, Lacks}
 use Rattle.relay_admin.specs.declared.admin.command.Arguments.{Arguments}
 use Rattle.relay_admin.specs.declared.admin.command.Arguments.TheVariants as behind
+use Rattle.relay_admin.specs.declared.admin.command.Command.TheVariants as command
+use Rattle.relay_admin.specs.admin.CommandReading.{command_alone, command_at, command_at_id}
 use Rattle.relay_admin.specs.declared.admin.command.TheConstants.{MAX_ID, MAX_DEADLINE_MS}
 use Rattle.relay_admin.proofs.TextLemmas.{bind_some, bind_is, split_sound, split_complete, split_lacks}
-use Rattle.relay_admin.proofs.TextLemmas.{word_lacks, Lacks-word}
+use Rattle.relay_admin.proofs.TextLemmas.{word_lacks, Lacks-word, same_bytes}
 use Rattle.relay_admin.proofs.NumberLemmas.{within_sound, within_complete, Lacks-decimal}
 use Rattle.relay_admin.proofs.GrammarBytes.{digit_no_space}
 use Rattle.relay_admin.proofs.rules.Complete.{time_complete}
@@ -139,9 +143,25 @@ words_complete word a lacks is = by_text (arguments_begin a)
 words_lack_space : (c : Command) → word_lacks space (words_of c).0 ≡ true
 words_lack_space c = grind (arith, nat_tests)
 
+-- each command is found by its words
+command_of_words : (c : Command) → command_at (words_of c).0 (words_of c).1 ≡ Some c
+unfolding command_at command_alone command_at_id
+command_of_words command.List = refl
+command_of_words command.Totals = refl
+command_of_words command.Quit = refl
+command_of_words command.Stop = refl
+command_of_words (command.CloseConn id) = refl
+command_of_words (command.DrainConn id) = refl
+command_of_words (command.DeadlineOf id after) = refl
+command_of_words (command.Show id) = refl
+command_of_words command.Reload = refl
+
 -- no two commands have the same words
 words_differ : (one other : Command) → words_of one ≡ words_of other → one ≡ other
-words_differ one other e = grind (arith, nat_tests)
+words_differ one other e =
+    let both : Some one ≡ Some other = sym (command_of_words one)
+    ∙ ap (λ (w : List ℕ × Arguments). command_at w.0 w.1) e ∙ command_of_words other in
+    cc
 
 command_words : (c : Command) → IsCommand c → words_at (command_text c) ≡ Some (words_of c)
 command_words c is =
@@ -157,16 +177,53 @@ one_command line one other h k =
 
 -- ---- What the reader of commands answers
 
+-- one word more: the command of this, or of those behind it
+by_word : (word row : List ℕ) (a : Arguments) (x c : Command) (others : Option Command) → (row, a) ≡ words_of x
+    → (others ≡ Some c → (word, a) ≡ words_of c)
+    → (if bytes_eq word row then Some x else others) ≡ Some c → (word, a) ≡ words_of c
+by_word word row a x c others is rest = by_test (bytes_eq word row) (same_bytes word row)
+  where
+    by_test : (b : Bool) → (b ≡ true → word ≡ row) → (if b then Some x else others) ≡ Some c → (word, a) ≡ words_of c
+    by_test true same e =
+        let found : x ≡ c = cc in
+        ap (λ w. (w, a)) (same refl) ∙ is ∙ ap words_of found
+    by_test false same e = rest e
+
+no_word : (word : List ℕ) (a : Arguments) (c : Command) → None ≡ Some c → (word, a) ≡ words_of c
+no_word word a c e = absurd (cc)
+
+alone_found : (word : List ℕ) (c : Command) → command_alone word ≡ Some c → (word, behind.Nothing) ≡ words_of c
+unfolding command_alone
+alone_found word c =
+    by_word word (codes "list") behind.Nothing command.List c _ refl
+    (by_word word (codes "totals") behind.Nothing command.Totals c _ refl
+    (by_word word (codes "quit") behind.Nothing command.Quit c _ refl
+    (by_word word (codes "stop") behind.Nothing command.Stop c _ refl
+    (by_word word (codes "reload") behind.Nothing command.Reload c _ refl (no_word word behind.Nothing c)))))
+
+at_id_found : (word : List ℕ) (id : ℕ) (c : Command) → command_at_id word id ≡ Some c
+    → (word, behind.Id id) ≡ words_of c
+unfolding command_at_id
+at_id_found word id c =
+    by_word word (codes "close") (behind.Id id) (command.CloseConn id) c _ refl
+    (by_word word (codes "drain") (behind.Id id) (command.DrainConn id) c _ refl
+    (by_word word (codes "show") (behind.Id id) (command.Show id) c _ refl (no_word word (behind.Id id) c)))
+
+-- the command that is found has the words
+command_found : (word : List ℕ) (a : Arguments) (c : Command) → command_at word a ≡ Some c → (word, a) ≡ words_of c
+unfolding command_at
+command_found word behind.Nothing c e = alone_found word c e
+command_found word (behind.Id id) c e = at_id_found word id c e
+command_found word (behind.IdAndDeadline id after) c e =
+    by_word word (codes "deadline") (behind.IdAndDeadline id after) (command.DeadlineOf id after) c None refl
+    (no_word word (behind.IdAndDeadline id after) c) e
+
 pub command_is : (line word : List ℕ) (a : Arguments) (read : Option Command) → words_at line ≡ Some (word, a)
-    → IfSome read (λ c. word ≡ (words_of c).0) → IfSome read (λ c. a ≡ (words_of c).1)
-    → IfSome read (λ c. SpellsCommand line c)
-command_is line word a (Some c) are same_word same_arguments =
-    let spelled = words_sound line (word, a) are in (
-      subst AreArguments same_arguments spelled.1,
-      spelled.0 ∙ ap (λ w. w ++ arguments_text a) same_word
-          ∙ ap (λ b. (words_of c).0 ++ arguments_text b) same_arguments,
-    )
-command_is line word a None are same_word same_arguments = tt
+    → read ≡ command_at word a → IfSome read (λ c. SpellsCommand line c)
+command_is line word a (Some c) are found =
+    let spelled = subst (SpellsWords line) (command_found word a c (sym found)) (words_sound line (word, a) are) in
+    (spelled.1, spelled.0)
+command_is line word a None are found = tt
 
 -- the text of a command has its words
 words_of_text : (line : List ℕ) (o : Option (List ℕ × Arguments)) → words_at line ≡ o → (c : Command) → IsCommand c
@@ -178,9 +235,10 @@ no_words_no_command line are c is same =
     let found : None ≡ Some (words_of c) = words_of_text line None are c is same in absurd (cc)
 
 pub no_command_is : (line word : List ℕ) (a : Arguments) (read : Option Command) → words_at line ≡ Some (word, a)
-    → IfNone read ((c : Command) → words_of c ≢ (word, a))
-    → IfNone read ((c : Command) → IsCommand c → line ≢ command_text c)
-no_command_is line word a (Some c) are other = tt
-no_command_is line word a None are other = λ c is same.
-    let found : Some (word, a) ≡ Some (words_of c) = words_of_text line (Some (word, a)) are c is same in
-    other c (cc)
+    → read ≡ command_at word a → IfNone read ((c : Command) → IsCommand c → line ≢ command_text c)
+no_command_is line word a (Some c) are found = tt
+no_command_is line word a None are found = λ c is same.
+    let read : Some (word, a) ≡ Some (words_of c) = words_of_text line (Some (word, a)) are c is same in
+    let words : (word, a) ≡ words_of c = cc in
+    let none : None ≡ Some c = found ∙ ap (λ (w : List ℕ × Arguments). command_at w.0 w.1) words ∙ command_of_words c in
+    absurd (cc)

@@ -1,9 +1,12 @@
 -- Reading a line from left to right, as the code does. No public clause cites this module.
-use Rattle.std.specs.Prelude.{ℕ, List, Option, Some, None}
+use Rattle.std.specs.Prelude.{ℕ, List, Option, Some, None, codes, if◌then◌else◌}
+use Rattle.std.specs.Str.{bytes_eq}
 use Rattle.relay_admin.specs.rules.Grammar.{space}
 use Rattle.relay_admin.specs.TextReading.{◌>>=◌, split_at_first, number_within, time_within}
 use Rattle.relay_admin.specs.declared.admin.command.Arguments.{Arguments}
 use Rattle.relay_admin.specs.declared.admin.command.Arguments.TheVariants as behind
+use Rattle.relay_admin.specs.declared.admin.command.Command.{Command}
+use Rattle.relay_admin.specs.declared.admin.command.Command.TheVariants as command
 use Rattle.relay_admin.specs.declared.admin.command.TheConstants.{MAX_ID, MAX_DEADLINE_MS}
 
 -- an id where the text has one part, an id and a deadline where it has two
@@ -30,3 +33,28 @@ words_of_parts text (Some parts) = do
 -- a word, and what stands behind it
 unfoldable pub words_at : List ℕ → Option (List ℕ × Arguments)
 words_at text = words_of_parts text (split_at_first space text)
+
+-- the command of a word that stands alone
+unfoldable pub command_alone : List ℕ → Option Command
+command_alone word =
+    if bytes_eq word (codes "list") then Some command.List
+    else if bytes_eq word (codes "totals") then Some command.Totals
+    else if bytes_eq word (codes "quit") then Some command.Quit
+    else if bytes_eq word (codes "stop") then Some command.Stop
+    else if bytes_eq word (codes "reload") then Some command.Reload
+    else None
+
+-- the command of a word with an id behind it
+unfoldable pub command_at_id : List ℕ → ℕ → Option Command
+command_at_id word id =
+    if bytes_eq word (codes "close") then Some (command.CloseConn id)
+    else if bytes_eq word (codes "drain") then Some (command.DrainConn id)
+    else if bytes_eq word (codes "show") then Some (command.Show id)
+    else None
+
+-- the command of a word with these arguments
+unfoldable pub command_at : List ℕ → Arguments → Option Command
+command_at word behind.Nothing = command_alone word
+command_at word (behind.Id id) = command_at_id word id
+command_at word (behind.IdAndDeadline id after) =
+    if bytes_eq word (codes "deadline") then Some (command.DeadlineOf id after) else None

@@ -1,12 +1,12 @@
 //! A command of the admin socket, the line that spells it, and what it brings.
 //!
-//! A line is read as a word and its arguments; a row of `command_named` makes a command of them.
+//! A line is read as a word and its arguments; `command_named` makes a command of them.
 
 ghost use Rattle.std.specs.Prelude.{◌≡◌, ◌≢◌, IfSome, IfNone};
 ghost use Rattle.relay_admin.specs.TextReading.{Views};
 ghost use Rattle.relay_admin.specs.admin.Command.{IsCommand, SpellsCommand, command_text, end_of};
-ghost use Rattle.relay_admin.specs.admin.Command.{words_of};
 ghost use Rattle.relay_admin.specs.admin.CommandReading.{arguments_at, words_at};
+ghost use Rattle.relay_admin.specs.admin.CommandReading.{command_alone, command_at, command_at_id};
 
 use crate::admin::end::AdminEnd;
 use crate::text::{DAY_MS, number_between, split_once, time_between};
@@ -76,30 +76,51 @@ impl Command {
 }
 
 /// The command of this word with these arguments.
+#[tactic(auto, unfolding(crate::specs::admin::CommandReading::command_at))]
 fn command_named(word: &[u8], arguments: Arguments) -> Option<Command>
-    ensures word { IfSome result (λ command. word.now ≡ (words_of command).0) }
-    ensures arguments { IfSome result (λ command. arguments ≡ (words_of command).1) }
-    ensures none { IfNone result ((command : Command) → words_of command ≢ (word.now, arguments)) }
+    ensures { result ≡ command_at word.now arguments }
 {
     match arguments {
-        Arguments::Nothing => match word {
-            b"list" => Some(Command::List),
-            b"totals" => Some(Command::Totals),
-            b"quit" => Some(Command::Quit),
-            b"stop" => Some(Command::Stop),
-            b"reload" => Some(Command::Reload),
-            _ => None,
-        },
-        Arguments::Id(id) => match word {
-            b"close" => Some(Command::CloseConn(id)),
-            b"drain" => Some(Command::DrainConn(id)),
-            b"show" => Some(Command::Show(id)),
-            _ => None,
-        },
-        Arguments::IdAndDeadline(id, after_ms) => match word {
-            b"deadline" => Some(Command::DeadlineOf(id, after_ms)),
-            _ => None,
-        },
+        Arguments::Nothing => named_alone(word),
+        Arguments::Id(id) => named_with_id(word, id),
+        Arguments::IdAndDeadline(id, after_ms) if word == b"deadline".as_slice() => {
+            Some(Command::DeadlineOf(id, after_ms))
+        }
+        Arguments::IdAndDeadline(_, _) => None,
+    }
+}
+
+#[tactic(auto, unfolding(crate::specs::admin::CommandReading::command_alone))]
+fn named_alone(word: &[u8]) -> Option<Command>
+    ensures { result ≡ command_alone word.now }
+{
+    if word == b"list".as_slice() {
+        Some(Command::List)
+    } else if word == b"totals".as_slice() {
+        Some(Command::Totals)
+    } else if word == b"quit".as_slice() {
+        Some(Command::Quit)
+    } else if word == b"stop".as_slice() {
+        Some(Command::Stop)
+    } else if word == b"reload".as_slice() {
+        Some(Command::Reload)
+    } else {
+        None
+    }
+}
+
+#[tactic(auto, unfolding(crate::specs::admin::CommandReading::command_at_id))]
+fn named_with_id(word: &[u8], id: u64) -> Option<Command>
+    ensures { result ≡ command_at_id word.now id }
+{
+    if word == b"close".as_slice() {
+        Some(Command::CloseConn(id))
+    } else if word == b"drain".as_slice() {
+        Some(Command::DrainConn(id))
+    } else if word == b"show".as_slice() {
+        Some(Command::Show(id))
+    } else {
+        None
     }
 }
 

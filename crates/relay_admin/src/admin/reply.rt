@@ -14,6 +14,7 @@ use crate::admin::reply_text::{
 use crate::rules::rule::MAX_NAME_BYTES;
 use arrayvec::ArrayString;
 use base_types::OutOfMemory;
+use itoa::Buffer;
 use std::alloc::{Allocator, Global};
 
 /// The reply to an answer, with its line feed. It hangs on the answer alone, whatever the command
@@ -60,14 +61,14 @@ pub fn reply_in<A: Allocator + Copy>(
 fn ids_reply<A: Allocator + Copy>(alloc: A, ids: &[u64]) -> Result<Vec<u8, A>, OutOfMemory>
     ensures { IfOk result (λ reply. reply.items ≡ reply_text (answers.ids ids.now)) }
 {
-    let mut text = String::new(alloc);
-    text.push_str("ids")?;
+    let mut text = Vec::from_slice(alloc, b"ids")?;
+    let mut digits = Buffer::new();
     for id in ids {
-        let word = format!(in alloc; " {id}")?;
-        text.push_str(&word)?;
+        text.push(b' ')?;
+        text.extend_from_slice(digits.format(*id).as_bytes())?;
     }
-    text.push_str("\n")?;
-    Ok(text.into_bytes())
+    text.push(b'\n')?;
+    Ok(text)
 }
 
 /// The line that says that the rule of this name can't be listened for.

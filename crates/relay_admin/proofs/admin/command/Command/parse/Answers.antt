@@ -7,9 +7,9 @@ returns-in_default-clause-none c = no_words_no_command _ c.in_default.ensures
 pub returns-clause-command : goal.returns-clause-command
 returns-clause-command c =
     command_is c.args.text.now c.in-Some.word.now c.in-Some.arguments c.command_named.result c.in-Some.ensures
-    c.command_named.ensures.word c.command_named.ensures.arguments
+    c.command_named.ensures
 
 pub returns-clause-none : goal.returns-clause-none
 returns-clause-none c =
     no_command_is c.args.text.now c.in-Some.word.now c.in-Some.arguments c.command_named.result c.in-Some.ensures
-    c.command_named.ensures.none
+    c.command_named.ensures
