@@ -35,7 +35,7 @@ SCRIPTS = {
     "claims": ([sys.executable, "tests/claims.py"], 5),
     "clauses": ([sys.executable, "tests/clauses.py"], 5),
     **{it: ([sys.executable, f"tests/{it}.py"], 5) for it in
-       ("run_test", "wrong_bodies_test", "receipts_test", "clauses_test", "build_test", "claims_test", "pictures_test")},
+       ("run_test", "wrong_bodies_test", "clauses_test", "build_test", "claims_test", "pictures_test")},
     "man_page": (["sh", "tests/man_page.sh"], 5),
 }
 # Scripts on the running program. Those marked run alone, since they look at the clock.
