@@ -406,6 +406,23 @@ def sample_metrics(checks, folder):
             checks.expect("metrics: other files", ["relay.prom"], os.listdir(folder))
 
 
+def metrics_at_a_path(checks, folder):
+    """Metrics are given at a Unix path, which goes with the relay; a path that is there already keeps it from starting, and stays."""
+    rule, path = RULE.format("one", free_port()), f"{folder}/metrics.sock"
+    with Relay(rule, options=("--metrics", f"unix:{path}")) as relay:
+        with connect(f"unix:{path}") as scraper, scraper.makefile("rb") as answer:
+            scraper.sendall(b"GET /metrics HTTP/1.1\r\nHost: x\r\nConnection: close\r\n\r\n")
+            told = answer.read()
+        checks.holds("metrics: an answer", told.startswith(b"HTTP/1.1 200 OK\r\n") and b"\npollrelay_loops " in told, told)
+        checks.expect("metrics: status", 0, relay.stop()[0])
+    checks.expect("metrics: what is left", [], os.listdir(folder))
+    rules, taken = write(f"{folder}/rules", rule), write(f"{folder}/taken", "")
+    for admin, fault in ((f"{folder}/admin", b"cannot listen metrics\n"), (taken, b"cannot listen admin\n")):
+        words = ["serve", "--rules", rules, "--admin", admin, "--metrics", f"unix:{taken}"]
+        checks.expect(f"metrics: a path that is taken, {fault}", (3, b"", fault), run(words))
+        checks.expect(f"metrics: what is left, {fault}", ["rules", "taken"], sorted(os.listdir(folder)))
+
+
 def spread(checks, _):
     """Each of two loops copies for one of two streams, and for all connections there are two threads beside the loops."""
     accepts, target = listener()
@@ -466,7 +483,7 @@ def silent_sessions(checks, folder):
 
 STAGES = [
     command_lines, verdicts, outputs, start_faults, poller_fault, refused_paths, admin_sessions, stopped_and_gone,
-    no_rule, sample_rules, sample_sessions, sample_metrics, spread,
+    no_rule, sample_rules, sample_sessions, sample_metrics, metrics_at_a_path, spread,
     asked_pairs, silent_sessions,
 ]
 

@@ -4,13 +4,12 @@ pub mod Deadlines
 pub mod Delivering
 pub mod Desk
 pub mod Ending
+pub mod Fault
 pub mod Handle
-pub mod Loops
 pub mod Output
 pub mod RelayEnd
 pub mod Reload
 pub mod ReloadWish
-pub mod ServeFault
 pub mod Session
 pub mod Stopping
 pub mod Subject

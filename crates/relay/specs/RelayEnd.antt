@@ -1,6 +1,6 @@
 -- How a relay ends. Lists are newest first.
 use Rattle.std.specs.Prelude.{List, [], ◌∷◌, Result}
-use Rattle.relay.specs.declared.fault.ServeFault.{ServeFault}
+use Rattle.relay_admin.specs.declared.serve_fault.ServeFault.{ServeFault}
 
 -- a step of the end, where the join of all threads tells whether the loops turned well
 pub data EndCall : Type 0 where

@@ -2,8 +2,8 @@
 use Rattle.relay_admin.specs.declared.admin.desk.DeskAnswer.{DeskAnswer}
 use Rattle.relay_admin.specs.declared.admin.desk.DeskAnswer.TheVariants.{CannotRead, CannotListen}
 use Rattle.relay_admin.specs.declared.admin.desk.DeskAnswer.TheVariants.{NoMemory, Closed}
-use Rattle.relay.specs.declared.fault.ServeFault.{ServeFault}
-use Rattle.relay.specs.declared.fault.ServeFault.TheVariants as fault
+use Rattle.relay_admin.specs.declared.serve_fault.ServeFault.{ServeFault}
+use Rattle.relay_admin.specs.declared.serve_fault.ServeFault.TheVariants as fault
 
 -- the file or an address as at a start; where the relay is ending, or its poller fails, it is closed
 abbrev pub answer_of_fault : ServeFault → DeskAnswer

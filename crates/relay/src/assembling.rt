@@ -2,9 +2,7 @@
 
 ghost use Rattle.std.specs.Prelude.{◌≡◌};
 
-use crate::capacity::Capacity;
 use crate::entry::Entry;
-use crate::fault::ServeFault;
 use crate::home::Home;
 use crate::opening::{Acceptors, Opened, open};
 use crate::relay::Relay;
@@ -14,7 +12,8 @@ use crate::threads::Unstarted;
 use conntable::ConnTable;
 use log_writer::Log;
 use readiness::LoopRemote;
-use relay_core::PairLimit;
+use relay_admin::ServeFault;
+use relay_core::{Capacity, PairLimit};
 use relay_ledger::Book;
 use relay_watch::bound_path::BoundPath;
 use relay_watch::counts::Counter;

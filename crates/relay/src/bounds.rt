@@ -1,19 +1,17 @@
 //! What a relay's threads have in common: what they run on, and what counts their bytes.
 
 use std::net::{Net, TcpListener, TcpStream};
-use std::random::RandomSource;
 use std::sync::Wait;
 use std::sync::ledger::Ledger;
 use std::thread::Threads;
 use std::time::Clock;
 
-/// What a relay runs on: it waits, starts threads, opens sockets, reads the clock and has random
-/// keys for the tables of its metrics, and each thread has it.
+/// What a relay runs on: it waits, starts threads, opens sockets and reads the clock, and each
+/// thread has it.
 pub trait RelayRuntime: Wait
     + Threads
     + Net<Listener = TcpListener, Stream = TcpStream>
     + Clock
-    + RandomSource
     + Copy
     + Send
     + Sync
@@ -25,7 +23,6 @@ where
         + Threads
         + Net<Listener = TcpListener, Stream = TcpStream>
         + Clock
-        + RandomSource
         + Copy
         + Send
         + Sync

@@ -4,16 +4,16 @@ ghost use Rattle.std.specs.Prelude.{◌≡◌, List, ◌∷◌, IfOk, IfErr};
 ghost use Rattle.rwloops.specs.Waits.{Tells};
 ghost use Rattle.relay.specs.RelayEnd.{EndCall, Stopped, AdminWoken, AcceptsEnded, Joined};
 ghost use Rattle.relay.specs.RelayEnd.{ListenersClosed, InboxesEmptied, end_calls};
-ghost use Rattle.relay.specs.ServeFault.{IsRunFault};
-ghost use Rattle.relay.specs.declared.fault.ServeFault.{ServeFault};
+ghost use Rattle.relay_admin.specs.ServeFault.{IsRunFault};
+ghost use Rattle.relay_admin.specs.declared.serve_fault.ServeFault.{ServeFault};
 
 use crate::accepting::AcceptHost;
 use crate::clock::RelayClock;
 use crate::closing::Closer;
-use crate::fault::ServeFault;
 use crate::relay::Relay;
 use crate::threads::Helpers;
 use crate::totals::{Total, Totals};
+use relay_admin::ServeFault;
 use relay_ledger::{Book, give_up_all};
 use std::alloc::Global;
 use std::sync::Wait;
@@ -53,6 +53,15 @@ impl<U: Ledger, D: Ledger, R: Wait + Clock + Copy> Relay<U, D, R> {
         unreachable!()
     }
 
+    // The totals of both books, once all that had shares have settled them.
+    fn totals(&self, rt: &R) -> Result<Totals<U, D>, ServeFault>
+        ensures faults { IfErr result (λ fault. fault ≡ ServeFault.Memory) }
+    {
+        let up = gathered(self.alloc, &mut *self.shared.up.lock(rt))?;
+        let down = gathered(self.alloc, &mut *self.shared.down.lock(rt))?;
+        Ok(Totals { up, down })
+    }
+
     /// Ends the relay and all its threads, and gives the gathered totals.
     pub(crate) fn end(
         self,
@@ -68,16 +77,10 @@ impl<U: Ledger, D: Ledger, R: Wait + Clock + Copy> Relay<U, D, R> {
             host,
             helpers,
         };
-        end_in_order(&mut ending)?;
-        let RelayItself {
-            relay,
-            host,
-            helpers: _,
-        } = ending;
-        let rt = host.rt;
-        let up = gathered(relay.alloc, &mut *relay.shared.up.lock(&rt))?;
-        let down = gathered(relay.alloc, &mut *relay.shared.down.lock(&rt))?;
-        Ok(Totals { up, down })
+        match end_in_order(&mut ending) {
+            Ok(()) => ending.relay.totals(&ending.host.rt),
+            Err(fault) => Err(fault),
+        }
     }
 }
 

@@ -1,65 +1,27 @@
-//! Why a relay doesn't run, or can't go on.
+//! What a fault of a call below is to the relay.
 
 ghost use Rattle.std.specs.Prelude.{◌≡◌};
-ghost use Rattle.relay.specs.ServeFault.{metrics_fault, poller_fault};
+ghost use Rattle.relay.specs.Fault.{metrics_fault, poller_fault};
 
-use arrayvec::ArrayString;
-use relay_admin::{RulesFault, Verdict};
+use relay_admin::ServeFault;
 use rwloops::Fault;
-use thiserror::Error;
 
-/// Why a relay doesn't run, or can't go on. The texts are the lines on standard error.
-#[derive(Clone, Copy, Debug, PartialEq, Eq, Drop, Error)]
-pub enum ServeFault {
-    /// The rules file can't be read. The text is `relay_admin`'s `CANNOT_READ` too, and that of
-    /// `Listen` its `CANNOT_LISTEN`: an attribute can cite no constant, and a test compares them.
-    #[error("cannot read rules")]
-    RulesFile,
-    /// The rules are bad; the text is the verdict on them.
-    #[error("{0}")]
-    BadRules(ArrayString<64>),
-    /// The rule of this name can't be listened for.
-    #[error("cannot listen {0}")]
-    Listen(ArrayString<16>),
-    /// The admin socket can't be opened.
-    #[error("cannot listen admin")]
-    Admin,
-    /// The address of the metrics can't be listened on.
-    #[error("cannot listen metrics")]
-    Metrics,
-    /// The poller or standard output failed.
-    #[error("relay fault: device")]
-    Device,
-    /// Memory or a thread was refused.
-    #[error("relay fault: memory")]
-    Memory,
+/// What a fault of the poller is to the relay.
+pub(crate) fn of_poller(fault: Fault) -> ServeFault
+    ensures { result ≡ poller_fault fault }
+{
+    match fault {
+        Fault::OutOfMemory => ServeFault::Memory,
+        _ => ServeFault::Device,
+    }
 }
 
-impl ServeFault {
-    /// What a fault of the poller is to the relay.
-    pub(crate) fn of_poller(fault: Fault) -> ServeFault
-        ensures { result ≡ poller_fault fault }
-    {
-        match fault {
-            Fault::OutOfMemory => ServeFault::Memory,
-            _ => ServeFault::Device,
-        }
-    }
-
-    /// What a refusal of the server of metrics is to the relay.
-    pub(crate) fn of_metrics(fault: Fault) -> ServeFault
-        ensures { result ≡ metrics_fault fault }
-    {
-        match fault {
-            Fault::OutOfMemory => ServeFault::Memory,
-            _ => ServeFault::Metrics,
-        }
-    }
-
-    /// The fault of bad rules, with the line of their verdict but for its line feed.
-    pub(crate) fn of_rules(fault: RulesFault) -> ServeFault {
-        let mut text = Verdict::Bad(fault).line();
-        let _ = text.pop();
-        ServeFault::BadRules(text)
+/// What a refusal of the server of metrics is to the relay.
+pub(crate) fn of_metrics(fault: Fault) -> ServeFault
+    ensures { result ≡ metrics_fault fault }
+{
+    match fault {
+        Fault::OutOfMemory => ServeFault::Memory,
+        _ => ServeFault::Metrics,
     }
 }

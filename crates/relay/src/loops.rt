@@ -1,66 +1,24 @@
 //! The loops: each a thread that resumes the tasks of its connections.
 
-ghost use Rattle.std.specs.Prelude.{◌≡◌, ◌<◌, ◌≤◌, ◌↔◌, option_map};
+ghost use Rattle.std.specs.Prelude.{◌≡◌, ◌↔◌};
 ghost use Rattle.readiness.specs.declared.tasks.Turn.{Turn};
 ghost use Rattle.relay_core.specs.PairTasks.{HasToClose, MayGoOn};
-ghost use Rattle.relay.specs.Loops.{loop_count};
 
 use crate::clock::{Moments, RelayClock};
 use crate::connection::Connection;
-use crate::fault::ServeFault;
+use crate::fault::of_poller;
 use crate::home::{Accepted, Home};
 use crate::shared::Shared;
 use fd_descriptor::PollCell;
 use readiness::{EventLoop, Host, Side, Turn, Why};
+use relay_admin::ServeFault;
 use relay_core::{LoopMemory, PairNext};
 use std::alloc::Global;
 use std::mem;
 use std::net::{Net, TcpListener, TcpStream};
 use std::sync::ledger::Ledger;
 use std::sync::{Arc, Wait};
-use std::thread::{Threads, available_parallelism};
 use std::time::{Clock, Instant};
-
-/// The most loops of a relay. This project's own rule.
-pub const MAX_LOOPS: usize = 64;
-
-/// The most loops that a relay has by default.
-const MOST_BY_DEFAULT: usize = 8;
-
-/// How many loops a relay has: 1 to 64.
-#[derive(Clone, Copy, Debug, PartialEq, Eq, Drop)]
-pub struct Loops {
-    pub count: usize,
-    ghost some: { 0 < count },
-    ghost most: { count ≤ 64 },
-}
-
-impl Loops {
-    /// So many; none where that is 0 or more than 64. The clause has the figure itself, so that a
-    /// constant of another value is refused.
-    pub fn of(count: u64) -> Option<Loops>
-        ensures { option_map (λ loops. loops.count) result ≡ loop_count count }
-    {
-        if count == 0 || count > MAX_LOOPS as u64 {
-            return None;
-        }
-        Some(Loops {
-            count: count as usize,
-        })
-    }
-
-    /// As many as threads run at once on this machine, at most 8; one where that can't be told.
-    pub fn by_processors<R: Threads>(rt: &R) -> Loops
-        ensures { result.count ≤ 8 }
-    {
-        match available_parallelism(rt) {
-            Ok(count) => Loops {
-                count: count.get().min(MOST_BY_DEFAULT),
-            },
-            Err(_) => Loops { count: 1 },
-        }
-    }
-}
 
 /// A loop that has connections.
 pub(crate) type ConnLoop<U, D, R> = EventLoop<Connection<U, D, R>>;
@@ -156,7 +114,7 @@ impl<U: Ledger, D: Ledger, R: Wait + Net + Clock + Copy> LoopHost<U, D, R> {
         for _ in rt.forever() {
             let now = self.clock.now();
             if let Err(fault) = tasks.turn(&rt, now, self) {
-                return Err(ServeFault::of_poller(fault));
+                return Err(of_poller(fault));
             }
             self.note_turn();
             if self.shared.is_stopped() {

@@ -1,22 +1,22 @@
 //! Opening: the pollers, the listeners in the rules' order, and the admin socket.
 
 ghost use Rattle.std.specs.Prelude.{◌≡◌, IfErr};
-ghost use Rattle.relay.specs.declared.fault.ServeFault.{ServeFault};
+ghost use Rattle.relay_admin.specs.declared.serve_fault.ServeFault.{ServeFault};
 
 use crate::accepting::{RuleListener, RuleTask};
 use crate::address::socket_address;
 use crate::admin::AdminSocket;
 use crate::entry::{Entry, Handle, Owner, Subject};
-use crate::fault::ServeFault;
+use crate::fault::of_poller;
 use crate::home::Home;
-use crate::loops::{ConnLoop, Loops};
+use crate::loops::ConnLoop;
 use crate::threads::Unstarted;
 use arrayvec::ArrayString;
 use conntable::ConnTable;
 use fd_descriptor::FdHandle;
 use readiness::{Addr, EventLoop, HoldFault, Listen, ListenRes, Poller, Waker, listen};
-use relay_admin::Rule;
-use relay_core::Accepting;
+use relay_admin::{Rule, ServeFault};
+use relay_core::{Accepting, Loops};
 use relay_watch::bound_path::BoundPath;
 use relay_watch::served_rule::ServedRule;
 use std::alloc::Global;
@@ -47,7 +47,7 @@ pub(crate) struct Opened<U: Ledger, D: Ledger, R: Wait + Clock + Copy> {
 fn poller<R: Net>(rt: &R, alloc: Global) -> Result<(Poller, Arc<Waker>), ServeFault> {
     let poller = match Poller::new(rt, alloc) {
         Ok(poller) => poller,
-        Err(fault) => return Err(ServeFault::of_poller(fault)),
+        Err(fault) => return Err(of_poller(fault)),
     };
     match poller.waker() {
         Ok(waker) => Ok((poller, waker)),
@@ -58,7 +58,7 @@ fn poller<R: Net>(rt: &R, alloc: Global) -> Result<(Poller, Arc<Waker>), ServeFa
 fn event_loop<T, R: Net>(rt: &R, alloc: Global) -> Result<EventLoop<T>, ServeFault> {
     match EventLoop::new(rt, alloc) {
         Ok(tasks) => Ok(tasks),
-        Err(fault) => Err(ServeFault::of_poller(fault)),
+        Err(fault) => Err(of_poller(fault)),
     }
 }
 

@@ -3,12 +3,12 @@
 ghost use Rattle.std.specs.Prelude.{◌≡◌, OnOk, IfErr};
 ghost use Rattle.std.specs.Io.KnownBytes.{Appends};
 ghost use Rattle.relay.specs.Output.{listening_line, totals_line};
-ghost use Rattle.relay.specs.declared.fault.ServeFault.{ServeFault};
+ghost use Rattle.relay_admin.specs.declared.serve_fault.ServeFault.{ServeFault};
 
-use crate::fault::ServeFault;
 use crate::totals::Totals;
 use arrayvec::ArrayString;
 use itoa::Buffer;
+use relay_admin::ServeFault;
 use std::io::Write;
 use std::sync::ledger::Ledger;
 use stream_base::sink::deliver_to;

@@ -6,11 +6,10 @@ ghost use Rattle.std.specs.Prelude.{◌≡◌};
 ghost use Rattle.relay.specs.Reload.{answer_of_fault};
 
 use crate::closing::Closer;
-use crate::fault::ServeFault;
 use crate::opening::{bind, hold_rule};
 use crate::relay::Relay;
 use crate::rules_file::text_of;
-use relay_admin::{Addr, DeskAnswer, Rule, Rules, Verdict};
+use relay_admin::{Addr, DeskAnswer, Rule, Rules, ServeFault, Verdict};
 use relay_watch::served_rule::ServedRule;
 use std::alloc::Global;
 use std::fs::Files;

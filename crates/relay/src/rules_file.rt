@@ -3,10 +3,9 @@
 ghost use Rattle.std.specs.Prelude.{◌≡◌, ◌<◌, ◌≤◌, ◌+◌, length, IfOk, IfErr};
 ghost use Rattle.std.specs.Io.KnownBytes.{Consumes, IsAtEnd};
 ghost use Rattle.relay_admin.specs.declared.rules.file.TheConstants.{MAX_BYTES};
-ghost use Rattle.relay.specs.ServeFault.{IsReadFault};
+ghost use Rattle.relay_admin.specs.ServeFault.{IsReadFault};
 
-use crate::fault::ServeFault;
-use relay_admin::{MAX_BYTES, Rules};
+use relay_admin::{MAX_BYTES, Rules, ServeFault};
 use std::alloc::Global;
 use std::fs;
 use std::fs::Files;

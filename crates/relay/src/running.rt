@@ -2,22 +2,21 @@
 
 ghost use Rattle.std.specs.Prelude.{◌≡◌, ◌⊎◌, Err, OnOk, IfErr};
 ghost use Rattle.relay.specs.Output.{SaysItListens};
-ghost use Rattle.relay.specs.ServeFault.{IsRunFault};
+ghost use Rattle.relay_admin.specs.ServeFault.{IsRunFault};
 
 use crate::accepting::AcceptHost;
 use crate::admin::AdminSocket;
 use crate::bounds::{RelayRuntime, SharedLedger};
 use crate::clock::RelayClock;
-use crate::fault::ServeFault;
-use crate::figures::serve_figures;
+use crate::figures::{RelayFigures, start_figures, stop_figures};
 use crate::loops::ConnLoop;
+use crate::outlets::FiguresServer;
 use crate::output::write_listening;
 use crate::relay::Relay;
 use crate::shared::Shared;
 use crate::threads::{Helpers, Unstarted};
 use crate::totals::Totals;
-use relay_admin::Addr;
-use relay_watch::bound_path::BoundPath;
+use relay_admin::ServeFault;
 use std::fs::Files;
 use std::io::Write;
 use std::sync::Arc;
@@ -107,34 +106,27 @@ where
     totals_after(ran, gathered)
 }
 
-/// An opened relay to its end, with its metrics at this address, where there is one. They are told
-/// before it says that it listens.
-pub(crate) fn run_with_figures<U, D, R, W: Write>(
+/// An opened relay to its end, with its metrics given by this server, if there is one. They are told
+/// before it says that it listens, and no more once it has ended.
+pub(crate) fn run_with_figures<U, D, R, S, W: Write>(
     rt: R,
     relay: Relay<U, D, R>,
     shared: Arc<Shared<U, D>>,
     unstarted: Unstarted<U, D, R>,
-    metrics: &Option<Addr>,
+    metrics: Option<S>,
     writer: &mut W,
 ) -> Result<Totals<U, D>, ServeFault>
 where
     U: SharedLedger,
     D: SharedLedger,
     R: RelayRuntime + Files,
+    S: FiguresServer<RelayFigures<U, D, R>>,
     ensures said { OnOk result (SaysItListens (W.contents writer.old) (W.contents writer.new)) }
     ensures unwritten { IfErr result (λ fault. IsRunFault fault
         ⊎ (W.contents writer.new ≡ W.contents writer.old)) }
 {
-    let Some(addr) = metrics else {
-        return run_to_the_end(rt, relay, shared, unstarted, writer);
-    };
-    let Ok(watched) = Arc::try_clone(&shared) else {
-        return Err(ServeFault::Memory);
-    };
-    let clock = RelayClock::new(rt, relay.start);
-    let running = serve_figures(rt, relay.alloc, addr, clock, watched)?;
+    let running = start_figures(rt, &relay, metrics)?;
     let totals = run_to_the_end(rt, relay, shared, unstarted, writer);
-    running.stop(&rt);
-    BoundPath::of(addr).remove(&rt);
+    stop_figures(running);
     totals
 }

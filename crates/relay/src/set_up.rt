@@ -1,6 +1,6 @@
 //! Setting a connection up for an accepted socket.
 
-ghost use Rattle.std.specs.Prelude.{◌≡◌, [], length, Some, IfSome};
+ghost use Rattle.std.specs.Prelude.{◌≡◌, ◌<◌, [], ◌∷◌, ◌++◌, length, Some, IfSome};
 ghost use Rattle.std.specs.Arc.{arc_value};
 ghost use Rattle.base_types.specs.declared.direction.Dir.{Dir};
 ghost use Rattle.relay_core.specs.declared.pair_tasks.Standing.{Standing};
@@ -17,6 +17,7 @@ use crate::new_side::{NewSide, new_side, subjects};
 use crate::settled::settle;
 use crate::task_gate::{Source, TaskGate};
 use base_types::Dir;
+use conntable::ConnTable;
 use fd_descriptor::FdHandle;
 use readiness::{RemoteAlarms, Sock, SockRes, connect};
 use relay_core::{Copying, InsertedSides, PairTasks, Step, Way};
@@ -47,6 +48,20 @@ fn opened<L: Ledger, R: Wait>(rt: &R, book: &Mutex<Book<L>>) -> Option<CarriedSh
         Ok(share) => Some(CarriedShare::new(share)),
         Err(_) => None,
     }
+}
+
+// Puts a side into the table, and notes it among those that were inserted.
+fn insert_side(
+    table: &mut ConnTable<Entry>,
+    side: Entry,
+    inserted: &mut InsertedSides,
+) -> Option<u64>
+    requires room { length inserted.old < 2 }
+    ensures noted { IfSome result (λ id. inserted.new ≡ inserted.old ++ id ∷ []) }
+{
+    let (id, _) = table.insert(side).ok()?;
+    inserted.insert(id);
+    Some(id)
 }
 
 impl<U: Ledger, D: Ledger, R: Wait + Net + Clock + Copy> LoopHost<U, D, R> {
@@ -87,10 +102,8 @@ impl<U: Ledger, D: Ledger, R: Wait + Net + Clock + Copy> LoopHost<U, D, R> {
         ensures both { IfSome result (λ _. length inserted.new ≡ 2) }
     {
         let mut table = self.shared.table.lock(&self.rt);
-        let (client, _) = table.insert(client).ok()?;
-        inserted.insert(client);
-        let (target, _) = table.insert(target).ok()?;
-        inserted.insert(target);
+        let client = insert_side(&mut *table, client, inserted)?;
+        let target = insert_side(&mut *table, target, inserted)?;
         Some((client, target))
     }
 

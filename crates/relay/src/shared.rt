@@ -6,14 +6,13 @@
 use crate::closing::{Closer, close_by_id};
 use crate::entry::Entry;
 use crate::home::{Accepted, Home};
-use crate::loops::MAX_LOOPS;
 use crate::reload_wish::ReloadWish;
 use crate::stopping::{ByItsFlag, stop_all};
 use arrayvec::ArrayVec;
 use conntable::ConnTable;
 use log_writer::Log;
 use readiness::{LoopRemote, Sock};
-use relay_core::{PairLimit, place_of_pair};
+use relay_core::{MAX_LOOPS, PairLimit, place_of_pair};
 use relay_ledger::Book;
 use relay_log::ended::Ended;
 use relay_watch::connection_facts::Acceptance;

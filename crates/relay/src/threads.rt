@@ -1,17 +1,17 @@
 //! The loops' threads and the admin thread.
 
 ghost use Rattle.std.specs.Prelude.{◌≡◌, IfErr};
-ghost use Rattle.relay.specs.declared.fault.ServeFault.{ServeFault};
+ghost use Rattle.relay_admin.specs.declared.serve_fault.ServeFault.{ServeFault};
 
 use crate::admin::{AdminGate, AdminSocket, serve_sessions};
 use crate::admin_waits::AdminWaits;
 use crate::bounds::{RelayRuntime, SharedLedger};
 use crate::clock::RelayClock;
-use crate::fault::ServeFault;
 use crate::loops::{ConnLoop, Lot, run_loop};
 use crate::pair::STACK_BYTES;
 use crate::relay::Relay;
 use readiness::Waker;
+use relay_admin::ServeFault;
 use relay_core::{AcceptGate, LoopMemory};
 use std::alloc::Global;
 use std::sync::ledger::Ledger;

@@ -1,12 +1,13 @@
 //! The main thread's turns: it accepts by all rules.
 
 ghost use Rattle.std.specs.Prelude.{IfErr};
-ghost use Rattle.relay.specs.ServeFault.{IsRunFault};
+ghost use Rattle.relay_admin.specs.ServeFault.{IsRunFault};
 
 use crate::accepting::AcceptHost;
 use crate::clock::{Moments, RelayClock};
-use crate::fault::ServeFault;
+use crate::fault::of_poller;
 use crate::relay::Relay;
+use relay_admin::ServeFault;
 use std::fs::Files;
 use std::net::Net;
 use std::sync::Wait;
@@ -31,7 +32,7 @@ impl<U: Ledger, D: Ledger, R: Wait + Net + Files + Clock + Copy> Relay<U, D, R> 
         let rt = host.rt;
         for _ in rt.forever() {
             if let Err(fault) = self.tasks.turn(&rt, host.clock.now(), host) {
-                return Err(ServeFault::of_poller(fault));
+                return Err(of_poller(fault));
             }
             if self.shared.is_stopped() {
                 return Ok(());

@@ -1,4 +1,5 @@
 pub mod Laws
+pub mod ServeFault
 pub mod TextReading
 pub mod admin
 pub mod rules

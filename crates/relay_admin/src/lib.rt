@@ -5,6 +5,7 @@
 mod admin;
 pub mod laws;
 mod rules;
+mod serve_fault;
 mod text;
 
 pub use admin::command::Command;
@@ -17,3 +18,4 @@ pub use rules::addr::{Addr, MAX_ADDR_BYTES, addr_of};
 pub use rules::file::{MAX_BYTES, Rules, RulesFault};
 pub use rules::rule::Rule;
 pub use rules::verdict::{Verdict, check_status};
+pub use serve_fault::ServeFault;

@@ -11,7 +11,7 @@ use Rattle.clap.specs.Faults.{fault_of}
 use Rattle.clap.specs.Kinds.{Kinds}
 use Rattle.clap.specs.declared.builder.action.ArgAction.TheVariants.{Set}
 use Rattle.stream_base.specs.Decimal.{number_of}
-use Rattle.relay.specs.Loops.{loop_count}
+use Rattle.relay_core.specs.Loops.{loop_count}
 use Rattle.relay_core.specs.PairLimit.{pair_count}
 use Rattle.relay_admin.specs.TextReading.{◌>>=◌}
 use Rattle.relay_admin.specs.rules.Addr.{Address, address_of}

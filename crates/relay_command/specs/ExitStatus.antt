@@ -2,7 +2,7 @@
 use Rattle.std.specs.Prelude.{ℕ}
 use Rattle.lockword_script.specs.declared.outcome.TraceFault.{TraceFault}
 use Rattle.lockword_script.specs.declared.outcome.TraceFault.TheVariants as trace
-use Rattle.relay.specs.declared.fault.ServeFault.TheVariants as relay
+use Rattle.relay_admin.specs.declared.serve_fault.ServeFault.TheVariants as relay
 use Rattle.relay_command.specs.declared.fault.Fault.{Fault}
 use Rattle.relay_command.specs.declared.fault.Fault.TheVariants as fault
 

@@ -4,7 +4,7 @@ ghost use Rattle.std.specs.Prelude.{◌≡◌};
 ghost use Rattle.relay_command.specs.ExitStatus.{status_of_fault, fault_of_trace};
 
 use lockword_script::TraceFault;
-use relay::ServeFault;
+use relay_admin::ServeFault;
 use thiserror::Error;
 
 /// Why the program ends without doing its job. The texts are the lines on standard error.

@@ -18,8 +18,8 @@ ghost use Rattle.relay_admin.specs.rules.Addr.{address_of};
 use base_types::OutOfMemory;
 use clap::error::ErrorKind;
 use clap::{Arg, ArgAction, ArgMatches, Command};
-use relay::{Loops, PairLimit};
 use relay_admin::{Addr, addr_of};
+use relay_core::{Loops, PairLimit};
 use std::alloc::Global;
 use stream_base::decimal::parse_decimal;
 

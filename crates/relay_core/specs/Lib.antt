@@ -1,6 +1,7 @@
 pub mod CopyTrace
 pub mod Passing
 pub mod Lending
+pub mod Loops
 pub mod AcceptTrace
 pub mod Accepting
 pub mod Pair

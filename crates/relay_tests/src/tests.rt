@@ -21,6 +21,7 @@ mod ends;
 mod live_threads;
 mod loops;
 mod metrics;
+mod metrics_at;
 mod most_pairs;
 mod pairs;
 mod places;
@@ -32,7 +33,9 @@ mod streams;
 mod watch;
 mod watching;
 
+use metrics_at::MetricsAt;
 use relay::{Capacity, Loops, Outlets, PairLimit, ServeFault, serve};
+use relay_admin::Addr;
 use relay_ledger::PARTS;
 use std::fs::{File, Files};
 use std::io::Write;
@@ -68,7 +71,7 @@ impl Said {
 }
 
 /// What a relay has that tells nothing beside its lines and its admin socket.
-fn no_outlets() -> Outlets<File> {
+fn no_outlets<S>() -> Outlets<File, S> {
     Outlets {
         log: None,
         metrics: None,
@@ -81,7 +84,7 @@ fn served_at<R>(
     rules: &String,
     admin: &String,
     capacity: Capacity,
-    outlets: Outlets<File>,
+    outlets: Outlets<File, Addr>,
 ) -> Said
 where
     R: Wait
@@ -99,7 +102,12 @@ where
 {
     let (up, down) = (Blank::new(PARTS), Blank::new(PARTS));
     let mut text = Vec::new(rt.alloc());
-    let done = serve::<Brand, Brand, _, R, _>(
+    let Outlets { log, metrics } = outlets;
+    let outlets = Outlets {
+        log,
+        metrics: metrics.map(|addr| MetricsAt { rt, addr }),
+    };
+    let done = serve::<Brand, Brand, _, _, R, _>(
         rt, rules, admin, capacity, outlets, up, down, &mut text,
     );
     Said { done, text }

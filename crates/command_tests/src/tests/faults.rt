@@ -1,8 +1,7 @@
 //! Each fault's line and status.
 
 use arrayvec::ArrayString;
-use relay::ServeFault;
-use relay_admin::{Command, DeskAnswer, reply_of};
+use relay_admin::{Command, DeskAnswer, ServeFault, reply_of};
 use relay_command::{Fault, NO_MEMORY};
 use std::alloc::Global;
 use std::prelude::HostRuntime;

@@ -1,8 +1,8 @@
 //! The words that ask for a job, and words that ask for none.
 
-use relay::{Loops, PairLimit};
 use relay_admin::{Addr, addr_of};
 use relay_command::{Job, job_of};
+use relay_core::{Loops, PairLimit};
 use std::alloc::{AllocError, Global};
 use std::prelude::HostRuntime;
 use std::test::Fail;

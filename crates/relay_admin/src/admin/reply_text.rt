@@ -22,10 +22,10 @@ pub const BUSY: &[u8] = b"error 409 busy\n";
 /// Memory was refused.
 pub const OUT_OF_MEMORY: &[u8] = b"error 507 out of memory\n";
 
-/// The rules file can't be read. Its twin is what `relay::ServeFault` prints, whose attributes can
+/// The rules file can't be read. Its twin is what `ServeFault` prints, whose attributes can
 /// cite no constant.
 pub const CANNOT_READ: &[u8] = b"cannot read rules\n";
 
-/// The rule whose name follows can't be listened for. Its twin is what `relay::ServeFault` prints,
+/// The rule whose name follows can't be listened for. Its twin is what `ServeFault` prints,
 /// likewise.
 pub const CANNOT_LISTEN: &str = "cannot listen ";

@@ -1,0 +1,42 @@
+//! Why a relay doesn't run, or can't go on, as its program says it.
+
+use crate::rules::file::RulesFault;
+use crate::rules::verdict::Verdict;
+use arrayvec::ArrayString;
+use thiserror::Error;
+
+/// Why a relay doesn't run, or can't go on. The texts are the lines on standard error.
+#[derive(Clone, Copy, Debug, PartialEq, Eq, Drop, Error)]
+pub enum ServeFault {
+    /// The rules file can't be read. The text is `CANNOT_READ` of `reply_text` too, and that of
+    /// `Listen` its `CANNOT_LISTEN`: an attribute can cite no constant, and a test compares them.
+    #[error("cannot read rules")]
+    RulesFile,
+    /// The rules are bad; the text is the verdict on them.
+    #[error("{0}")]
+    BadRules(ArrayString<64>),
+    /// The rule of this name can't be listened for.
+    #[error("cannot listen {0}")]
+    Listen(ArrayString<16>),
+    /// The admin socket can't be opened.
+    #[error("cannot listen admin")]
+    Admin,
+    /// The address of the metrics can't be listened on.
+    #[error("cannot listen metrics")]
+    Metrics,
+    /// The poller or standard output failed.
+    #[error("relay fault: device")]
+    Device,
+    /// Memory or a thread was refused.
+    #[error("relay fault: memory")]
+    Memory,
+}
+
+impl ServeFault {
+    /// The fault of bad rules, with the line of their verdict but for its line feed.
+    pub fn of_rules(fault: RulesFault) -> ServeFault {
+        let mut text = Verdict::Bad(fault).line();
+        let _ = text.pop();
+        ServeFault::BadRules(text)
+    }
+}
