@@ -1,75 +1,78 @@
 //! With a deadline its alarm is armed once, with the cell's lock held.
 
-use super::scripted::ALWAYS_BLOCKS;
+use super::scripted::{Notice, Told};
+use super::scripts::ALWAYS_BLOCKS;
 use super::watch::Watch;
-use super::{comes_to, told_plain};
-use base_types::OutOfMemory;
+use super::{comes_to, open};
+use base_types::{Dir, OutOfMemory};
 use deadline_core::{Deadline, Dirs};
 use fd_descriptor::Alarms;
 use std::alloc::Global;
-use std::sync::Arc;
 use std::sync::atomic::{AtomicU64, Ordering};
+use std::sync::{Arc, Wait};
 use std::test::Fail;
 use std::thread;
+use std::thread::Threads;
 use std::time::{Clock, Duration};
 
-/// How often an alarm was armed, whether a tick came through, and whether it did so meanwhile.
+/// Alarms that take their time, and note whether a tick came through meanwhile.
 #[derive(Drop)]
-struct Seen {
+struct Slow<C: Clock + Drop> {
+    clock: C,
     armed: AtomicU64,
     ticked: AtomicU64,
     ticked_meanwhile: AtomicU64,
 }
 
-/// Alarms that take their time.
-#[derive(Drop)]
-struct Slow<C: Clock + Drop> {
-    clock: C,
-    seen: Arc<Seen, Global>,
-}
-
 impl<C: Clock + Drop> Alarms for Slow<C> {
     fn arm(&self, _key: u64, _dirs: Dirs, _at: u64) -> Result<(), OutOfMemory> {
-        self.seen.armed.fetch_add(1, Ordering::SeqCst);
+        self.armed.fetch_add(1, Ordering::SeqCst);
         thread::sleep(&self.clock, Duration::from_millis(20));
-        let ticked = self.seen.ticked.load(Ordering::SeqCst);
-        self.seen
-            .ticked_meanwhile
-            .fetch_add(ticked, Ordering::SeqCst);
+        let ticked = self.ticked.load(Ordering::SeqCst);
+        self.ticked_meanwhile.fetch_add(ticked, Ordering::SeqCst);
         Ok(())
     }
 
     fn disarm(&self, _key: u64, _dirs: Dirs) {}
 }
 
+/// Ticks the descriptor's cell once an alarm is armed.
+fn ticks<T: Wait + Clock + Copy + Drop>(rt: T, told: &Told, slow: &Slow<T>) -> bool {
+    let armed = comes_to(&rt, &slow.armed, 1);
+    told.tell(&rt, Notice::Clock(0), Dir::Read);
+    slow.ticked.store(1, Ordering::SeqCst);
+    armed
+}
+
+/// Sets a deadline while another thread ticks, and says whether both came to their end.
+fn set_beside_a_tick<T: Threads + Wait + Clock + Copy + Send + Sync + Drop + 'static>(
+    rt: T,
+    alloc: Global,
+    slow: &Arc<Slow<T>, Global>,
+) -> Result<bool, Fail> {
+    let told = Told::shared(alloc)?;
+    let mut handle = open(rt, alloc, &told, ALWAYS_BLOCKS, None)?;
+    let theirs = Arc::try_clone(slow)?;
+    let ticking = thread::spawn(&rt, move || ticks(rt, &told, &theirs))?;
+    let set = handle.set_deadline(&rt, Deadline::At(100), 0, &**slow);
+    Ok(ticking.join(&rt) && set.is_ok())
+}
+
 #[test]
 fn an_alarm_is_armed_once_and_under_the_lock(rt: HostRuntime) -> Result<(), Fail> {
-    let watch = Watch::start(rt, rt.alloc())?;
-    let seen = Seen {
+    let watch = Watch::start(rt, rt.alloc(), "an alarm")?;
+    let slow = Slow {
+        clock: rt,
         armed: AtomicU64::new(0),
         ticked: AtomicU64::new(0),
         ticked_meanwhile: AtomicU64::new(0),
     };
-    let seen = Arc::new(rt.alloc(), seen)?;
-    let (told, mut handle) = told_plain(rt, rt.alloc(), ALWAYS_BLOCKS, None)?;
-    let cell = handle.cell()?;
-    let theirs = Arc::try_clone(&seen)?;
-    let ticking = thread::spawn(&rt, move || {
-        let armed = comes_to(&rt, &theirs.armed, 1);
-        cell.tick(&rt, 0);
-        theirs.ticked.store(1, Ordering::SeqCst);
-        armed
-    })?;
-    let alarms = Slow {
-        clock: rt,
-        seen: Arc::try_clone(&seen)?,
-    };
-    let set = handle.set_deadline(&rt, Deadline::At(100), 0, &alarms);
-    holds!(rt; set.is_ok());
-    holds!(rt; ticking.join(&rt), "an alarm was armed");
-    holds!(rt; seen.armed.load(Ordering::SeqCst) == 1, "once");
-    let meanwhile = seen.ticked_meanwhile.load(Ordering::SeqCst);
-    holds!(rt; meanwhile == 0, "no tick came between");
+    let slow = Arc::new(rt.alloc(), slow)?;
+    let ended = set_beside_a_tick(rt, rt.alloc(), &slow)?;
+    assert!(rt; ended, "an alarm was armed");
+    assert!(rt; slow.armed.load(Ordering::SeqCst) == 1, "once");
+    let meanwhile = slow.ticked_meanwhile.load(Ordering::SeqCst);
+    assert!(rt; meanwhile == 0, "no tick came between");
     watch.end(&rt);
     Ok(())
 }

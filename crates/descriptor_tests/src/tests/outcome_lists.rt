@@ -1,17 +1,17 @@
 //! Each list of at most three outcomes and then a reset: a handle answers, tries, offers and leaves
 //! in the buffer what the loop does on the half itself.
 
-use super::scripted::{END, Notice, OwnCell, Script, ScriptedHalf, Told, Try};
+use super::open;
+use super::scripted::{END, Notice, Script, ScriptedHalf, Told, Tries, Try};
 use super::watch::Watch;
-use super::{Woken, open_woken};
 use base_types::Dir;
 use deadline_core::Refusal;
-use rwloops::{DevKind, Outcome, Waits, accept, read, write};
+use rwloops::{DevKind, Fault, Outcome, Waits, WriteFault, accept, read, write};
 use std::alloc::Global;
-use std::process::Abort;
 use std::sync::Wait;
 use std::sync::atomic::Ordering;
 use std::test::Fail;
+use std::time::Clock;
 
 /// Waits that grant everything.
 #[derive(Drop)]
@@ -29,13 +29,15 @@ impl Waits for Willing {
     }
 }
 
-const KINDS: [Try; 6] = [
-    Try::Gives(Outcome::Count(0)),
-    Try::Gives(Outcome::Count(3)),
-    Try::Gives(Outcome::Interrupted),
-    Try::Gives(Outcome::Aborted),
-    Try::Tells(Notice::Ready),
-    Try::Gives(Outcome::Broken(DevKind::Other)),
+/// What a list has at each of its places; an end isn't passed.
+const KINDS: [Tries; 7] = [
+    END,
+    (Try::Gives(Outcome::Count(0)), 1),
+    (Try::Gives(Outcome::Count(3)), 1),
+    (Try::Gives(Outcome::Interrupted), 1),
+    (Try::Gives(Outcome::Aborted), 1),
+    (Try::Tells(Notice::Ready), 1),
+    (Try::Gives(Outcome::Broken(DevKind::Other)), 1),
 ];
 
 const BYTES: &[u8] = b"01234567";
@@ -47,83 +49,97 @@ enum Call {
     Accept,
 }
 
-/// Whether a call through the handle answers and leaves in the buffer what the loop does on the
-/// half.
-fn same_answer<T: Wait + Drop>(
-    rt: &T,
-    handle: &mut Woken<T>,
-    alone: &mut ScriptedHalf<OwnCell<T>>,
-    call: Call,
-) -> bool {
-    let mut want = [0u8; 8];
-    let mut got = [0u8; 8];
-    match call {
-        Call::Read => {
-            handle.read(rt, &mut got) == read(rt, alone, &mut want, &mut Willing) && got == want
-        }
-        Call::Write => handle.write(rt, BYTES) == write(rt, alone, BYTES, &mut Willing),
-        Call::Accept => handle.accept(rt) == accept(rt, alone, &mut Willing),
-    }
+/// What a call answers.
+#[derive(Clone, Copy, PartialEq)]
+enum Answer {
+    Took(Result<usize, Fault>),
+    Wrote(Result<usize, WriteFault>),
 }
 
-/// How many tries were made, and what was offered and written.
-fn counts(told: &Told) -> (u64, u64, u64) {
-    (
+/// What a call came to: its answer, the buffer, how many tries were made, and what was offered and
+/// written.
+#[derive(Clone, Copy, PartialEq)]
+struct Came(Answer, [u8; 8], u64, u64, u64);
+
+fn outcome_of(answer: Answer, buf: [u8; 8], told: &Told) -> Came {
+    Came(
+        answer,
+        buf,
         told.tries.load(Ordering::SeqCst),
         told.offered.load(Ordering::SeqCst),
         told.taken.load(Ordering::SeqCst),
     )
 }
 
-/// Plays a course by one call through a handle and on the half alone.
-fn play<T: Wait + Abort + Copy + Drop>(
+/// By the loop on the half itself.
+fn by_loop<T: Wait + Clock + Copy + Drop>(
     rt: T,
     alloc: Global,
-    course: Script,
+    list: Script,
     call: Call,
-) -> Result<(), Fail> {
-    let direct = Told::shared(alloc)?;
-    let mut alone = ScriptedHalf::new(course, &direct, OwnCell { rt })?;
-    let through = Told::shared(alloc)?;
-    let mut handle = open_woken(rt, alloc, &through, course)?;
-    let same = same_answer(&rt, &mut handle, &mut alone, call);
-    let of_handle = counts(&through);
-    let closes = handle.close(&rt).is_ok();
-    let destroys = through.destroys.load(Ordering::SeqCst);
-    drop(handle);
-    assert!(rt; same, "another answer or other bytes of {call:?}");
-    let of_half = counts(&direct);
-    assert!(rt;
-        of_handle == of_half,
-        "other tries, offers or written bytes of {call:?}"
-    );
-    assert!(rt; of_handle.0 > 0, "{call:?} asked the half");
-    holds!(rt; closes);
-    holds!(rt; destroys == 1);
-    Ok(())
+) -> Result<Came, Fail> {
+    let told = Told::shared(alloc)?;
+    let mut half = ScriptedHalf::new(list, &told, rt)?;
+    let mut buf = [0u8; 8];
+    let answer = match call {
+        Call::Read => Answer::Took(read(&rt, &mut half, &mut buf, &mut Willing)),
+        Call::Write => Answer::Wrote(write(&rt, &mut half, BYTES, &mut Willing)),
+        Call::Accept => Answer::Took(accept(&rt, &mut half, &mut Willing)),
+    };
+    Ok(outcome_of(answer, buf, &told))
 }
 
-/// Plays all lists of at most three outcomes.
-fn play_all<T: Wait + Abort + Copy + Drop>(rt: T, alloc: Global, call: Call) -> Result<(), Fail> {
-    play(rt, alloc, [END; 5], call)?;
-    for first in KINDS {
-        play(rt, alloc, [(first, 1), END, END, END, END], call)?;
-        for second in KINDS {
-            play(rt, alloc, [(first, 1), (second, 1), END, END, END], call)?;
-            for third in KINDS {
-                let course = [(first, 1), (second, 1), (third, 1), END, END];
-                play(rt, alloc, course, call)?;
-            }
-        }
-    }
-    Ok(())
+/// Through a handle, whose descriptor is then closed and destroyed once.
+fn by_handle<T: Wait + Clock + Copy + Drop>(
+    rt: T,
+    alloc: Global,
+    list: Script,
+    call: Call,
+) -> Result<(Came, bool), Fail> {
+    let told = Told::shared(alloc)?;
+    let mut handle = open(rt, alloc, &told, list, None)?;
+    let mut buf = [0u8; 8];
+    let answer = match call {
+        Call::Read => Answer::Took(handle.read(&rt, &mut buf)),
+        Call::Write => Answer::Wrote(handle.write(&rt, BYTES)),
+        Call::Accept => Answer::Took(handle.accept(&rt)),
+    };
+    let came = outcome_of(answer, buf, &told);
+    let closed = handle.close(&rt).is_ok() && told.destroys.load(Ordering::SeqCst) == 1;
+    Ok((came, closed))
+}
+
+/// The list of this number.
+fn list(number: usize) -> Script {
+    [
+        KINDS[number / 49 % 7],
+        KINDS[number / 7 % 7],
+        KINDS[number % 7],
+        END,
+        END,
+    ]
+}
+
+/// Whether a call through a handle tries the half, and comes to what the loop comes to.
+fn is_same<T: Wait + Clock + Copy + Drop>(
+    rt: T,
+    alloc: Global,
+    list: Script,
+    call: Call,
+) -> Result<bool, Fail> {
+    let direct = by_loop(rt, alloc, list, call)?;
+    let (through, closed) = by_handle(rt, alloc, list, call)?;
+    Ok(through == direct && through.2 > 0 && closed)
 }
 
 #[test]
 fn handle_answers_what_the_half_gave(rt: HostRuntime) -> Result<(), Fail> {
-    let watch = Watch::start(rt, rt.alloc())?;
+    let watch = Watch::start(rt, rt.alloc(), "a list of outcomes")?;
     for call in [Call::Read, Call::Write, Call::Accept] {
-        play_all(rt, rt.alloc(), call)?;
+        for number in 0..343 {
+            let same = is_same(rt, rt.alloc(), list(number), call)?;
+            assert!(rt; same, "{call:?} of list {number} came to something else");
+        }
     }
     watch.end(&rt);
     Ok(())

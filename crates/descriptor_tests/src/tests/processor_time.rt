@@ -1,9 +1,12 @@
 //! Calls that wait take no processor time. Each thread asks the system what it has taken itself, so
 //! that neither other threads nor a busy machine count.
 
-use super::scripted::ALWAYS_BLOCKS;
+use super::scene::READ;
+use super::scripted::Told;
+use super::scripts::ALWAYS_BLOCKS;
 use super::watch::Watch;
-use super::{Plain, TURNS, comes_to, share, told_plain};
+use super::{Plain, TURNS, comes_to, open, share};
+use fd_descriptor::Word;
 use rwloops::Fault;
 use std::alloc::Global;
 use std::fs::Files;
@@ -19,37 +22,42 @@ const MOST_TICKS: u64 = 5;
 fn own_ticks<T: Files>(rt: &T, alloc: Global) -> Option<u64> {
     let file = fs::open(rt, "/proc/thread-self/stat").ok()?;
     let told = io::read_to_string(alloc, file).ok()?;
-    // Behind the program's name, which may have spaces in it.
-    let (_, fields) = told.as_str().split_once(") ")?;
-    let mut fields = fields.split_whitespace().skip(11);
-    let user = fields.next()?.parse::<u64>().ok()?;
-    let system = fields.next()?.parse::<u64>().ok()?;
-    user.checked_add(system)
+    ticks_of(told.as_str())
 }
 
-/// How a read ended, and what it took.
-type Ended = (Result<usize, Fault>, Option<u64>);
+/// The ticks in such a file: of the user and of the system, the twelfth field and the next behind
+/// the program's name, which may have spaces in it.
+fn ticks_of(told: &str) -> Option<u64> {
+    let (_, fields) = told.split_once(") ")?;
+    let (mut found, mut ticks) = (0u32, 0u64);
+    for (at, field) in fields.split_whitespace().enumerate() {
+        if at == 11 || at == 12 {
+            if let Ok(more) = field.parse::<u64>() {
+                found = found.saturating_add(1);
+                ticks = ticks.saturating_add(more);
+            }
+        }
+    }
+    if found == 2 { Some(ticks) } else { None }
+}
 
-/// One read, and what this thread took for it.
-fn timed_read<T: Wait + Files + Clock + Copy + Drop>(
-    rt: T,
-    alloc: Global,
-    reader: Plain<T>,
-) -> Ended {
+/// Whether a read that a close ends took next to nothing.
+fn parks<T: Wait + Files + Clock + Drop>(rt: &T, alloc: Global, reader: Plain<T>) -> bool {
     let mut reader = reader;
-    let before = own_ticks(&rt, alloc);
-    let ended = reader.read(&rt, &mut [0; 4]);
-    let taken = match (own_ticks(&rt, alloc), before) {
-        (Some(after), Some(before)) => after.checked_sub(before),
-        _ => None,
-    };
-    (ended, taken)
+    let before = own_ticks(rt, alloc);
+    let is_closed = reader.read(rt, &mut [0; 4]) == Err(Fault::Closed);
+    match (own_ticks(rt, alloc), before) {
+        (Some(after), Some(before)) if before <= after => {
+            is_closed && after - before <= MOST_TICKS
+        }
+        _ => false,
+    }
 }
 
 /// Waits until a read is queued behind another.
-fn is_queued<T: Wait + Clock + Copy + Drop>(rt: &T, handle: &mut Plain<T>) -> bool {
+fn is_queued<T: Wait + Clock + Drop>(rt: &T, handle: &mut Plain<T>) -> bool {
     for _ in 0..TURNS {
-        if handle.look().rwait == 1 {
+        if handle.look() == (Word { rwait: 1, ..READ }) {
             return true;
         }
         thread::sleep(rt, Duration::from_millis(1));
@@ -57,25 +65,24 @@ fn is_queued<T: Wait + Clock + Copy + Drop>(rt: &T, handle: &mut Plain<T>) -> bo
     false
 }
 
-fn took_nothing(ended: Ended) -> bool {
-    ended.0 == Err(Fault::Closed) && ended.1.is_some_and(|ticks| ticks <= MOST_TICKS)
-}
-
 #[test]
 fn a_read_and_one_that_is_queued_take_no_processor_time(rt: HostRuntime) -> Result<(), Fail> {
-    let watch = Watch::start(rt, rt.alloc())?;
+    let watch = Watch::start(rt, rt.alloc(), "a read and one that is queued")?;
     let alloc = rt.alloc();
-    let (told, mut handle) = told_plain(rt, alloc, ALWAYS_BLOCKS, None)?;
+    let told = Told::shared(alloc)?;
+    let mut handle = open(rt, alloc, &told, ALWAYS_BLOCKS, None)?;
     let reader = share(&mut handle)?;
-    let first = thread::spawn(&rt, move || timed_read(rt, alloc, reader))?;
-    holds!(rt; comes_to(&rt, &told.tries, 1), "the first is in its half");
+    let first = thread::spawn(&rt, move || parks(&rt, alloc, reader))?;
+    let tried = comes_to(&rt, &told.tries, 1);
     let reader = share(&mut handle)?;
-    let second = thread::spawn(&rt, move || timed_read(rt, alloc, reader))?;
-    holds!(rt; is_queued(&rt, &mut handle), "the second waits for the lock");
+    let second = thread::spawn(&rt, move || parks(&rt, alloc, reader))?;
+    let queued = is_queued(&rt, &mut handle);
     thread::sleep(&rt, Duration::from_millis(1_000));
-    holds!(rt; handle.close(&rt).is_ok());
-    holds!(rt; took_nothing(second.join(&rt)), "who is queued parks");
-    holds!(rt; took_nothing(first.join(&rt)), "who reads parks");
+    let closed = handle.close(&rt).is_ok();
+    let (second, first) = (second.join(&rt), first.join(&rt));
+    assert!(rt; tried && queued && closed, "one reads, one is queued");
+    assert!(rt; second, "who is queued parks");
+    assert!(rt; first, "who reads parks");
     watch.end(&rt);
     Ok(())
 }

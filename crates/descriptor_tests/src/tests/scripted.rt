@@ -2,7 +2,7 @@
 
 ghost use Rattle.rwloops.specs.Outcome.{IsCountWithin};
 
-use super::TURNS;
+use super::comes_to;
 use base_types::Dir;
 use fd_descriptor::{HalfClose, PollCell, Resource};
 use rwloops::{AcceptOutcome, DevKind, Outcome, TryAccept, TryRead, TryWrite};
@@ -11,8 +11,7 @@ use std::marker::PhantomData;
 use std::sync::atomic::{AtomicU64, Ordering};
 use std::sync::{Arc, Mutex, Wait};
 use std::test::Fail;
-use std::thread;
-use std::time::{Clock, Duration};
+use std::time::Clock;
 
 /// What a half says to its cell at a try.
 #[derive(Clone, Copy)]
@@ -32,21 +31,16 @@ pub(super) enum Try {
     Gated,
 }
 
-pub(super) const BLOCKS: Try = Try::Gives(Outcome::WouldBlock);
+/// A try, so many times in a row.
+pub(super) type Tries = (Try, u32);
+
+/// The tries of a half, in turn.
+pub(super) type Script = [Tries; 5];
 
 pub(super) const RESET: Try = Try::Gives(Outcome::Broken(DevKind::Reset));
 
-/// A try, so many times in a row.
-pub(super) type Step = (Try, u32);
-
 /// The end of a script: from here on each try is a reset.
-pub(super) const END: Step = (RESET, 0);
-
-/// The tries of a half, in turn.
-pub(super) type Script = [Step; 5];
-
-/// A script of one try, again and again.
-pub(super) const ALWAYS_BLOCKS: Script = [(BLOCKS, u32::MAX), END, END, END, END];
+pub(super) const END: Tries = (RESET, 0);
 
 /// The bytes that a half gives, in order, a next one each time; after them it gives zeros.
 pub(super) const GIVEN: &[u8] = b"abcdefghijkl";
@@ -64,16 +58,25 @@ pub(super) fn folded(before: u64, bytes: &[u8]) -> u64 {
     sum
 }
 
-/// What halves and their destruction tell, the gate that a try may wait for, and the cell of the
-/// descriptor, once it is open, for tests of one thread. `offered` has the bytes of all tries to
-/// write and the room of all tries to read, `taken` the bytes that were counted as written.
+/// What halves and their destruction tell, the gates that they wait for, and the cell of the
+/// descriptor, once it is open. `offered` has the bytes of all tries to write and the room of all
+/// tries to read, `given` how many bytes were read, `taken` the bytes that were counted as written.
 #[derive(Drop)]
 pub(super) struct Told {
     pub(super) tries: AtomicU64,
     pub(super) offered: AtomicU64,
+    pub(super) given: AtomicU64,
     pub(super) taken: AtomicU64,
     pub(super) destroys: AtomicU64,
+    /// A gated try goes on once this is 1.
     pub(super) gate: AtomicU64,
+    /// A destruction that is held at 1 goes on once it is let go at 1.
+    pub(super) held: AtomicU64,
+    pub(super) let_go: AtomicU64,
+    /// How many closes have told it that they are under way.
+    pub(super) heard: AtomicU64,
+    /// How many of the calls that have a thread of their own have ended.
+    pub(super) answered: AtomicU64,
     pub(super) cell: Mutex<Option<Arc<PollCell, Global>>>,
 }
 
@@ -82,9 +85,14 @@ impl Told {
         let told = Told {
             tries: AtomicU64::new(0),
             offered: AtomicU64::new(0),
+            given: AtomicU64::new(0),
             taken: AtomicU64::new(0),
             destroys: AtomicU64::new(0),
             gate: AtomicU64::new(0),
+            held: AtomicU64::new(0),
+            let_go: AtomicU64::new(0),
+            heard: AtomicU64::new(0),
+            answered: AtomicU64::new(0),
             cell: Mutex::new(None),
         };
         Ok(Arc::new(alloc, told)?)
@@ -109,100 +117,70 @@ impl Told {
             self.taken.store(folded(before, counted), Ordering::SeqCst);
         }
     }
-}
 
-/// What a half can do beside its tries.
-pub(super) trait Around {
-    fn tell(&self, told: &Told, notice: Notice, dir: Dir);
-
-    fn pause(&self);
-}
-
-/// A half that tells its cell.
-#[derive(Drop)]
-pub(super) struct OwnCell<T: Wait + Drop> {
-    pub(super) rt: T,
-}
-
-impl<T: Wait + Drop> Around for OwnCell<T> {
-    fn tell(&self, told: &Told, notice: Notice, dir: Dir) {
-        let slot = told.cell.lock(&self.rt);
-        if let Some(cell) = &*slot {
-            match notice {
-                Notice::Ready => cell.notify(&self.rt, dir),
-                Notice::Clock(now) => cell.tick(&self.rt, now),
-            }
+    /// The next byte that is given.
+    fn next_given(&self) -> u8 {
+        let at = self.given.fetch_add(1, Ordering::SeqCst);
+        match GIVEN.get(at as usize) {
+            Some(byte) => *byte,
+            None => 0,
         }
     }
 
-    fn pause(&self) {}
-}
-
-/// Nothing but the clock.
-#[derive(Drop)]
-pub(super) struct ClockAlone<C: Clock + Drop> {
-    pub(super) clock: C,
-}
-
-impl<C: Clock + Drop> Around for ClockAlone<C> {
-    fn tell(&self, _told: &Told, _notice: Notice, _dir: Dir) {}
-
-    fn pause(&self) {
-        thread::sleep(&self.clock, Duration::from_millis(1));
+    /// Tells the descriptor's cell.
+    pub(super) fn tell<T: Wait>(&self, rt: &T, notice: Notice, dir: Dir) {
+        let slot = self.cell.lock(rt);
+        if let Some(cell) = &*slot {
+            match notice {
+                Notice::Ready => cell.notify(rt, dir),
+                Notice::Clock(now) => cell.tick(rt, now),
+            }
+        }
     }
 }
 
 /// A half that plays a script.
 #[derive(Drop)]
-pub(super) struct ScriptedHalf<H: Around + Drop> {
+pub(super) struct ScriptedHalf<T: Wait + Clock + Drop> {
     script: Script,
     step: usize,
     repeats: u32,
-    given: usize,
     pub(super) fault: Option<DevKind>,
     told: Arc<Told, Global>,
-    around: H,
+    rt: T,
 }
 
-impl<H: Around + Drop> ScriptedHalf<H> {
+impl<T: Wait + Clock + Drop> ScriptedHalf<T> {
     pub(super) fn new(
         script: Script,
         told: &Arc<Told, Global>,
-        around: H,
-    ) -> Result<ScriptedHalf<H>, Fail> {
+        rt: T,
+    ) -> Result<ScriptedHalf<T>, Fail> {
         Ok(ScriptedHalf {
             script,
             step: 0,
             repeats: 0,
-            given: 0,
             fault: None,
             told: Arc::try_clone(told)?,
-            around,
+            rt,
         })
     }
 
     fn next_try(&mut self) -> Try {
         self.told.tries.fetch_add(1, Ordering::SeqCst);
-        match self.script.get(self.step) {
-            Some(&(tried, times)) if times > 0 => {
-                self.repeats = self.repeats.saturating_add(1);
-                if self.repeats >= times {
-                    self.step = self.step.saturating_add(1);
-                    self.repeats = 0;
-                }
-                tried
-            }
-            _ => RESET,
-        }
-    }
-
-    fn next_given(&mut self) -> u8 {
-        let byte = match GIVEN.get(self.given) {
-            Some(byte) => *byte,
-            None => 0,
+        let (tried, times) = match self.script.get(self.step) {
+            Some(step) => *step,
+            None => END,
         };
-        self.given = self.given.saturating_add(1);
-        byte
+        if times == 0 {
+            return RESET;
+        }
+        self.repeats = self.repeats.saturating_add(1);
+        if self.repeats >= times {
+            self.step = self.step.saturating_add(1);
+            self.repeats = 0;
+        }
+        tried
     }
 
     fn outcome(&mut self, dir: Dir, offered: usize) -> Outcome
@@ -215,23 +193,18 @@ impl<H: Around + Drop> ScriptedHalf<H> {
             Try::Gives(Outcome::Broken(kind)) => Outcome::Broken(kind),
             Try::Gives(Outcome::WouldBlock) => Outcome::WouldBlock,
             Try::Tells(notice) => {
-                self.around.tell(&self.told, notice, dir);
+                self.told.tell(&self.rt, notice, dir);
                 Outcome::WouldBlock
             }
             Try::Gated => {
-                for _ in 0..TURNS {
-                    if self.told.gate.load(Ordering::SeqCst) > 0 {
-                        return Outcome::WouldBlock;
-                    }
-                    self.around.pause();
-                }
+                comes_to(&self.rt, &self.told.gate, 1);
                 Outcome::WouldBlock
             }
         }
     }
 }
 
-impl<H: Around + Drop> TryRead for ScriptedHalf<H> {
+impl<T: Wait + Clock + Drop> TryRead for ScriptedHalf<T> {
     ghost tells = { λ _ _. ⊥ };
 
     fn try_read(&mut self, buf: &mut [u8]) -> Outcome {
@@ -239,14 +212,14 @@ impl<H: Around + Drop> TryRead for ScriptedHalf<H> {
         self.told.offer_room(buf.len());
         if let Outcome::Count(count) = outcome {
             for byte in &mut buf[..count] {
-                *byte = self.next_given();
+                *byte = self.told.next_given();
             }
         }
         outcome
     }
 }
 
-impl<H: Around + Drop> TryWrite for ScriptedHalf<H> {
+impl<T: Wait + Clock + Drop> TryWrite for ScriptedHalf<T> {
     ghost tells = { λ _ _. ⊥ };
 
     fn try_write(&mut self, bytes: &[u8]) -> Outcome {
@@ -256,7 +229,7 @@ impl<H: Around + Drop> TryWrite for ScriptedHalf<H> {
     }
 }
 
-impl<H: Around + Drop> TryAccept for ScriptedHalf<H> {
+impl<T: Wait + Clock + Drop> TryAccept for ScriptedHalf<T> {
     type T = usize;
 
     ghost tells = { λ _ _. ⊥ };
@@ -272,25 +245,28 @@ impl<H: Around + Drop> TryAccept for ScriptedHalf<H> {
     }
 }
 
-impl<H: Around + Drop> HalfClose for ScriptedHalf<H> {
+impl<T: Wait + Clock + Drop> HalfClose for ScriptedHalf<T> {
     fn shut(&mut self) -> Result<(), DevKind> {
         self.told.tries.fetch_add(1, Ordering::SeqCst);
         Err(DevKind::BrokenPipe)
     }
 }
 
-/// Two scripted halves, whose destruction is counted and answers the read half's fault.
-pub(super) struct Played<H> {
-    of: PhantomData<H>,
+/// Two scripted halves, whose destruction is counted, may be held, and answers the read half's
+/// fault.
+pub(super) struct Pair<T> {
+    of: PhantomData<T>,
 }
 
-impl<H: Around + Drop> Resource for Played<H> {
-    type R = ScriptedHalf<H>;
+impl<T: Wait + Clock + Drop> Resource for Pair<T> {
+    type R = ScriptedHalf<T>;
 
-    type W = ScriptedHalf<H>;
+    type W = ScriptedHalf<T>;
 
-    fn destroy(read: ScriptedHalf<H>, _write: ScriptedHalf<H>) -> Result<(), DevKind> {
+    fn destroy(read: ScriptedHalf<T>, _write: ScriptedHalf<T>) -> Result<(), DevKind> {
         read.told.destroys.fetch_add(1, Ordering::SeqCst);
+        let held = read.told.held.load(Ordering::SeqCst);
+        comes_to(&read.rt, &read.told.let_go, held);
         match read.fault {
             Some(kind) => Err(kind),
             None => Ok(()),

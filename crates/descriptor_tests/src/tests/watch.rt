@@ -22,11 +22,12 @@ impl Watch {
     pub(super) fn start<T: Threads + Clock + Abort + Copy + Send + Drop + 'static>(
         rt: T,
         alloc: Global,
+        what: &'static str,
     ) -> Result<Watch, Fail> {
         let ended = Arc::new(alloc, AtomicU64::new(0))?;
         let seen = Arc::try_clone(&ended)?;
         let thread = thread::spawn(&rt, move || {
-            holds!(rt; comes_to(&rt, &seen, 1), "somebody waits for good");
+            assert!(rt; comes_to(&rt, &seen, 1), "somebody waits for good: {what}");
         })?;
         Ok(Watch { thread, ended })
     }

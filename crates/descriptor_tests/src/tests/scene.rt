@@ -1,0 +1,165 @@
+//! What scenes are made of: a descriptor whose halves play a script, and the steps of one thread at
+//! it, each of which says what it has to come to.
+
+use super::scripted::Script;
+use base_types::Dir;
+use deadline_core::{Deadline, Dirs};
+use fd_descriptor::{Progress, Word};
+use rwloops::{DevKind, Fault};
+
+/// A call of a handle.
+#[derive(Clone, Copy)]
+pub(super) enum Call {
+    /// With so much room, of eight bytes at most.
+    Read(usize),
+    /// Two of them, one after the other.
+    ReadTwice(usize),
+    Write(&'static [u8]),
+    Accept,
+    Shut,
+    /// A deadline for these directions, at this moment.
+    Set(Dirs, Deadline, u64),
+    /// The same, over alarms that are refused memory.
+    SetInVain(Dirs, Deadline, u64),
+    Drain,
+    Close,
+    /// A close that tells.
+    Tell,
+}
+
+/// What it answers. The bytes of a read or a write are compared too.
+#[derive(Clone, Copy, PartialEq)]
+pub(super) enum Answer {
+    Took(Result<usize, Fault>),
+    TookTwice(Result<usize, Fault>, Result<usize, Fault>),
+    Wrote(usize),
+    /// A write that failed, after so many bytes.
+    Cut(Fault, usize),
+    Done(Result<(), Fault>),
+    /// Not those bytes that the half gave, or that it took.
+    OtherBytes,
+}
+
+/// What happens to the descriptor beside its calls.
+#[derive(Clone, Copy)]
+pub(super) enum Event {
+    /// It is ready in this direction.
+    Ready(Dir),
+    /// The clock comes to this moment.
+    Clock(u64),
+    /// So many milliseconds pass.
+    Pause(u64),
+    /// Gated tries go on.
+    Gate,
+    /// Its destruction is held from now on.
+    Hold,
+    LetGo,
+}
+
+/// What is counted.
+#[derive(Clone, Copy)]
+pub(super) enum Count {
+    Tries,
+    /// Ends of calls that have a thread of their own.
+    Answers,
+    Destroys,
+    /// Closes that have told.
+    Tellings,
+}
+
+/// What is done to a call under way.
+#[derive(Clone, Copy)]
+pub(super) enum Task {
+    /// Begins one, on a handle of its own.
+    Begin(Dir),
+    /// The last handle can't begin one, for this fault, and comes back.
+    Refuse(Dir, Fault),
+    /// With so much room.
+    Read(usize, Option<Result<usize, Fault>>),
+    Accept(Option<Result<usize, Fault>>),
+    Write(&'static [u8], Progress),
+    Shut(Option<Result<(), Fault>>),
+    /// Ends one; its handle is the last then.
+    End(Dir),
+    /// Lets go of one, and of its handle.
+    Drop(Dir),
+}
+
+/// What was asked of alarms: for this key and these directions a tick at this moment, or none.
+pub(super) type Asked = (u64, Dirs, Option<u64>);
+
+/// A step of a scene.
+#[derive(Clone, Copy)]
+pub(super) enum Step {
+    /// A call by the handle of this number.
+    By(usize, Call, Answer),
+    /// Each of the calls that take a lock or a reference is refused the handle of this number.
+    NoneBy(usize, Fault),
+    /// A call by a handle and in a thread of its own.
+    Start(Call),
+    /// The call of this number ends so, of those that were started and have not ended here.
+    End(usize, Answer),
+    /// Another handle; it is the last.
+    Share,
+    /// The last handle goes.
+    Leave,
+    Has(Event),
+    /// The descriptor is ready after each of so many tries, and not before.
+    ReadyAfterEach(Dir, u64),
+    /// In time there are so many at least.
+    Comes(Count, u64),
+    /// There are so many, and no more.
+    Counts(Count, u64),
+    /// This was asked of alarms last, since the last look at them.
+    Alarm(Option<Asked>),
+    /// The lock word is this one.
+    Shows(Word),
+    /// In time it is this one.
+    Becomes(Word),
+    Runs(Task),
+}
+
+/// A scene: its name, what both halves play, the fault of their destruction, and the steps.
+#[derive(Clone, Copy)]
+pub(super) struct Scene(
+    pub(super) &'static str,
+    pub(super) Script,
+    pub(super) Option<DevKind>,
+    pub(super) &'static [Step],
+);
+
+/// A word that nobody has.
+pub(super) const FREE: Word = Word {
+    closed: false,
+    rlock: false,
+    wlock: false,
+    refs: 0,
+    rwait: 0,
+    wwait: 0,
+    drain: false,
+};
+
+/// One reads.
+pub(super) const READ: Word = Word {
+    rlock: true,
+    refs: 1,
+    ..FREE
+};
+
+/// The same, once the closer has left it there.
+pub(super) const CLOSED_UNDER_READ: Word = Word {
+    closed: true,
+    ..READ
+};
+
+pub(super) const READ_4: Call = Call::Read(4);
+
+pub(super) const ABC: Call = Call::Write(b"abc");
+
+pub(super) const OK: Answer = Answer::Done(Ok(()));
+
+pub(super) const CLOSED: Answer = Answer::Done(Err(Fault::Closed));
+
+pub(super) const NONE_READ: Answer = Answer::Took(Err(Fault::Closed));
+
+pub(super) const NONE_WRITTEN: Answer = Answer::Cut(Fault::Closed, 0);
