@@ -22,7 +22,7 @@ mod draining;
 mod echo;
 mod ending;
 mod ends;
-mod failing_poller;
+mod failing_files;
 mod figures;
 mod leaving;
 mod live_threads;
@@ -63,8 +63,9 @@ use streams::{heard, reach_unix};
 /// The most turns of one millisecond that a test waits.
 const TURNS: u32 = 10_000;
 
-/// The turns for which a test waits that then names its row: its watch waits longer.
-const FEW_TURNS: u32 = 1_000;
+/// The most turns of ten milliseconds that a test waits which then names its row: its watch waits
+/// longer.
+const FEW_TURNS: u32 = 300;
 
 fn holds<R: Abort>(rt: &R, is: bool, what: &str) {
     assert!(rt; is, "{what}");
@@ -213,6 +214,11 @@ impl Running {
 /// Waits for a millisecond.
 fn pause<C: Clock>(clock: &C) {
     thread::sleep(clock, Duration::from_millis(1));
+}
+
+/// Waits for ten milliseconds.
+fn rest<C: Clock>(clock: &C) {
+    thread::sleep(clock, Duration::from_millis(10));
 }
 
 /// Waits until this was counted up, and says whether it was.

@@ -147,6 +147,19 @@ fn come_to_be_shown(rt: &HostRuntime, running: &Running, bytes: &str) -> bool {
     false
 }
 
+/// Whether bytes are passed, so that these are shown then, and marks the moment.
+fn pass(
+    rt: &HostRuntime,
+    running: &Running,
+    ends: &mut Ends,
+    bytes: &str,
+    marks: &mut Marks,
+) -> bool {
+    let is_passed = ends.pass() && come_to_be_shown(rt, running, bytes);
+    marks.now(rt);
+    is_passed
+}
+
 /// Whether the rules file has this rule and a second one.
 fn has_two_rules(rt: &HostRuntime, listen: u16, target: u16) -> bool {
     let Some(second) = free_port(rt) else {
@@ -174,17 +187,14 @@ fn ages_and_silences_are_shown_as_long_as_they_were(rt: HostRuntime) {
     marks.now(&rt);
     marks.after_a_silence(&rt);
     let mut ends = Ends::new(&rt, &listener, port).expect(&rt, "a connection");
-    holds!(rt; ends.pass());
-    marks.now(&rt);
+    holds!(rt; pass(&rt, &running, &mut ends, " up 5 down 2 ", &mut marks));
     marks.after_a_silence(&rt);
-    holds!(rt; ends.pass());
-    holds!(rt; come_to_be_shown(&rt, &running, " up 10 down 4 "));
-    marks.now(&rt);
+    holds!(rt; pass(&rt, &running, &mut ends, " up 10 down 4 ", &mut marks));
     holds!(rt; has_two_rules(&rt, port, target));
     marks.after_a_silence(&rt);
     holds!(rt; running.answers(&rt, "reload\n", "rules 2\n"));
     marks.now(&rt);
-    thread::sleep(&rt, Duration::from_millis(SILENCE_MS));
+    marks.after_a_silence(&rt);
     for row in ROWS.iter() {
         holds!(rt; marks.are_shown(&rt, &running, row), row.name);
     }

@@ -8,7 +8,7 @@ use super::places::{Place, own_path};
 use super::started::{logged_and_metered, sized, started};
 use super::streams::{free_port, target};
 use super::watch::Watch;
-use super::{FEW_TURNS, all_hold, pause};
+use super::{FEW_TURNS, all_hold, rest};
 use std::fs;
 use std::time::Instant;
 
@@ -116,9 +116,17 @@ fn log_of(rt: &HostRuntime, lines: usize) -> Option<String> {
         if log.as_str().lines().count() == lines {
             return Some(log);
         }
-        pause(rt);
+        rest(rt);
     }
     None
+}
+
+/// The whole milliseconds since then.
+fn ms_since(rt: &HostRuntime, began: Instant) -> u64 {
+    match began.elapsed(rt) {
+        Ok(passed) => u64::try_from(passed.as_millis()).unwrap_or(0),
+        Err(_) => 0,
+    }
 }
 
 /// The first row whose ends don't come.
@@ -168,7 +176,7 @@ fn each_end_and_refusal_is_counted_and_logged_by_its_cause(rt: HostRuntime) {
     holds!(rt; world.running.answers(&rt, "reload\nreload\n", "rules 3\nrules 3\n"));
     all_hold(&rt, first_untold(&rt, metrics));
     holds!(rt; both_turn(&rt, metrics), "a loop has no connection");
-    let stood = began.elapsed(&rt).expect(&rt, "clock").as_millis() as u64;
+    let stood = ms_since(&rt, began);
     holds!(rt; world.running.is_stopped(&rt));
     holds!(rt; world.running.thread.join(&rt).done == Ok(()));
     let log = log_of(&rt, LINES).expect(&rt, "a line for each end, those of the stop too");

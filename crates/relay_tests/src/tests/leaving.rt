@@ -6,7 +6,7 @@ use super::places::{is_there, own_path, place_to};
 use super::started::{own_log, sized_by_default, started};
 use super::streams::{heard, reach_unix, target};
 use super::watch::Watch;
-use super::{FEW_TURNS, pause};
+use super::{FEW_TURNS, rest};
 use relay::Outlets;
 use relay_admin::addr_of;
 use std::fs;
@@ -41,7 +41,7 @@ fn come_to_be(rt: &HostRuntime, before: (usize, usize)) -> bool {
         if open_files_and_threads(rt) == Some(before) {
             return true;
         }
-        pause(rt);
+        rest(rt);
     }
     false
 }

@@ -4,7 +4,7 @@ use super::ends::Ends;
 use super::places::{Place, is_there, own_path, place_at, place_to, write_empty};
 use super::streams::{free_port, heard, reach, target};
 use super::watch::Watch;
-use super::{FEW_TURNS, Running, Said, pause, served_at};
+use super::{FEW_TURNS, Running, Said, rest, served_at};
 use relay::{Capacity, Loops, Outlets, PairLimit, ServeFault};
 use relay_admin::{Addr, addr_of};
 use std::fs::{File, Files};
@@ -63,7 +63,7 @@ pub(super) fn comes_to_tell(rt: &HostRuntime, port: u16, line: &str) -> bool {
         if tells(rt, port, &[line]) {
             return true;
         }
-        pause(rt);
+        rest(rt);
     }
     false
 }

@@ -45,7 +45,7 @@ const SILENCES: [Silence; 3] = [
     Silence {
         name: "no reply is taken",
         line: "show 1\n",
-        times: 20_000,
+        times: 4_000,
     },
 ];
 
@@ -60,10 +60,10 @@ fn repeated(rt: &HostRuntime, line: &str, times: usize) -> Option<String> {
 
 /// Whether a session that is silent so lets the next be served.
 fn lets_the_next(rt: &HostRuntime, running: &Running, silence: &Silence) -> bool {
-    let Some(mut silent) = reach_unix(rt, running.admin.as_str()) else {
+    let Some(text) = repeated(rt, silence.line, silence.times) else {
         return false;
     };
-    let Some(text) = repeated(rt, silence.line, silence.times) else {
+    let Some(mut silent) = reach_unix(rt, running.admin.as_str()) else {
         return false;
     };
     // Where that is late, the session has ended before its last line.
@@ -117,7 +117,8 @@ fn a_set_up_that_a_session_cuts_off_leaves_no_id(rt: HostRuntime) {
     let capacity = sized_by_default(1).expect(&rt, "a size");
     let running = started(slow, place, capacity, no_outlets());
     for one in 0..SET_UPS {
-        let is_cut_off = is_cut_off(&rt, &running, port, 3 + 2 * one);
+        let id = one.saturating_mul(2).saturating_add(3);
+        let is_cut_off = is_cut_off(&rt, &running, port, id);
         holds!(rt; is_cut_off == Some(true), "an id is left");
     }
     holds!(rt; running.is_stopped(&rt));

@@ -78,11 +78,11 @@ impl Used {
         })
     }
 
-    /// Whether a quarter of a processor at most was used from an earlier moment on.
+    /// Whether an eighth of a processor at most was used from an earlier moment on.
     fn is_asleep(&self, earlier: &Used) -> bool {
         let passed = self.at.duration_since(earlier.at);
         let used = self.processor.saturating_sub(earlier.processor);
-        used.saturating_mul(4) < passed
+        used.saturating_mul(8) < passed
     }
 
     /// Whether no more turns were made since than seconds and a few events bring.
