@@ -2,7 +2,7 @@
 
 ghost use Rattle.std.specs.Prelude.{List, ◌∷◌};
 ghost use Rattle.rwloops.specs.Waits.{Tells};
-ghost use Rattle.relay.specs.Delivering.{DeliveryCall, Counted, Uncounted, Offered, Woken};
+ghost use Rattle.relay.specs.Delivering.{DeliveryCall, Counted, Offered, Woken};
 ghost use Rattle.relay.specs.Delivering.{placing, delivery};
 
 use readiness::{LoopRemote, Sock};
@@ -24,8 +24,10 @@ pub(crate) struct Accepted {
 pub(crate) struct Home {
     pub(crate) remote: Arc<LoopRemote>,
     inbox: Mutex<Vec<Accepted>>,
-    /// How many connections it has, those in its inbox among them.
-    connections: AtomicU64,
+    /// How many sockets were put into its inbox. The main thread alone delivers.
+    delivered: AtomicU64,
+    /// How many of these have ended, or were never set up.
+    ended: AtomicU64,
     /// How many turns its loop has made.
     pub(crate) turns: Counter,
 }
@@ -35,14 +37,17 @@ impl Home {
         Home {
             remote,
             inbox: Mutex::new(inbox),
-            connections: AtomicU64::new(0),
+            delivered: AtomicU64::new(0),
+            ended: AtomicU64::new(0),
             turns: Counter::new(),
         }
     }
 
-    /// How many connections it has, those in its inbox among them.
+    /// How many connections it has, those in its inbox among them; for who delivers, between two
+    /// deliveries.
     pub(crate) fn connections(&self) -> u64 {
-        self.connections.load(Ordering::SeqCst)
+        let ended = self.ended.load(Ordering::SeqCst);
+        self.delivered.load(Ordering::SeqCst).saturating_sub(ended)
     }
 
     /// Delivers an accepted socket, or says that the inbox has no memory for it, which is dropped.
@@ -52,7 +57,7 @@ impl Home {
 
     /// One of its connections is no more, or was never set up.
     pub(crate) fn note_end(&self) {
-        self.connections.fetch_sub(1, Ordering::SeqCst);
+        self.ended.fetch_add(1, Ordering::SeqCst);
     }
 
     /// Changes the inbox for this list, which is empty.
@@ -70,11 +75,6 @@ trait DeliveryCalls {
     fn count(&mut self)
         ensures told { (calls : List DeliveryCall) → tells self.old calls
             → tells self.new (Counted ∷ calls) };
-
-    /// It has one less again.
-    fn uncount(&mut self)
-        ensures told { (calls : List DeliveryCall) → tells self.old calls
-            → tells self.new (Uncounted ∷ calls) };
 
     /// Puts the socket into the inbox, or says that there is no memory for it, and drops it.
     fn offer(&mut self, accepted: Accepted) -> bool
@@ -98,11 +98,7 @@ impl<'a, R: Wait> DeliveryCalls for HomeItself<'a, R> {
     ghost tells = { λ _ _. ⊥ };
 
     fn count(&mut self) {
-        self.home.connections.fetch_add(1, Ordering::SeqCst);
-    }
-
-    fn uncount(&mut self) {
-        self.home.note_end();
+        self.home.delivered.fetch_add(1, Ordering::SeqCst);
     }
 
     fn offer(&mut self, accepted: Accepted) -> bool {
@@ -114,15 +110,14 @@ impl<'a, R: Wait> DeliveryCalls for HomeItself<'a, R> {
     }
 }
 
-// Counts a socket, and puts it into the inbox. It is counted first, so that its loop never counts
-// the end of one that nobody counted.
+// Puts a socket into the inbox, and counts it where it is there. Its loop may have counted its end
+// by then: nobody asks before this thread has counted it.
 fn place<C: DeliveryCalls>(calls: &mut C, accepted: Accepted) -> bool
     ensures { Tells (C.tells calls.old) (C.tells calls.new) (placing result) }
 {
-    calls.count();
     let is_there = calls.offer(accepted);
-    if !is_there {
-        calls.uncount();
+    if is_there {
+        calls.count();
     }
     is_there
 }

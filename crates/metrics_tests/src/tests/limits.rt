@@ -1,6 +1,6 @@
 //! The time that a client has, and how many may stand.
 
-use super::served::{LONG_NS, Served};
+use super::served::{LONG_NS, Served, loopback, opened};
 use super::streams::{comes_to_serve, has_ended, is_well, reach, says, standing};
 use super::watch::Watch;
 use super::{TURNS, pause};
@@ -85,5 +85,42 @@ fn a_ninth_client_is_closed_as_it_comes_and_has_a_place_that_is_left(rt: HostRun
     holds!(rt; clients.pop().is_some(), "one goes");
     holds!(rt; comes_to_serve(&rt, served.port), "its place stays taken");
     served.running.stop(&rt);
+    watch.end(&rt);
+}
+
+/// So many come before the server runs, all at once: more than are let in, one a second, within the
+/// time of a test.
+const AT_ONCE: usize = 30;
+
+/// So many clients, none of which says anything.
+fn reached(rt: &HostRuntime, port: u16, count: usize) -> Option<Vec<TcpStream>> {
+    let mut clients = Vec::new(rt.alloc());
+    for _ in 0..count {
+        clients.push(reach(rt, port)?).ok()?;
+    }
+    Some(clients)
+}
+
+/// Waits for those that weren't let in, which came after the others.
+fn rest_is_closed(clients: &mut [TcpStream]) -> bool {
+    for client in clients.iter_mut().skip(MOST_CLIENTS) {
+        if !has_ended(client) {
+            return false;
+        }
+    }
+    true
+}
+
+#[test]
+fn clients_that_came_at_once_and_say_nothing_are_all_looked_at(rt: HostRuntime) {
+    let watch = Watch::start(rt, rt.alloc());
+    let server = opened(rt, rt.alloc(), &loopback(0), LONG_NS)
+        .ok()
+        .expect(&rt, "a server");
+    let port = server.port().expect(&rt, "a port");
+    let mut clients = reached(&rt, port, AT_ONCE).expect(&rt, "clients");
+    let running = server.start().ok().expect(&rt, "a thread");
+    holds!(rt; rest_is_closed(clients.as_mut_slice()), "one isn't looked at");
+    running.stop(&rt);
     watch.end(&rt);
 }
