@@ -23,7 +23,8 @@ from edits import applied_together, apply, bodies, edits_of, packed
 # What became of an edit: whether it was refused as it has to be, and what was said.
 Verdict = namedtuple("Verdict", "is_refused why")
 
-NAMES_WHAT_IS_GONE = re.compile(r"has no field|is not in scope|has no `|was not admitted")
+# What only follows from another error says nothing of its own.
+NAMES_WHAT_IS_GONE = re.compile(r"has no field|is not in scope|has no `|was not admitted|which was rejected")
 UNREADABLE = re.compile(r"is not in scope|has no field|is no name|operand is missing|expected the end|cannot continue")
 
 printing = threading.Lock()

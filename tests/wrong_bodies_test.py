@@ -148,6 +148,14 @@ class Verdicts(unittest.TestCase):
             self.assertFalse(found[0], gone)
             self.assertIn("names what is gone", found[1])
 
+    def test_an_answer_that_waits_for_one_of_a_name_that_is_gone_is_none(self):
+        gone = "./proofs/low/Answers.antt:3:9: error: `first`: `c.add` has no field `result`"
+        waits = "./proofs/low/Answers.antt:9:9: error: 1 declaration that depends on `first`, which was rejected, was not checked: second"
+        many = waits.replace("1 declaration that depends", "2 declarations that depend").replace("was not", "were not")
+        self.assertFalse(alone(LOW, says(gone, waits, many, "fn a::low: not proved"))[0])
+        wrong = "./proofs/low/Answers.antt:3:9: error: `first`: the two types differ"
+        self.assertTrue(alone(LOW, says(wrong, waits, "fn a::low: not proved"))[0])
+
     def test_an_answer_that_no_longer_holds_is_a_refusal(self):
         wrong = "./proofs/low/Answers.antt:3:9: error: `returns`: the two types differ"
         self.assertTrue(alone(LOW, says(wrong, "fn a::low: not proved"))[0])
