@@ -4,7 +4,7 @@ admin sessions byte for byte, closed outputs, refused paths, and each sample of 
 
     python3 tests/relay_program.py
 
-POLLRELAY names another program. The gate doesn't run this.
+POLLRELAY names another program. The gate runs it (tests/run.sh).
 """
 import glob
 import os

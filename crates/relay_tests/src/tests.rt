@@ -2,7 +2,7 @@
 //! be set up ends the test's process there, so that a test is one straight line.
 
 /// Ends the test's process where this doesn't hold, and says what should. A call costs the proof
-/// of a test less than a branch does. `descriptor_tests` and `readiness_tests` have one too: no
+/// of a test less than a branch does. `descriptor_tests` and `socket_tests` have one too: no
 /// crate uses another's tests.
 macro_rules! holds {
     ($rt:expr; $is:expr) => {
