@@ -12,7 +12,7 @@ drained 200 connections, one after the other, one side of which is drained in mi
 many    20,000 short connections beside 500 idle ones: no growth of memory, threads or descriptors.
 rows    single rows of `list`, `close`, `drain`, `deadline`, idle times, listeners and limits (relay_rows.py).
 
-POLLRELAY names another program. With --small all is a tenth or less. The gate runs it with --small (tests/run.sh).
+POLLRELAY names another program. With --small all is a tenth or less. The gate runs whole, rough and drained with --small (tests/run.sh).
 """
 import argparse
 import os

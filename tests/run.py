@@ -38,10 +38,11 @@ SCRIPTS = {
        ("run_test", "wrong_bodies_test", "clauses_test", "build_test", "claims_test", "pictures_test")},
     "man_page": (["sh", "tests/man_page.sh"], 5),
 }
-# Scripts on the running program. Those marked run alone, since they look at the clock.
+# Scripts on the running program. Those marked run alone, since they look at the clock. What asks for little memory or for
+# replies within seconds isn't here: the checks make the program slower and larger, and the machine may be full.
 SYSTEM = {
     "relay_program": ([sys.executable, "tests/relay_program.py"], False),
-    "byte_conservation": ([sys.executable, "tests/byte_conservation.py", "--small"], False),
+    "byte_conservation": ([sys.executable, "tests/byte_conservation.py", "--small", "whole", "rough", "drained"], False),
     "first_connection": (["sh", "examples/first_connection.sh"], False),
     "deadline_timing": ([sys.executable, "tests/deadline_timing.py", "--median"], True),
 }
