@@ -11,8 +11,11 @@ words_file=$(mktemp) || exit 1
 trap 'rm -f "$words_file"' EXIT
 failed=0
 
-command -v mandoc >/dev/null ||
+if ! command -v mandoc >/dev/null; then
+    # (a machine that was never asked for a package has no list of them)
+    apt-get update -qq || exit 1
     DEBIAN_FRONTEND=noninteractive apt-get install -y --no-install-recommends -o DPkg::Lock::Timeout=120 mandoc || exit 1
+fi
 
 # none NAME TEXT: the text has to be empty.
 none() {
