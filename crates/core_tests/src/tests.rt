@@ -12,4 +12,3 @@ mod scripts;
 mod streams;
 mod tables;
 mod tasks;
-mod tries;
