@@ -1,6 +1,7 @@
 //! Worked values from outside, scripted devices and halves, and memory that is refused, by the
 //! subject of each crate.
 
+mod accepts;
 mod books;
 mod copies;
 mod deadlines;
@@ -8,8 +9,8 @@ mod full_heap;
 mod line_reading;
 mod loops;
 mod machine_rows;
+mod pairs;
 mod scripts;
 mod streams;
 mod tables;
 mod tasks;
-mod tries;

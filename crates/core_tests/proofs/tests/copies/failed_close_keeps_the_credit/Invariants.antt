@@ -1,4 +1,0 @@
-use Rattle.core_tests.proofs.tests.copies.failed_close_keeps_the_credit.Given as goal
-
-abbrev pub ghosts-copied : goal.ghosts-copied
-ghosts-copied g a = record { name = a.blank.name; parts = a.blank.parts }

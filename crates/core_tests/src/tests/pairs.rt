@@ -1,0 +1,155 @@
+//! What follows for a pair and for a loop, and the limits of pairs, moments and pauses.
+
+use base_types::Dir;
+use relay_core::Way::{Down, Up};
+use relay_core::{
+    Ended, InsertedSides, PairLimit, PairNext, PairTasks, Side, Standing, Step, Way, Ways,
+    end_closes_pair, has_room_for_pair, idle_deadline, loop_of, next_pause_ms,
+};
+use rwloops::{DevKind, Fault};
+
+/// A call with its answer.
+#[derive(Clone, Copy)]
+enum Case {
+    /// How a way ended, how many ran by then, and whether that closes the pair.
+    Closes(Ended, u64, bool),
+    /// The limit that was asked for, if one was, the pairs that stand, and whether there is room
+    /// for one more; none where there can't be such a limit.
+    Room(Option<u64>, usize, Option<bool>),
+    /// A moment, the idle time in ms, and the deadline.
+    Idle(u64, u32, u64),
+    /// A pause in ms, and the next.
+    Pause(u64, u64),
+}
+
+use Case::{Closes, Idle, Pause, Room};
+
+const RESET: Ended = Ended::ReadFault(Fault::Device(DevKind::Reset));
+
+const CASES: &[(&str, Case)] = &[
+    ("an end of the first way", Closes(Ended::Eof, 2, false)),
+    ("an end of the second way", Closes(Ended::Eof, 1, true)),
+    ("a fault of the first way", Closes(RESET, 2, true)),
+    ("a full book", Closes(Ended::BookFull(0), 1, true)),
+    ("the last pair by default", Room(None, 511, Some(true))),
+    ("a pair too many by default", Room(None, 512, Some(false))),
+    (
+        "the last of most pairs",
+        Room(Some(2_000), 1_999, Some(true)),
+    ),
+    (
+        "a pair more than most",
+        Room(Some(2_000), 2_000, Some(false)),
+    ),
+    ("a limit of none", Room(Some(0), 0, None)),
+    ("a limit past the most", Room(Some(2_001), 0, None)),
+    ("five seconds", Idle(7, 5_000, 5_000_000_007)),
+    ("the greatest moment", Idle(u64::MAX - 1, 1, u64::MAX)),
+    ("the first pause", Pause(0, 5)),
+    ("a pause below half a second", Pause(499, 998)),
+    ("a pause past half a second", Pause(640, 1_000)),
+    ("the longest pause", Pause(u64::MAX, 1_000)),
+];
+
+fn has_room(asked: Option<u64>, pairs: usize) -> Option<bool> {
+    let limit = match asked {
+        Some(count) => PairLimit::of(count)?,
+        None => PairLimit::by_default(),
+    };
+    Some(has_room_for_pair(pairs, limit))
+}
+
+fn holds(case: &Case) -> bool {
+    match case {
+        Closes(ended, running, closes) => end_closes_pair(ended, *running) == *closes,
+        Room(asked, pairs, room) => has_room(*asked, *pairs) == *room,
+        Idle(now, idle_ms, deadline) => idle_deadline(*now, *idle_ms) == *deadline,
+        Pause(before, next) => next_pause_ms(*before) == *next,
+    }
+}
+
+#[test]
+fn pairs_deadlines_and_pauses_are_as_their_rows_say(rt: HostRuntime) {
+    for (row, case) in CASES {
+        assert!(rt; holds(case), "{row}");
+    }
+}
+
+#[test]
+fn set_up_is_undone_from_its_last_side(rt: HostRuntime) {
+    let mut sides = InsertedSides::none();
+    assert!(rt; sides.undo() == None, "nothing is set up");
+    sides.insert(8);
+    sides.insert(9);
+    let undone = [sides.undo(), sides.undo(), sides.undo()];
+    assert!(rt; undone == [Some(9), Some(8), None], "{undone:?}");
+}
+
+/// A step on the tasks of a pair, with what it has to answer.
+#[derive(Clone, Copy)]
+enum Turn {
+    Note(Way, Step, PairNext),
+    Woken(Side, bool, bool, Ways),
+    Ready(Ways),
+    NotOver(Ways),
+    Over,
+    Up(Standing),
+}
+
+const NONE: Ways = Ways {
+    up: false,
+    down: false,
+};
+
+const UP: Ways = Ways {
+    up: true,
+    down: false,
+};
+
+const BOTH: Ways = Ways {
+    up: true,
+    down: true,
+};
+
+const END: Step = Step::Ended(Ended::Eof);
+
+// Up reads from the client, and down writes to it.
+const TURNS: &[Turn] = &[
+    Turn::Ready(BOTH),
+    Turn::NotOver(BOTH),
+    Turn::Note(Up, Step::Waits(Dir::Read), PairNext::Again),
+    Turn::Note(Down, Step::Waits(Dir::Write), PairNext::Waits),
+    Turn::Woken(Side::Client, true, true, BOTH),
+    Turn::Woken(Side::Target, true, true, NONE),
+    Turn::Woken(Side::Client, true, false, UP),
+    Turn::Note(Up, END, PairNext::Waits),
+    Turn::Up(Standing::Over),
+    Turn::Note(Down, END, PairNext::Closes),
+    Turn::Over,
+];
+
+/// Takes a step, and says whether its answer is the one that it must get.
+fn answers(tasks: &mut PairTasks, turn: &Turn) -> bool {
+    match turn {
+        Turn::Note(way, step, want) => tasks.note(*way, step) == *want,
+        Turn::Woken(side, read, write, want) => tasks.woken_by(*side, *read, *write) == *want,
+        Turn::Ready(want) => tasks.ready() == *want,
+        Turn::NotOver(want) => tasks.not_over() == *want,
+        Turn::Over => !tasks.not_over().any(),
+        Turn::Up(want) => tasks.up == *want,
+    }
+}
+
+#[test]
+fn event_resumes_the_ways_that_wait_for_it(rt: HostRuntime) {
+    let mut tasks = PairTasks::new();
+    for (at, turn) in TURNS.iter().enumerate() {
+        assert!(rt; answers(&mut tasks, turn), "turn {at}");
+    }
+}
+
+#[test]
+fn least_loop_takes_a_connection(rt: HostRuntime) {
+    assert!(rt; loop_of(&[3, 1, 2, 1]) == 1, "the first of the least");
+    assert!(rt; loop_of(&[0, 0]) == 0, "the first of two");
+}
