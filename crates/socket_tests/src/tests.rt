@@ -5,7 +5,7 @@
 //! |---|---|
 //! | `poller` | a table of descriptors with its poller, its timers and its event loops |
 //! | `conn` | both ends of a connection, by the subjects of Go's conformance suite of `net.Conn` |
-//! | `handle_io` | handles as readers and writers of the standard library |
+//! | `handles` | handles as readers and writers of the standard library |
 
 /// Ends the test's process where this doesn't hold, and says what should. A call costs the proof
 /// of a test less than a branch does. `descriptor_tests` and `relay_tests` have one too: no crate
@@ -20,7 +20,7 @@ macro_rules! holds {
 }
 
 mod conn;
-mod handle_io;
+mod handles;
 mod poller;
 mod watch;
 

@@ -18,15 +18,28 @@ pub(super) struct Watch {
     ended: Arc<AtomicU64>,
 }
 
+fn in_time<R: Clock + Abort>(rt: &R, ended: &AtomicU64, part: &str) {
+    assert!(rt; comes_to(rt, ended, 1), "{part}: somebody waits for good");
+}
+
 impl Watch {
     pub(super) fn start<R: Threads + Clock + Abort + Copy + Send + Drop + 'static>(
         rt: R,
         alloc: Global,
     ) -> Watch {
+        Watch::over(rt, alloc, "a test")
+    }
+
+    /// A watch over a part of a test, which says its name where it ends the test.
+    pub(super) fn over<R: Threads + Clock + Abort + Copy + Send + Drop + 'static>(
+        rt: R,
+        alloc: Global,
+        part: &'static str,
+    ) -> Watch {
         let ended = Arc::new(alloc, AtomicU64::new(0)).expect(&rt, "watch");
         let seen = Arc::try_clone(&ended).expect(&rt, "watch");
         let thread = thread::spawn(&rt, move || {
-            assert!(rt; comes_to(&rt, &seen, 1), "somebody waits for good");
+            in_time(&rt, &seen, part);
         });
         Watch {
             thread: thread.expect(&rt, "watch"),

@@ -1,10 +1,10 @@
 //! How a role takes its steps, by calls of either kind.
 
-use super::scene::{Call, End, Part, Step, are_at, fill};
+use super::scene::{Call, End, Part, Scene, Step, are_at, fill};
 use super::stage::Stage;
-use fd_descriptor::{DevKind, Dir, Fault, Setting, WriteFault};
+use fd_descriptor::{DevKind, Dir, Fault, WriteFault};
 use std::process::Abort;
-use std::sync::atomic::Ordering;
+use std::sync::Wait;
 use std::time::Clock;
 
 /// The most bytes that a call is given.
@@ -12,32 +12,66 @@ const CHUNK: usize = 4_096;
 
 const LATE: Fault = Fault::DeadlineExceeded;
 
-/// The calls of one handle. None is an answer that isn't there yet: the same call is made later.
+/// What a call was answered: how many bytes it passed, and its fault.
+#[derive(Clone, Copy)]
+pub(super) struct Answer {
+    pub(super) count: usize,
+    pub(super) fault: Option<Fault>,
+}
+
+impl Answer {
+    pub(super) fn passed(count: usize) -> Answer {
+        Answer { count, fault: None }
+    }
+
+    pub(super) fn refused(fault: Fault) -> Answer {
+        Answer {
+            count: 0,
+            fault: Some(fault),
+        }
+    }
+
+    pub(super) fn of_read(read: Result<usize, Fault>) -> Answer {
+        match read {
+            Ok(count) => Answer::passed(count),
+            Err(fault) => Answer::refused(fault),
+        }
+    }
+
+    pub(super) fn of_write(written: Result<usize, WriteFault>) -> Answer {
+        match written {
+            Ok(count) => Answer::passed(count),
+            Err(failed) => Answer {
+                count: failed.count,
+                fault: Some(failed.fault),
+            },
+        }
+    }
+
+    pub(super) fn of(done: Result<(), Fault>) -> Answer {
+        Answer {
+            count: 0,
+            fault: done.err(),
+        }
+    }
+}
+
+/// The calls of one handle.
 pub(super) trait Calls {
-    fn read(&mut self, buf: &mut [u8]) -> Option<Result<usize, Fault>>;
-
-    fn write(&mut self, bytes: &[u8]) -> Option<Result<usize, WriteFault>>;
-
-    fn shut(&mut self) -> Option<Result<(), Fault>>;
-
-    fn close(&mut self) -> Option<Result<(), Fault>>;
-
-    fn set(&mut self, setting: Setting) -> Option<Result<(), Fault>>;
-
-    /// A mark was made, which others may wait for.
-    fn marked(&mut self);
-
-    /// Nothing can be done before this moment.
-    fn looks_at(&mut self, moment: u64);
+    /// Makes a call; a read or a write has this buffer. None is an answer that isn't there yet: the
+    /// same call is made later.
+    fn makes(&mut self, call: Call, buf: &mut [u8]) -> Option<Answer>;
 }
 
 /// What became of a step.
-#[derive(Clone, Copy, PartialEq, Eq)]
+#[derive(Clone, Copy)]
 pub(super) enum Went {
     /// The next call may follow at once.
     On,
     /// Nothing can be done yet.
     Later,
+    /// Nothing can be done before this moment.
+    At(u64),
     /// The role has ended.
     Ended,
     /// The answer isn't the one that the step says.
@@ -45,8 +79,9 @@ pub(super) enum Went {
 }
 
 /// A role on the stage.
-#[derive(Clone, Copy, Debug)]
+#[derive(Clone, Copy)]
 pub(super) struct Role {
+    scene: &'static str,
     end: End,
     steps: &'static [Step],
     at: usize,
@@ -56,10 +91,10 @@ pub(super) struct Role {
     // Where it stands in what it reads and in what it writes.
     read: u64,
     written: u64,
-    // Of the last call: the bytes that it passed, whether they are the stream's, and its fault.
-    passed: usize,
+    // Of the last call.
+    answer: Answer,
+    // Whether the bytes that the last read gave are the stream's.
     fits: bool,
-    fault: Option<Fault>,
     until: Option<u64>,
 }
 
@@ -75,6 +110,7 @@ impl Step {
         }
     }
 
+    // The most bytes that its next call passes, with so many done.
     fn most(self, done: u64) -> usize {
         match self {
             Step::Read(len) | Step::Write(len) => {
@@ -88,97 +124,79 @@ impl Step {
 
 /// Whether the other end is gone.
 fn is_cut(fault: Fault) -> bool {
-    fault == Fault::EndOfFile
-        || fault == Fault::Device(DevKind::Reset)
-        || fault == Fault::Device(DevKind::BrokenPipe)
-}
-
-fn done(answer: Result<(), Fault>) -> Result<usize, Fault> {
-    match answer {
-        Ok(()) => Ok(0),
-        Err(fault) => Err(fault),
+    match fault {
+        Fault::EndOfFile => true,
+        Fault::Device(DevKind::Reset | DevKind::BrokenPipe) => true,
+        _ => false,
     }
 }
 
 impl Role {
-    pub(super) fn of(part: &Part) -> Role {
+    pub(super) fn of(scene: &Scene, end: End, part: &Part) -> Role {
         Role {
-            end: part.end,
-            steps: part.steps,
+            scene: scene.name,
+            end,
+            steps: part.1,
             at: 0,
             rounds: 0,
             done: 0,
             read: 0,
             written: 0,
-            passed: 0,
+            answer: Answer::passed(0),
             fits: false,
-            fault: None,
             until: None,
         }
     }
 
     /// Ends the test: the role was answered otherwise than its step says.
     pub(super) fn fails<R: Abort>(&self, rt: &R) {
-        panic!(rt; "answered otherwise: {self:?}");
-    }
-
-    fn reads<C: Calls>(
-        &mut self,
-        stage: &Stage,
-        calls: &mut C,
-        most: usize,
-    ) -> Option<Result<usize, Fault>> {
-        let mut buf = [0u8; CHUNK];
-        let answer = calls.read(&mut buf[..most.min(CHUNK)])?;
-        self.passed = answer.unwrap_or(0);
-        if let Some(bytes) = buf.get(..self.passed) {
-            stage.book(self.end, Dir::Read).add(bytes);
-            self.fits = are_at(bytes, self.read);
-        }
-        self.read = self.read.saturating_add(self.passed as u64);
-        Some(answer)
-    }
-
-    fn writes<C: Calls>(
-        &mut self,
-        stage: &Stage,
-        calls: &mut C,
-        most: usize,
-    ) -> Option<Result<usize, Fault>> {
-        let mut buf = [0u8; CHUNK];
-        let offered = &mut buf[..most.min(CHUNK)];
-        fill(offered, self.written);
-        let (count, answer) = match calls.write(offered)? {
-            Ok(count) => (count, Ok(count)),
-            Err(failed) => (failed.count, Err(failed.fault)),
+        let end = match self.end {
+            End::Near => "near",
+            End::Far => "far",
         };
-        self.passed = count;
-        if let Some(bytes) = offered.get(..count) {
-            stage.book(self.end, Dir::Write).add(bytes);
-        }
-        self.written = self.written.saturating_add(count as u64);
-        Some(answer)
+        let Answer { count, fault } = self.answer;
+        panic!(rt;
+            "{}: step {} at the {end} end: {count} bytes, {fault:?}",
+            self.scene, self.at
+        );
     }
 
-    fn makes<R: Clock, C: Calls>(
+    // Makes a call, and says whether it was answered.
+    fn makes<R: Wait + Drop, C: Calls>(
         &mut self,
-        rt: &R,
-        stage: &Stage,
+        stage: &Stage<R>,
         calls: &mut C,
         call: Call,
         most: usize,
-    ) -> Option<Result<usize, Fault>> {
-        self.passed = 0;
-        match call {
-            Call::Read => self.reads(stage, calls, most),
-            Call::Write => self.writes(stage, calls, most),
-            Call::Shut => Some(done(calls.shut()?)),
-            Call::Close => Some(done(calls.close()?)),
-            Call::Set(dirs, when) => {
-                let now = stage.now(rt);
-                let deadline = stage.notes(self.end, dirs, when, now);
-                Some(done(calls.set(Setting::new(dirs, deadline, now))?))
+    ) -> bool {
+        let mut buf = [0u8; CHUNK];
+        let offered = &mut buf[..most.min(CHUNK)];
+        if let Call::Write = call {
+            fill(offered, self.written);
+        }
+        let Some(answer) = calls.makes(call, offered) else {
+            return false;
+        };
+        self.answer = answer;
+        if let Some(passed) = offered.get(..answer.count) {
+            self.notes(stage, call, passed);
+        }
+        true
+    }
+
+    // These bytes have passed in this call.
+    fn notes<R: Wait + Drop>(&mut self, stage: &Stage<R>, call: Call, passed: &[u8]) {
+        let Some(dir) = call.dir() else {
+            return;
+        };
+        stage.book(self.end, dir).add(passed);
+        let count = passed.len() as u64;
+        match dir {
+            Dir::Read => {
+                self.fits = are_at(passed, self.read);
+                self.read = self.read.saturating_add(count);
             }
+            Dir::Write => self.written = self.written.saturating_add(count),
         }
     }
 
@@ -188,9 +206,9 @@ impl Role {
         Went::On
     }
 
-    // So many bytes more of a step of this length.
-    fn counts(&mut self, count: usize, len: u64) -> Went {
-        self.done = self.done.saturating_add(count as u64);
+    // What the last call passed is of a step of this length.
+    fn counts(&mut self, len: u64) -> Went {
+        self.done = self.done.saturating_add(self.answer.count as u64);
         if self.done < len {
             return Went::On;
         }
@@ -198,42 +216,37 @@ impl Role {
     }
 
     // A call is late only once its deadline has passed.
-    fn is_in_time(&self, stage: &Stage, call: Call, now: u64) -> bool {
-        match (self.fault, call) {
-            (Some(LATE), Call::Read) => stage.is_due(self.end, Dir::Read, now),
-            (Some(LATE), _) => stage.is_due(self.end, Dir::Write, now),
+    fn is_in_time<R: Wait + Drop>(&self, stage: &Stage<R>, call: Call, now: u64) -> bool {
+        match (self.answer.fault, call.dir()) {
+            (Some(LATE), Some(dir)) => stage.is_due(self.end, dir, now),
             _ => true,
         }
     }
 
-    fn judges(&mut self, step: Step, answer: Result<usize, Fault>, is_in_time: bool) -> Went {
-        match (step, answer) {
-            (Step::Read(len), Ok(count)) if self.fits => self.counts(count, len),
-            (Step::Write(len), Ok(count)) => self.counts(count, len),
-            (Step::ReadUntil(_), Ok(_)) => Went::On,
-            (Step::WriteUntil(_), Ok(_)) => Went::On,
-            (Step::UntilCut(_), Ok(_)) => Went::On,
-            (Step::UntilCut(_), Err(fault)) if is_cut(fault) => self.next(),
-            (Step::ReadUntil(until), Err(fault)) if until == fault && is_in_time => self.next(),
-            (Step::WriteUntil(until), Err(fault)) if until == fault && is_in_time => self.next(),
-            (Step::Refused(_, why), Err(fault)) if why == fault && is_in_time && self.passed == 0 =>
-                { self.next() }
-            (Step::Do(_), Ok(_)) => self.next(),
-            (Step::Try(_), Ok(_)) => self.next(),
-            (Step::Try(_), Err(LATE)) => self.next(),
+    fn judges(&mut self, step: Step, is_in_time: bool) -> Went {
+        match (step, self.answer.fault) {
+            (Step::Read(len), None) if self.fits => self.counts(len),
+            (Step::Write(len), None) => self.counts(len),
+            (Step::ReadUntil(_) | Step::WriteUntil(_) | Step::UntilCut(_), None) => Went::On,
+            (Step::UntilCut(_), Some(fault)) if is_cut(fault) => self.next(),
+            (Step::ReadUntil(until) | Step::WriteUntil(until), Some(fault))
+                if until == fault && is_in_time => { self.next() }
+            (Step::Refused(_, why), Some(fault))
+                if why == fault && is_in_time && self.answer.count == 0 => { self.next() }
+            (Step::Do(_) | Step::Try(_), None) => self.next(),
+            (Step::Try(_), Some(LATE)) => self.next(),
             _ => Went::Wrong,
         }
     }
 
-    fn pauses<C: Calls>(&mut self, calls: &mut C, now: u64, ms: u64) -> Went {
+    fn pauses(&mut self, now: u64, ms: u64) -> Went {
         let until = match self.until {
             Some(until) => until,
             None => now.saturating_add(ms.saturating_mul(1_000_000)),
         };
         if now < until {
             self.until = Some(until);
-            calls.looks_at(until);
-            return Went::Later;
+            return Went::At(until);
         }
         self.until = None;
         self.next()
@@ -250,31 +263,24 @@ impl Role {
     }
 
     // A step without a call.
-    fn moves<R: Clock, C: Calls>(
-        &mut self,
-        rt: &R,
-        stage: &Stage,
-        calls: &mut C,
-        step: Step,
-    ) -> Went {
+    fn moves<R: Wait + Clock + Drop>(&mut self, rt: &R, stage: &Stage<R>, step: Step) -> Went {
         match step {
             Step::Mark => {
-                stage.marks.fetch_add(1, Ordering::SeqCst);
-                calls.marked();
+                stage.mark(rt);
                 self.next()
             }
-            Step::Await(marks) if stage.marks.load(Ordering::SeqCst) < marks => Went::Later,
-            Step::Pause(ms) => self.pauses(calls, stage.now(rt), ms),
+            Step::Await(marks) if !stage.has(marks) => Went::Later,
+            Step::Pause(ms) => self.pauses(stage.now(rt), ms),
             Step::Repeat(times) => self.repeats(times),
             _ => self.next(),
         }
     }
 
     /// Makes at most one call.
-    pub(super) fn goes_on<R: Clock, C: Calls>(
+    pub(super) fn goes_on<R: Wait + Clock + Drop, C: Calls>(
         &mut self,
         rt: &R,
-        stage: &Stage,
+        stage: &Stage<R>,
         calls: &mut C,
     ) -> Went {
         let Some(step) = self.steps.get(self.at) else {
@@ -282,14 +288,12 @@ impl Role {
         };
         let step = *step;
         let Some(call) = step.call() else {
-            return self.moves(rt, stage, calls, step);
+            return self.moves(rt, stage, step);
         };
-        let most = step.most(self.done);
-        let Some(answer) = self.makes(rt, stage, calls, call, most) else {
+        if !self.makes(stage, calls, call, step.most(self.done)) {
             return Went::Later;
-        };
-        self.fault = answer.err();
+        }
         let is_in_time = self.is_in_time(stage, call, stage.now(rt));
-        self.judges(step, answer, is_in_time)
+        self.judges(step, is_in_time)
     }
 }

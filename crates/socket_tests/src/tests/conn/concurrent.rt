@@ -1,18 +1,20 @@
 //! All calls at once.
 
-use super::playing::{By, on, plays};
-use super::scene::{Call, End, Part, Step, When, role, roles};
+use super::playing::{By, plays};
+use super::scene::{Call, Part, Scene, Step, When};
+use super::world::on;
 use fd_descriptor::{Dirs, Fault};
 
 const CALLERS: u64 = 8;
 
 /// Eight read, write and set deadlines to come and of long ago, while the other end reads and
 /// writes. Once they have ended, nothing of what passed is lost.
-fn all_at_once() -> [Part; 4] {
-    [
-        roles(
+const SCENES: &[Scene] = &[Scene {
+    name: "calls of every kind at once succeed or are late, and lose nothing",
+    is_whole: true,
+    near: &[
+        Part(
             CALLERS,
-            End::Near,
             &[
                 Step::Do(Call::Set(Dirs::Both, When::In(10))),
                 Step::Try(Call::Read),
@@ -23,8 +25,8 @@ fn all_at_once() -> [Part; 4] {
                 Step::Mark,
             ],
         ),
-        role(
-            End::Near,
+        Part(
+            1,
             &[
                 Step::Await(CALLERS),
                 Step::Do(Call::Set(Dirs::Both, When::Never)),
@@ -32,24 +34,27 @@ fn all_at_once() -> [Part; 4] {
                 Step::ReadUntil(Fault::EndOfFile),
             ],
         ),
-        role(End::Far, &[Step::ReadUntil(Fault::EndOfFile)]),
-        role(
-            End::Far,
+    ],
+    steers: &[],
+    far: &[
+        Part(1, &[Step::ReadUntil(Fault::EndOfFile)]),
+        Part(
+            1,
             &[
                 Step::Write(100_000),
                 Step::Await(CALLERS),
                 Step::Do(Call::Shut),
             ],
         ),
-    ]
+    ],
+}];
+
+#[test]
+fn calls_of_every_kind_go_on_at_once(rt: HostRuntime) {
+    plays(on(rt), By::Waiting, SCENES);
 }
 
 #[test]
-fn calls_of_every_kind_at_once_succeed_or_are_late_and_lose_nothing(rt: HostRuntime) {
-    plays(on(rt), By::Waiting, &all_at_once(), true);
-}
-
-#[test]
-fn calls_of_every_kind_at_once_succeed_or_are_late_and_lose_nothing_on_a_loop(rt: HostRuntime) {
-    plays(on(rt), By::Loop, &all_at_once(), true);
+fn calls_of_every_kind_go_on_at_once_on_a_loop(rt: HostRuntime) {
+    plays(on(rt), By::Loop, SCENES);
 }

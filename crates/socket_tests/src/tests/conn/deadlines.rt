@@ -1,19 +1,25 @@
 //! Deadlines that have passed, that pass, and that are set while calls wait. A call that is late
 //! has passed no byte, and the next one works once the deadline is lifted.
 
-use super::playing::{By, on, plays};
-use super::scene::{Call, End, Part, Step, When, role, steers};
+use super::playing::{By, plays};
+use super::scene::{Call, Part, Scene, Step, When};
+use super::world::on;
 use fd_descriptor::{Dirs, Fault};
 
 const LATE: Fault = Fault::DeadlineExceeded;
 
 const END: Fault = Fault::EndOfFile;
 
-/// An end whose reads are late writes, and reads once its deadline is lifted.
-fn late_reads() -> [Part; 2] {
-    [
-        role(
-            End::Near,
+/// More milliseconds than any test takes.
+const MUCH_LATER: u64 = 3_600_000;
+
+const SCENES: &[Scene] = &[
+    // An end whose reads are late writes, and reads once its deadline is lifted.
+    Scene {
+        name: "reads that are late leave writes alone",
+        is_whole: true,
+        near: &[Part(
+            1,
             &[
                 Step::Do(Call::Set(Dirs::Read, When::LongAgo)),
                 Step::Refused(Call::Read, LATE),
@@ -25,24 +31,24 @@ fn late_reads() -> [Part; 2] {
                 Step::Do(Call::Shut),
                 Step::Refused(Call::Read, END),
             ],
-        ),
-        role(
-            End::Far,
+        )],
+        steers: &[],
+        far: &[Part(
+            1,
             &[
                 Step::Read(1_024),
                 Step::Write(1_024),
                 Step::Refused(Call::Read, END),
                 Step::Do(Call::Shut),
             ],
-        ),
-    ]
-}
-
-/// An end whose writes are late reads, and writes once its deadline is lifted.
-fn late_writes() -> [Part; 2] {
-    [
-        role(
-            End::Near,
+        )],
+    },
+    // An end whose writes are late reads, and writes once its deadline is lifted.
+    Scene {
+        name: "writes that are late leave reads alone",
+        is_whole: true,
+        near: &[Part(
+            1,
             &[
                 Step::Do(Call::Set(Dirs::Write, When::LongAgo)),
                 Step::Refused(Call::Write, LATE),
@@ -53,24 +59,24 @@ fn late_writes() -> [Part; 2] {
                 Step::Do(Call::Shut),
                 Step::Refused(Call::Read, END),
             ],
-        ),
-        role(
-            End::Far,
+        )],
+        steers: &[],
+        far: &[Part(
+            1,
             &[
                 Step::Write(1_024),
                 Step::Read(1_024),
                 Step::Refused(Call::Read, END),
                 Step::Do(Call::Shut),
             ],
-        ),
-    ]
-}
-
-/// A greeting goes round before and after a time when all calls are late at once.
-fn long_ago() -> [Part; 2] {
-    [
-        role(
-            End::Near,
+        )],
+    },
+    // A greeting goes round before and after a time when all calls are late at once.
+    Scene {
+        name: "a deadline of long ago refuses calls at once until it is lifted",
+        is_whole: true,
+        near: &[Part(
+            1,
             &[
                 Step::Write(13),
                 Step::Read(13),
@@ -83,9 +89,10 @@ fn long_ago() -> [Part; 2] {
                 Step::Do(Call::Shut),
                 Step::Refused(Call::Read, END),
             ],
-        ),
-        role(
-            End::Far,
+        )],
+        steers: &[],
+        far: &[Part(
+            1,
             &[
                 Step::Read(13),
                 Step::Write(13),
@@ -93,20 +100,31 @@ fn long_ago() -> [Part; 2] {
                 Step::Refused(Call::Read, END),
                 Step::Do(Call::Shut),
             ],
-        ),
-    ]
-}
-
-/// A read and writes wait, or soon do, when their deadline is set to a moment long ago.
-fn while_they_wait() -> [Part; 5] {
-    [
-        role(
-            End::Near,
-            &[Step::Mark, Step::Refused(Call::Read, LATE), Step::Mark],
-        ),
-        role(End::Near, &[Step::Mark, Step::WriteUntil(LATE), Step::Mark]),
-        steers(
-            End::Near,
+        )],
+    },
+    // A read and writes wait, or soon do, when their deadline is set to a moment long ago.
+    Scene {
+        name: "a deadline of long ago ends calls that wait",
+        is_whole: true,
+        near: &[
+            Part(
+                1,
+                &[Step::Mark, Step::Refused(Call::Read, LATE), Step::Mark],
+            ),
+            Part(1, &[Step::Mark, Step::WriteUntil(LATE), Step::Mark]),
+            Part(
+                1,
+                &[
+                    Step::Await(5),
+                    Step::Write(1_024),
+                    Step::Do(Call::Shut),
+                    Step::Read(1_024),
+                    Step::Refused(Call::Read, END),
+                ],
+            ),
+        ],
+        steers: &[Part(
+            1,
             &[
                 Step::Await(2),
                 Step::Pause(100),
@@ -115,114 +133,101 @@ fn while_they_wait() -> [Part; 5] {
                 Step::Do(Call::Set(Dirs::Both, When::Never)),
                 Step::Mark,
             ],
-        ),
-        role(
-            End::Near,
-            &[
-                Step::Await(5),
-                Step::Write(1_024),
-                Step::Do(Call::Shut),
-                Step::Read(1_024),
-                Step::Refused(Call::Read, END),
-            ],
-        ),
-        role(
-            End::Far,
+        )],
+        far: &[Part(
+            1,
             &[
                 Step::Await(5),
                 Step::ReadUntil(END),
                 Step::Write(1_024),
                 Step::Do(Call::Shut),
             ],
-        ),
-    ]
-}
-
-/// A deadline in a tenth of a second ends a read and writes, and stays until it is lifted.
-fn in_a_while() -> [Part; 4] {
-    [
-        role(
-            End::Near,
-            &[Step::Await(1), Step::Refused(Call::Read, LATE), Step::Mark],
-        ),
-        role(
-            End::Near,
-            &[Step::Await(1), Step::WriteUntil(LATE), Step::Mark],
-        ),
-        role(
-            End::Near,
-            &[
-                Step::Do(Call::Set(Dirs::Both, When::In(100))),
-                Step::Mark,
-                Step::Await(3),
-                Step::Refused(Call::Write, LATE),
-                Step::Refused(Call::Read, LATE),
-                Step::Do(Call::Set(Dirs::Both, When::Never)),
-                Step::Mark,
-                Step::Write(1_024),
-                Step::Do(Call::Shut),
-                Step::Read(1_024),
-                Step::Refused(Call::Read, END),
-            ],
-        ),
-        role(
-            End::Far,
+        )],
+    },
+    // A deadline in a tenth of a second ends a read and writes, and stays until it is lifted.
+    Scene {
+        name: "a deadline to come ends calls at its moment and no earlier",
+        is_whole: true,
+        near: &[
+            Part(
+                1,
+                &[Step::Await(1), Step::Refused(Call::Read, LATE), Step::Mark],
+            ),
+            Part(1, &[Step::Await(1), Step::WriteUntil(LATE), Step::Mark]),
+            Part(
+                1,
+                &[
+                    Step::Do(Call::Set(Dirs::Both, When::In(100))),
+                    Step::Mark,
+                    Step::Await(3),
+                    Step::Refused(Call::Write, LATE),
+                    Step::Refused(Call::Read, LATE),
+                    Step::Do(Call::Set(Dirs::Both, When::Never)),
+                    Step::Mark,
+                    Step::Write(1_024),
+                    Step::Do(Call::Shut),
+                    Step::Read(1_024),
+                    Step::Refused(Call::Read, END),
+                ],
+            ),
+        ],
+        steers: &[],
+        far: &[Part(
+            1,
             &[
                 Step::Await(4),
                 Step::ReadUntil(END),
                 Step::Write(1_024),
                 Step::Do(Call::Shut),
             ],
-        ),
-    ]
+        )],
+    },
+    // While one direction has a deadline to come, that of the other is set to a much later one, and
+    // lifted. A call that is late doesn't wait for either.
+    Scene {
+        name: "a deadline of one direction stands while the other's is set and lifted",
+        is_whole: true,
+        near: &[Part(
+            1,
+            &[
+                Step::Do(Call::Set(Dirs::Read, When::In(50))),
+                Step::Do(Call::Set(Dirs::Write, When::In(MUCH_LATER))),
+                Step::Refused(Call::Read, LATE),
+                Step::Do(Call::Set(Dirs::Read, When::In(50))),
+                Step::Do(Call::Set(Dirs::Write, When::Never)),
+                Step::Refused(Call::Read, LATE),
+                Step::Do(Call::Set(Dirs::Write, When::In(50))),
+                Step::Do(Call::Set(Dirs::Read, When::In(MUCH_LATER))),
+                Step::WriteUntil(LATE),
+                Step::Do(Call::Set(Dirs::Write, When::In(50))),
+                Step::Do(Call::Set(Dirs::Read, When::Never)),
+                Step::WriteUntil(LATE),
+                Step::Mark,
+                Step::Do(Call::Set(Dirs::Write, When::Never)),
+                Step::Do(Call::Shut),
+                Step::Read(1_024),
+                Step::Refused(Call::Read, END),
+            ],
+        )],
+        steers: &[],
+        far: &[Part(
+            1,
+            &[
+                Step::Await(1),
+                Step::ReadUntil(END),
+                Step::Write(1_024),
+                Step::Do(Call::Shut),
+            ],
+        )],
+    },
+];
+
+#[test]
+fn late_calls_pass_nothing_and_work_once_their_deadline_is_lifted(rt: HostRuntime) {
+    plays(on(rt), By::Waiting, SCENES);
 }
 
 #[test]
-fn reads_that_are_late_leave_writes_alone(rt: HostRuntime) {
-    plays(on(rt), By::Waiting, &late_reads(), true);
-}
-
-#[test]
-fn reads_that_are_late_leave_writes_alone_on_a_loop(rt: HostRuntime) {
-    plays(on(rt), By::Loop, &late_reads(), true);
-}
-
-#[test]
-fn writes_that_are_late_leave_reads_alone(rt: HostRuntime) {
-    plays(on(rt), By::Waiting, &late_writes(), true);
-}
-
-#[test]
-fn writes_that_are_late_leave_reads_alone_on_a_loop(rt: HostRuntime) {
-    plays(on(rt), By::Loop, &late_writes(), true);
-}
-
-#[test]
-fn a_deadline_of_long_ago_refuses_calls_at_once_until_it_is_lifted(rt: HostRuntime) {
-    plays(on(rt), By::Waiting, &long_ago(), true);
-}
-
-#[test]
-fn a_deadline_of_long_ago_refuses_calls_at_once_until_it_is_lifted_on_a_loop(rt: HostRuntime) {
-    plays(on(rt), By::Loop, &long_ago(), true);
-}
-
-#[test]
-fn a_deadline_of_long_ago_ends_calls_that_wait(rt: HostRuntime) {
-    plays(on(rt), By::Waiting, &while_they_wait(), true);
-}
-
-#[test]
-fn a_deadline_of_long_ago_ends_calls_that_wait_on_a_loop(rt: HostRuntime) {
-    plays(on(rt), By::Loop, &while_they_wait(), true);
-}
-
-#[test]
-fn a_deadline_to_come_ends_calls_at_its_moment_and_no_earlier(rt: HostRuntime) {
-    plays(on(rt), By::Waiting, &in_a_while(), true);
-}
-
-#[test]
-fn a_deadline_to_come_ends_calls_at_its_moment_and_no_earlier_on_a_loop(rt: HostRuntime) {
-    plays(on(rt), By::Loop, &in_a_while(), true);
+fn late_calls_pass_nothing_and_work_once_their_deadline_is_lifted_on_a_loop(rt: HostRuntime) {
+    plays(on(rt), By::Loop, SCENES);
 }

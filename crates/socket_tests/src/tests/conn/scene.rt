@@ -1,17 +1,17 @@
 //! What the roles of a scene do, and the bytes that they say.
 
-use fd_descriptor::{Dirs, Fault};
+use fd_descriptor::{Dir, Dirs, Fault};
 
 /// An end of a connection.
-#[derive(Clone, Copy, Debug, PartialEq, Eq)]
-pub(super) enum End {
+#[derive(Clone, Copy)]
+pub(in crate::tests) enum End {
     Near,
     Far,
 }
 
 /// What a deadline is set to.
-#[derive(Clone, Copy, Debug, PartialEq, Eq)]
-pub(super) enum When {
+#[derive(Clone, Copy)]
+pub(in crate::tests) enum When {
     Never,
     /// The clock's first moment.
     LongAgo,
@@ -20,7 +20,7 @@ pub(super) enum When {
 }
 
 /// A call of a handle.
-#[derive(Clone, Copy, Debug, PartialEq, Eq)]
+#[derive(Clone, Copy)]
 pub(super) enum Call {
     Read,
     Write,
@@ -29,8 +29,19 @@ pub(super) enum Call {
     Set(Dirs, When),
 }
 
+impl Call {
+    /// Whose lock of the descriptor it takes.
+    pub(super) fn dir(self) -> Option<Dir> {
+        match self {
+            Call::Read => Some(Dir::Read),
+            Call::Write | Call::Shut => Some(Dir::Write),
+            Call::Close | Call::Set(_, _) => None,
+        }
+    }
+}
+
 /// What a role does next, and how its calls have to be answered.
-#[derive(Clone, Copy, Debug, PartialEq, Eq)]
+#[derive(Clone, Copy)]
 pub(super) enum Step {
     /// Reads so many bytes, which are the stream's from where the role stands.
     Read(u64),
@@ -60,51 +71,23 @@ pub(super) enum Step {
 
 /// So many roles that do the same at one end, each with a handle of its own.
 #[derive(Clone, Copy)]
-pub(super) struct Part {
-    pub(super) end: End,
-    pub(super) roles: u64,
-    /// Whether they set deadlines and close, and have threads of their own also where a loop has
-    /// all others.
-    pub(super) steers: bool,
-    pub(super) steps: &'static [Step],
-}
+pub(super) struct Part(pub(super) u64, pub(super) &'static [Step]);
 
-/// One role at this end.
-pub(super) fn role(end: End, steps: &'static [Step]) -> Part {
-    roles(1, end, steps)
-}
-
-/// Roles at this end.
-pub(super) fn roles(roles: u64, end: End, steps: &'static [Step]) -> Part {
-    Part {
-        end,
-        roles,
-        steers: false,
-        steps,
-    }
-}
-
-/// One role that steers this end.
-pub(super) fn steers(end: End, steps: &'static [Step]) -> Part {
-    Part {
-        end,
-        roles: 1,
-        steers: true,
-        steps,
-    }
-}
-
-/// How many roles there are.
-pub(super) fn count(parts: &[Part]) -> u64 {
-    let mut roles = 0u64;
-    for part in parts {
-        roles = roles.saturating_add(part.roles);
-    }
-    roles
+/// A scene: who does what at the two ends of a connection.
+#[derive(Clone, Copy)]
+pub(super) struct Scene {
+    pub(super) name: &'static str,
+    /// Whether no byte may be lost.
+    pub(super) is_whole: bool,
+    pub(super) near: &'static [Part],
+    /// Who sets deadlines or closes at the near end while others are under way there: they have
+    /// threads of their own also where a loop has all others.
+    pub(super) steers: &'static [Part],
+    pub(super) far: &'static [Part],
 }
 
 /// The byte at this place of the stream, which is the same at both ends.
-pub(super) fn byte_at(place: u64) -> u8 {
+fn byte_at(place: u64) -> u8 {
     let mixed = place.wrapping_mul(31).wrapping_add(place >> 8);
     (mixed & 0xff) as u8
 }
@@ -128,13 +111,4 @@ pub(super) fn are_at(bytes: &[u8], place: u64) -> bool {
         place = place.saturating_add(1);
     }
     true
-}
-
-/// The sum of the bytes.
-pub(super) fn sum_of(bytes: &[u8]) -> u64 {
-    let mut sum = 0u64;
-    for byte in bytes {
-        sum = sum.saturating_add(u64::from(*byte));
-    }
-    sum
 }

@@ -1,230 +1,129 @@
 //! Scenes by calls that wait: each role has a thread, and one more turns the poller.
 
-use super::acting::{Calls, Role, Went};
-use super::scene::{End, Part};
-use super::stage::Stage;
-use super::world::{HeldEnd, Shared, World, open};
-use super::{comes_to, holds, pause};
-use fd_descriptor::{Alarms, Dirs, Fault, FdHandle, Setting, WriteFault};
-use readiness::{Addr, SockRes};
+use super::acting::{Answer, Calls, Role, Went};
+use super::pause;
+use super::scene::{Call, Part, Scene};
+use super::stage::{Seat, Stage};
+use super::world::{HeldEnd, open};
+use fd_descriptor::FdHandle;
+use readiness::{Sock, SockRes};
 use std::alloc::Global;
-use std::fs::Files;
 use std::net::Net;
 use std::process::Abort;
-use std::sync::atomic::Ordering;
 use std::sync::{Arc, Wait};
 use std::thread;
 use std::thread::{JoinHandle, Threads};
 use std::time::Clock;
 
-/// What stands round the handles of a scene: the stage, and who hears of deadlines, closes and
-/// marks. A handle has the key by which it is known there.
-pub(super) trait Around {
-    fn stage(&self) -> &Stage;
-
-    fn set<T: Wait>(
-        &self,
-        rt: &T,
-        key: u64,
-        handle: &mut FdHandle<SockRes>,
-        setting: Setting,
-    ) -> Result<(), Fault>;
-
-    fn close<T: Wait>(&self, rt: &T, key: u64, handle: &mut FdHandle<SockRes>) -> Result<(), Fault>;
-
-    /// A mark was made, or a role has ended.
-    fn marked<T: Wait>(&self, rt: &T);
-}
-
-/// Sets a deadline with these alarms.
-pub(super) fn set_by<T: Wait, L: Alarms>(
-    rt: &T,
-    handle: &mut FdHandle<SockRes>,
-    setting: Setting,
-    alarms: &L,
-) -> Result<(), Fault> {
-    let Setting {
-        dirs,
-        deadline,
-        now,
-    } = setting;
-    match dirs {
-        Dirs::Read => handle.set_read_deadline(rt, deadline, now, alarms),
-        Dirs::Write => handle.set_write_deadline(rt, deadline, now, alarms),
-        Dirs::Both => handle.set_deadline(rt, deadline, now, alarms),
-    }
-}
-
-impl<R: Wait + Drop> Around for Shared<R> {
-    fn stage(&self) -> &Stage {
-        &self.stage
-    }
-
-    fn set<T: Wait>(
-        &self,
-        rt: &T,
-        _key: u64,
-        handle: &mut FdHandle<SockRes>,
-        setting: Setting,
-    ) -> Result<(), Fault> {
-        set_by(rt, handle, setting, &self.alarms)
-    }
-
-    // The entry goes first, so that the poller's token names nothing.
-    fn close<T: Wait>(
-        &self,
-        rt: &T,
-        key: u64,
-        handle: &mut FdHandle<SockRes>,
-    ) -> Result<(), Fault> {
-        let _entry = self.table.lock(rt).remove(key);
-        handle.close(rt)
-    }
-
-    // Who waits for marks looks again by itself.
-    fn marked<T: Wait>(&self, _rt: &T) {}
-}
-
 /// A role's handle, whose calls wait.
 #[derive(Drop)]
-struct Waiting<R: Wait + Drop, W: Around + Drop> {
+struct Waiting<R: Wait + Drop> {
     rt: R,
-    key: u64,
+    seat: Seat,
     handle: FdHandle<SockRes>,
-    around: Arc<W>,
+    stage: Arc<Stage<R>>,
 }
 
-impl<R: Wait + Drop, W: Around + Drop> Calls for Waiting<R, W> {
-    fn read(&mut self, buf: &mut [u8]) -> Option<Result<usize, Fault>> {
-        Some(self.handle.read(&self.rt, buf))
+impl<R: Wait + Clock + Drop> Calls for Waiting<R> {
+    fn makes(&mut self, call: Call, buf: &mut [u8]) -> Option<Answer> {
+        let (rt, handle, stage) = (&self.rt, &mut self.handle, &*self.stage);
+        Some(match call {
+            Call::Read => Answer::of_read(handle.read(rt, buf)),
+            Call::Write => Answer::of_write(handle.write(rt, buf)),
+            Call::Shut => Answer::of(handle.close_write(rt)),
+            Call::Close => Answer::of(stage.driver.closes(rt, self.seat, handle)),
+            Call::Set(dirs, when) => {
+                let set = stage.sets(rt, self.seat, handle, dirs, when);
+                stage.driver.tells(rt, self.seat.key);
+                Answer::of(set)
+            }
+        })
     }
-
-    fn write(&mut self, bytes: &[u8]) -> Option<Result<usize, WriteFault>> {
-        Some(self.handle.write(&self.rt, bytes))
-    }
-
-    fn shut(&mut self) -> Option<Result<(), Fault>> {
-        Some(self.handle.close_write(&self.rt))
-    }
-
-    fn close(&mut self) -> Option<Result<(), Fault>> {
-        Some(self.around.close(&self.rt, self.key, &mut self.handle))
-    }
-
-    fn set(&mut self, setting: Setting) -> Option<Result<(), Fault>> {
-        Some(
-            self.around
-                .set(&self.rt, self.key, &mut self.handle, setting),
-        )
-    }
-
-    fn marked(&mut self) {
-        self.around.marked(&self.rt);
-    }
-
-    // It sleeps, and looks again.
-    fn looks_at(&mut self, _moment: u64) {}
 }
 
 /// Plays a role to its end.
-fn plays<R, W>(waiting: &mut Waiting<R, W>, role: &mut Role)
+fn plays<R>(rt: &R, stage: &Stage<R>, waiting: &mut Waiting<R>, role: &mut Role)
 where
-    R: Wait + Clock + Abort + Copy + Drop,
-    W: Around + Drop,
+    R: Wait + Clock + Abort + Drop,
 {
-    let rt = waiting.rt;
-    let Ok(around) = Arc::try_clone(&waiting.around) else {
-        return;
-    };
     for _ in rt.forever() {
-        match role.goes_on(&rt, around.stage(), waiting) {
+        match role.goes_on(rt, stage, waiting) {
             Went::On => {}
-            Went::Later => pause(&rt, 1),
-            Went::Ended => break,
-            Went::Wrong => role.fails(&rt),
+            Went::Later | Went::At(_) => pause(rt, 1),
+            Went::Ended => return,
+            Went::Wrong => role.fails(rt),
         }
     }
-    around.stage().ended.fetch_add(1, Ordering::SeqCst);
-    around.marked(&rt);
 }
 
-/// Starts a role on a handle with this key.
-fn start<R, W>(rt: R, around: &Arc<W>, end: &mut HeldEnd, part: &Part) -> Option<JoinHandle<()>>
+/// Starts a role on a handle of its own.
+fn start<R>(rt: R, stage: &Arc<Stage<R>>, end: &mut HeldEnd, role: Role) -> JoinHandle<()>
 where
     R: Wait + Threads + Clock + Abort + Copy + Drop + Send + Sync + 'static,
-    W: Around + Drop + Send + Sync + 'static,
 {
-    let mut role = Role::of(part);
+    let mut role = role;
+    let stage = Arc::try_clone(stage).expect(&rt, "the stage");
     let mut waiting = Waiting {
         rt,
-        key: end.key,
-        handle: end.handle.share().ok()?,
-        around: Arc::try_clone(around).ok()?,
+        seat: end.seat,
+        handle: end.handle.share().expect(&rt, "a share"),
+        stage: Arc::try_clone(&stage).expect(&rt, "the stage"),
     };
-    thread::spawn(&rt, move || plays(&mut waiting, &mut role)).ok()
+    let started = thread::spawn(&rt, move || plays(&rt, &*stage, &mut waiting, &mut role));
+    started.expect(&rt, "a thread")
 }
 
-/// Starts all roles of a part.
-pub(super) fn start_part<R, W>(
+/// Starts all roles of these parts.
+pub(super) fn start_all<R>(
     rt: R,
-    around: &Arc<W>,
+    stage: &Arc<Stage<R>>,
     end: &mut HeldEnd,
-    part: &Part,
+    (scene, parts): (&Scene, &[Part]),
     running: &mut Vec<JoinHandle<()>>,
-) -> Option<()>
+)
 where
     R: Wait + Threads + Clock + Abort + Copy + Drop + Send + Sync + 'static,
-    W: Around + Drop + Send + Sync + 'static,
 {
-    for _ in 0..part.roles {
-        running.push(start(rt, around, end, part)?).ok()?;
+    for part in parts {
+        for _ in 0..part.0 {
+            let role = start(rt, stage, end, Role::of(scene, end.seat.end, part));
+            running.push(role).expect(&rt, "room");
+        }
     }
-    Some(())
 }
 
-/// Waits until all roles have ended.
-fn ends<R: Threads + Clock + Abort>(rt: &R, stage: &Stage, running: Vec<JoinHandle<()>>) {
-    let roles = running.len() as u64;
-    holds(rt, comes_to(rt, &stage.ended, roles), "all roles end");
+/// Waits until these have ended.
+pub(super) fn join_all<R: Threads>(rt: &R, running: Vec<JoinHandle<()>>) {
     for role in running {
         role.join(rt);
     }
 }
 
-/// Plays a scene in this world.
-fn play<R>(rt: R, alloc: Global, world: World<R>, parts: &[Part], is_whole: bool)
+/// Plays a scene over this connection, and says whether the books balance.
+pub(super) fn play<R>(rt: R, alloc: Global, socks: (Sock, Sock), scene: &Scene) -> bool
 where
-    R: Wait + Threads + Clock + Abort + Copy + Drop + Send + Sync + 'static,
+    R: Wait + Threads + Net + Clock + Abort + Copy + Drop + Send + Sync + 'static,
 {
-    let World {
-        shared,
-        near,
-        far,
-        turning,
-    } = world;
-    let (mut near, mut far) = (near, far);
+    let mut world = open(rt, alloc, socks);
     let mut running = Vec::new(alloc);
-    for part in parts {
-        let end = match part.end {
-            End::Near => &mut near,
-            End::Far => &mut far,
-        };
-        start_part(rt, &shared, end, part, &mut running).expect(&rt, "its roles");
-    }
-    ends(&rt, &shared.stage, running);
-    holds(
-        &rt,
-        shared.stage.balances(is_whole),
-        "what is written is read",
+    let stage = &world.stage;
+    start_all(
+        rt,
+        stage,
+        &mut world.near,
+        (scene, scene.near),
+        &mut running,
     );
-    shared.stops(&rt, turning);
-}
-
-/// Plays a scene at this address.
-pub(super) fn play_at<R>(rt: R, alloc: Global, addr: &Addr, parts: &[Part], is_whole: bool)
-where
-    R: Wait + Threads + Net + Files + Clock + Abort + Copy + Drop + Send + Sync + 'static,
-{
-    let world = open(rt, alloc, addr).expect(&rt, "a connection");
-    play(rt, alloc, world, parts, is_whole);
+    start_all(
+        rt,
+        stage,
+        &mut world.near,
+        (scene, scene.steers),
+        &mut running,
+    );
+    start_all(rt, stage, &mut world.far, (scene, scene.far), &mut running);
+    join_all(&rt, running);
+    let balances = world.stage.balances(scene.is_whole);
+    world.stop(&rt);
+    balances
 }

@@ -1,43 +1,70 @@
-//! A connection with both its ends held, and the poller that tells them.
+//! A connection with both its ends held, and a thread that turns their poller.
 
-use super::stage::Stage;
+use super::driver::{Driver, Polled, Table};
+use super::scene::End;
+use super::stage::{Seat, Stage};
 use super::{TURNS, holds, pause};
 use arrayvec::ArrayString;
 use fd_descriptor::{AcceptOutcome, FdHandle, TryAccept};
-use readiness::{
-    Addr, ConnTable, HeldSocket, Listen, Poller, Sock, SockRes, TimerAlarms, Timers, Waker,
-    connect, listen,
-};
+use readiness::{Addr, Listen, Poller, Sock, SockRes, connect, listen};
 use std::alloc::Global;
+use std::fmt::Write;
 use std::fs::Files;
 use std::net::Net;
 use std::process::Abort;
-use std::sync::atomic::{AtomicBool, Ordering};
-use std::sync::{Arc, Mutex, Wait};
+use std::sync::atomic::Ordering;
+use std::sync::{Arc, Wait};
 use std::thread::{JoinHandle, Threads};
 use std::time::Clock;
-use std::{env, process, thread};
+use std::{env, fs, process, thread};
 
-/// Any port of loopback that is free.
-pub(super) fn any_port() -> Addr {
-    Addr::Tcp([127, 0, 0, 1], 0)
+type Path = ArrayString<100>;
+
+/// What a test runs on: its runtime, with memory and a path of its own.
+#[derive(Clone, Copy)]
+pub(in crate::tests) struct Room<R> {
+    pub(in crate::tests) rt: R,
+    pub(in crate::tests) alloc: Global,
+    path: Option<Path>,
 }
 
-pub(super) type Path = ArrayString<100>;
+/// A path of the process with this number in a folder.
+fn path_in(folder: &str, id: u32) -> Option<Path> {
+    let mut path = Path::new();
+    write!(path, "{folder}/hobrintza-conn-{id}").ok()?;
+    Some(path)
+}
 
 /// A path in the test's own folder.
-pub(super) fn own_path(rt: &HostRuntime) -> Option<Path> {
-    let id = process::id(rt.process());
-    let file = format!(in rt.alloc(); "hobrintza-conn-{id}").ok()?;
-    let path = env::temp_dir(rt).ok()?.join(rt.alloc(), file.as_str());
-    ArrayString::from(path.ok()?.as_str()).ok()
+fn own_path(rt: &HostRuntime) -> Option<Path> {
+    match env::temp_dir(rt) {
+        Ok(folder) => path_in(folder.as_str(), process::id(rt.process())),
+        Err(_) => None,
+    }
 }
 
-/// Where clients of this listener connect to.
-fn reach(addr: &Addr, listener: &Listen) -> Addr {
-    match (addr, listener.port()) {
-        (Addr::Tcp(bytes, _), Some(port)) => Addr::Tcp(*bytes, port),
-        _ => *addr,
+/// The room of a test.
+pub(in crate::tests) fn on(rt: HostRuntime) -> Room<HostRuntime> {
+    Room {
+        rt,
+        alloc: rt.alloc(),
+        path: own_path(&rt),
+    }
+}
+
+impl<R: Abort> Room<R> {
+    /// Where connections are made: at any port of loopback that is free, and at the test's path.
+    pub(in crate::tests) fn addrs(&self) -> [Addr; 2] {
+        let path = self.path.expect(&self.rt, "a path");
+        [Addr::Tcp([127, 0, 0, 1], 0), Addr::Unix(path)]
+    }
+}
+
+/// Where clients connect to of a listener at this address, which has this port.
+fn reach(addr: &Addr, port: Option<u16>) -> Addr {
+    match (*addr, port) {
+        (Addr::Tcp(bytes, _), Some(port)) => Addr::Tcp(bytes, port),
+        (addr, _) => addr,
     }
 }
 
@@ -52,124 +79,124 @@ fn accept_soon<R: Clock>(rt: &R, listener: &mut Listen) -> Option<Sock> {
     None
 }
 
+/// Both ends of a connection that this listener takes.
+fn ends<R: Net + Clock + Abort>(rt: &R, addr: &Addr, listener: Listen) -> (Sock, Sock) {
+    let mut listener = listener;
+    let near = connect(rt, &reach(addr, listener.port())).expect(rt, "connect");
+    let far = accept_soon(rt, &mut listener).expect(rt, "accept");
+    (near, far)
+}
+
+/// The path of a Unix listener goes again.
+fn removes<R: Files>(rt: &R, addr: &Addr) -> bool {
+    match addr {
+        Addr::Tcp(_, _) => true,
+        Addr::Unix(path) => fs::remove_file(rt, path.as_str()).is_ok(),
+    }
+}
+
 /// Both ends of a connection at this address.
-pub(super) fn socks<R: Net + Files + Clock>(rt: &R, addr: &Addr) -> Option<(Sock, Sock)> {
-    let mut listener = listen(rt, addr).ok()?;
-    let near = connect(rt, &reach(addr, &listener)).ok()?;
-    let far = accept_soon(rt, &mut listener)?;
-    Some((near, far))
+pub(in crate::tests) fn socks<R: Net + Files + Clock + Abort>(rt: &R, addr: &Addr) -> (Sock, Sock) {
+    let listener = listen(rt, addr).expect(rt, "listen");
+    let socks = ends(rt, addr, listener);
+    holds(rt, removes(rt, addr), "its path goes");
+    socks
 }
 
-/// What the poller's thread shares with the roles.
+/// An end that is held.
 #[derive(Drop)]
-pub(super) struct Shared<R: Wait + Drop> {
-    pub(super) table: Table,
-    pub(super) alarms: TimerAlarms<R>,
-    pub(super) stage: Stage,
-    timers: Arc<Mutex<Timers>>,
-    waker: Arc<Waker>,
-    stop: AtomicBool,
+pub(in crate::tests) struct HeldEnd {
+    pub(in crate::tests) seat: Seat,
+    pub(in crate::tests) handle: FdHandle<SockRes>,
 }
 
-impl<R: Wait + Clock + Abort + Copy + Drop> Shared<R> {
-    fn open(rt: R, alloc: Global, poller: &Poller) -> Option<Shared<R>> {
-        let timers = Arc::new(alloc, Mutex::new(Timers::new(alloc))).ok()?;
-        let alarmed = Arc::try_clone(&timers).ok()?;
-        Some(Shared {
-            table: Mutex::new(ConnTable::new(alloc)),
-            alarms: TimerAlarms::new(rt, alarmed, poller.waker().ok()?),
-            stage: Stage::open(&rt),
-            timers,
-            waker: poller.waker().ok()?,
-            stop: AtomicBool::new(false),
-        })
-    }
-
-    /// Turns until it is told to stop, and says whether every turn was made.
-    fn turns(&self, rt: &R, poller: &mut Poller) -> bool {
-        for _ in rt.forever() {
-            if self.stop.load(Ordering::SeqCst) {
-                return true;
-            }
-            let now = self.stage.now(rt);
-            if poller.turn(rt, now, &self.table, &*self.timers).is_err() {
-                return false;
-            }
-        }
-        unreachable!()
-    }
-
-    /// Stops the poller's thread, in which every turn has to have been made.
-    pub(super) fn stops<T: Threads + Abort>(&self, rt: &T, turning: JoinHandle<bool>) {
-        self.stop.store(true, Ordering::SeqCst);
-        let _ = self.waker.wake();
-        holds(rt, turning.join(rt), "every turn was made");
-    }
-}
-
-/// An end that is held: the id of its entry or the token of its task, and a handle.
+/// A connection, with a thread that turns its poller.
 #[derive(Drop)]
-pub(super) struct HeldEnd {
-    pub(super) key: u64,
-    pub(super) handle: FdHandle<SockRes>,
+pub(in crate::tests) struct World<R: Wait + Drop> {
+    pub(in crate::tests) stage: Arc<Stage<R>>,
+    pub(in crate::tests) near: HeldEnd,
+    pub(in crate::tests) far: HeldEnd,
+    turning: JoinHandle<bool>,
 }
-
-type Table = Mutex<ConnTable<HeldSocket<SockRes>>>;
 
 /// Holds a socket, which `poller` tells from now on.
-fn hold<R: Wait>(
+fn hold<R: Wait + Abort>(
     rt: &R,
     alloc: Global,
     poller: &Poller,
     table: &Table,
-    sock: Sock,
-) -> Option<HeldEnd> {
-    let mut table = table.lock(rt);
-    let (key, handle) = poller.hold(alloc, &mut *table, sock).ok()?;
-    Some(HeldEnd { key, handle })
-}
-
-/// A connection at this address, with a thread that turns its poller.
-#[derive(Drop)]
-pub(super) struct World<R: Wait + Drop> {
-    pub(super) shared: Arc<Shared<R>>,
-    pub(super) near: HeldEnd,
-    pub(super) far: HeldEnd,
-    pub(super) turning: JoinHandle<bool>,
-}
-
-impl<R> World<R>
-where
-    R: Wait + Threads + Clock + Abort + Copy + Drop + Send + Sync + 'static,
-{
-    fn on(rt: R, alloc: Global, poller: Poller, socks: (Sock, Sock)) -> Option<World<R>> {
-        let (near, far) = socks;
-        let shared = Arc::new(alloc, Shared::open(rt, alloc, &poller)?).ok()?;
-        let near = hold(&rt, alloc, &poller, &shared.table, near)?;
-        let far = hold(&rt, alloc, &poller, &shared.table, far)?;
-        let turning = start_turning(rt, poller, Arc::try_clone(&shared).ok()?)?;
-        Some(World {
-            shared,
-            near,
-            far,
-            turning,
-        })
+    end: (End, Sock),
+) -> HeldEnd {
+    let (end, sock) = end;
+    let held = poller.hold(alloc, &mut *table.lock(rt), sock);
+    let (key, handle) = held.expect(rt, "held");
+    HeldEnd {
+        seat: Seat { end, key },
+        handle,
     }
 }
 
-/// A connection at this address, whose poller has a thread.
-pub(super) fn open<R>(rt: R, alloc: Global, addr: &Addr) -> Option<World<R>>
-where
-    R: Wait + Threads + Net + Files + Clock + Abort + Copy + Drop + Send + Sync + 'static,
-{
-    let poller = Poller::new(&rt, alloc).ok()?;
-    World::on(rt, alloc, poller, socks(&rt, addr)?)
+/// Turns until it is told to stop, and says whether every turn was made.
+fn turns<R: Wait + Clock + Drop>(rt: &R, stage: &Stage<R>, poller: &mut Poller) -> bool {
+    let Driver::Poller(polled) = &stage.driver else {
+        return false;
+    };
+    for _ in rt.forever() {
+        if polled.stop.load(Ordering::SeqCst) {
+            return true;
+        }
+        let turned = poller.turn(rt, stage.now(rt), &polled.table, &*polled.timers);
+        if turned.is_err() {
+            return false;
+        }
+    }
+    unreachable!()
 }
 
-fn start_turning<R>(rt: R, poller: Poller, shared: Arc<Shared<R>>) -> Option<JoinHandle<bool>>
+/// Has a thread turn this poller.
+fn start_turning<R>(rt: R, poller: Poller, stage: &Arc<Stage<R>>) -> JoinHandle<bool>
 where
     R: Wait + Threads + Clock + Abort + Copy + Drop + Send + Sync + 'static,
 {
     let mut poller = poller;
-    thread::spawn(&rt, move || shared.turns(&rt, &mut poller)).ok()
+    let turned = Arc::try_clone(stage).expect(&rt, "the stage");
+    thread::spawn(&rt, move || turns(&rt, &turned, &mut poller)).expect(&rt, "a thread")
+}
+
+/// This connection, held by a poller, which gets a thread.
+fn turned<R>(rt: R, alloc: Global, poller: Poller, socks: (Sock, Sock)) -> World<R>
+where
+    R: Wait + Threads + Clock + Abort + Copy + Drop + Send + Sync + 'static,
+{
+    let (near, far) = socks;
+    let polled = Polled::by(rt, alloc, &poller);
+    let near = hold(&rt, alloc, &poller, &polled.table, (End::Near, near));
+    let far = hold(&rt, alloc, &poller, &polled.table, (End::Far, far));
+    let stage = Stage::open(&rt, alloc, Driver::Poller(polled));
+    World {
+        near,
+        far,
+        turning: start_turning(rt, poller, &stage),
+        stage,
+    }
+}
+
+/// This connection, with its poller in a thread.
+pub(in crate::tests) fn open<R>(rt: R, alloc: Global, socks: (Sock, Sock)) -> World<R>
+where
+    R: Wait + Threads + Net + Clock + Abort + Copy + Drop + Send + Sync + 'static,
+{
+    let poller = Poller::new(&rt, alloc).expect(&rt, "a poller");
+    turned(rt, alloc, poller, socks)
+}
+
+impl<R: Wait + Drop> World<R> {
+    /// Stops the poller's thread, in which every turn has to have been made.
+    pub(in crate::tests) fn stop<T: Threads + Abort>(self, rt: &T) {
+        if let Driver::Poller(polled) = &self.stage.driver {
+            polled.stop.store(true, Ordering::SeqCst);
+            let _ = polled.waker.wake();
+        }
+        holds(rt, self.turning.join(rt), "every turn was made");
+    }
 }

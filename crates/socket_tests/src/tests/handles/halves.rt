@@ -6,11 +6,13 @@ use fd_descriptor::{DevKind, FdHandle, Outcome, Resource, TryRead, TryWrite};
 use std::alloc::Global;
 use std::process::Abort;
 
-/// A half that gives or takes so many bytes, one at a time, and then answers each try so.
-#[derive(Drop)]
+/// A half that gives or takes so many bytes, one at a time, and then answers a try so: again and
+/// again, or each time after so many bytes more.
+#[derive(Clone, Copy)]
 pub(super) struct Half {
     pub(super) left: usize,
     pub(super) then: Outcome,
+    pub(super) more: usize,
 }
 
 impl Half {
@@ -22,6 +24,7 @@ impl Half {
             self.left -= 1;
             return Outcome::Count(1);
         }
+        self.left = self.more;
         match self.then {
             Outcome::Count(_) => Outcome::Count(0),
             other => other,
@@ -62,13 +65,16 @@ impl Resource for Memory {
     }
 }
 
-/// A handle on two halves that pass so many bytes, and then answer so.
-pub(super) fn handle_on<R: Abort>(
-    rt: &R,
-    alloc: Global,
-    left: usize,
-    then: Outcome,
-) -> FdHandle<Memory> {
-    let (read, write) = (Half { left, then }, Half { left, then });
-    FdHandle::open(alloc, read, write, 1).expect(rt, "a descriptor")
+/// A handle on two such halves.
+pub(super) fn handle_on<R: Abort>(rt: &R, alloc: Global, half: Half) -> FdHandle<Memory> {
+    FdHandle::open(alloc, half, half, 1).expect(rt, "a descriptor")
+}
+
+/// Halves that pass so many bytes, and then answer so for good.
+pub(super) fn ending(left: usize, then: Outcome) -> Half {
+    Half {
+        left,
+        then,
+        more: 0,
+    }
 }
