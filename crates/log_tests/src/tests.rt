@@ -1,4 +1,4 @@
 //! The tests of `relay_log` and of `log_writer`.
 
-mod log_writer;
-mod relay_log;
+mod line_queue;
+mod writer_thread;
