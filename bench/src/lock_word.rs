@@ -1,5 +1,5 @@
 //! Nanoseconds a round on one lock word at 1, 2 and 4 threads: the proved word (the program of the crate
-//! `bench_lock_word`), and beside it plain Rust and, where `go_word/build.sh` has built it, Go's own word.
+//! `bench_calls`), and beside it plain Rust and, where `go_word/build.sh` has built it, Go's own word.
 //! Each run is a process of its own, timed from outside, in turn with its peers; each prints its rounds,
 //! its word and its half, which are compared. In each turn the words lie elsewhere in their pages. Prints
 //! medians, and the ratio of the proved word's to each. The variable `EARLIER` names another build of the
@@ -17,7 +17,7 @@ use std::time::Instant;
 
 const PROVED: &str = concat!(
     env!("CARGO_MANIFEST_DIR"),
-    "/../crates/bench_lock_word/out/bench_lock_word"
+    "/../crates/bench_calls/out/bench_calls"
 );
 const GO: &str = concat!(env!("CARGO_MANIFEST_DIR"), "/target/go_word");
 /// Bytes taken on the heap ahead of the word, a turn each: what a step costs can depend on the place of
@@ -157,18 +157,18 @@ fn main() {
     }
     let own = words[0].as_str();
     let mut references: Vec<Contender> = vec![
-        ("proved", PROVED, &["references"]),
+        ("proved", PROVED, &["lock_word", "references"]),
         ("plain atomics", own, &["plain", "references"]),
     ];
     let mut locks: Vec<Contender> = vec![
-        ("proved", PROVED, &["reads"]),
+        ("proved", PROVED, &["lock_word", "reads"]),
         ("spin", own, &["plain", "spin"]),
         ("std's mutex", own, &["plain", "mutex"]),
     ];
     let earlier = std::env::var("EARLIER");
     if let Ok(program) = &earlier {
-        references.push(("earlier build", program, &["references"]));
-        locks.push(("earlier build", program, &["reads"]));
+        references.push(("earlier build", program, &["lock_word", "references"]));
+        locks.push(("earlier build", program, &["lock_word", "reads"]));
     }
     if Path::new(GO).exists() {
         references.push(("Go's", GO, &["references"]));

@@ -1,5 +1,5 @@
 //! Timers that are armed, armed again and taken out, and look-ups in a table of connections: the program
-//! of the crate `bench_tables`, and beside it the same work on plain lists. Each run is a process of its
+//! of the crate `bench_calls`, and beside it the same work on plain lists. Each run is a process of its
 //! own, timed from outside; each prints a sum that tells what came in which order, and the sums are
 //! compared. Prints medians and ratios.
 
@@ -11,7 +11,7 @@ use std::time::Instant;
 
 const PROVED: &str = concat!(
     env!("CARGO_MANIFEST_DIR"),
-    "/../crates/bench_tables/out/bench_tables"
+    "/../crates/bench_calls/out/bench_calls"
 );
 
 /// A moment of the round, as in the proved program.
@@ -90,7 +90,7 @@ fn compare(own: &str, load: &str, (count, times): (u64, u64), calls: u64, turns:
     let words = [load, count.as_str(), times.as_str()];
     let (mut ours, mut theirs) = (Vec::new(), Vec::new());
     for _ in 0..turns {
-        let (time, sum) = run(PROVED, &words);
+        let (time, sum) = run(PROVED, &[&["tables"][..], &words].concat());
         ours.push(time);
         let (time, listed) = run(own, &[&["listed"][..], &words].concat());
         theirs.push(time);

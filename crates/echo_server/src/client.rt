@@ -14,7 +14,7 @@ use std::io::Read;
 pub const HELLO: &[u8] = b"hello";
 
 /// What a client saw.
-#[derive(Clone, Copy, Debug, PartialEq, Eq, Drop)]
+#[derive(Drop)]
 pub enum Seen {
     /// It had no connection.
     NoConnection,

@@ -11,11 +11,14 @@ mod shared;
 
 use crate::client::{HELLO, Seen, hear};
 use crate::server::Server;
+use std::fs::Files;
 use std::io::Write;
 use std::net::{Ipv4Addr, Net, SocketAddr, TcpStream};
 use std::process::ExitCode;
-use std::sync::Arc;
 use std::sync::atomic::Ordering;
+use std::sync::{Arc, Wait};
+use std::thread::Threads;
+use std::time::Clock;
 use std::{env, io, thread};
 
 const NANOS_IN_A_MILLI: u64 = 1_000_000;
@@ -42,28 +45,40 @@ fn seen_at<N: Net>(net: &N, port: u16) -> Seen {
     }
 }
 
+/// Tells why nothing is served, and gives the status for it.
+fn refused<R: Eprint>(rt: &R, why: &str, status: u8) -> io::Result<ExitCode> {
+    eprintln!(rt; "{why}")?;
+    Ok(ExitCode::from(status))
+}
+
+/// Serves a client of its own, and prints what that saw.
+fn serve_itself<R>(rt: R, server: &mut Server<R>) -> io::Result<ExitCode>
+where
+    R: Wait + Threads + Net + Files + Clock + Print + Copy + Drop + Send + Sync + 'static,
+{
+    let shared = Arc::try_clone(&server.shared)?;
+    let port = server.port;
+    let talking = thread::spawn(&rt, move || {
+        let seen = seen_at(&rt, port);
+        shared.stopped.store(true, Ordering::SeqCst);
+        seen
+    })?;
+    let served = server.run();
+    println!(rt; "{}", talking.join(&rt))?;
+    Ok(status_of(served.is_ok()))
+}
+
 fn main(rt: HostRuntime) -> io::Result<ExitCode> {
     let words: Vec<String> = env::args(&rt)?.collect(rt.alloc())?;
     let Some((port, idle_ms)) = asked(words.as_slice()) else {
-        eprintln!(rt; "bad command line")?;
-        return Ok(ExitCode::from(2));
+        return refused(&rt, "bad command line", 2);
     };
     let idle_ns = idle_ms.saturating_mul(NANOS_IN_A_MILLI);
     let Some(mut server) = Server::open(rt, rt.alloc(), port, idle_ns) else {
-        eprintln!(rt; "cannot listen")?;
-        return Ok(ExitCode::from(3));
+        return refused(&rt, "cannot listen", 3);
     };
     if port == 0 {
-        let shared = Arc::try_clone(&server.shared)?;
-        let port = server.port;
-        let talking = thread::spawn(&rt, move || {
-            let seen = seen_at(&rt, port);
-            shared.stopped.store(true, Ordering::SeqCst);
-            seen
-        })?;
-        let served = server.run();
-        println!(rt; "{}", talking.join(&rt))?;
-        return Ok(status_of(served.is_ok()));
+        return serve_itself(rt, &mut server);
     }
     Ok(status_of(server.run().is_ok()))
 }

@@ -8,15 +8,15 @@ ghost use Rattle.echo_server.specs.Server.{HasOwnAlarms, idle_of};
 
 use crate::shared::Shared;
 use fd_descriptor::{AcceptOutcome, Fault, TryAccept};
-use readiness::{Addr, ConnTable, Listen, Poller, Sock, TimerAlarms, Timers, listen};
+use readiness::{Addr, Listen, Poller, Sock, listen};
 use std::alloc::Global;
 use std::fs::Files;
 use std::net::Net;
-use std::sync::atomic::{AtomicBool, Ordering};
-use std::sync::{Arc, Mutex, Wait};
+use std::sync::atomic::Ordering;
+use std::sync::{Arc, Wait};
 use std::thread;
 use std::thread::Threads;
-use std::time::{Clock, Instant};
+use std::time::Clock;
 
 /// The token of the listener. Those of entries are 4,096 and more, so it names none of them.
 const LISTENER: u64 = 0;
@@ -35,6 +35,16 @@ pub struct Server<R: Wait + Clock + Copy + Drop> {
     listener: Listen,
 }
 
+/// A poller that hears of a listener at this port.
+fn bound<R: Net + Files>(rt: &R, alloc: Global, port: u16) -> Option<(Poller, Listen)> {
+    let poller = Poller::new(rt, alloc).ok()?;
+    let mut listener = listen(rt, &Addr::Tcp([127, 0, 0, 1], port)).ok()?;
+    match poller.register_listener(&mut listener, LISTENER) {
+        Ok(()) => Some((poller, listener)),
+        Err(_) => None,
+    }
+}
+
 impl<R> Server<R>
 where
     R: Wait + Threads + Net + Files + Clock + Copy + Drop + Send + Sync + 'static,
@@ -44,23 +54,11 @@ where
         ensures idle { IfSome result (λ server. idle_of server ≡ idle_ns) }
         ensures alarms { IfSome result HasOwnAlarms }
     {
-        let poller = Poller::new(&rt, alloc).ok()?;
-        let mut listener = listen(&rt, &Addr::Tcp([127, 0, 0, 1], port)).ok()?;
-        poller.register_listener(&mut listener, LISTENER).ok()?;
-        let timers = Arc::new(alloc, Mutex::new(Timers::new(alloc))).ok()?;
-        let alarmed = Arc::try_clone(&timers).ok()?;
-        let shared = Shared {
-            rt,
-            start: Instant::now(&rt).ok()?,
-            idle_ns,
-            clients: Mutex::new(ConnTable::new(alloc)),
-            timers,
-            alarms: TimerAlarms::new(rt, alarmed, poller.waker().ok()?),
-            stopped: AtomicBool::new(false),
-        };
+        let (poller, listener) = bound(&rt, alloc, port)?;
+        let shared = Shared::new(rt, alloc, idle_ns, poller.waker().ok()?)?;
         Some(Server {
             port: listener.port()?,
-            shared: Arc::new(alloc, shared).ok()?,
+            shared,
             alloc,
             poller,
             listener,

@@ -1,13 +1,16 @@
 //! What the threads of a server share, and what the thread of a connection does: it reads and
 //! writes as if it were alone.
 
-ghost use Rattle.std.specs.Prelude.{◌≡◌, ◌<◌, length, true, Err, IfOk};
+ghost use Rattle.std.specs.Prelude.{◌≡◌, ◌<◌, length, true, Err, IfOk, IfSome};
+ghost use Rattle.std.specs.Arc.{arc_value};
+ghost use Rattle.readiness.specs.Alarms.{timers_of, woken_by};
 ghost use Rattle.fd_descriptor.specs.FdHandle.{KeepsHandle, marks_of, saw_closed};
 ghost use Rattle.fd_descriptor.specs.HandleCalls.{HasEnded};
 ghost use Rattle.rwloops.specs.declared.fault.Fault.{Fault};
 
 use fd_descriptor::{Deadline, Fault, FdHandle};
-use readiness::{ConnTable, HeldSocket, SockRes, TimerAlarms, Timers};
+use readiness::{ConnTable, HeldSocket, SockRes, TimerAlarms, Timers, Waker};
+use std::alloc::Global;
 use std::sync::atomic::AtomicBool;
 use std::sync::{Arc, Mutex, Wait};
 use std::time::{Clock, Instant};
@@ -28,13 +31,36 @@ pub struct Shared<R: Wait + Clock + Copy + Drop> {
 }
 
 /// How many bytes one turn read, and how many it gave back.
-#[derive(Clone, Copy, Drop)]
+#[derive(Drop)]
 pub struct Turn {
     pub read: usize,
     pub written: usize,
 }
 
 impl<R: Wait + Clock + Copy + Drop> Shared<R> {
+    /// Nobody is connected. The alarms are those of its own timers.
+    pub fn new(rt: R, alloc: Global, idle_ns: u64, waker: Arc<Waker>) -> Option<Arc<Shared<R>>>
+        ensures idle { IfSome result (λ shared. (arc_value shared).idle_ns ≡ idle_ns) }
+        ensures timers { IfSome result (λ shared. timers_of (arc_value shared).alarms
+            ≡ arc_value (arc_value shared).timers) }
+        ensures waker { IfSome result (λ shared. woken_by (arc_value shared).alarms
+            ≡ arc_value waker) }
+    {
+        let start = Instant::now(&rt).ok()?;
+        let timers = Arc::new(alloc, Mutex::new(Timers::new(alloc))).ok()?;
+        let alarmed = Arc::try_clone(&timers).ok()?;
+        let shared = Shared {
+            rt,
+            start,
+            idle_ns,
+            clients: Mutex::new(ConnTable::new(alloc)),
+            timers,
+            alarms: TimerAlarms::new(rt, alarmed, waker),
+            stopped: AtomicBool::new(false),
+        };
+        Arc::new(alloc, shared).ok()
+    }
+
     /// The nanoseconds since the start, which are the moments of all deadlines here.
     pub fn now(&self) -> u64 {
         match self.start.elapsed(&self.rt) {

@@ -13,7 +13,7 @@ use std::net::{Ipv4Addr, Net, SocketAddr, TcpStream};
 const WORDS_BYTES: usize = 16;
 
 /// What a client saw after it said its words.
-#[derive(Clone, Copy, Debug, PartialEq, Eq, Drop)]
+#[derive(Drop)]
 pub enum Seen {
     /// It heard less than its words, or something else.
     NoEcho,
@@ -24,7 +24,7 @@ pub enum Seen {
 }
 
 /// How many clients heard what.
-#[derive(Clone, Copy, Debug, PartialEq, Eq, Drop)]
+#[derive(Drop)]
 pub struct Echoes {
     /// Their own words.
     pub own: u32,
@@ -74,13 +74,16 @@ impl Echoes {
     }
 
     fn with(self, seen: Seen) -> Echoes {
-        let own = self.own.saturating_add((seen != Seen::NoEcho) as u32);
         match seen {
+            Seen::NoEcho => self,
+            Seen::NoEnd => Echoes {
+                own: self.own.saturating_add(1),
+                end: self.end,
+            },
             Seen::EchoAndEnd => Echoes {
-                own,
+                own: self.own.saturating_add(1),
                 end: self.end.saturating_add(1),
             },
-            _ => Echoes { own, end: self.end },
         }
     }
 }

@@ -11,9 +11,14 @@ mod task;
 
 use crate::clients::{Echoes, play};
 use crate::server::Server;
+use std::alloc::Global;
+use std::fs::Files;
+use std::net::Net;
 use std::process::ExitCode;
-use std::sync::Arc;
 use std::sync::atomic::Ordering;
+use std::sync::{Arc, Wait};
+use std::thread::Threads;
+use std::time::Clock;
 use std::{env, io, thread};
 
 /// How long a connection may be idle, in nanoseconds.
@@ -28,19 +33,24 @@ fn asked(words: &[String]) -> Option<u32> {
     }
 }
 
-fn main(rt: HostRuntime) -> io::Result<ExitCode> {
-    let words: Vec<String> = env::args(&rt)?.collect(rt.alloc())?;
-    let Some(clients) = asked(words.as_slice()) else {
-        eprintln!(rt; "bad command line")?;
-        return Ok(ExitCode::from(2));
-    };
-    let Some(mut server) = Server::open(rt, rt.alloc(), IDLE) else {
-        eprintln!(rt; "cannot listen")?;
-        return Ok(ExitCode::from(3));
-    };
-    let stopped = Arc::try_clone(&server.stopped)?;
-    let remote = server.remote()?;
-    let (alloc, port) = (rt.alloc(), server.port);
+/// Tells why nothing is served, and gives the status for it.
+fn refused<R: Eprint>(rt: &R, why: &str, status: u8) -> io::Result<ExitCode> {
+    eprintln!(rt; "{why}")?;
+    Ok(ExitCode::from(status))
+}
+
+/// Serves so many clients of its own, and prints how many heard what.
+fn serve_itself<R>(
+    rt: R,
+    alloc: Global,
+    server: &mut Server<R>,
+    clients: u32,
+) -> io::Result<ExitCode>
+where
+    R: Wait + Threads + Net + Files + Clock + Print + Copy + Drop + Send + Sync + 'static,
+{
+    let (stopped, remote) = (Arc::try_clone(&server.stopped)?, server.remote()?);
+    let port = server.port;
     let playing = thread::spawn(&rt, move || {
         let heard = play(&rt, alloc, port, clients);
         stopped.store(true, Ordering::SeqCst);
@@ -54,4 +64,15 @@ fn main(rt: HostRuntime) -> io::Result<ExitCode> {
         Ok(()) => ExitCode::SUCCESS,
         Err(_) => ExitCode::from(3),
     })
+}
+
+fn main(rt: HostRuntime) -> io::Result<ExitCode> {
+    let words: Vec<String> = env::args(&rt)?.collect(rt.alloc())?;
+    let Some(clients) = asked(words.as_slice()) else {
+        return refused(&rt, "bad command line", 2);
+    };
+    let Some(mut server) = Server::open(rt, rt.alloc(), IDLE) else {
+        return refused(&rt, "cannot listen", 3);
+    };
+    serve_itself(rt, rt.alloc(), &mut server, clients)
 }

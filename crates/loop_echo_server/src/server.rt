@@ -7,9 +7,10 @@ ghost use Rattle.rwloops.specs.declared.outcome.DevKind.{DevKind};
 ghost use Rattle.loop_echo_server.specs.Server.{idle_of, remote_behind};
 
 use crate::task::{Accepted, Client, Listener, MOST_AT_ONCE};
-use fd_descriptor::{Alarms, Dirs, Fault, OutOfMemory, PollCell};
+use fd_descriptor::{Alarms, Dirs, Fault, FdHandle, OutOfMemory, PollCell};
 use readiness::{
-    Addr, EventLoop, Host, Listen, LoopRemote, RemoteAlarms, Side, Sock, Turn, Why, listen,
+    Addr, EventLoop, Host, Listen, ListenRes, LoopRemote, Poller, RemoteAlarms, Side, Sock, Turn,
+    Why, listen,
 };
 use std::alloc::Global;
 use std::fs::Files;
@@ -54,6 +55,27 @@ pub struct Server<R: Wait + Clock + Copy + Drop> {
 }
 
 impl<R: Wait + Clock + Copy + Drop> Desk<R> {
+    // Nothing was accepted yet. The alarms are those of this loop.
+    fn new(
+        rt: R,
+        alloc: Global,
+        idle_ns: u64,
+        tasks: &EventLoop<Task<R>>,
+        listener: u64,
+    ) -> Option<Desk<R>>
+        ensures { IfSome result (λ desk. desk.idle_ns ≡ idle_ns) }
+    {
+        let remote = tasks.remote().ok()?;
+        Some(Desk {
+            rt,
+            start: Instant::now(&rt).ok()?,
+            idle_ns,
+            alarms: RemoteAlarms::new(rt, remote),
+            listener,
+            accepted: Vec::new(alloc),
+        })
+    }
+
     /// The nanoseconds since the start, which are the moments of all deadlines here.
     fn now(&self) -> u64 {
         match self.start.elapsed(&self.rt) {
@@ -124,27 +146,45 @@ impl<R: Wait + Clock + Copy + Drop> Host for Desk<R> {
     }
 }
 
+/// A listener at any port that is free, of which turns are told by this token, and the port.
+fn opened<R>(
+    rt: &R,
+    alloc: Global,
+    poller: &Poller,
+    token: u64,
+) -> Option<(FdHandle<ListenRes>, u16)>
+where
+    R: Net + Files,
+{
+    let listening = listen(rt, &Addr::Tcp([127, 0, 0, 1], 0)).ok()?;
+    let port = listening.port()?;
+    let handle = poller.open_listener(alloc, listening, token).ok()?;
+    Some((handle, port))
+}
+
+/// Has the loop accept at any port that is free: by the listener's token, at this port.
+fn listening<R>(rt: R, alloc: Global, tasks: &mut EventLoop<Task<R>>) -> Option<(u64, u16)>
+where
+    R: Wait + Net + Files + Copy + Drop,
+{
+    let place = tasks.vacant().ok()?;
+    let (handle, port) = opened(&rt, alloc, tasks.poller(), place.first)?;
+    let listener = Listener::begin(rt, handle)?;
+    match tasks.put(Task::Listener(listener)) {
+        Ok(_) => Some((place.first, port)),
+        Err(_) => None,
+    }
+}
+
 impl<R: Wait + Net + Files + Clock + Copy + Drop> Server<R> {
     /// Listens at any port that is free.
     pub fn open(rt: R, alloc: Global, idle_ns: u64) -> Option<Server<R>>
         ensures idle { IfSome result (λ server. idle_of server ≡ idle_ns) }
     {
-        let mut tasks = EventLoop::new(&rt, alloc).ok()?;
-        let place = tasks.vacant().ok()?;
-        let listening = listen(&rt, &Addr::Tcp([127, 0, 0, 1], 0)).ok()?;
-        let port = listening.port()?;
-        let opened = tasks.poller().open_listener(alloc, listening, place.first);
-        let listener = Listener::begin(rt, opened.ok()?)?;
-        tasks.put(Task::Listener(listener)).ok()?;
-        let desk = Desk {
-            rt,
-            start: Instant::now(&rt).ok()?,
-            idle_ns,
-            alarms: RemoteAlarms::new(rt, tasks.remote().ok()?),
-            listener: place.first,
-            accepted: Vec::new(alloc),
-        };
         let stopped = Arc::new(alloc, AtomicBool::new(false)).ok()?;
+        let mut tasks = EventLoop::new(&rt, alloc).ok()?;
+        let (listener, port) = listening(rt, alloc, &mut tasks)?;
+        let desk = Desk::new(rt, alloc, idle_ns, &tasks, listener)?;
         Some(Server {
             port,
             stopped,

@@ -78,11 +78,23 @@ pub struct Client<R: Wait + Copy + Drop> {
 }
 
 /// What came of bytes that were to be given back.
-#[derive(Clone, Copy, Debug, PartialEq, Eq, Drop)]
+#[derive(Drop)]
 enum Given {
     All,
     Waits,
     Failed,
+}
+
+/// A read and a write under way on this descriptor.
+fn both_begun<R: Wait + Copy + Drop>(
+    rt: R,
+    handle: &mut FdHandle<SockRes>,
+) -> Option<(ReadUnderWay<SockRes, R>, WriteUnderWay<SockRes, R>)> {
+    let (reader, writer) = (handle.share().ok()?, handle.share().ok()?);
+    match (reader.begin_read(rt), writer.begin_write(rt)) {
+        (Ok(reading), Ok(writing)) => Some((reading, writing)),
+        _ => None,
+    }
 }
 
 impl<R: Wait + Copy + Drop> Client<R> {
@@ -93,8 +105,7 @@ impl<R: Wait + Copy + Drop> Client<R> {
         let mut handle = handle;
         let buf = vec![in alloc; 0u8; BUFFER_BYTES].ok()?;
         let cell = handle.cell().ok()?;
-        let reading = handle.share().ok()?.begin_read(rt).ok()?;
-        let writing = handle.share().ok()?.begin_write(rt).ok()?;
+        let (reading, writing) = both_begun(rt, &mut handle)?;
         Some(Client {
             cell,
             handle,

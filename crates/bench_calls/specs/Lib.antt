@@ -1,0 +1,3 @@
+pub mod Numbers
+pub mod lock_word
+pub mod tables
