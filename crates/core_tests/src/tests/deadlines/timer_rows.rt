@@ -25,10 +25,13 @@ enum Step {
     DueKeys(u64, u64, usize),
     Next(Option<u64>),
     Live(usize),
+    Stored(usize),
     StoredAtMost(usize),
 }
 
-use Step::{Again, Arm, Both, Disarm, Due, DueKeys, Keys, KeysDown, Live, Next, Own, StoredAtMost};
+use Step::{
+    Again, Arm, Both, Disarm, Due, DueKeys, Keys, KeysDown, Live, Next, Own, Stored, StoredAtMost,
+};
 
 const ROWS: &[(&str, &[Step])] = &[
     (
@@ -81,7 +84,7 @@ const ROWS: &[(&str, &[Step])] = &[
         &[
             Arm(7, Read, 1),
             Arm(7, Read, 2),
-            StoredAtMost(2),
+            Stored(2),
             Again(7, Read, 3, 1_000),
             Live(1),
             StoredAtMost(66),
@@ -173,6 +176,7 @@ fn answers(timers: &mut Timers, step: Step) -> bool {
         DueKeys(now, from, count) => has_keys(timers.due(now).as_slice(), from, count),
         Next(want) => timers.next() == want,
         Live(want) => timers.live() == want,
+        Stored(want) => timers.stored() == want,
         StoredAtMost(most) => timers.stored() <= most,
     }
 }
