@@ -8,20 +8,28 @@ mod alarms;
 mod batch_rows;
 mod bulk;
 mod connecting;
-mod hello;
+mod counting;
+mod loop_memory;
+mod loop_rows;
+mod loop_stage;
+mod loop_steps;
 mod loop_threads;
 mod loops;
 mod many_clients;
 mod memory;
-mod moments;
 mod open_files;
 mod paths;
 mod peers;
-mod resets;
+mod playing;
+mod sleeping;
+mod table_rows;
+mod table_stage;
+mod table_steps;
+mod tables;
 mod waiting;
 
 use super::{TURNS, comes_to, holds, pause, watch};
-use fd_descriptor::{AcceptOutcome, Fault, FdHandle, PollCell, Resource, TryAccept};
+use fd_descriptor::{AcceptOutcome, FdHandle, PollCell, Resource, TryAccept};
 use readiness::{
     Addr, ConnTable, HasCell, Holds, Listen, ListenRes, Poller, Sock, SockRes, TimerAlarms, Timers,
     Waker, connect, listen,
@@ -87,7 +95,7 @@ struct World<R: Clock + Copy + Drop> {
     shared: Arc<Shared>,
 }
 
-impl<R: Wait + Threads + Net + Files + Clock + Abort + Copy + Drop> World<R> {
+impl<R: Net + Clock + Abort + Copy + Drop> World<R> {
     fn new(rt: R, alloc: Global) -> World<R> {
         let shared = Shared {
             table: Mutex::new(ConnTable::new(alloc)),
@@ -103,7 +111,9 @@ impl<R: Wait + Threads + Net + Files + Clock + Abort + Copy + Drop> World<R> {
             shared: Arc::new(alloc, shared).expect(&rt, "world"),
         }
     }
+}
 
+impl<R: Wait + Net + Files + Clock + Abort + Copy + Drop> World<R> {
     /// Both ends of a connection that was accepted at this address.
     fn pair(&self, addr: &Addr) -> (FdHandle<SockRes>, FdHandle<SockRes>) {
         let (near, far) = socks(&self.rt, addr);
@@ -144,12 +154,9 @@ impl<R: Wait + Clock + Abort + Copy + Drop> World<R> {
     fn keep(&self) -> Arc<Shared> {
         Arc::try_clone(&self.shared).expect(&self.rt, "world")
     }
+}
 
-    /// The moment of the first timer.
-    fn next_due(&self) -> Option<u64> {
-        self.shared.timers.lock(&self.rt).next()
-    }
-
+impl<R: Wait + Clock + Copy + Drop> World<R> {
     /// One turn at this moment. It says whether the system let it.
     fn turn(&mut self, now: u64) -> bool {
         turn_at(&self.rt, now, &mut self.poller, &self.shared)
@@ -205,7 +212,7 @@ impl Turning {
     /// Leaves the turns of this world to a thread.
     fn start<R>(world: World<R>) -> Turning
     where
-        R: Wait + Threads + Net + Files + Clock + Abort + Copy + Drop + Send + Sync + 'static,
+        R: Wait + Threads + Clock + Abort + Copy + Drop + Send + Sync + 'static,
     {
         let waker = world.waker();
         let shared = world.keep();
@@ -227,15 +234,6 @@ impl Turning {
 
 fn share<R: Abort>(rt: &R, handle: &mut FdHandle<SockRes>) -> FdHandle<SockRes> {
     handle.share().expect(rt, "share")
-}
-
-/// Reads once on a handle of its own, in a thread of its own.
-fn start_read<R: Wait + Threads + Abort + Copy + Drop + Send + Sync + 'static>(
-    rt: R,
-    handle: &mut FdHandle<SockRes>,
-) -> JoinHandle<Result<usize, Fault>> {
-    let mut reader = share(&rt, handle);
-    thread::spawn(&rt, move || reader.read(&rt, &mut [0; 8])).expect(&rt, "thread")
 }
 
 /// Any port of loopback that is free.

@@ -50,17 +50,20 @@ fn a_batch_names_what_is_there(rt: HostRuntime) {
     holds!(rt; batch_of(&events, &table).as_slice() == wanted.as_slice());
 }
 
+/// Now, the next moment, and the milliseconds to wait.
+const WAITS: &[(u64, Option<u64>, u64)] = &[
+    (0, Some(1_500_000), 2),
+    (0, Some(5_000_000_000), 1_000),
+    (7, Some(7), 0),
+    (7, Some(6), 0),
+    (7, None, 1_000),
+    (0, Some(1), 1),
+    (0, Some(u64::MAX), 1_000),
+];
+
 #[test]
 fn waits_come_to_their_moment(rt: HostRuntime) {
-    for (now, next, ms) in [
-        (0, Some(1_500_000), 2),
-        (0, Some(5_000_000_000), 1_000),
-        (7, Some(7), 0),
-        (7, Some(6), 0),
-        (7, None, 1_000),
-        (0, Some(1), 1),
-        (0, Some(u64::MAX), 1_000),
-    ] {
-        assert_eq!(rt; wait_ms(now, next), ms);
+    for (now, next, ms) in WAITS {
+        assert!(rt; wait_ms(*now, *next) == *ms, "{ms} milliseconds from {now}");
     }
 }

@@ -5,7 +5,7 @@ use super::watch::Watch;
 use super::{Turning, World, accept_soon, any_port, connected, listening, pause, reach, share};
 use fd_descriptor::{Fault, FdHandle};
 use libc::net as c;
-use readiness::{Listen, Sock, SockRes};
+use readiness::{Addr, Listen, Sock, SockRes};
 use std::alloc::Global;
 use std::fs::Files;
 use std::net::Net;
@@ -35,7 +35,7 @@ fn start_shut<R: Wait + Threads + Abort + Copy + Drop + Send + Sync + 'static>(
 
 /// The other end reads the end, and writes back.
 fn reads_the_end_and_writes<
-    R: Wait + Threads + Net + Files + Clock + Abort + Copy + Drop + Send + Sync + 'static,
+    R: Wait + Threads + Net + Clock + Abort + Copy + Drop + Send + Sync + 'static,
 >(rt: R, alloc: Global, served: Sock) {
     let world = World::new(rt, alloc);
     let mut served = world.add(served);
@@ -46,24 +46,39 @@ fn reads_the_end_and_writes<
     turning.stop(&rt);
 }
 
-#[test]
-fn a_shut_waits_for_its_connection(rt: HostRuntime) {
-    let watch = Watch::start(rt, rt.alloc());
-    let world = World::new(rt, rt.alloc());
-    let mut listener = short_queue(&rt);
-    let addr = reach(&any_port(), &listener);
-    let _queued = [connected(&rt, &addr), connected(&rt, &addr)];
-    let mut client = world.add(connected(&rt, &addr));
+/// Takes the two who came first, and gives the third.
+fn accept_third<R: Clock + Abort>(rt: &R, listener: &mut Listen) -> Sock {
+    drop(accept_soon(rt, listener));
+    drop(accept_soon(rt, listener));
+    accept_soon(rt, listener)
+}
+
+/// Shuts a client whose listener's queue is full with two who came before, and gives the other end
+/// of it, once it was accepted.
+fn shuts_early<R: Wait + Threads + Net + Clock + Abort + Copy + Drop + Send + Sync + 'static>(
+    rt: R,
+    alloc: Global,
+    listener: &mut Listen,
+    addr: &Addr,
+) -> Sock {
+    let world = World::new(rt, alloc);
+    let mut client = world.add(connected(&rt, addr));
     let turning = Turning::start(world);
     let shutting = start_shut(rt, &mut client);
     pause(&rt, 50);
-    let _taken = [
-        accept_soon(&rt, &mut listener),
-        accept_soon(&rt, &mut listener),
-    ];
-    let served = accept_soon(&rt, &mut listener);
+    let served = accept_third(&rt, listener);
     holds!(rt; shutting.join(&rt).is_ok());
     turning.stop(&rt);
+    served
+}
+
+#[test]
+fn a_shut_waits_for_its_connection(rt: HostRuntime) {
+    let watch = Watch::start(rt, rt.alloc());
+    let mut listener = short_queue(&rt);
+    let addr = reach(&any_port(), &listener);
+    let _queued = [connected(&rt, &addr), connected(&rt, &addr)];
+    let served = shuts_early(rt, rt.alloc(), &mut listener, &addr);
     reads_the_end_and_writes(rt, rt.alloc(), served);
     watch.end(&rt);
 }

