@@ -12,6 +12,7 @@ macro_rules! want {
 }
 
 mod answers;
+mod calls;
 mod close_under_load;
 mod drain_rows;
 mod halves;
@@ -19,13 +20,16 @@ mod lock_rows;
 mod queued;
 mod reference_rows;
 mod references;
+mod rows;
+mod seats;
 mod second_word;
 mod threads;
+mod tries;
 mod waiter_limit;
 mod waits;
 mod workers;
 
-ghost use Rattle.std.specs.Prelude.{◌≡◌};
+ghost use Rattle.std.specs.Prelude.{◌≡◌, IfErr};
 ghost use Rattle.base_types.specs.declared.direction.Dir.TheVariants.{Read, Write};
 ghost use Rattle.lockword.specs.Marks.{SameMarks, NowClosed, NowDraining};
 ghost use Rattle.lockword.specs.Places.{seat_place, ref_place, lock_place, closing_place};
@@ -59,6 +63,26 @@ fn denied<U, R: Abort>(rt: &R, what: &str, why: &Refusal) -> U
     ensures never { ⊥ }
 {
     panic!(rt; "{what} is refused: {why:?}")
+}
+
+/// The seat of a call that was refused, and for this reason.
+fn refused<T, R: Abort>(
+    rt: &R,
+    what: &str,
+    word: &Counters,
+    answer: Result<T, (CounterSeat, Refusal)>,
+    want: &Refusal,
+) -> CounterSeat
+    requires seat { IfErr answer (λ e. IsSeatOf word.now (seat_place e.0)) }
+    ensures seat { IsSeatOf word.now (seat_place result) }
+{
+    match answer {
+        Ok(held) => wrong(rt, what, held),
+        Err((seat, why)) => {
+            assert!(rt; why == *want, "{what}: {why:?}");
+            seat
+        }
+    }
 }
 
 /// The word is this one, to whoever looks.

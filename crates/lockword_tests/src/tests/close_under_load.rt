@@ -186,23 +186,14 @@ fn roles(end: Role) -> [Role; 9] {
     ]
 }
 
-/// One `Last`, and halves that have the sum of all additions.
-fn conserved<R: Abort>(rt: &R, tally: &Tally, turns: u64) {
-    assert_eq!(rt;
-        tally.lasts.load(Ordering::SeqCst),
-        1,
-        "exactly one last at {turns}"
-    );
-    assert_eq!(rt;
-        tally.read_half.load(Ordering::SeqCst),
-        tally.read_added.load(Ordering::SeqCst),
-        "the read half at {turns}"
-    );
-    assert_eq!(rt;
-        tally.write_half.load(Ordering::SeqCst),
-        tally.write_added.load(Ordering::SeqCst),
-        "the write half at {turns}"
-    );
+/// Whether there was one `Last`, and the halves have the sum of all additions.
+fn is_conserved(tally: &Tally) -> bool {
+    let lasts = tally.lasts.load(Ordering::SeqCst);
+    let read = tally.read_half.load(Ordering::SeqCst);
+    let write = tally.write_half.load(Ordering::SeqCst);
+    lasts == 1
+        && read == tally.read_added.load(Ordering::SeqCst)
+        && write == tally.write_added.load(Ordering::SeqCst)
 }
 
 /// One round: the close, or the drain, comes once `turns` additions were made.
@@ -218,13 +209,16 @@ fn round<R: Threads + Wait + Abort + Clock + Sync>(
     let (mut spare, seat) = word.split(seat);
     let tally = Tally::new(want);
     all_work(rt, &word, seat, &roles(end), &tally);
-    conserved(rt, &tally, turns);
-    assert_eq!(rt;
-        pack(word.look(&mut spare)),
-        flags,
-        "the flags and nothing else at {turns}"
+    let found = pack(word.look(&mut spare));
+    let done = word.is_done(&mut spare);
+    assert!(rt;
+        is_conserved(&tally),
+        "one last and no addition lost, at {turns}"
     );
-    assert!(rt; word.is_done(&mut spare), "destroyed at {turns}");
+    assert!(rt;
+        found == flags && done,
+        "{found:x} at {turns}, destroyed: {done}"
+    );
     Ok(())
 }
 

@@ -1,140 +1,122 @@
 //! The words of worked rows with locks, queues and signals, by one thread with a seat for each
-//! holder.
+//! holder; number 0 is a spare seat.
 
-ghost use Rattle.lockword.specs.Places.{seat_place, lock_place, wait_place};
+ghost use Rattle.lockword.specs.Places.{seat_place};
 ghost use Rattle.lockword.specs.TransitionOutcomes.{IsSeatOf};
 
-use super::{CounterSeat, Counters, destroy, owes_nobody, shows, wrong};
+use super::rows::{Op, Row, Step, play_all};
+use super::seats::Answer;
+use super::{CounterSeat, Counters, shows, wrong};
 use base_types::Dir;
-use lockword::{
-    Close, Freed, Incref, LockRead, LockWord, LockWrite, ReadLock, ReadWait, Signal, SignalClosing,
-    UnlockRead, UnlockWrite, WakeRead, WakeWrite,
-};
+use lockword::{Freed, Incref, LockRead, LockWord, LockWrite, UnlockRead, UnlockWrite};
 use std::process::Abort;
 use std::test::Fail;
 
-/// One has the read lock, and two waits for it.
-pub(super) fn reads_and_waits<R: Abort>(
-    rt: &R,
-    word: &Counters,
-    spare: &mut CounterSeat,
-    one: CounterSeat,
-    two: CounterSeat,
-) -> (ReadLock<u64, u64>, ReadWait<u64, u64>)
-    requires spare { IsSeatOf word.now (seat_place spare.old) }
-    requires one { IsSeatOf word.now (seat_place one) }
-    requires two { IsSeatOf word.now (seat_place two) }
-    ensures spare { IsSeatOf word.now (seat_place spare.new) }
-    ensures lock { IsSeatOf word.now (lock_place result.0) }
-    ensures wait { IsSeatOf word.now (wait_place result.1) }
-{
-    let lock = want!(rt; word.try_lock_read(one), LockRead::Held);
-    shows(rt, word, spare, 0xa, "1 rlock");
-    let wait = want!(rt; word.try_lock_read(two), LockRead::Queued);
-    shows(rt, word, spare, 0x800_000a, "2 rlock");
-    (lock, wait)
-}
+const ROWS: &[Row] = &[
+    Row(
+        "locks are granted and signals owed",
+        3,
+        &[
+            Step::Does(1, Op::LockRead, Answer::Held),
+            Step::Shows(0, 0xa),
+            Step::Does(2, Op::LockRead, Answer::Queued),
+            Step::Shows(0, 0x800_000a),
+            Step::Does(1, Op::Unlock, Answer::Owes),
+            Step::Shows(0, 0),
+            Step::Does(1, Op::Signal, Answer::Signalled),
+            Step::Shows(0, 0),
+            Step::Does(2, Op::Wake, Answer::Woken),
+            Step::Shows(0, 0),
+        ],
+    ),
+    Row(
+        "one reader and one writer hold at once",
+        3,
+        &[
+            Step::Does(1, Op::LockRead, Answer::Held),
+            Step::Shows(0, 0xa),
+            Step::Does(2, Op::LockWrite, Answer::Held),
+            Step::Shows(0, 0x16),
+            Step::Half(1, 7),
+            Step::Half(2, 2),
+            Step::Does(1, Op::Unlock, Answer::Kept),
+            Step::Does(2, Op::Unlock, Answer::Kept),
+            Step::Shows(0, 0),
+        ],
+    ),
+    Row(
+        "a closer signals the queued reader",
+        4,
+        &[
+            Step::Does(1, Op::LockRead, Answer::Held),
+            Step::Shows(0, 0xa),
+            Step::Does(2, Op::LockRead, Answer::Queued),
+            Step::Shows(0, 0x800_000a),
+            Step::Does(3, Op::Close, Answer::Held),
+            Step::Shows(0, 0x13),
+            Step::Owed(3, 1, 0),
+            Step::Does(3, Op::SignalClosing(Dir::Read), Answer::Signalled),
+            Step::Shows(0, 0x13),
+            Step::Does(2, Op::Wake, Answer::Woken),
+            Step::Shows(0, 0x13),
+            Step::Does(2, Op::LockRead, Answer::Closed),
+            Step::Shows(0, 0x13),
+            Step::Owed(3, 0, 0),
+            Step::Does(3, Op::Leave, Answer::Kept),
+            Step::Shows(0, 0xb),
+            Step::Does(1, Op::Unlock, Answer::Last),
+            Step::Shows(0, 0x1),
+            Step::Destroys(1, 7, 2),
+            Step::Shows(0, 0x1),
+        ],
+    ),
+    Row(
+        "a queued writer wakes once it is signalled",
+        3,
+        &[
+            Step::Does(1, Op::LockWrite, Answer::Held),
+            Step::Shows(0, 0xc),
+            Step::Does(2, Op::LockWrite, Answer::Queued),
+            Step::Shows(0, 0x2000_0000_000c),
+            Step::Does(1, Op::Unlock, Answer::Owes),
+            Step::Shows(0, 0),
+            Step::Does(2, Op::Wake, Answer::NotYet),
+            Step::Shows(0, 0),
+            Step::Does(1, Op::Signal, Answer::Signalled),
+            Step::Shows(0, 0),
+            Step::Does(2, Op::Wake, Answer::Woken),
+            Step::Shows(0, 0),
+        ],
+    ),
+    Row(
+        "try calls succeed alone",
+        4,
+        &[
+            Step::Does(1, Op::LockRead, Answer::Held),
+            Step::Shows(0, 0xa),
+            Step::Does(2, Op::LockRead, Answer::Queued),
+            Step::Shows(0, 0x800_000a),
+            Step::Does(1, Op::Unlock, Answer::Owes),
+            Step::Shows(0, 0),
+            Step::Does(3, Op::Close, Answer::Held),
+            Step::Shows(0, 0x9),
+            Step::Owed(3, 0, 0),
+            Step::Does(3, Op::Leave, Answer::Last),
+            Step::Shows(3, 0x1),
+            Step::Does(1, Op::Signal, Answer::Signalled),
+            Step::Shows(2, 0x1),
+            Step::Does(2, Op::Wake, Answer::Woken),
+            Step::Shows(0, 0x1),
+            Step::Destroys(3, 7, 2),
+            Step::Shows(0, 0x1),
+            Step::Done(0, true),
+        ],
+    ),
+];
 
 #[test]
-fn locks_are_granted_and_signals_owed(rt: HostRuntime) -> Result<(), Fail> {
-    let (word, seat) = LockWord::new(rt.alloc(), 1u64, 2u64)?;
-    let (mut spare, seat) = word.split(seat);
-    let (one, two) = word.split(seat);
-    let (lock, wait) = reads_and_waits(&rt, &word, &mut spare, one, two);
-    let owing = want!(&rt; word.try_unlock_read(lock), UnlockRead::Owes);
-    shows(&rt, &word, &mut spare, 0, "1 runlock");
-    let _one = want!(&rt; word.try_signal(owing), Signal::Signalled);
-    shows(&rt, &word, &mut spare, 0, "1 rsignal");
-    let _two = want!(&rt; word.try_wake_read(wait), WakeRead::Woken);
-    shows(&rt, &word, &mut spare, 0, "2 rwake");
-    Ok(())
-}
-
-#[test]
-fn one_reader_and_one_writer_hold_at_once(rt: HostRuntime) -> Result<(), Fail> {
-    let (word, seat) = LockWord::new(rt.alloc(), 1u64, 2u64)?;
-    let (mut spare, seat) = word.split(seat);
-    let (one, two) = word.split(seat);
-    let mut reader = want!(&rt; word.try_lock_read(one), LockRead::Held);
-    shows(&rt, &word, &mut spare, 0xa, "1 rlock");
-    let mut writer = want!(&rt; word.try_lock_write(two), LockWrite::Held);
-    shows(&rt, &word, &mut spare, 0x16, "2 wlock");
-    assert_eq!(rt; *reader.half(&word), 1, "the read half");
-    assert_eq!(rt; *writer.half(&word), 2, "the write half");
-    let _one = want!(&rt; word.try_unlock_read(reader), UnlockRead::Free);
-    let _two = want!(&rt; word.try_unlock_write(writer), UnlockWrite::Free);
-    shows(&rt, &word, &mut spare, 0, "both given back");
-    Ok(())
-}
-
-#[test]
-fn a_closer_signals_the_queued_reader(rt: HostRuntime) -> Result<(), Fail> {
-    let (word, seat) = LockWord::new(rt.alloc(), 1u64, 2u64)?;
-    let (mut spare, seat) = word.split(seat);
-    let (three, seat) = word.split(seat);
-    let (one, two) = word.split(seat);
-    let (lock, wait) = reads_and_waits(&rt, &word, &mut spare, one, two);
-    let closing = want!(&rt; word.try_close(three), Close::Closing);
-    shows(&rt, &word, &mut spare, 0x13, "3 close");
-    assert!(rt; closing.owed(Dir::Read) == 1, "one signal is owed");
-    let closing = want!(&rt; word.try_signal_closing(closing, Dir::Read), SignalClosing::Signalled);
-    shows(&rt, &word, &mut spare, 0x13, "3 rsignal");
-    let two = want!(&rt; word.try_wake_read(wait), WakeRead::Woken);
-    shows(&rt, &word, &mut spare, 0x13, "2 rwake");
-    let _two = want!(&rt; word.try_lock_read(two), LockRead::Closed);
-    shows(&rt, &word, &mut spare, 0x13, "2 rlock again");
-    owes_nobody(&rt, &closing);
-    let _three = want!(&rt; word.drop_closing(closing), Freed::Kept);
-    shows(&rt, &word, &mut spare, 0xb, "3 decref");
-    let last = want!(&rt; word.try_unlock_read(lock), UnlockRead::Last);
-    shows(&rt, &word, &mut spare, 0x1, "1 runlock");
-    let _halves = destroy(&word, last);
-    shows(&rt, &word, &mut spare, 0x1, "1 destroy");
-    Ok(())
-}
-
-#[test]
-fn a_queued_writer_wakes_once_it_is_signalled(rt: HostRuntime) -> Result<(), Fail> {
-    let (word, seat) = LockWord::new(rt.alloc(), 1u64, 2u64)?;
-    let (mut spare, seat) = word.split(seat);
-    let (one, two) = word.split(seat);
-    let lock = want!(&rt; word.try_lock_write(one), LockWrite::Held);
-    shows(&rt, &word, &mut spare, 0xc, "1 wlock");
-    let wait = want!(&rt; word.try_lock_write(two), LockWrite::Queued);
-    shows(&rt, &word, &mut spare, 0x2000_0000_000c, "2 wlock");
-    let owing = want!(&rt; word.try_unlock_write(lock), UnlockWrite::Owes);
-    shows(&rt, &word, &mut spare, 0, "1 wunlock");
-    let wait = want!(&rt; word.try_wake_write(wait), WakeWrite::NotYet);
-    shows(&rt, &word, &mut spare, 0, "2 wwake");
-    let _one = want!(&rt; word.try_signal(owing), Signal::Signalled);
-    shows(&rt, &word, &mut spare, 0, "1 wsignal");
-    let _two = want!(&rt; word.try_wake_write(wait), WakeWrite::Woken);
-    shows(&rt, &word, &mut spare, 0, "2 wwake again");
-    Ok(())
-}
-
-#[test]
-fn try_calls_succeed_alone(rt: HostRuntime) -> Result<(), Fail> {
-    let (word, seat) = LockWord::new(rt.alloc(), 1u64, 2u64)?;
-    let (mut spare, seat) = word.split(seat);
-    let (three, seat) = word.split(seat);
-    let (one, two) = word.split(seat);
-    let (lock, mut wait) = reads_and_waits(&rt, &word, &mut spare, one, two);
-    let owing = want!(&rt; word.try_unlock_read(lock), UnlockRead::Owes);
-    shows(&rt, &word, &mut spare, 0, "1 runlock");
-    let closing = want!(&rt; word.try_close(three), Close::Closing);
-    shows(&rt, &word, &mut spare, 0x9, "3 close");
-    owes_nobody(&rt, &closing);
-    let mut last = want!(&rt; word.drop_closing(closing), Freed::Last);
-    shows(&rt, &word, &mut last, 0x1, "3 decref");
-    let _one = want!(&rt; word.try_signal(owing), Signal::Signalled);
-    shows(&rt, &word, &mut wait, 0x1, "1 rsignal");
-    let _two = want!(&rt; word.try_wake_read(wait), WakeRead::Woken);
-    shows(&rt, &word, &mut spare, 0x1, "2 rwake");
-    let _halves = destroy(&word, last);
-    shows(&rt, &word, &mut spare, 0x1, "3 destroy");
-    assert!(rt; word.is_done(&mut spare), "destroyed");
-    Ok(())
+fn locks_queues_and_signals_come_to_the_words_of_the_rows(rt: HostRuntime) -> Result<(), Fail> {
+    play_all(&rt, rt.alloc(), ROWS)
 }
 
 /// One seat takes and gives back a reference and each lock, again and again.

@@ -4,9 +4,10 @@ ghost use Rattle.fdmutex.specs.Refusal.{IsFreedOf};
 ghost use Rattle.lockword.specs.Places.{seat_place};
 ghost use Rattle.lockword.specs.TransitionOutcomes.{IsSeatOf};
 
-use super::answers::refused;
 use super::workers::{Worker, all_work, wait_for};
-use super::{CounterSeat, Counters, closed, drained, kept, leave, reading, shows, writing};
+use super::{
+    CounterSeat, Counters, closed, drained, kept, leave, reading, refused, shows, writing,
+};
 use base_types::Dir;
 use fdmutex::{Freed, Refusal, drop_closing, read_lock, read_unlock, write_lock, write_unlock};
 use lockword::LockWord;
@@ -186,8 +187,12 @@ fn all_waiters_end<R: Threads + Wait + Abort + Clock + Sync>(
         lasts: AtomicU64::new(0),
     };
     all_work(rt, &word, seat, roles, &tally);
-    assert_eq!(rt; tally.refused.load(Ordering::SeqCst), 6, "each waiter once");
-    assert_eq!(rt; tally.lasts.load(Ordering::SeqCst), 1, "exactly one last");
+    let refused = tally.refused.load(Ordering::SeqCst);
+    let lasts = tally.lasts.load(Ordering::SeqCst);
+    assert!(rt;
+        refused == 6 && lasts == 1,
+        "{refused} refused, {lasts} were last"
+    );
     shows(rt, &word, &mut spare, end, "the flags and nothing else");
     assert!(rt; word.is_done(&mut spare), "destroyed");
     Ok(())

@@ -1,42 +1,43 @@
-//! The words of worked rows of references and of the close, seen through a spare seat.
+//! The words of worked rows of references and of the close, seen through a spare seat, number 0.
 
-use super::{owes_nobody, shows, wrong};
-use lockword::{Close, Freed, Incref, LockWord};
+use super::rows::{Op, Row, Step, play_all};
+use super::seats::Answer;
 use std::test::Fail;
 
-#[test]
-fn a_reference_is_eight_and_goes_back_to_zero(rt: HostRuntime) -> Result<(), Fail> {
-    let (word, seat) = LockWord::new(rt.alloc(), 1u64, 2u64)?;
-    let (mut spare, one) = word.split(seat);
-    shows(&rt, &word, &mut spare, 0, "a new word");
-    let held = want!(&rt; word.try_incref(one), Incref::Held);
-    shows(&rt, &word, &mut spare, 0x8, "1 incref");
-    let _one = want!(&rt; word.drop_ref(held), Freed::Kept);
-    shows(&rt, &word, &mut spare, 0, "1 decref");
-    Ok(())
-}
+const ROWS: &[Row] = &[
+    Row(
+        "a reference is eight and goes back to zero",
+        2,
+        &[
+            Step::Shows(0, 0),
+            Step::Does(1, Op::Incref, Answer::Held),
+            Step::Shows(0, 0x8),
+            Step::Does(1, Op::Decref, Answer::Kept),
+            Step::Shows(0, 0),
+        ],
+    ),
+    Row(
+        "the closer is last and destroys",
+        3,
+        &[
+            Step::Does(1, Op::Close, Answer::Held),
+            Step::Shows(0, 0x9),
+            Step::Owed(1, 0, 0),
+            Step::Does(2, Op::Close, Answer::Closed),
+            Step::Shows(0, 0x9),
+            Step::Does(2, Op::Incref, Answer::Closed),
+            Step::Does(1, Op::Leave, Answer::Last),
+            Step::Shows(0, 0x1),
+            Step::Done(2, false),
+            Step::Destroys(1, 7, 2),
+            Step::Shows(0, 0x1),
+            Step::Done(2, true),
+            Step::Done(1, true),
+        ],
+    ),
+];
 
 #[test]
-fn the_closer_is_last_and_destroys(rt: HostRuntime) -> Result<(), Fail> {
-    let (word, seat) = LockWord::new(rt.alloc(), 7u64, 2u64)?;
-    let (mut spare, seat) = word.split(seat);
-    let (one, two) = word.split(seat);
-    let closing = want!(&rt; word.try_close(one), Close::Closing);
-    shows(&rt, &word, &mut spare, 0x9, "1 close");
-    owes_nobody(&rt, &closing);
-    let two = want!(&rt; word.try_close(two), Close::Closed);
-    shows(&rt, &word, &mut spare, 0x9, "2 close");
-    let mut two = want!(&rt; word.try_incref(two), Incref::Closed);
-    let mut last = want!(&rt; word.drop_closing(closing), Freed::Last);
-    shows(&rt, &word, &mut spare, 0x1, "1 decref");
-    assert!(rt; !word.is_done(&mut two), "not yet destroyed");
-    let (read, write) = last.halves(&word);
-    assert!(rt; read == 7 && write == 2, "both halves");
-    let mut one = word.mark_done(last);
-    shows(&rt, &word, &mut spare, 0x1, "1 destroy");
-    assert!(rt;
-        word.is_done(&mut two) && word.is_done(&mut one),
-        "destroyed"
-    );
-    Ok(())
+fn references_and_a_close_come_to_the_words_of_the_rows(rt: HostRuntime) -> Result<(), Fail> {
+    play_all(&rt, rt.alloc(), ROWS)
 }

@@ -5,9 +5,10 @@ ghost use Rattle.std.specs.Prelude.{IfOk};
 ghost use Rattle.lockword.specs.Places.{seat_place};
 ghost use Rattle.lockword.specs.TransitionOutcomes.{IsSeatOf};
 
-use super::{CounterSeat, Counters, kept, reference, shows};
+use super::rows::{Op, Row, Step, play_at};
+use super::seats::Answer;
+use super::{CounterSeat, Counters};
 use base_types::OutOfMemory;
-use fdmutex::decref;
 use lockword::LockWord;
 use std::alloc::Global;
 use std::test::Fail;
@@ -22,20 +23,24 @@ fn word_of(alloc: Global) -> Result<(Counters, CounterSeat), OutOfMemory>
     }
 }
 
+const ROW: Row = Row(
+    "a word after a refused one is split and answers as ever",
+    4,
+    &[
+        Step::Shows(0, 0),
+        Step::Does(1, Op::TakeRef, Answer::Held),
+        Step::Does(2, Op::TakeRef, Answer::Held),
+        Step::Does(3, Op::TakeRef, Answer::Held),
+        Step::Shows(0, 0x18),
+        Step::Does(1, Op::Give, Answer::Kept),
+        Step::Does(2, Op::Give, Answer::Kept),
+        Step::Does(3, Op::Give, Answer::Kept),
+        Step::Shows(0, 0),
+    ],
+);
+
 #[test]
 fn a_word_after_a_refused_one_is_split_and_answers_as_ever(rt: HostRuntime) -> Result<(), Fail> {
     let (word, seat) = word_of(rt.alloc())?;
-    let (mut spare, seat) = word.split(seat);
-    let (one, seat) = word.split(seat);
-    let (two, three) = word.split(seat);
-    shows(&rt, &word, &mut spare, 0, "a new word");
-    let one = reference(&rt, &word, one);
-    let two = reference(&rt, &word, two);
-    let three = reference(&rt, &word, three);
-    shows(&rt, &word, &mut spare, 0x18, "three references");
-    let _one = kept(&rt, &word, decref(&word, one));
-    let _two = kept(&rt, &word, decref(&word, two));
-    let _three = kept(&rt, &word, decref(&word, three));
-    shows(&rt, &word, &mut spare, 0, "given back");
-    Ok(())
+    play_at(&rt, rt.alloc(), &word, seat, &ROW)
 }

@@ -5,8 +5,7 @@ ghost use Rattle.base_types.specs.declared.direction.Dir.TheVariants.{Read, Writ
 ghost use Rattle.lockword.specs.Places.{seat_place, lock_place, closing_place, wait_place, owed_by};
 ghost use Rattle.lockword.specs.TransitionOutcomes.{IsSeatOf};
 
-use super::answers::refused;
-use super::{CounterSeat, Counters, destroyed, kept, owes_nobody, shows, wrong};
+use super::{CounterSeat, Counters, destroyed, kept, owes_nobody, refused, shows, wrong};
 use base_types::Dir;
 use fdmutex::{Refusal, drop_closing, write_lock, write_unlock};
 use lockword::{
