@@ -42,14 +42,22 @@ where
     watch.end(&rt);
 }
 
+/// Plays a scene over TCP and over a Unix socket.
+fn play_over_each<R>(on: &Room<R>, by: By, scene: &Scene)
+where
+    R: Wait + Threads + Net + Files + Clock + Abort + Copy + Drop + Send + Sync + 'static,
+{
+    for addr in on.addrs() {
+        play(on.rt, on.alloc, by, &addr, scene);
+    }
+}
+
 /// Plays each scene over TCP and over a Unix socket.
 pub(super) fn plays<R>(on: Room<R>, by: By, scenes: &[Scene])
 where
     R: Wait + Threads + Net + Files + Clock + Abort + Copy + Drop + Send + Sync + 'static,
 {
     for scene in scenes {
-        for addr in on.addrs() {
-            play(on.rt, on.alloc, by, &addr, scene);
-        }
+        play_over_each(&on, by, scene);
     }
 }
