@@ -25,8 +25,9 @@ const RELAYS: u32 = 60;
 /// The longest that all of them may take. A wait that nobody ends takes a second each time.
 const LONGEST_MS: u64 = 10_000;
 
-/// So many relays of 64 loops are stopped one after the other.
-const STOPS: u32 = 4;
+/// At most so many relays of 64 loops are stopped one after the other, until one ends quickly: on a
+/// machine that is full of other work some don't.
+const STOPS: u32 = 8;
 
 /// The longest that the fastest of these stops may take. A loop that looks before the flag is set
 /// sleeps for a second more.
@@ -116,7 +117,7 @@ fn stop_of_sleepers(rt: &HostRuntime, running: &Running) -> Option<Instant> {
 fn a_stop_ends_64_loops_that_sleep_at_once(rt: HostRuntime) {
     let watch = Watch::start(rt, rt.alloc());
     let longest = Duration::from_millis(LONGEST_STOP_MS);
-    let mut least = longest;
+    let mut is_quick = false;
     for _ in 0..STOPS {
         let (place, _port) = place_to(&rt, 9, "never").expect(&rt, "a place");
         let Place {
@@ -130,10 +131,11 @@ fn a_stop_ends_64_loops_that_sleep_at_once(rt: HostRuntime) {
         let began = stop_of_sleepers(&rt, &running).expect(&rt, "a relay");
         running.ends(&rt, "listening 1\nup 0 down 0\n");
         let took = began.elapsed(&rt).expect(&rt, "clock");
-        if took < least {
-            least = took;
+        if took < longest {
+            is_quick = true;
+            break;
         }
     }
-    holds!(rt; least < longest, "a loop isn't told");
+    holds!(rt; is_quick, "a loop isn't told");
     watch.end(&rt);
 }

@@ -21,10 +21,10 @@ const COMMANDS: u64 = 8;
 const LONGEST_MS: u64 = 3_000;
 
 /// The connections that take turns beside a bulk stream.
-const OTHERS: usize = 63;
+const OTHERS: usize = 15;
 
 /// Their turns.
-const TURNS_OF_EACH: usize = 20;
+const TURNS_OF_EACH: usize = 10;
 
 /// A pair through which a byte went each way.
 pub(super) fn talking_pair(

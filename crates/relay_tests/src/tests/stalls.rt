@@ -11,8 +11,12 @@ use std::net::{Shutdown, TcpStream};
 use std::thread;
 use std::time::Duration;
 
-/// More than the sockets of a pair hold of what nobody reads.
-const BYTES: usize = 16_000_000;
+/// So many pieces of so many bytes are more than the sockets of a pair hold of what nobody reads.
+const PIECES: usize = 1_000;
+
+const PIECE_BYTES: usize = 16_000;
+
+const BYTES: usize = PIECES * PIECE_BYTES;
 
 /// Longer than it takes until nothing more is taken, in milliseconds.
 const UNTIL_IT_STALLS_MS: u64 = 300;
@@ -20,15 +24,19 @@ const UNTIL_IT_STALLS_MS: u64 = 300;
 /// The most bytes that a peer says who reads nothing, one each 20 ms.
 const MOST_SAID: u32 = 250;
 
-/// Sends so much, and then that no more comes.
+/// Sends all pieces, and then that no more comes. A vector of all bytes would take a checked run
+/// some seconds to fill.
 fn sends_all(alloc: Global, stream: TcpStream) -> bool {
     let mut stream = stream;
-    match vec![in alloc; 7u8; BYTES] {
-        Ok(bytes) => {
-            stream.write_all(bytes.as_slice()).is_ok() && stream.shutdown(Shutdown::Write).is_ok()
+    let Ok(piece) = vec![in alloc; 7u8; PIECE_BYTES] else {
+        return false;
+    };
+    for _ in 0..PIECES {
+        if stream.write_all(piece.as_slice()).is_err() {
+            return false;
         }
-        Err(_) => false,
     }
+    stream.shutdown(Shutdown::Write).is_ok()
 }
 
 #[test]
