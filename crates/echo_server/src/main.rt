@@ -11,14 +11,11 @@ mod shared;
 
 use crate::client::{HELLO, Seen, hear};
 use crate::server::Server;
-use std::fs::Files;
 use std::io::Write;
 use std::net::{Ipv4Addr, Net, SocketAddr, TcpStream};
 use std::process::ExitCode;
+use std::sync::Arc;
 use std::sync::atomic::Ordering;
-use std::sync::{Arc, Wait};
-use std::thread::Threads;
-use std::time::Clock;
 use std::{env, io, thread};
 
 const NANOS_IN_A_MILLI: u64 = 1_000_000;
@@ -52,10 +49,7 @@ fn refused<R: Eprint>(rt: &R, why: &str, status: u8) -> io::Result<ExitCode> {
 }
 
 /// Serves a client of its own, and prints what that saw.
-fn serve_itself<R>(rt: R, server: &mut Server<R>) -> io::Result<ExitCode>
-where
-    R: Wait + Threads + Net + Files + Clock + Print + Copy + Drop + Send + Sync + 'static,
-{
+fn serve_itself(rt: HostRuntime, server: &mut Server<HostRuntime>) -> io::Result<ExitCode> {
     let shared = Arc::try_clone(&server.shared)?;
     let port = server.port;
     let talking = thread::spawn(&rt, move || {

@@ -12,13 +12,9 @@ mod task;
 use crate::clients::{Echoes, play};
 use crate::server::Server;
 use std::alloc::Global;
-use std::fs::Files;
-use std::net::Net;
 use std::process::ExitCode;
+use std::sync::Arc;
 use std::sync::atomic::Ordering;
-use std::sync::{Arc, Wait};
-use std::thread::Threads;
-use std::time::Clock;
 use std::{env, io, thread};
 
 /// How long a connection may be idle, in nanoseconds.
@@ -40,15 +36,12 @@ fn refused<R: Eprint>(rt: &R, why: &str, status: u8) -> io::Result<ExitCode> {
 }
 
 /// Serves so many clients of its own, and prints how many heard what.
-fn serve_itself<R>(
-    rt: R,
+fn serve_itself(
+    rt: HostRuntime,
     alloc: Global,
-    server: &mut Server<R>,
+    server: &mut Server<HostRuntime>,
     clients: u32,
-) -> io::Result<ExitCode>
-where
-    R: Wait + Threads + Net + Files + Clock + Print + Copy + Drop + Send + Sync + 'static,
-{
+) -> io::Result<ExitCode> {
     let (stopped, remote) = (Arc::try_clone(&server.stopped)?, server.remote()?);
     let port = server.port;
     let playing = thread::spawn(&rt, move || {

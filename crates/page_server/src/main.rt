@@ -12,15 +12,11 @@ mod shared;
 use crate::client::{REQUEST, hear};
 use crate::server::Server;
 use std::alloc::Global;
-use std::fs::Files;
 use std::io::Write;
 use std::net::{Ipv4Addr, Net, SocketAddr, TcpStream};
 use std::process::ExitCode;
-use std::random::RandomSource;
+use std::sync::Arc;
 use std::sync::atomic::Ordering;
-use std::sync::{Arc, Wait};
-use std::thread::Threads;
-use std::time::Clock;
 use std::{env, io, thread};
 
 /// The time that a connection has: ten seconds.
@@ -49,11 +45,11 @@ fn refused<R: Eprint>(rt: &R, why: &str, status: u8) -> io::Result<ExitCode> {
 }
 
 /// Serves a client of its own, and prints what came to it.
-fn serve_itself<R>(rt: R, alloc: Global, server: &mut Server<R>) -> io::Result<ExitCode>
-where
-    R: Wait + Threads + Net + Files + Clock + RandomSource + Print,
-    R: Copy + Drop + Send + Sync + 'static,
-{
+fn serve_itself(
+    rt: HostRuntime,
+    alloc: Global,
+    server: &mut Server<HostRuntime>,
+) -> io::Result<ExitCode> {
     let shared = Arc::try_clone(&server.shared)?;
     let port = server.port;
     let asking = thread::spawn(&rt, move || {
