@@ -42,37 +42,28 @@ fn seen_at<N: Net>(net: &N, port: u16) -> Seen {
     }
 }
 
-/// Tells why nothing is served, and gives the status for it.
-fn refused<R: Eprint>(rt: &R, why: &str, status: u8) -> io::Result<ExitCode> {
-    eprintln!(rt; "{why}")?;
-    Ok(ExitCode::from(status))
-}
-
-/// Serves a client of its own, and prints what that saw.
-fn serve_itself(rt: HostRuntime, server: &mut Server<HostRuntime>) -> io::Result<ExitCode> {
-    let shared = Arc::try_clone(&server.shared)?;
-    let port = server.port;
-    let talking = thread::spawn(&rt, move || {
-        let seen = seen_at(&rt, port);
-        shared.stopped.store(true, Ordering::SeqCst);
-        seen
-    })?;
-    let served = server.run();
-    println!(rt; "{}", talking.join(&rt))?;
-    Ok(status_of(served.is_ok()))
-}
-
 fn main(rt: HostRuntime) -> io::Result<ExitCode> {
     let words: Vec<String> = env::args(&rt)?.collect(rt.alloc())?;
     let Some((port, idle_ms)) = asked(words.as_slice()) else {
-        return refused(&rt, "bad command line", 2);
+        eprintln!(rt; "bad command line")?;
+        return Ok(ExitCode::from(2));
     };
     let idle_ns = idle_ms.saturating_mul(NANOS_IN_A_MILLI);
     let Some(mut server) = Server::open(rt, rt.alloc(), port, idle_ns) else {
-        return refused(&rt, "cannot listen", 3);
+        eprintln!(rt; "cannot listen")?;
+        return Ok(ExitCode::from(3));
     };
     if port == 0 {
-        return serve_itself(rt, &mut server);
+        let shared = Arc::try_clone(&server.shared)?;
+        let port = server.port;
+        let talking = thread::spawn(&rt, move || {
+            let seen = seen_at(&rt, port);
+            shared.stopped.store(true, Ordering::SeqCst);
+            seen
+        })?;
+        let served = server.run();
+        println!(rt; "{}", talking.join(&rt))?;
+        return Ok(status_of(served.is_ok()));
     }
     Ok(status_of(server.run().is_ok()))
 }

@@ -11,7 +11,6 @@ mod task;
 
 use crate::clients::{Echoes, play};
 use crate::server::Server;
-use std::alloc::Global;
 use std::process::ExitCode;
 use std::sync::Arc;
 use std::sync::atomic::Ordering;
@@ -29,21 +28,19 @@ fn asked(words: &[String]) -> Option<u32> {
     }
 }
 
-/// Tells why nothing is served, and gives the status for it.
-fn refused<R: Eprint>(rt: &R, why: &str, status: u8) -> io::Result<ExitCode> {
-    eprintln!(rt; "{why}")?;
-    Ok(ExitCode::from(status))
-}
-
-/// Serves so many clients of its own, and prints how many heard what.
-fn serve_itself(
-    rt: HostRuntime,
-    alloc: Global,
-    server: &mut Server<HostRuntime>,
-    clients: u32,
-) -> io::Result<ExitCode> {
-    let (stopped, remote) = (Arc::try_clone(&server.stopped)?, server.remote()?);
-    let port = server.port;
+fn main(rt: HostRuntime) -> io::Result<ExitCode> {
+    let words: Vec<String> = env::args(&rt)?.collect(rt.alloc())?;
+    let Some(clients) = asked(words.as_slice()) else {
+        eprintln!(rt; "bad command line")?;
+        return Ok(ExitCode::from(2));
+    };
+    let Some(mut server) = Server::open(rt, rt.alloc(), IDLE) else {
+        eprintln!(rt; "cannot listen")?;
+        return Ok(ExitCode::from(3));
+    };
+    let stopped = Arc::try_clone(&server.stopped)?;
+    let remote = server.remote()?;
+    let (alloc, port) = (rt.alloc(), server.port);
     let playing = thread::spawn(&rt, move || {
         let heard = play(&rt, alloc, port, clients);
         stopped.store(true, Ordering::SeqCst);
@@ -57,15 +54,4 @@ fn serve_itself(
         Ok(()) => ExitCode::SUCCESS,
         Err(_) => ExitCode::from(3),
     })
-}
-
-fn main(rt: HostRuntime) -> io::Result<ExitCode> {
-    let words: Vec<String> = env::args(&rt)?.collect(rt.alloc())?;
-    let Some(clients) = asked(words.as_slice()) else {
-        return refused(&rt, "bad command line", 2);
-    };
-    let Some(mut server) = Server::open(rt, rt.alloc(), IDLE) else {
-        return refused(&rt, "cannot listen", 3);
-    };
-    serve_itself(rt, rt.alloc(), &mut server, clients)
 }

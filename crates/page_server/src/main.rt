@@ -38,22 +38,23 @@ fn page_at<N: Net>(net: &N, alloc: Global, port: u16) -> io::Result<String> {
     hear(&mut stream, alloc)
 }
 
-/// Tells why nothing is served, and gives the status for it.
-fn refused<R: Eprint>(rt: &R, why: &str, status: u8) -> io::Result<ExitCode> {
-    eprintln!(rt; "{why}")?;
-    Ok(ExitCode::from(status))
-}
-
-/// Serves a client of its own, and prints what came to it.
-fn serve_itself(
-    rt: HostRuntime,
-    alloc: Global,
-    server: &mut Server<HostRuntime>,
-) -> io::Result<ExitCode> {
+fn main(rt: HostRuntime) -> io::Result<ExitCode> {
+    let words: Vec<String> = env::args(&rt)?.collect(rt.alloc())?;
+    let Some(port) = asked(words.as_slice()) else {
+        eprintln!(rt; "bad command line")?;
+        return Ok(ExitCode::from(2));
+    };
+    let Some(mut server) = Server::open(rt, rt.alloc(), port, LIMIT_NS) else {
+        eprintln!(rt; "cannot listen")?;
+        return Ok(ExitCode::from(3));
+    };
+    if port != 0 {
+        return Ok(status_of(server.run().is_ok()));
+    }
     let shared = Arc::try_clone(&server.shared)?;
     let port = server.port;
     let asking = thread::spawn(&rt, move || {
-        let came = page_at(&rt, alloc, port);
+        let came = page_at(&rt, rt.alloc(), port);
         shared.stopped.store(true, Ordering::SeqCst);
         let _ = shared.waker.wake();
         came
@@ -63,20 +64,6 @@ fn serve_itself(
         println!(rt; "{line}")?;
     }
     Ok(status_of(served.is_ok()))
-}
-
-fn main(rt: HostRuntime) -> io::Result<ExitCode> {
-    let words: Vec<String> = env::args(&rt)?.collect(rt.alloc())?;
-    let Some(port) = asked(words.as_slice()) else {
-        return refused(&rt, "bad command line", 2);
-    };
-    let Some(mut server) = Server::open(rt, rt.alloc(), port, LIMIT_NS) else {
-        return refused(&rt, "cannot listen", 3);
-    };
-    if port == 0 {
-        return serve_itself(rt, rt.alloc(), &mut server);
-    }
-    Ok(status_of(server.run().is_ok()))
 }
 
 fn status_of(served: bool) -> ExitCode {
