@@ -97,7 +97,8 @@ where
         Ok(log) => log,
         Err(fault) => return told(&rt, fault),
     };
-    let metrics = metrics.map(|addr| MetricsAt { rt, addr });
+    let alloc = rt.alloc();
+    let metrics = metrics.map(|addr| MetricsAt { rt, alloc, addr });
     let outlets = Outlets { log, metrics };
     let (up, down) = (Blank::new(PARTS), Blank::new(PARTS));
     let mut output = io::writer(&rt);

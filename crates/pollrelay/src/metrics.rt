@@ -6,6 +6,7 @@ use relay_admin::Addr;
 use relay_metrics::Metered;
 use relay_watch::bound_path::BoundPath;
 use rwloops::Fault;
+use std::alloc::Global;
 use std::fs::Files;
 use std::net::Net;
 use std::random::RandomSource;
@@ -14,9 +15,12 @@ use std::thread::Threads;
 use std::time::Clock;
 
 /// Where the metrics are to be given.
+// (it has its memory by value: what goes to a thread may rest on no bound that is of one thread alone,
+// as `AllocGlobal` is)
 #[derive(Drop)]
 pub(crate) struct MetricsAt<R> {
     pub(crate) rt: R,
+    pub(crate) alloc: Global,
     pub(crate) addr: Addr,
 }
 
@@ -38,30 +42,14 @@ impl<R: Threads + Files + Drop> RunningServer for RunningMetrics<R> {
 
 impl<R, M> FiguresServer<M> for MetricsAt<R>
 where
-    R: Wait
-        + Threads
-        + Net
-        + Files
-        + Clock
-        + RandomSource
-        + AllocGlobal
-        + Copy
-        + Send
-        + Sync
-        + 'static,
+    R: Wait + Threads + Net + Files + Clock + RandomSource + Copy + Send + Sync + 'static,
     M: Metered + Drop + Send + Sync + 'static,
 {
     type Running = RunningMetrics<R>;
 
     fn start(self, figures: M) -> Result<RunningMetrics<R>, Fault> {
-        let MetricsAt { rt, addr } = self;
-        let server = MetricsServer::open(
-            rt,
-            rt.alloc(),
-            &socket_address(&addr),
-            LIMIT_NS,
-            figures,
-        )?;
+        let MetricsAt { rt, alloc, addr } = self;
+        let server = MetricsServer::open(rt, alloc, &socket_address(&addr), LIMIT_NS, figures)?;
         // The server has bound the address. Who is refused further on has to give it back.
         let path = BoundPath::of(&addr);
         match server.start() {

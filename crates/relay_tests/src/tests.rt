@@ -125,11 +125,12 @@ where
         + 'static,
 {
     let (up, down) = (Blank::new(PARTS), Blank::new(PARTS));
-    let mut text = Vec::new(rt.alloc());
+    let alloc = rt.alloc();
+    let mut text = Vec::new(alloc);
     let Outlets { log, metrics } = outlets;
     let outlets = Outlets {
         log,
-        metrics: metrics.map(|addr| MetricsAt { rt, addr }),
+        metrics: metrics.map(|addr| MetricsAt { rt, alloc, addr }),
     };
     let done = serve::<Brand, Brand, _, _, R, _>(
         rt, rules, admin, capacity, outlets, up, down, &mut text,
