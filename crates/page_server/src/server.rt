@@ -10,16 +10,16 @@ ghost use Rattle.page_server.specs.Server.{HasOwnAlarms, limit_of};
 
 use crate::shared::Shared;
 use fd_descriptor::{AcceptOutcome, Fault, TryAccept};
-use readiness::{Addr, Listen, Poller, Sock, listen};
+use readiness::{Addr, ConnTable, Listen, Poller, Sock, TimerAlarms, Timers, listen};
 use std::alloc::Global;
 use std::fs::Files;
 use std::net::Net;
 use std::random::RandomSource;
-use std::sync::atomic::Ordering;
-use std::sync::{Arc, Wait};
+use std::sync::atomic::{AtomicBool, Ordering};
+use std::sync::{Arc, Mutex, Wait};
 use std::thread;
 use std::thread::Threads;
-use std::time::Clock;
+use std::time::{Clock, Instant};
 
 /// The token of the listener. Those of entries are 4,096 and more, so it names none of them.
 const LISTENER: u64 = 0;
@@ -37,16 +37,6 @@ pub struct Server<R: Wait + Clock + RandomSource + Copy + Drop> {
     listener: Listen,
 }
 
-/// A poller that hears of a listener at this port.
-fn bound<R: Net + Files>(rt: &R, alloc: Global, port: u16) -> Option<(Poller, Listen)> {
-    let poller = Poller::new(rt, alloc).ok()?;
-    let mut listener = listen(rt, &Addr::Tcp([127, 0, 0, 1], port)).ok()?;
-    match poller.register_listener(&mut listener, LISTENER) {
-        Ok(()) => Some((poller, listener)),
-        Err(_) => None,
-    }
-}
-
 impl<R> Server<R>
 where
     R: Wait + Threads + Net + Files + Clock + RandomSource + Copy + Drop + Send + Sync + 'static,
@@ -56,11 +46,25 @@ where
         ensures limit { IfSome result (λ server. limit_of server ≡ limit_ns) }
         ensures alarms { IfSome result HasOwnAlarms }
     {
-        let (poller, listener) = bound(&rt, alloc, port)?;
-        let shared = Shared::new(rt, alloc, limit_ns, &poller)?;
+        let poller = Poller::new(&rt, alloc).ok()?;
+        let mut listener = listen(&rt, &Addr::Tcp([127, 0, 0, 1], port)).ok()?;
+        poller.register_listener(&mut listener, LISTENER).ok()?;
+        let timers = Arc::new(alloc, Mutex::new(Timers::new(alloc))).ok()?;
+        let alarmed = Arc::try_clone(&timers).ok()?;
+        let shared = Shared {
+            rt,
+            alloc,
+            start: Instant::now(&rt).ok()?,
+            limit_ns,
+            clients: Mutex::new(ConnTable::new(alloc)),
+            timers,
+            alarms: TimerAlarms::new(rt, alarmed, poller.waker().ok()?),
+            waker: poller.waker().ok()?,
+            stopped: AtomicBool::new(false),
+        };
         Some(Server {
             port: listener.port()?,
-            shared,
+            shared: Arc::new(alloc, shared).ok()?,
             alloc,
             poller,
             listener,

@@ -1,12 +1,9 @@
 //! What the threads of a server share, and what the thread of a connection does: it serves the
 //! page over its handle, by a reader and a writer.
 
-ghost use Rattle.std.specs.Prelude.{◌≡◌, true, Err, IfSome, IsErrAnd};
-ghost use Rattle.std.specs.Arc.{arc_value};
+ghost use Rattle.std.specs.Prelude.{◌≡◌, true, Err, IsErrAnd};
 ghost use Rattle.std.specs.IoError.{error_kind};
 ghost use Rattle.std.specs.declared.io.ErrorKind.{ErrorKind};
-ghost use Rattle.readiness.specs.Alarms.{timers_of, woken_by};
-ghost use Rattle.readiness.specs.Poller.{waker_of};
 ghost use Rattle.fd_descriptor.specs.FdHandle.{KeepsHandle, marks_of, saw_closed};
 ghost use Rattle.fd_descriptor.specs.HandleCalls.{HasEnded};
 ghost use Rattle.rwloops.specs.declared.fault.Fault.{Fault};
@@ -15,7 +12,7 @@ use crate::page::Page;
 use fd_descriptor::{Deadline, Fault, FdHandle};
 use handle_io::{HandleReader, HandleWriter, error_of};
 use http_server::{Config, Connection, serve};
-use readiness::{ConnTable, HeldSocket, Poller, SockRes, TimerAlarms, Timers, Waker};
+use readiness::{ConnTable, HeldSocket, SockRes, TimerAlarms, Timers, Waker};
 use std::alloc::Global;
 use std::hash::RandomState;
 use std::io;
@@ -39,32 +36,6 @@ pub struct Shared<R: Wait + Clock + RandomSource + Copy + Drop> {
 }
 
 impl<R: Wait + Clock + RandomSource + Copy + Drop> Shared<R> {
-    /// Nobody is connected. The alarms are those of its own timers, and wake this poller.
-    pub fn new(rt: R, alloc: Global, limit_ns: u64, poller: &Poller) -> Option<Arc<Shared<R>>>
-        ensures limit { IfSome result (λ shared. (arc_value shared).limit_ns ≡ limit_ns) }
-        ensures timers { IfSome result (λ shared. timers_of (arc_value shared).alarms
-            ≡ arc_value (arc_value shared).timers) }
-        ensures waker { IfSome result (λ shared. woken_by (arc_value shared).alarms
-            ≡ waker_of poller.now) }
-    {
-        let start = Instant::now(&rt).ok()?;
-        let (waker, alarms_waker) = (poller.waker().ok()?, poller.waker().ok()?);
-        let timers = Arc::new(alloc, Mutex::new(Timers::new(alloc))).ok()?;
-        let alarmed = Arc::try_clone(&timers).ok()?;
-        let shared = Shared {
-            rt,
-            alloc,
-            start,
-            limit_ns,
-            clients: Mutex::new(ConnTable::new(alloc)),
-            timers,
-            alarms: TimerAlarms::new(rt, alarmed, alarms_waker),
-            waker,
-            stopped: AtomicBool::new(false),
-        };
-        Arc::new(alloc, shared).ok()
-    }
-
     /// The nanoseconds since the start, which are the moments of all deadlines here.
     pub fn now(&self) -> u64 {
         match self.start.elapsed(&self.rt) {

@@ -2,11 +2,8 @@
 //! word.
 #![tactic(auto)]
 
-mod metrics;
-
 use base_types::OutOfMemory;
 use log_writer::{LogFile, open_log};
-use metrics::MetricsAt;
 use relay::{Capacity, Loops, Outlets, PairLimit, serve, text_of};
 use relay_admin::{Addr, check_status};
 use relay_command::{Fault, Job, NO_MEMORY, job_of, trace_status};
@@ -97,12 +94,10 @@ where
         Ok(log) => log,
         Err(fault) => return told(&rt, fault),
     };
-    let alloc = rt.alloc();
-    let metrics = metrics.map(|addr| MetricsAt { rt, alloc, addr });
     let outlets = Outlets { log, metrics };
     let (up, down) = (Blank::new(PARTS), Blank::new(PARTS));
     let mut output = io::writer(&rt);
-    let served = serve::<Brand, Brand, _, _, R, _>(
+    let served = serve::<Brand, Brand, _, R, _>(
         rt,
         rules,
         admin,

@@ -6,7 +6,7 @@ ghost use Rattle.relay.specs.Addr as spec;
 use readiness::Addr;
 
 /// A rule's address in the terms of sockets.
-pub fn socket_address(addr: &relay_admin::Addr) -> Addr
+pub(crate) fn socket_address(addr: &relay_admin::Addr) -> Addr
     ensures { result ≡ spec.socket_address addr.now }
 {
     match addr {

@@ -1,6 +1,7 @@
 //! What a relay's threads have in common: what they run on, and what counts their bytes.
 
 use std::net::{Net, TcpListener, TcpStream};
+use std::random::RandomSource;
 use std::sync::Wait;
 use std::sync::ledger::Ledger;
 use std::thread::Threads;
@@ -28,6 +29,12 @@ where
         + Sync
         + 'static,
 {}
+
+/// What a relay with metrics runs on: it has random keys too, for the tables of their server. One
+/// bound, since what goes to a thread may rest on none that is assumed of the sender's alone.
+pub trait MeteredRuntime: RelayRuntime + RandomSource {}
+
+impl<R: RelayRuntime + RandomSource> MeteredRuntime for R {}
 
 /// The ledger of a book that threads share.
 pub trait SharedLedger: Ledger + Send + Sync + 'static {}

@@ -1,22 +1,25 @@
 //! The relay's figures, for its metrics.
 
-use crate::bounds::{RelayRuntime, SharedLedger};
+use crate::address::socket_address;
+use crate::bounds::{MeteredRuntime, SharedLedger};
 use crate::clock::{Moments, RelayClock};
 use crate::fault::of_metrics;
-use crate::outlets::{FiguresServer, RunningServer};
-use crate::relay::Relay;
 use crate::shared::Shared;
 use base_types::OutOfMemory;
-use relay_admin::ServeFault;
+use metrics_server::{LIMIT_NS, MetricsServer, Running};
+use relay_admin::{Addr, ServeFault};
 use relay_metrics::{CarriedBytes, Figures, Metered};
+use relay_watch::bound_path::BoundPath;
 use relay_watch::rule_figures::rule_figures;
+use std::alloc::Global;
+use std::fs::Files;
 use std::sync::ledger::Ledger;
 use std::sync::{Arc, Wait};
 use std::time::Clock;
 
 /// What reads a running relay's figures.
 #[derive(Drop)]
-pub struct RelayFigures<U: Ledger, D: Ledger, R: Wait + Clock + Copy> {
+pub(crate) struct RelayFigures<U: Ledger, D: Ledger, R: Wait + Clock + Copy> {
     rt: R,
     clock: RelayClock<R>,
     shared: Arc<Shared<U, D>>,
@@ -56,34 +59,29 @@ impl<U: Ledger, D: Ledger, R: Wait + Clock + Copy> Metered for RelayFigures<U, D
     }
 }
 
-/// Has a relay's figures given from now on, where there is a server for them.
-pub(crate) fn start_figures<U, D, R, S>(
+/// Serves the figures of a relay at this address from now on. Where that is refused, no path of
+/// its listener is left.
+pub(crate) fn serve_figures<U, D, R>(
     rt: R,
-    relay: &Relay<U, D, R>,
-    metrics: Option<S>,
-) -> Result<Option<S::Running>, ServeFault>
+    alloc: Global,
+    addr: &Addr,
+    clock: RelayClock<R>,
+    shared: Arc<Shared<U, D>>,
+) -> Result<Running, ServeFault>
 where
     U: SharedLedger,
     D: SharedLedger,
-    R: RelayRuntime,
-    S: FiguresServer<RelayFigures<U, D, R>>,
+    R: MeteredRuntime + Files,
 {
-    let Some(server) = metrics else {
-        return Ok(None);
-    };
-    let Ok(shared) = Arc::try_clone(&relay.shared) else {
-        return Err(ServeFault::Memory);
-    };
-    let clock = RelayClock::new(rt, relay.start);
-    match server.start(RelayFigures { rt, clock, shared }) {
-        Ok(running) => Ok(Some(running)),
+    let figures = RelayFigures { rt, clock, shared };
+    match MetricsServer::open(rt, alloc, &socket_address(addr), LIMIT_NS, figures) {
+        Ok(server) => match server.start() {
+            Ok(running) => Ok(running),
+            Err(fault) => {
+                BoundPath::of(addr).remove(&rt);
+                Err(of_metrics(fault))
+            }
+        },
         Err(fault) => Err(of_metrics(fault)),
-    }
-}
-
-/// Stops what gives a relay's figures, if anything does.
-pub(crate) fn stop_figures<S: RunningServer>(running: Option<S>) {
-    if let Some(running) = running {
-        running.stop();
     }
 }

@@ -48,12 +48,10 @@ mod threads;
 mod totals;
 mod turns;
 
-pub use address::socket_address;
 pub use clock::{Moments, RelayClock};
 pub use closing::{Closer, Closes, close_by_id};
 pub use fd_gate::FdGate;
-pub use figures::RelayFigures;
-pub use outlets::{FiguresServer, Outlets, RunningServer};
+pub use outlets::Outlets;
 pub use pair::{AtEnd, CopyOf, Done, Worker, start_pair};
 pub use relay_admin::ServeFault;
 pub use relay_core::{Capacity, Loops, MAX_LOOPS, PairLimit};

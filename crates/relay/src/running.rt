@@ -6,17 +6,17 @@ ghost use Rattle.relay_admin.specs.ServeFault.{IsRunFault};
 
 use crate::accepting::AcceptHost;
 use crate::admin::AdminSocket;
-use crate::bounds::{RelayRuntime, SharedLedger};
+use crate::bounds::{MeteredRuntime, RelayRuntime, SharedLedger};
 use crate::clock::RelayClock;
-use crate::figures::{RelayFigures, start_figures, stop_figures};
+use crate::figures::serve_figures;
 use crate::loops::ConnLoop;
-use crate::outlets::FiguresServer;
 use crate::output::write_listening;
 use crate::relay::Relay;
 use crate::shared::Shared;
 use crate::threads::{Helpers, Unstarted};
 use crate::totals::Totals;
-use relay_admin::ServeFault;
+use relay_admin::{Addr, ServeFault};
+use relay_watch::bound_path::BoundPath;
 use std::fs::Files;
 use std::io::Write;
 use std::sync::Arc;
@@ -106,27 +106,34 @@ where
     totals_after(ran, gathered)
 }
 
-/// An opened relay to its end, with its metrics given by this server, if there is one. They are told
-/// before it says that it listens, and no more once it has ended.
-pub(crate) fn run_with_figures<U, D, R, S, W: Write>(
+/// An opened relay to its end, with its metrics at this address, where there is one. They are told
+/// before it says that it listens.
+pub(crate) fn run_with_figures<U, D, R, W: Write>(
     rt: R,
     relay: Relay<U, D, R>,
     shared: Arc<Shared<U, D>>,
     unstarted: Unstarted<U, D, R>,
-    metrics: Option<S>,
+    metrics: &Option<Addr>,
     writer: &mut W,
 ) -> Result<Totals<U, D>, ServeFault>
 where
     U: SharedLedger,
     D: SharedLedger,
-    R: RelayRuntime + Files,
-    S: FiguresServer<RelayFigures<U, D, R>>,
+    R: MeteredRuntime + Files,
     ensures said { OnOk result (SaysItListens (W.contents writer.old) (W.contents writer.new)) }
     ensures unwritten { IfErr result (λ fault. IsRunFault fault
         ⊎ (W.contents writer.new ≡ W.contents writer.old)) }
 {
-    let running = start_figures(rt, &relay, metrics)?;
+    let Some(addr) = metrics else {
+        return run_to_the_end(rt, relay, shared, unstarted, writer);
+    };
+    let Ok(watched) = Arc::try_clone(&shared) else {
+        return Err(ServeFault::Memory);
+    };
+    let clock = RelayClock::new(rt, relay.start);
+    let running = serve_figures(rt, relay.alloc, addr, clock, watched)?;
     let totals = run_to_the_end(rt, relay, shared, unstarted, writer);
-    stop_figures(running);
+    running.stop(&rt);
+    BoundPath::of(addr).remove(&rt);
     totals
 }

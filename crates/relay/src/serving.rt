@@ -7,17 +7,16 @@ ghost use Rattle.relay_admin.specs.ServeFault.{IsRunFault};
 ghost use Rattle.relay_admin.specs.declared.serve_fault.ServeFault.{ServeFault};
 
 use crate::assembling::{Parts, opened};
-use crate::bounds::{RelayRuntime, SharedLedger};
-use crate::figures::RelayFigures;
+use crate::bounds::{MeteredRuntime, SharedLedger};
 use crate::opening::served_rules;
-use crate::outlets::{FiguresServer, Outlets};
+use crate::outlets::Outlets;
 use crate::output::write_totals;
 use crate::rules_file::rules_in;
 use crate::running::run_with_figures;
 use crate::shared::ServedRules;
 use crate::totals::Totals;
 use log_writer::{Log, LogThread};
-use relay_admin::ServeFault;
+use relay_admin::{Addr, ServeFault};
 use relay_core::Capacity;
 use relay_ledger::Book;
 use relay_watch::bound_path::BoundPath;
@@ -25,16 +24,17 @@ use std::alloc::Global;
 use std::fs::Files;
 use std::io::Write;
 use std::net::{Net, TcpListener, TcpStream};
+use std::random::RandomSource;
 use std::sync::ledger::{Blank, Ledger};
 use std::sync::{Arc, Mutex, Wait};
 use std::thread::Threads;
 use std::time::Clock;
 
-/// Where a relay is steered, what gives its metrics, and how large it is.
-#[derive(Drop)]
-struct Asked<'a, S> {
+/// Where a relay is steered and watched, and how large it is.
+#[derive(Clone, Copy, Drop)]
+struct Asked<'a> {
     admin: &'a str,
-    metrics: Option<S>,
+    metrics: &'a Option<Addr>,
     capacity: Capacity,
 }
 
@@ -68,10 +68,10 @@ fn remove_paths<R: Wait + Files>(rt: &R, rules: &ServedRules, admin: Option<Boun
 }
 
 // Opens a relay of these parts, and runs it to its end.
-fn opened_and_run<U, D, R, S, W: Write>(
+fn opened_and_run<U, D, R, W: Write>(
     rt: R,
     alloc: Global,
-    asked: Asked<'_, S>,
+    asked: Asked<'_>,
     parts: Parts<U, D>,
     bound: &mut Option<BoundPath>,
     writer: &mut W,
@@ -79,8 +79,7 @@ fn opened_and_run<U, D, R, S, W: Write>(
 where
     U: SharedLedger,
     D: SharedLedger,
-    R: RelayRuntime + Files,
-    S: FiguresServer<RelayFigures<U, D, R>>,
+    R: MeteredRuntime + Files,
     ensures said { OnOk result (SaysItListens (W.contents writer.old) (W.contents writer.new)) }
     ensures unwritten { IfErr result (λ fault. IsRunFault fault
         ⊎ (W.contents writer.new ≡ W.contents writer.old)) }
@@ -94,18 +93,17 @@ where
 }
 
 // A relay by these rules, of which no bound path is left.
-fn relayed<U, D, R, S, W: Write>(
+fn relayed<U, D, R, W: Write>(
     rt: R,
     alloc: Global,
-    asked: Asked<'_, S>,
+    asked: Asked<'_>,
     parts: Parts<U, D>,
     writer: &mut W,
 ) -> Result<Totals<U, D>, ServeFault>
 where
     U: SharedLedger,
     D: SharedLedger,
-    R: RelayRuntime + Files,
-    S: FiguresServer<RelayFigures<U, D, R>>,
+    R: MeteredRuntime + Files,
     ensures said { OnOk result (SaysItListens (W.contents writer.old) (W.contents writer.new)) }
     ensures unwritten { IfErr result (λ fault. IsRunFault fault
         ⊎ (W.contents writer.new ≡ W.contents writer.old)) }
@@ -120,10 +118,10 @@ where
 }
 
 // A relay by these rules, with its log.
-fn relayed_and_logged<U, D, L, R, S, W: Write>(
+fn relayed_and_logged<U, D, L, R, W: Write>(
     rt: R,
     alloc: Global,
-    asked: Asked<'_, S>,
+    asked: Asked<'_>,
     parts: Parts<U, D>,
     log: Option<L>,
     writer: &mut W,
@@ -132,8 +130,7 @@ where
     U: SharedLedger,
     D: SharedLedger,
     L: Write + Drop + Send + 'static,
-    R: RelayRuntime + Files,
-    S: FiguresServer<RelayFigures<U, D, R>>,
+    R: MeteredRuntime + Files,
     ensures said { OnOk result (SaysItListens (W.contents writer.old) (W.contents writer.new)) }
     ensures unwritten { IfErr result (λ fault. IsRunFault fault
         ⊎ (W.contents writer.new ≡ W.contents writer.old)) }
@@ -184,12 +181,12 @@ fn parts_of<U: Ledger, D: Ledger, R: Files>(
 /// Whatever comes, no thread, no socket and no path that it bound is left.
 // (its bounds are spelt out: a program that calls it over `RelayRuntime` isn't covered by the
 // prover)
-pub fn serve<U, D, L, S, R, W: Write>(
+pub fn serve<U, D, L, R, W: Write>(
     rt: R,
     rules: &String,
     admin: &String,
     capacity: Capacity,
-    outlets: Outlets<L, S>,
+    outlets: Outlets<L>,
     up: Blank,
     down: Blank,
     writer: &mut W,
@@ -198,12 +195,12 @@ where
     U: Ledger + Send + Sync + 'static,
     D: Ledger + Send + Sync + 'static,
     L: Write + Drop + Send + 'static,
-    S: FiguresServer<RelayFigures<U, D, R>>,
     R: Wait
         + Threads
         + Net<Listener = TcpListener, Stream = TcpStream>
         + Clock
         + Files
+        + RandomSource
         + AllocGlobal
         + Copy
         + Send
@@ -227,7 +224,7 @@ where
     let parts = parts_of(&rt, alloc, rules.as_str(), capacity, up, down)?;
     let asked = Asked {
         admin: admin.as_str(),
-        metrics,
+        metrics: &metrics,
         capacity,
     };
     let totals = relayed_and_logged(rt, alloc, asked, parts, log, writer)?;

@@ -29,7 +29,6 @@ mod live_threads;
 mod loops;
 mod main_loop;
 mod metrics;
-mod metrics_at;
 mod most_pairs;
 mod odd_clock;
 mod odd_moments;
@@ -46,9 +45,7 @@ mod streams;
 mod watch;
 mod watching;
 
-use metrics_at::MetricsAt;
 use relay::{Capacity, Loops, Outlets, PairLimit, ServeFault, serve};
-use relay_admin::Addr;
 use relay_ledger::PARTS;
 use std::fs::{File, Files};
 use std::io::Write;
@@ -95,7 +92,7 @@ impl Said {
 }
 
 /// What a relay has that tells nothing beside its lines and its admin socket.
-fn no_outlets<S>() -> Outlets<File, S> {
+fn no_outlets() -> Outlets<File> {
     Outlets {
         log: None,
         metrics: None,
@@ -108,7 +105,7 @@ fn served_at<R>(
     rules: &String,
     admin: &String,
     capacity: Capacity,
-    outlets: Outlets<File, Addr>,
+    outlets: Outlets<File>,
 ) -> Said
 where
     R: Wait
@@ -125,14 +122,8 @@ where
         + 'static,
 {
     let (up, down) = (Blank::new(PARTS), Blank::new(PARTS));
-    let alloc = rt.alloc();
-    let mut text = Vec::new(alloc);
-    let Outlets { log, metrics } = outlets;
-    let outlets = Outlets {
-        log,
-        metrics: metrics.map(|addr| MetricsAt { rt, alloc, addr }),
-    };
-    let done = serve::<Brand, Brand, _, _, R, _>(
+    let mut text = Vec::new(rt.alloc());
+    let done = serve::<Brand, Brand, _, R, _>(
         rt, rules, admin, capacity, outlets, up, down, &mut text,
     );
     Said { done, text }

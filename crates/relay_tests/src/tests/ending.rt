@@ -1,7 +1,6 @@
 //! The end of a relay: it comes at once, and no thread outlives it.
 
 use super::live_threads::live_threads;
-use super::metrics_at::MetricsAt;
 use super::places::{Place, place_to};
 use super::watch::Watch;
 use super::{Running, no_outlets, served_on};
@@ -72,16 +71,7 @@ where
     let capacity = Capacity { loops, pairs };
     let (rules, admin) = (&place.rules, &place.admin);
     let outlets = no_outlets();
-    serve::<Brand, Brand, _, MetricsAt<R>, R, _>(
-        rt,
-        rules,
-        admin,
-        capacity,
-        outlets,
-        up,
-        down,
-        &mut Broken,
-    )
+    serve::<Brand, Brand, _, R, _>(rt, rules, admin, capacity, outlets, up, down, &mut Broken)
 }
 
 #[test]

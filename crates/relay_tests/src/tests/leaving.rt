@@ -8,13 +8,13 @@ use super::streams::{heard, reach_unix, target};
 use super::watch::Watch;
 use super::{FEW_TURNS, rest};
 use relay::Outlets;
-use relay_admin::{Addr, addr_of};
+use relay_admin::addr_of;
 use std::fs;
 use std::fs::File;
 use std::io::Write;
 
 /// A log, and figures at this path.
-fn metered_at(rt: &HostRuntime, path: &String) -> Option<Outlets<File, Addr>> {
+fn metered_at(rt: &HostRuntime, path: &String) -> Option<Outlets<File>> {
     let addr = format!(in rt.alloc(); "unix:{path}").ok()?;
     let metrics = addr_of(addr.as_bytes());
     let log = own_log(rt);

@@ -22,7 +22,7 @@ pub(super) const SCRAPE: &[u8] =
     b"GET /metrics HTTP/1.1\r\nHost: relay\r\nConnection: close\r\n\r\n";
 
 /// What a relay of this size has that gives its figures at this address.
-fn metrics_at(text: &str) -> Option<(Capacity, Outlets<File, Addr>)> {
+fn metrics_at(text: &str) -> Option<(Capacity, Outlets<File>)> {
     let metrics = addr_of(text.as_bytes())?;
     let outlets = Outlets {
         log: None,
@@ -34,7 +34,7 @@ fn metrics_at(text: &str) -> Option<(Capacity, Outlets<File, Addr>)> {
 }
 
 /// The same at a port of loopback that was free, with the port.
-fn metrics_at_port(rt: &HostRuntime) -> Option<(Capacity, Outlets<File, Addr>, u16)> {
+fn metrics_at_port(rt: &HostRuntime) -> Option<(Capacity, Outlets<File>, u16)> {
     let port = free_port(rt)?;
     let addr = format!(in rt.alloc(); "tcp:127.0.0.1:{port}").ok()?;
     let (capacity, outlets) = metrics_at(addr.as_str())?;

@@ -4,7 +4,7 @@ use super::places::{Place, own_path};
 use super::streams::free_port;
 use super::{Running, served_at};
 use relay::{Capacity, Loops, Outlets, PairLimit};
-use relay_admin::{Addr, addr_of};
+use relay_admin::addr_of;
 use std::fs::{File, Files};
 use std::net::{Net, TcpListener, TcpStream};
 use std::process::Abort;
@@ -15,12 +15,7 @@ use std::thread::Threads;
 use std::time::Clock;
 
 /// A relay by the rules of this place, on a thread of its own.
-pub(super) fn started<R>(
-    rt: R,
-    place: Place,
-    capacity: Capacity,
-    outlets: Outlets<File, Addr>,
-) -> Running
+pub(super) fn started<R>(rt: R, place: Place, capacity: Capacity, outlets: Outlets<File>) -> Running
 where
     R: Wait
         + Threads
@@ -62,7 +57,7 @@ pub(super) fn own_log(rt: &HostRuntime) -> Option<File> {
 }
 
 /// Such a log, and figures at a port of loopback that was free, with the port.
-pub(super) fn logged_and_metered(rt: &HostRuntime) -> Option<(Outlets<File, Addr>, u16)> {
+pub(super) fn logged_and_metered(rt: &HostRuntime) -> Option<(Outlets<File>, u16)> {
     let port = free_port(rt)?;
     let addr = format!(in rt.alloc(); "tcp:127.0.0.1:{port}").ok()?;
     let metrics = addr_of(addr.as_bytes());

@@ -6,7 +6,6 @@ use super::streams::{has_ended, reach, target};
 use super::watch::Watch;
 use super::{Running, TURNS, served, served_at};
 use relay::{Capacity, Loops, Outlets, PairLimit};
-use relay_admin::Addr;
 use std::alloc::Global;
 use std::fs::File;
 use std::net::TcpListener;
@@ -131,7 +130,7 @@ fn place_of_two(rt: &HostRuntime, to: u16) -> Option<(Place, u16, u16)> {
 }
 
 /// A log in a file of the test's own.
-fn log_alone(rt: &HostRuntime) -> Option<Outlets<File, Addr>> {
+fn log_alone(rt: &HostRuntime) -> Option<Outlets<File>> {
     let path = own_path(rt, "log")?;
     let log = File::create(rt, path.as_str()).ok()?;
     Some(Outlets {

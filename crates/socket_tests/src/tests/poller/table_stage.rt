@@ -109,8 +109,8 @@ impl<R: Wait + Clock + Copy + Drop> Stage<R> {
     where
         R: Threads + Abort,
     {
-        let rt = self.rt;
-        if let Some(turning) = self.turning {
+        let Stage { rt, turning, .. } = self;
+        if let Some(turning) = turning {
             turning.stop(&rt);
         }
     }
