@@ -1,64 +1,62 @@
 //! Lines and the commands that they spell.
 
 use relay_admin::Command;
-use std::prelude::HostRuntime;
+use relay_admin::Command::{
+    CloseConn, DeadlineOf, DrainConn, List, Quit, Reload, Show, Stop, Totals,
+};
+
+const LINES: &[(&str, Option<Command>)] = &[
+    ("list", Some(List)),
+    ("totals", Some(Totals)),
+    ("quit", Some(Quit)),
+    ("stop", Some(Stop)),
+    ("close 1", Some(CloseConn(1))),
+    (
+        "close 4503599627370494",
+        Some(CloseConn(4_503_599_627_370_494)),
+    ),
+    ("close 4503599627370495", None),
+    ("close 0", None),
+    ("close 01", None),
+    ("close", None),
+    ("drain 1", Some(DrainConn(1))),
+    (
+        "drain 4503599627370494",
+        Some(DrainConn(4_503_599_627_370_494)),
+    ),
+    ("drain 4503599627370495", None),
+    ("drain 0", None),
+    ("drain 01", None),
+    ("drain", None),
+    ("drain 1 never", None),
+    ("draining 1", None),
+    ("deadline 3 0", Some(DeadlineOf(3, Some(0)))),
+    ("deadline 3 86400000", Some(DeadlineOf(3, Some(86_400_000)))),
+    ("deadline 3 86400001", None),
+    ("deadline 3 00", None),
+    ("deadline 3 never", Some(DeadlineOf(3, None))),
+    ("deadline 3", None),
+    ("show 1", Some(Show(1))),
+    ("show 4503599627370494", Some(Show(4_503_599_627_370_494))),
+    ("show 4503599627370495", None),
+    ("show 0", None),
+    ("show 01", None),
+    ("show", None),
+    ("show 1 never", None),
+    ("shown 1", None),
+    ("reload", Some(Reload)),
+    ("reload 1", None),
+    ("reload ", None),
+    ("", None),
+    ("frob", None),
+    ("quit ", None),
+    ("list\r", None),
+    ("LIST", None),
+];
 
 #[test]
 fn lines_spell_their_commands(rt: HostRuntime) {
-    for (line, want) in [
-        ("list", Some(Command::List)),
-        ("totals", Some(Command::Totals)),
-        ("quit", Some(Command::Quit)),
-        ("stop", Some(Command::Stop)),
-        ("close 1", Some(Command::CloseConn(1))),
-        (
-            "close 4503599627370494",
-            Some(Command::CloseConn(4_503_599_627_370_494)),
-        ),
-        ("close 4503599627370495", None),
-        ("close 0", None),
-        ("close 01", None),
-        ("close", None),
-        ("drain 1", Some(Command::DrainConn(1))),
-        (
-            "drain 4503599627370494",
-            Some(Command::DrainConn(4_503_599_627_370_494)),
-        ),
-        ("drain 4503599627370495", None),
-        ("drain 0", None),
-        ("drain 01", None),
-        ("drain", None),
-        ("drain 1 never", None),
-        ("draining 1", None),
-        ("deadline 3 0", Some(Command::DeadlineOf(3, Some(0)))),
-        (
-            "deadline 3 86400000",
-            Some(Command::DeadlineOf(3, Some(86_400_000))),
-        ),
-        ("deadline 3 86400001", None),
-        ("deadline 3 00", None),
-        ("deadline 3 never", Some(Command::DeadlineOf(3, None))),
-        ("deadline 3", None),
-        ("show 1", Some(Command::Show(1))),
-        (
-            "show 4503599627370494",
-            Some(Command::Show(4_503_599_627_370_494)),
-        ),
-        ("show 4503599627370495", None),
-        ("show 0", None),
-        ("show 01", None),
-        ("show", None),
-        ("show 1 never", None),
-        ("shown 1", None),
-        ("reload", Some(Command::Reload)),
-        ("reload 1", None),
-        ("reload ", None),
-        ("", None),
-        ("frob", None),
-        ("quit ", None),
-        ("list\r", None),
-        ("LIST", None),
-    ] {
-        assert_eq!(rt; Command::parse(line.as_bytes()), want, "{line}");
+    for (line, want) in LINES {
+        assert!(rt; Command::parse(line.as_bytes()) == *want, "{line}");
     }
 }

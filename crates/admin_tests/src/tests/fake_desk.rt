@@ -14,8 +14,24 @@ pub(super) fn held<const N: usize>(text: &str) -> ArrayString<N> {
     }
 }
 
+/// An address by literals.
+#[derive(Clone, Copy)]
+pub(super) enum Place {
+    Tcp([u8; 4], u16),
+    Unix(&'static str),
+}
+
+impl Place {
+    pub(super) fn addr(self) -> Addr {
+        match self {
+            Place::Tcp(ip, port) => Addr::Tcp(ip, port),
+            Place::Unix(path) => Addr::Unix(held(path)),
+        }
+    }
+}
+
 /// A client of the rule `web` from a TCP port, with this id.
-pub(super) fn shown_client(id: u64) -> Shown {
+fn shown_client(id: u64) -> Shown {
     Shown {
         id,
         rule: held("web"),
@@ -115,6 +131,7 @@ impl Desk for FakeDesk {
             2 => DeskAnswer::Closed,
             3 => DeskAnswer::Busy,
             4 => DeskAnswer::NoMemory,
+            // (the clause asks for this id, of which `shown_client` says nothing)
             7 => DeskAnswer::Shown(Shown {
                 id,
                 ..shown_client(id)

@@ -4,8 +4,6 @@ use crate::tests::fake_desk::FakeDesk;
 use linked_list_allocator::LocalHeap;
 use relay_admin::{AdminEnd, serve_on};
 use std::alloc::Global;
-use std::prelude::HostRuntime;
-use std::test::Fail;
 use stream_base::reader_source::ReaderSource;
 use stream_base::writer_sink::WriterSink;
 
@@ -36,24 +34,37 @@ fn replies_on(alloc: Global, heap: &LocalHeap, lines: &str) -> Option<Vec<u8>> {
     None
 }
 
-#[test]
-fn refused_memory_is_replied_and_the_session_goes_on(rt: HostRuntime) -> Result<(), Fail> {
-    let mut refused = 0u32;
+/// How often a session of these lines was refused on ever larger heaps until its replies were
+/// whole. None where it replied otherwise, or was always refused.
+fn refusals(alloc: Global, lines: &str, whole: &str, refused: &[&str]) -> Option<u32> {
+    let mut count = 0u32;
     for units in 1..100usize {
-        let heap = LocalHeap::new(rt.alloc(), units * 16)?;
-        let replies = replies_on(rt.alloc(), &heap, LINES).ok_or("it ends otherwise")?;
-        let replies = replies.as_slice();
-        if replies == BOTH.as_bytes() {
-            assert!(rt; refused > 2, "{refused} refusals");
-            return Ok(());
+        let heap = LocalHeap::new(alloc, units * 16).ok()?;
+        let replies = replies_on(alloc, &heap, lines)?;
+        if replies.as_slice() == whole.as_bytes() {
+            return Some(count);
         }
-        let known = replies == NO_TOTALS.as_bytes()
-            || replies == NO_IDS.as_bytes()
-            || replies == NEITHER.as_bytes();
-        assert!(rt; known, "{units} units");
-        refused = refused.saturating_add(1);
+        if !is_one_of(replies.as_slice(), refused) {
+            return None;
+        }
+        count = count.saturating_add(1);
     }
-    Err(Fail::new("always refused"))
+    None
+}
+
+fn is_one_of(replies: &[u8], refused: &[&str]) -> bool {
+    for text in refused {
+        if replies == text.as_bytes() {
+            return true;
+        }
+    }
+    false
+}
+
+#[test]
+fn refused_memory_is_replied_and_the_session_goes_on(rt: HostRuntime) {
+    let count = refusals(rt.alloc(), LINES, BOTH, &[NO_TOTALS, NO_IDS, NEITHER]);
+    assert!(rt; count.is_some_and(|count| count > 2), "{count:?} refusals");
 }
 
 const SHOW_AND_RELOAD: &str = "show 7\nreload\nreload\nquit\n";
@@ -65,18 +76,7 @@ const NOT_SHOWN: &str =
     "error 507 out of memory\nrules 2\nbad rules: same name at line 65536\nok\n";
 
 #[test]
-fn a_reload_that_was_carried_out_is_told_without_memory(rt: HostRuntime) -> Result<(), Fail> {
-    let mut refused = 0u32;
-    for units in 1..100usize {
-        let heap = LocalHeap::new(rt.alloc(), units * 16)?;
-        let replies = replies_on(rt.alloc(), &heap, SHOW_AND_RELOAD).ok_or("it ends otherwise")?;
-        let replies = replies.as_slice();
-        if replies == SHOWN.as_bytes() {
-            assert!(rt; refused > 2, "{refused} refusals");
-            return Ok(());
-        }
-        assert!(rt; replies == NOT_SHOWN.as_bytes(), "{units} units");
-        refused = refused.saturating_add(1);
-    }
-    Err(Fail::new("always refused"))
+fn a_reload_that_was_carried_out_is_told_without_memory(rt: HostRuntime) {
+    let count = refusals(rt.alloc(), SHOW_AND_RELOAD, SHOWN, &[NOT_SHOWN]);
+    assert!(rt; count.is_some_and(|count| count > 2), "{count:?} refusals");
 }

@@ -1,82 +1,75 @@
 //! Replies as they are printed.
 
-use crate::tests::fake_desk::{held, shown_client};
+use crate::tests::fake_desk::{Place, held};
 use linked_list_allocator::LocalHeap;
-use relay_admin::{
-    Addr, Command, DeskAnswer, RulesFault, Shown, ShownSide, Verdict, reply_in, reply_of,
-};
-use std::prelude::HostRuntime;
-use std::process::Abort;
-use std::test::Fail;
+use relay_admin::Command::{List, Reload};
+use relay_admin::{Command, DeskAnswer, RulesFault, Shown, ShownSide, Verdict, reply_in, reply_of};
+use std::alloc::Global;
 
-#[test]
-fn answers_have_their_replies(rt: HostRuntime) -> Result<(), Fail> {
-    for (answer, want) in [
-        (DeskAnswer::Ids(Vec::new(rt.alloc())), "ids\n"),
-        (DeskAnswer::Ids([1, 2].to_vec(rt.alloc())?), "ids 1 2\n"),
-        (DeskAnswer::Totals(12, 0), "totals up 12 down 0\n"),
-        (
-            DeskAnswer::Totals(u64::MAX, u64::MAX),
-            "totals up 18446744073709551615 down 18446744073709551615\n",
-        ),
-        (DeskAnswer::Fine, "ok\n"),
-        (DeskAnswer::Unknown, "error 404 no such connection\n"),
-        (DeskAnswer::Closed, "error 409 closed\n"),
-        (DeskAnswer::Draining, "error 409 draining\n"),
-        (DeskAnswer::Busy, "error 409 busy\n"),
-        (DeskAnswer::NoMemory, "error 507 out of memory\n"),
-    ] {
-        let reply = reply_of(rt.alloc(), &Command::List, &answer)?;
-        assert_eq!(rt; reply.as_slice(), want.as_bytes(), "{want}");
-    }
-    Ok(())
+/// What is shown of a connection: its id, rule, side and peer, the bytes up and down, and its age
+/// and quiet in ms.
+#[derive(Clone, Copy)]
+struct Sight(
+    u64,
+    &'static str,
+    ShownSide,
+    Option<Place>,
+    (u64, u64),
+    (u64, u64),
+);
+
+/// An answer of a desk, by literals.
+#[derive(Clone, Copy)]
+enum Said {
+    Ids(&'static [u64]),
+    Totals(u64, u64),
+    Fine,
+    Unknown,
+    Closed,
+    Draining,
+    Busy,
+    NoMemory,
+    Shows(Sight),
+    Rules(u32),
+    Bad(RulesFault),
+    CannotRead,
+    CannotListen(&'static str),
 }
 
-/// What is shown of a target and of two listeners, on the longest texts among others.
-fn shown_others() -> [(Shown, &'static str); 4] {
-    let target = Shown {
-        side: ShownSide::Target,
-        peer: None,
-        ..shown_client(2)
-    };
-    let longest = Shown {
-        rule: held("abcdefghijklmnop"),
-        side: ShownSide::Listener,
-        peer: Some(Addr::Unix(held(PATH))),
-        up: u64::MAX,
-        down: u64::MAX,
-        age_ms: u64::MAX,
-        quiet_ms: u64::MAX,
-        ..shown_client(4_503_599_627_370_494)
-    };
-    let zero = Shown {
-        side: ShownSide::Listener,
-        peer: Some(Addr::Tcp([0, 0, 0, 0], 1)),
-        up: 0,
-        age_ms: 0,
-        quiet_ms: 0,
-        ..shown_client(1)
-    };
-    // A path that a peer has chosen so that it looks like a reply.
-    let hostile = Shown {
-        peer: Some(Addr::Unix(held("/x up 0\nok"))),
-        ..shown_client(2)
-    };
-    [
-        (
-            hostile,
-            "show 2 rule web side client peer unix: up 12 down 0 age 3500 quiet 1200\n",
-        ),
-        (
-            target,
-            "show 2 rule web side target peer unix: up 12 down 0 age 3500 quiet 1200\n",
-        ),
-        (longest, LONGEST),
-        (
-            zero,
-            "show 1 rule web side listener peer tcp:0.0.0.0:1 up 0 down 0 age 0 quiet 0\n",
-        ),
-    ]
+fn shown_of(sight: Sight) -> Shown {
+    let Sight(id, rule, side, peer, (up, down), (age_ms, quiet_ms)) = sight;
+    Shown {
+        id,
+        rule: held(rule),
+        side,
+        peer: peer.map(|place| place.addr()),
+        up,
+        down,
+        age_ms,
+        quiet_ms,
+    }
+}
+
+/// The answer. Without memory for its ids it is `NoMemory`, whose reply is another.
+fn answer_of(alloc: Global, said: Said) -> DeskAnswer {
+    match said {
+        Said::Ids(ids) => match Vec::from_slice(alloc, ids) {
+            Ok(ids) => DeskAnswer::Ids(ids),
+            Err(_) => DeskAnswer::NoMemory,
+        },
+        Said::Totals(up, down) => DeskAnswer::Totals(up, down),
+        Said::Fine => DeskAnswer::Fine,
+        Said::Unknown => DeskAnswer::Unknown,
+        Said::Closed => DeskAnswer::Closed,
+        Said::Draining => DeskAnswer::Draining,
+        Said::Busy => DeskAnswer::Busy,
+        Said::NoMemory => DeskAnswer::NoMemory,
+        Said::Shows(sight) => DeskAnswer::Shown(shown_of(sight)),
+        Said::Rules(count) => DeskAnswer::Verdict(Verdict::Rules(count)),
+        Said::Bad(fault) => DeskAnswer::Verdict(Verdict::Bad(fault)),
+        Said::CannotRead => DeskAnswer::CannotRead,
+        Said::CannotListen(rule) => DeskAnswer::CannotListen(held(rule)),
+    }
 }
 
 // A path of 100 bytes.
@@ -89,43 +82,122 @@ const LONGEST: &str = "show 4503599627370494 rule abcdefghijklmnop side listener
     up 18446744073709551615 down 18446744073709551615 \
     age 18446744073709551615 quiet 18446744073709551615\n";
 
-#[test]
-fn what_is_shown_is_one_line(rt: HostRuntime) -> Result<(), Fail> {
-    for (shown, want) in shown_others() {
-        let reply = reply_of(rt.alloc(), &Command::List, &DeskAnswer::Shown(shown))?;
-        assert_eq!(rt; reply.as_slice(), want.as_bytes(), "{want}");
+/// A target, without a peer.
+const TARGET: Sight = Sight(2, "web", ShownSide::Target, None, (12, 0), (3500, 1200));
+
+const TARGET_LINE: &str =
+    "show 2 rule web side target peer unix: up 12 down 0 age 3500 quiet 1200\n";
+
+/// A listener, with the longest texts.
+const LONG: Sight = Sight(
+    4_503_599_627_370_494,
+    "abcdefghijklmnop",
+    ShownSide::Listener,
+    Some(Place::Unix(PATH)),
+    (u64::MAX, u64::MAX),
+    (u64::MAX, u64::MAX),
+);
+
+/// A listener, with nothing counted.
+const ZERO: Sight = Sight(
+    1,
+    "web",
+    ShownSide::Listener,
+    Some(Place::Tcp([0, 0, 0, 0], 1)),
+    (0, 0),
+    (0, 0),
+);
+
+const ZERO_LINE: &str =
+    "show 1 rule web side listener peer tcp:0.0.0.0:1 up 0 down 0 age 0 quiet 0\n";
+
+/// A path that a peer has chosen so that it looks like a reply.
+const HOSTILE: Sight = Sight(
+    2,
+    "web",
+    ShownSide::Client,
+    Some(Place::Unix("/x up 0\nok")),
+    (12, 0),
+    (3500, 1200),
+);
+
+const HOSTILE_LINE: &str =
+    "show 2 rule web side client peer unix: up 12 down 0 age 3500 quiet 1200\n";
+
+const REPLIES: &[(Command, Said, &str)] = &[
+    (List, Said::Ids(&[]), "ids\n"),
+    (List, Said::Ids(&[1, 2]), "ids 1 2\n"),
+    (List, Said::Totals(12, 0), "totals up 12 down 0\n"),
+    (
+        List,
+        Said::Totals(u64::MAX, u64::MAX),
+        "totals up 18446744073709551615 down 18446744073709551615\n",
+    ),
+    (List, Said::Fine, "ok\n"),
+    (List, Said::Unknown, "error 404 no such connection\n"),
+    (List, Said::Closed, "error 409 closed\n"),
+    (List, Said::Draining, "error 409 draining\n"),
+    (List, Said::Busy, "error 409 busy\n"),
+    (List, Said::NoMemory, "error 507 out of memory\n"),
+    (List, Said::Shows(HOSTILE), HOSTILE_LINE),
+    (List, Said::Shows(TARGET), TARGET_LINE),
+    (List, Said::Shows(LONG), LONGEST),
+    (List, Said::Shows(ZERO), ZERO_LINE),
+    // A reload has the lines of `check` and `serve`.
+    (Reload, Said::Rules(0), "rules 0\n"),
+    (Reload, Said::Rules(64), "rules 64\n"),
+    (
+        Reload,
+        Said::Bad(RulesFault::TooLong),
+        "bad rules: too long\n",
+    ),
+    (
+        Reload,
+        Said::Bad(RulesFault::BadLine(3)),
+        "bad rules: line 3\n",
+    ),
+    (
+        Reload,
+        Said::Bad(RulesFault::SameListen(65_536)),
+        "bad rules: same listen address at line 65536\n",
+    ),
+    (Reload, Said::CannotRead, "cannot read rules\n"),
+    (
+        Reload,
+        Said::CannotListen("abcdefghijklmnop"),
+        "cannot listen abcdefghijklmnop\n",
+    ),
+];
+
+fn is_replied(alloc: Global, command: &Command, said: Said, want: &str) -> bool {
+    match reply_of(alloc, command, &answer_of(alloc, said)) {
+        Ok(reply) => reply.as_slice() == want.as_bytes(),
+        Err(_) => false,
     }
-    Ok(())
 }
 
 #[test]
-fn a_reload_has_the_lines_of_check_and_serve(rt: HostRuntime) -> Result<(), Fail> {
-    for (answer, want) in [
-        (DeskAnswer::Verdict(Verdict::Rules(0)), "rules 0\n"),
-        (DeskAnswer::Verdict(Verdict::Rules(64)), "rules 64\n"),
-        (
-            DeskAnswer::Verdict(Verdict::Bad(RulesFault::TooLong)),
-            "bad rules: too long\n",
-        ),
-        (
-            DeskAnswer::Verdict(Verdict::Bad(RulesFault::BadLine(3))),
-            "bad rules: line 3\n",
-        ),
-        (
-            DeskAnswer::Verdict(Verdict::Bad(RulesFault::SameListen(65_536))),
-            "bad rules: same listen address at line 65536\n",
-        ),
-        (DeskAnswer::CannotRead, "cannot read rules\n"),
-        (
-            DeskAnswer::CannotListen(held("abcdefghijklmnop")),
-            "cannot listen abcdefghijklmnop\n",
-        ),
-    ] {
-        let reply = reply_of(rt.alloc(), &Command::Reload, &answer)?;
-        assert_eq!(rt; reply.as_slice(), want.as_bytes(), "{want}");
+fn answers_have_their_replies(rt: HostRuntime) {
+    for (command, said, want) in REPLIES {
+        assert!(rt; is_replied(rt.alloc(), command, *said, want), "{want}");
     }
-    Ok(())
 }
+
+const REFUSED: &[(Said, &str)] = &[
+    (Said::Ids(&[1, 22, 333]), "ids 1 22 333\n"),
+    (Said::Totals(12, 0), "totals up 12 down 0\n"),
+    (Said::Shows(HOSTILE), HOSTILE_LINE),
+    (Said::Shows(TARGET), TARGET_LINE),
+    (Said::Shows(LONG), LONGEST),
+    (Said::Shows(ZERO), ZERO_LINE),
+    (
+        Said::Bad(RulesFault::TooMany(65)),
+        "bad rules: too many at line 65\n",
+    ),
+    (Said::CannotRead, "cannot read rules\n"),
+    (Said::CannotListen("web"), "cannot listen web\n"),
+    (Said::Unknown, "error 404 no such connection\n"),
+];
 
 /// Whether an answer's reply is this one, or none where the heap has no room for it.
 fn reply_on(heap: &LocalHeap, answer: &DeskAnswer, want: &str) -> Option<bool> {
@@ -133,32 +205,26 @@ fn reply_on(heap: &LocalHeap, answer: &DeskAnswer, want: &str) -> Option<bool> {
     Some(reply.as_slice() == want.as_bytes())
 }
 
-/// A reply is refused on the least heaps, and then made as it has to be.
-fn is_refused_and_made<R: Abort + AllocGlobal>(rt: &R, answer: &DeskAnswer, want: &str) {
+/// The units of the least heap on which a reply is made, where it is made as it has to be.
+fn least_units(alloc: Global, answer: &DeskAnswer, want: &str) -> Option<usize> {
     for units in 1..100usize {
-        let heap = LocalHeap::new(rt.alloc(), units * 16).expect(rt, "heap");
+        let heap = LocalHeap::new(alloc, units * 16).ok()?;
         if let Some(is_right) = reply_on(&heap, answer, want) {
-            assert!(rt; is_right, "{want}: {units} units");
-            assert!(rt; units > 1, "{want}: it was never refused");
-            return;
+            return if is_right { Some(units) } else { None };
         }
     }
-    panic!(rt; "{want}: it was always refused")
+    None
 }
 
 #[test]
-fn each_allocation_of_a_reply_may_be_refused(rt: HostRuntime) -> Result<(), Fail> {
-    let ids = DeskAnswer::Ids([1, 22, 333].to_vec(rt.alloc())?);
-    is_refused_and_made(&rt, &ids, "ids 1 22 333\n");
-    is_refused_and_made(&rt, &DeskAnswer::Totals(12, 0), "totals up 12 down 0\n");
-    for (shown, want) in shown_others() {
-        is_refused_and_made(&rt, &DeskAnswer::Shown(shown), want);
+fn each_allocation_of_a_reply_may_be_refused(rt: HostRuntime) {
+    for (said, want) in REFUSED {
+        let answer = answer_of(rt.alloc(), *said);
+        let units = least_units(rt.alloc(), &answer, want);
+        // It is refused on the least heap.
+        assert!(rt;
+            units.is_some_and(|units| units > 1),
+            "{want}: {units:?} units"
+        );
     }
-    let bad = DeskAnswer::Verdict(Verdict::Bad(RulesFault::TooMany(65)));
-    is_refused_and_made(&rt, &bad, "bad rules: too many at line 65\n");
-    is_refused_and_made(&rt, &DeskAnswer::CannotRead, "cannot read rules\n");
-    let unheard = DeskAnswer::CannotListen(held("web"));
-    is_refused_and_made(&rt, &unheard, "cannot listen web\n");
-    is_refused_and_made(&rt, &DeskAnswer::Unknown, "error 404 no such connection\n");
-    Ok(())
 }

@@ -1,8 +1,9 @@
 //! Whole rules files and their verdicts.
 
 use arrayvec::ArrayString;
+use relay_admin::RulesFault::{BadLine, SameListen, SameName, TooLong, TooMany};
 use relay_admin::{Addr, Rule, Rules, RulesFault};
-use std::prelude::HostRuntime;
+use std::alloc::{AllocError, Global};
 use std::test::Fail;
 
 /// How many rules a text has, or its first fault.
@@ -46,69 +47,47 @@ const EMPTY_FILE: &str =
 # It prints: rules 0
 ";
 
+const FILES: &[(&str, Result<usize, RulesFault>)] = &[
+    ("", Ok(0)),
+    (
+        "# x\nrelay a tcp:0.0.0.0:1 tcp:255.255.255.255:65535 never",
+        Ok(1),
+    ),
+    (
+        "relay a tcp:0.0.0.0:01 tcp:1.1.1.1:1 never\n",
+        Err(BadLine(1)),
+    ),
+    (
+        "relay a unix:/x unix:/y never\nrelay b unix:/x unix:/z 1\n",
+        Err(SameListen(2)),
+    ),
+    ("relay a unix:/x unix:/y 86400001\n", Err(BadLine(1))),
+    ("relay a unix:/x unix:/y 86400000\n", Ok(1)),
+    ("relay a unix:/x unix:/y 0\n", Err(BadLine(1))),
+    (WEB, Ok(1)),
+    (WEB_TWICE, Err(SameName(2))),
+    (WEB_FILE, Ok(2)),
+    (SAME_LISTEN_FILE, Err(SameListen(5))),
+    (EMPTY_FILE, Ok(0)),
+    ("\n\nrelay 9 unix:/x unix:/y never\n", Err(BadLine(3))),
+    ("relay a-9 unix:/x unix:/x never\r\n", Err(BadLine(1))),
+    ("relay abcdefghijklmnop unix:/x unix:/x never", Ok(1)),
+    (
+        "relay abcdefghijklmnopq unix:/x unix:/x never",
+        Err(BadLine(1)),
+    ),
+    ("relay a tcp:1.2.3.256:1 unix:/x never", Err(BadLine(1))),
+    ("relay a tcp:1.2.3.4:0 unix:/x never", Err(BadLine(1))),
+    ("relay a tcp:1.2.3.4:65536 unix:/x never", Err(BadLine(1))),
+    ("relay a unix:x unix:/x never", Err(BadLine(1))),
+    ("relay  a unix:/x unix:/x never", Err(BadLine(1))),
+    ("relay a unix:/x unix:/x never ", Err(BadLine(1))),
+];
+
 #[test]
 fn files_have_their_verdicts(rt: HostRuntime) {
-    for (text, want) in [
-        ("", Ok(0)),
-        (
-            "# x\nrelay a tcp:0.0.0.0:1 tcp:255.255.255.255:65535 never",
-            Ok(1),
-        ),
-        (
-            "relay a tcp:0.0.0.0:01 tcp:1.1.1.1:1 never\n",
-            Err(RulesFault::BadLine(1)),
-        ),
-        (
-            "relay a unix:/x unix:/y never\nrelay b unix:/x unix:/z 1\n",
-            Err(RulesFault::SameListen(2)),
-        ),
-        (
-            "relay a unix:/x unix:/y 86400001\n",
-            Err(RulesFault::BadLine(1)),
-        ),
-        ("relay a unix:/x unix:/y 86400000\n", Ok(1)),
-        ("relay a unix:/x unix:/y 0\n", Err(RulesFault::BadLine(1))),
-        (WEB, Ok(1)),
-        (WEB_TWICE, Err(RulesFault::SameName(2))),
-        (WEB_FILE, Ok(2)),
-        (SAME_LISTEN_FILE, Err(RulesFault::SameListen(5))),
-        (EMPTY_FILE, Ok(0)),
-        (
-            "\n\nrelay 9 unix:/x unix:/y never\n",
-            Err(RulesFault::BadLine(3)),
-        ),
-        (
-            "relay a-9 unix:/x unix:/x never\r\n",
-            Err(RulesFault::BadLine(1)),
-        ),
-        ("relay abcdefghijklmnop unix:/x unix:/x never", Ok(1)),
-        (
-            "relay abcdefghijklmnopq unix:/x unix:/x never",
-            Err(RulesFault::BadLine(1)),
-        ),
-        (
-            "relay a tcp:1.2.3.256:1 unix:/x never",
-            Err(RulesFault::BadLine(1)),
-        ),
-        (
-            "relay a tcp:1.2.3.4:0 unix:/x never",
-            Err(RulesFault::BadLine(1)),
-        ),
-        (
-            "relay a tcp:1.2.3.4:65536 unix:/x never",
-            Err(RulesFault::BadLine(1)),
-        ),
-        ("relay a unix:x unix:/x never", Err(RulesFault::BadLine(1))),
-        (
-            "relay  a unix:/x unix:/x never",
-            Err(RulesFault::BadLine(1)),
-        ),
-        (
-            "relay a unix:/x unix:/x never ",
-            Err(RulesFault::BadLine(1)),
-        ),
-    ] {
-        assert_eq!(rt; verdict(text.as_bytes()), want, "{text}");
+    for (text, want) in FILES {
+        assert!(rt; verdict(text.as_bytes()) == *want, "{text}");
     }
 }
 
@@ -138,35 +117,49 @@ fn a_rule_holds_what_its_line_says(rt: HostRuntime) -> Result<(), Fail> {
 #[test]
 fn a_file_may_have_65536_bytes(rt: HostRuntime) -> Result<(), Fail> {
     let mut text = vec![in rt.alloc(); b'#'; 65_536]?;
-    assert_eq!(rt; verdict(text.as_slice()), Ok(0));
+    assert!(rt; verdict(text.as_slice()) == Ok(0), "65,536 bytes");
     text.push(b'#')?;
-    assert_eq!(rt; verdict(text.as_slice()), Err(RulesFault::TooLong));
+    assert!(rt; verdict(text.as_slice()) == Err(TooLong), "a byte more");
     Ok(())
+}
+
+/// As many rules as a file may have.
+fn full_file(alloc: Global) -> Result<Vec<u8>, AllocError> {
+    let mut text = Vec::new(alloc);
+    for i in 0..64u32 {
+        let line = format!(in alloc; "relay r{i} unix:/r{i} unix:/target never\n")?;
+        text.extend_from_slice(line.as_bytes())?;
+    }
+    Ok(text)
 }
 
 #[test]
 fn the_65th_rule_is_too_many_before_it_has_a_known_name(rt: HostRuntime) -> Result<(), Fail> {
-    let mut text = Vec::new(rt.alloc());
-    for i in 0..64u32 {
-        let line = format!(in rt.alloc(); "relay r{i} unix:/r{i} unix:/target never\n")?;
-        text.extend_from_slice(line.as_bytes())?;
-    }
-    assert_eq!(rt; verdict(text.as_slice()), Ok(64));
+    let mut text = full_file(rt.alloc())?;
+    assert!(rt; verdict(text.as_slice()) == Ok(64), "64 rules");
     text.extend_from_slice(b"relay r0 unix:/r0 unix:/target never\n")?;
-    assert_eq!(rt; verdict(text.as_slice()), Err(RulesFault::TooMany(65)));
+    assert!(rt; verdict(text.as_slice()) == Err(TooMany(65)), "a rule more");
     Ok(())
+}
+
+const PATHS: &[(u32, Result<usize, RulesFault>)] = &[(100, Ok(1)), (101, Err(BadLine(1)))];
+
+/// A rule that listens on a path of so many bytes.
+fn rule_on(alloc: Global, bytes: u32) -> Result<Vec<u8>, AllocError> {
+    let mut text = Vec::new(alloc);
+    text.extend_from_slice(b"relay a unix:")?;
+    for _ in 0..bytes {
+        text.push(b'/')?;
+    }
+    text.extend_from_slice(b" unix:/target never")?;
+    Ok(text)
 }
 
 #[test]
 fn a_path_may_have_100_bytes(rt: HostRuntime) -> Result<(), Fail> {
-    for (slashes, want) in [(100, Ok(1)), (101, Err(RulesFault::BadLine(1)))] {
-        let mut text = Vec::new(rt.alloc());
-        text.extend_from_slice(b"relay a unix:")?;
-        for _ in 0..slashes {
-            text.push(b'/')?;
-        }
-        text.extend_from_slice(b" unix:/target never")?;
-        assert_eq!(rt; verdict(text.as_slice()), want, "{slashes} bytes");
+    for (bytes, want) in PATHS {
+        let text = rule_on(rt.alloc(), *bytes)?;
+        assert!(rt; verdict(text.as_slice()) == *want, "{bytes} bytes");
     }
     Ok(())
 }
