@@ -51,12 +51,6 @@ impl Ends {
         Some(Ends { client, peer })
     }
 
-    /// The client and the target's end.
-    pub(super) fn both(self) -> (TcpStream, TcpStream) {
-        let Ends { client, peer } = self;
-        (client, peer)
-    }
-
     /// The client's own port.
     pub(super) fn client_port(&self) -> Option<u16> {
         Some(self.client.local_addr().ok()?.port())
@@ -76,11 +70,6 @@ impl Ends {
             && has_ended(&mut self.peer)
             && self.peer.shutdown(Shutdown::Write).is_ok()
             && has_ended(&mut self.client)
-    }
-
-    /// Whether the client's end reaches the target.
-    pub(super) fn half_ends(&mut self) -> bool {
-        self.client.shutdown(Shutdown::Write).is_ok() && has_ended(&mut self.peer)
     }
 
     /// Whether both sides are at their end.
