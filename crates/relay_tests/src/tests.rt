@@ -8,25 +8,38 @@ macro_rules! holds {
     ($rt:expr; $is:expr) => {
         $crate::tests::holds(&$rt, $is, stringify!($is))
     };
-    ($rt:expr; $is:expr, $what:literal) => {
+    ($rt:expr; $is:expr, $what:expr) => {
         $crate::tests::holds(&$rt, $is, $what)
     };
 }
 
+mod ages;
+mod at_once;
+mod cause_rows;
+mod causes;
 mod closing;
 mod draining;
 mod echo;
 mod ending;
 mod ends;
+mod failing_files;
+mod figures;
+mod leaving;
 mod live_threads;
 mod loops;
+mod main_loop;
 mod metrics;
 mod most_pairs;
+mod odd_clock;
+mod odd_moments;
 mod pairs;
 mod places;
+mod quiet;
 mod reloading;
+mod renewing;
 mod stalls;
 mod start_faults;
+mod started;
 mod steering;
 mod streams;
 mod watch;
@@ -50,8 +63,19 @@ use streams::{heard, reach_unix};
 /// The most turns of one millisecond that a test waits.
 const TURNS: u32 = 10_000;
 
+/// The most turns of ten milliseconds that a test waits which then names its row: its watch waits
+/// longer.
+const FEW_TURNS: u32 = 300;
+
 fn holds<R: Abort>(rt: &R, is: bool, what: &str) {
     assert!(rt; is, "{what}");
+}
+
+/// Ends the test's process where a row doesn't hold, and names it.
+fn all_hold<R: Abort>(rt: &R, failed: Option<&str>) {
+    if let Some(row) = failed {
+        holds(rt, false, row);
+    }
 }
 
 /// What a relay answered, and what it wrote.
@@ -185,6 +209,16 @@ impl Running {
     fn ends<R: Threads + Wait + Abort>(self, rt: &R, text: &str) {
         holds!(*rt; self.thread.join(rt).is(Ok(()), text), "what it wrote");
     }
+}
+
+/// Waits for a millisecond.
+fn pause<C: Clock>(clock: &C) {
+    thread::sleep(clock, Duration::from_millis(1));
+}
+
+/// Waits for ten milliseconds.
+fn rest<C: Clock>(clock: &C) {
+    thread::sleep(clock, Duration::from_millis(10));
 }
 
 /// Waits until this was counted up, and says whether it was.

@@ -51,6 +51,12 @@ impl Ends {
         Some(Ends { client, peer })
     }
 
+    /// The client and the target's end.
+    pub(super) fn both(self) -> (TcpStream, TcpStream) {
+        let Ends { client, peer } = self;
+        (client, peer)
+    }
+
     /// The client's own port.
     pub(super) fn client_port(&self) -> Option<u16> {
         Some(self.client.local_addr().ok()?.port())
@@ -70,6 +76,11 @@ impl Ends {
             && has_ended(&mut self.peer)
             && self.peer.shutdown(Shutdown::Write).is_ok()
             && has_ended(&mut self.client)
+    }
+
+    /// Whether the client's end reaches the target.
+    pub(super) fn half_ends(&mut self) -> bool {
+        self.client.shutdown(Shutdown::Write).is_ok() && has_ended(&mut self.peer)
     }
 
     /// Whether both sides are at their end.

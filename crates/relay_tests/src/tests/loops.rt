@@ -125,55 +125,6 @@ fn a_way_goes_on_after_the_end_of_the_other(rt: HostRuntime) {
     watch.end(&rt);
 }
 
-/// So many clients that nobody has accepted yet.
-fn waiting_clients(rt: &HostRuntime, port: u16, count: usize) -> Option<Vec<TcpStream>> {
-    let mut clients = Vec::new(rt.alloc());
-    for _ in 0..count {
-        let mut client = reach(rt, port)?;
-        if !says(&mut client, b"a") {
-            return None;
-        }
-        clients.push(client).ok()?;
-    }
-    Some(clients)
-}
-
-/// Whether so many connections come to a target, each with its byte.
-fn all_come(rt: &HostRuntime, listener: &TcpListener, count: usize) -> bool {
-    let mut held = Vec::new(rt.alloc());
-    for _ in 0..count {
-        let Some(mut peer) = accepted(rt, listener) else {
-            return false;
-        };
-        if !hears(&mut peer, b"a") || held.push(peer).is_err() {
-            return false;
-        }
-    }
-    true
-}
-
-#[test]
-fn clients_that_came_at_once_are_all_served(rt: HostRuntime) {
-    let watch = Watch::start(rt, rt.alloc());
-    let (place, listener, port) = place_to_own(&rt, "never").expect(&rt, "a place");
-    let Place {
-        rules,
-        admin,
-        socket,
-    } = place;
-    let thread = thread::spawn(&rt, move || served_on(rt, &rules, &socket, 3));
-    let thread = thread.expect(&rt, "thread");
-    let running = Running { thread, admin };
-    // Nobody is accepted, so that all wait in the system's queue.
-    holds!(rt; running.answers(&rt, "deadline 1 0\n", "ok\n"));
-    let _clients = waiting_clients(&rt, port, 100).expect(&rt, "clients");
-    holds!(rt; running.answers(&rt, "deadline 1 never\n", "ok\n"));
-    holds!(rt; all_come(&rt, &listener, 100), "one isn't served");
-    holds!(rt; running.is_stopped(&rt));
-    running.ends(&rt, "listening 1\nup 100 down 0\n");
-    watch.end(&rt);
-}
-
 /// A place with a rule of a short idle time and one of a long one, to one target, and their ports.
 fn place_of_two(rt: &HostRuntime, target: u16) -> Option<(Place, u16, u16)> {
     let (short, long) = (free_port(rt)?, free_port(rt)?);

@@ -4,7 +4,7 @@ use super::ends::Ends;
 use super::places::{Place, is_there, own_path, place_at, place_to, write_empty};
 use super::streams::{free_port, heard, reach, target};
 use super::watch::Watch;
-use super::{Running, Said, served_at};
+use super::{FEW_TURNS, Running, Said, rest, served_at};
 use relay::{Capacity, Loops, Outlets, PairLimit, ServeFault};
 use relay_admin::{Addr, addr_of};
 use std::fs::{File, Files};
@@ -18,7 +18,8 @@ use std::thread::Threads;
 use std::time::Clock;
 
 /// A scrape of the figures.
-const SCRAPE: &[u8] = b"GET /metrics HTTP/1.1\r\nHost: relay\r\nConnection: close\r\n\r\n";
+pub(super) const SCRAPE: &[u8] =
+    b"GET /metrics HTTP/1.1\r\nHost: relay\r\nConnection: close\r\n\r\n";
 
 /// What a relay of this size has that gives its figures at this address.
 fn metrics_at(text: &str) -> Option<(Capacity, Outlets<File>)> {
@@ -41,7 +42,7 @@ fn metrics_at_port(rt: &HostRuntime) -> Option<(Capacity, Outlets<File>, u16)> {
 }
 
 /// What a relay answers to a scrape at this port.
-fn scraped(rt: &HostRuntime, port: u16) -> Option<String> {
+pub(super) fn scraped(rt: &HostRuntime, port: u16) -> Option<String> {
     let mut stream = reach(rt, port)?;
     stream.write_all(SCRAPE).ok()?;
     heard(&mut stream, rt.alloc())
@@ -56,12 +57,25 @@ fn tells(rt: &HostRuntime, port: u16, lines: &[&str]) -> bool {
     text.starts_with("HTTP/1.1 200 OK\r\n") && lines.iter().all(|line| text.contains(*line))
 }
 
+/// Waits until a scrape has this line, and says whether it came to that.
+pub(super) fn comes_to_tell(rt: &HostRuntime, port: u16, line: &str) -> bool {
+    for _ in 0..FEW_TURNS {
+        if tells(rt, port, &[line]) {
+            return true;
+        }
+        rest(rt);
+    }
+    false
+}
+
 /// What a relay tells that has a connection over which 5 bytes went up and 2 down.
-const ONE_CONNECTION: [&str; 5] = [
+const ONE_CONNECTION: [&str; 7] = [
     "\npollrelay_loops 1\n",
     "\npollrelay_bytes_total{way=\"up\"} 5\n",
     "\npollrelay_bytes_total{way=\"down\"} 2\n",
     "\npollrelay_rule_connections{rule=\"a\"} 1\n",
+    "\npollrelay_rule_bytes_total{rule=\"a\",way=\"up\"} 5\n",
+    "\npollrelay_rule_bytes_total{rule=\"a\",way=\"down\"} 2\n",
     "\npollrelay_rule_accepted_total{rule=\"a\"} 1\n",
 ];
 

@@ -1,0 +1,69 @@
+//! What a relay leaves at its end that had a log and figures: no thread, no open file and no path.
+
+use super::ends::Ends;
+use super::live_threads::live_threads;
+use super::places::{is_there, own_path, place_to};
+use super::started::{own_log, sized_by_default, started};
+use super::streams::{heard, reach_unix, target};
+use super::watch::Watch;
+use super::{FEW_TURNS, rest};
+use relay::Outlets;
+use relay_admin::addr_of;
+use std::fs;
+use std::fs::File;
+use std::io::Write;
+
+/// A log, and figures at this path.
+fn metered_at(rt: &HostRuntime, path: &String) -> Option<Outlets<File>> {
+    let addr = format!(in rt.alloc(); "unix:{path}").ok()?;
+    let metrics = addr_of(addr.as_bytes());
+    let log = own_log(rt);
+    Some(Outlets { log, metrics })
+}
+
+/// Whether the figures are given at this path.
+fn are_given(rt: &HostRuntime, path: &String) -> Option<bool> {
+    let mut stream = reach_unix(rt, path.as_str())?;
+    stream.write_all(super::metrics::SCRAPE).ok()?;
+    let answer = heard(&mut stream, rt.alloc())?;
+    Some(answer.as_str().contains("\npollrelay_loops 2\n"))
+}
+
+/// How many files are open, and how many threads go on.
+fn open_files_and_threads(rt: &HostRuntime) -> Option<(usize, usize)> {
+    let files = fs::read_dir(rt, "/proc/self/fd").ok()?.count();
+    Some((files, live_threads(rt)?))
+}
+
+/// Waits until there are as many as before, and says whether it came to that.
+fn come_to_be(rt: &HostRuntime, before: (usize, usize)) -> bool {
+    for _ in 0..FEW_TURNS {
+        if open_files_and_threads(rt) == Some(before) {
+            return true;
+        }
+        rest(rt);
+    }
+    false
+}
+
+#[test]
+fn a_relay_with_outlets_leaves_no_thread_no_file_and_no_path(rt: HostRuntime) {
+    let watch = Watch::start(rt, rt.alloc());
+    let before = open_files_and_threads(&rt).expect(&rt, "files");
+    let (listener, to) = target(&rt).expect(&rt, "a target");
+    let (place, port) = place_to(&rt, to, "never").expect(&rt, "a place");
+    let path = own_path(&rt, "metrics").expect(&rt, "a path");
+    let outlets = metered_at(&rt, &path).expect(&rt, "a log");
+    let capacity = sized_by_default(2).expect(&rt, "a size");
+    let running = started(rt, place, capacity, outlets);
+    let mut ends = Ends::new(&rt, &listener, port).expect(&rt, "a connection");
+    holds!(rt; ends.pass());
+    holds!(rt; are_given(&rt, &path) == Some(true));
+    holds!(rt; running.is_stopped(&rt));
+    running.ends(&rt, "listening 1\nup 5 down 2\n");
+    holds!(rt; !is_there(&rt, &path), "the path of the figures is left");
+    drop(ends);
+    drop(listener);
+    holds!(rt; come_to_be(&rt, before), "a thread or a file is left");
+    watch.end(&rt);
+}
