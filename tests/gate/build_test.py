@@ -5,13 +5,13 @@ import io
 import os
 import re
 import sys
-import tempfile
 import time
 import unittest
 from unittest import mock
 
-sys.path.insert(1, f"{sys.path[0]}/../../tools")
+sys.path[1:1] = [f"{sys.path[0]}/..", f"{sys.path[0]}/../../tools"]
 import build
+from lib.made import MadeFolder
 
 CRATES = "base:\nleft: base\nright: base\ntop: left right\naside:\n"
 
@@ -34,22 +34,14 @@ echo "ends $name" >>{folder}/log
 """
 
 
-class Builds(unittest.TestCase):
+class Builds(MadeFolder):
     def setUp(self):
-        folder = tempfile.TemporaryDirectory()
-        self.addCleanup(folder.cleanup)
-        self.folder = folder.name
+        super().setUp()
         self.write("crates.txt", CRATES)
         self.write("prover", PROVER.replace("{folder}", self.folder))
         os.chmod(f"{self.folder}/prover", 0o755)
         for name in ("base", "left", "right", "top", "aside"):
             self.write(f"crates/{name}/src/lib.rt", "//! A crate.\n")
-
-    def write(self, path, text):
-        path = f"{self.folder}/{path}"
-        os.makedirs(os.path.dirname(path), exist_ok=True)
-        with open(path, "w", encoding="utf-8") as file:
-            file.write(text)
 
     def build(self, *words, says_every=10, free=100_000_000_000):
         """The status, the printed lines, and what the prover was asked and ended, in order."""

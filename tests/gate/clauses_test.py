@@ -3,12 +3,12 @@
 import contextlib
 import io
 import os
-import tempfile
 import unittest
 from unittest import mock
 
 import clauses
 from lib import clause_texts
+from lib.made import MadeFolder
 
 QUEUE = """//! A queue.
 
@@ -74,23 +74,14 @@ OTHER = "-- Another crate's.\nabbrev pub room_of : ℕ → ℕ\nroom_of q = 64\n
 FILES = {"made/src/queue.rt": QUEUE, "made/specs/Queue.antt": SPEC, "low/specs/Room.antt": OTHER}
 
 
-class Clauses(unittest.TestCase):
+class Clauses(MadeFolder):
     def setUp(self):
-        folder = tempfile.TemporaryDirectory()
-        self.addCleanup(folder.cleanup)
-        self.folder = folder.name
-        root = mock.patch.object(clause_texts, "ROOT", folder.name)
-        root.start()
-        self.addCleanup(root.stop)
+        super().setUp()
+        self.patched(mock.patch.object(clause_texts, "ROOT", self.folder))
         for path, text in FILES.items():
             self.write(f"crates/{path}", text)
-        os.makedirs(f"{folder.name}/tests/gate")
+        os.makedirs(f"{self.folder}/tests/gate")
         self.assertEqual(self.run_main("--write")[0], 0)
-
-    def write(self, path, text):
-        os.makedirs(os.path.dirname(f"{self.folder}/{path}"), exist_ok=True)
-        with open(f"{self.folder}/{path}", "w", encoding="utf-8") as file:
-            file.write(text)
 
     def change(self, path, old, new):
         with open(f"{self.folder}/crates/{path}", encoding="utf-8") as file:

@@ -6,21 +6,17 @@ import contextlib
 import io
 import os
 import sys
-import tempfile
 import unittest
 from unittest import mock
 
 import run
+from lib.made import MadeFolder
 
 
-class Runs(unittest.TestCase):
+class Runs(MadeFolder):
     def setUp(self):
-        folder = tempfile.TemporaryDirectory()
-        self.addCleanup(folder.cleanup)
-        self.folder = folder.name
-        for patch in (mock.patch.object(run, "ROOT", self.folder), mock.patch.dict(os.environ)):
-            patch.start()
-            self.addCleanup(patch.stop)
+        super().setUp()
+        self.patched(mock.patch.object(run, "ROOT", self.folder), mock.patch.dict(os.environ))
         os.environ.pop("POLLRELAY", None)
 
     def part(self, name, script, **how):
@@ -34,10 +30,7 @@ class Runs(unittest.TestCase):
         return whole.passed, whole.failed, said.getvalue()
 
     def stored(self, text):
-        path = f"{self.folder}/stdout"
-        with open(path, "w", encoding="utf-8") as file:
-            file.write(text)
-        return path
+        return self.write("stdout", text)
 
     def test_numbers_are_those_that_a_part_says(self):
         parts = self.part("rt", "echo 'test result: ok. 7 passed; 0 failed'"), self.part("script", "echo 3 passed, 0 failed")

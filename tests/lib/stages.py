@@ -6,7 +6,7 @@ import tempfile
 import time
 
 # What may cut a stage short: it has failed then, and those after it are run.
-FAULTS = (OSError, EOFError, RuntimeError, TypeError, StopIteration, subprocess.TimeoutExpired)
+FAULTS = (OSError, EOFError, RuntimeError, TypeError, StopIteration, subprocess.SubprocessError)
 
 
 def options(doc, stages=(), **defaults):

@@ -132,8 +132,8 @@ class WrongProcess(subprocess.Popen):
 class WrongRelay(Relay):
     """A relay whose first line has a space more."""
 
-    def __init__(self, rules):
-        super().__init__(rules)
+    def __init__(self, *words, **named):
+        super().__init__(*words, **named)
         self.said += " "
 
 
@@ -150,15 +150,21 @@ def never_failed():
         mock.patch.object(relay_program, "text_of", lambda path: text_of(path) + "\nx"),
         mock.patch.object(os.path, "lexists", lambda path: not lexists(path)),
         mock.patch.object(os.path, "isfile", lambda path: False),
-        mock.patch.object(os, "listdir", lambda path: []),
+        mock.patch.object(os, "listdir", lambda path: ["x"]),
+        mock.patch.object(relay_program, "scrape", lambda address: (500, "")),
+        mock.patch.object(relay_program, "heard", lambda sock, seconds: b"x"),
+        mock.patch.object(Relay, "ask", lambda relay, line: "x"),
+        mock.patch.object(Relay, "nanoseconds", lambda relay: []),
         mock.patch.object(os, "lseek", lambda *_: 1),
         mock.patch.object(glob, "glob", lambda *_: []),
     ]
+    # (what asked_pairs asks is shown on a wrong relay, by the row `pairs`)
+    stages = {name: it for name, it in relay_program.STAGES.items() if name != "asked_pairs"}
     every, failed = set(), set()
     for change in wrong:
         checks = Checks()
         with change, contextlib.redirect_stdout(io.StringIO()):
-            run_stages(checks, relay_program.STAGES)
+            run_stages(checks, stages)
         every |= set(map(of_any_folder, checks.passed + checks.failed))
         failed |= set(map(of_any_folder, checks.failed))
     print(f"relay_program.py: {len(failed)} of {len(every)} checks were seen to fail, not {sorted(every - failed)}", flush=True)

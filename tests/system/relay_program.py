@@ -471,7 +471,7 @@ def spread(checks, _):
             sending.join()
         grown = [now - then for now, then in zip(sorted(relay.nanoseconds()), before)]
         busy = sum(one > max(BUSY_NS, sum(grown) / 8) for one in grown)
-        checks.expect(f"spread: threads that copied, of {grown}", 2, busy)
+        checks.holds("spread: threads that copied", busy == 2, f"{busy} of {grown}")
         for pair in pairs:
             for sock in pair:
                 sock.close()
