@@ -210,15 +210,23 @@ class Run:
 
 
 def chosen_parts(names):
-    """Those that are named, or the quick tier, or with `full` both tiers."""
-    found, tiers = parts(), {QUICK, FULL} if FULL in names else {QUICK} if QUICK in names or not names else {}
-    unknown = set(names) - {QUICK, FULL, *(it.name for it in found)}
+    """Those that are named, or the quick tier, or with `full` both tiers; the program is built where one of them needs it."""
+    program, *found = parts()
+    tiers = {QUICK, FULL} if FULL in names else {QUICK} if QUICK in names or not names else set()
+    unknown = set(names) - {PROGRAM, QUICK, FULL, *(it.name for it in found)}
     if unknown:
         sys.exit(f"no part is named {' '.join(sorted(unknown))}: sh tests/run.sh --list")
     chosen = [it for it in found if it.name in names or it.tier in tiers]
-    if any(it.on_program for it in chosen) and PROGRAM not in names and "POLLRELAY" not in os.environ:
-        chosen.insert(0, found[0])
-    return chosen
+    is_wanted = "POLLRELAY" not in os.environ and any(it.on_program for it in chosen)
+    return [program, *chosen] if is_wanted or PROGRAM in names else chosen
+
+
+def print_list(chosen):
+    shown = {it.name: f"{it.seconds:4} s  {it.shows}" + (f" (needs: {', '.join(it.needs)})" if it.needs else "") for it in rows()}
+    crate = "        the crate's tests pass, or its program prints what is stored for its input"
+    for it in chosen:
+        if it.name != PROGRAM:
+            print(f"{it.name:22} {it.tier:5} {shown.get(it.name, crate)}")
 
 
 def main():
@@ -227,12 +235,10 @@ def main():
     options.add_argument("--lanes", type=int, default=len(os.sched_getaffinity(0)), metavar="N")
     options.add_argument("--list", action="store_true", help="say which parts there are")
     given = options.parse_args()
-    chosen = chosen_parts(given.parts)
     if given.list:
-        shown = {it.name: f"{it.seconds:4} s  {it.shows}{' (needs ' * bool(it.needs)}{', '.join(it.needs)}{')' * bool(it.needs)}" for it in rows()}
-        crate = "        the crate's tests pass, or its program prints what is stored for its input"
-        print("\n".join(f"{it.name:22} {it.tier:5} {shown.get(it.name, crate)}" for it in chosen if it.name != PROGRAM))
+        print_list(chosen_parts(given.parts) if given.parts else parts())
         return 0
+    chosen = chosen_parts(given.parts)
     print("Runs tests, and proves nothing: `rt ci` proves.", flush=True)
     began, run = time.monotonic(), Run(chosen, max(1, given.lanes))
     run.run()

@@ -84,6 +84,15 @@ class Runs(MadeFolder):
         with mock.patch.object(run, "PART_SECONDS", 0.3):
             self.assertEqual(self.ran(self.part("hangs", "sleep 60"))[:2], (0, 1))
 
+    def test_tiers_and_names_choose_parts_and_the_program_comes_where_it_is_needed(self):
+        rows = ("| `one` | quick | 9 |  | `sh one` | x |", "| `two` | full | 5 | program, alone, gcc | `sh two` | x |", "| `three` | gate | 5 |  | `sh three` | x |")
+        self.write("tests/README.md", "\n".join(rows))
+        chosen = lambda *names: [it.name for it in run.chosen_parts(names)]
+        self.assertEqual((chosen(), chosen("quick"), chosen("three")), (["one"], ["one"], ["three"]))
+        self.assertEqual((chosen("full"), chosen("two", "one")), (["program", "one", "two"], ["program", "one", "two"]))
+        os.environ["POLLRELAY"] = "/bin/true"
+        self.assertEqual(chosen("two"), ["two"])
+
     def test_an_unknown_part_is_refused(self):
         with mock.patch.object(sys, "argv", ["run.py", "nobody"]), self.assertRaises(SystemExit) as refused:
             run.main()
