@@ -1,5 +1,5 @@
 #!/bin/sh
-# Runs all tests in minutes, and proves nothing. tests/run.py says how.
+# Runs tests in tiers, and proves nothing. README.md beside this says which tests there are, and how they run.
 #
-#     sh tests/run.sh [--lanes N] [--list] [PART]..
-exec python3 "$(dirname "$0")/run.py" "$@"
+#     sh tests/run.sh [--lanes N] [--list] [full | PART]..
+exec python3 "$(dirname "$0")/gate/run.py" "$@"

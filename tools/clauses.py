@@ -3,7 +3,7 @@
 
     python3 tools/clauses.py REVISION [CRATE..]
 
-It reads them as `tests/clauses.py` does, which compares with a list of digests at each run of the gate; here both texts are
+It reads them as `tests/gate/clauses.py` does, which compares with a list of digests at each run of the gate; here both texts are
 shown, of ghost members and definitions too. It ends with 1 where a promise went or a `requires` came to a function that was
 there, which needs a reason.
 """
@@ -13,7 +13,7 @@ from collections import defaultdict
 
 sys.path.insert(0, os.path.join(os.path.dirname(os.path.dirname(os.path.realpath(__file__))), "tests"))
 sys.dont_write_bytecode = True
-import clause_texts
+from lib import clause_texts
 
 
 def texts_by_key(revision, crates):

@@ -12,7 +12,6 @@ import argparse
 import contextlib
 import itertools
 import os
-import shutil
 import statistics
 import subprocess
 import sys
@@ -23,14 +22,17 @@ import plot
 
 HERE = os.path.dirname(os.path.abspath(__file__))
 sys.path.insert(0, f"{HERE}/../../tests")
-from relay_process import PROGRAM, Relay, connect, free_port, wait_until  # noqa: E402
+from lib.packages import install  # noqa: E402
+from lib.places import PROGRAM  # noqa: E402
+from lib.relay import Relay  # noqa: E402
+from lib.sockets import free_port, is_served  # noqa: E402
+from lib.waiting import wait_until  # noqa: E402
 
 # Those that copy through user space, as pollrelay does; the best of them is what each ratio is to.
 PEERS = ["haproxy", "nginx", "socat", "go-copy"]
 OTHERS = ["go-splice", "direct"]
 TICK_NS = 1_000_000_000 // os.sysconf("SC_CLK_TCK")
 
-PACKAGES = ["gcc", "libc6-dev", "haproxy", "nginx-light", "libnginx-mod-stream", "socat", "golang-go"]
 STREAM_MODULE = "/usr/lib/nginx/modules/ngx_stream_module.so"
 
 HAPROXY = """global
@@ -70,16 +72,9 @@ class Started:
         else:
             quiet = {"stdin": subprocess.DEVNULL, "stdout": subprocess.DEVNULL, "stderr": subprocess.DEVNULL}
             self.process = subprocess.Popen(words_of(name, folder, self.port, target), **quiet)
-        if not wait_until(self.accepts, 10):
+        if not wait_until(lambda: is_served(f"tcp:127.0.0.1:{self.port}"), 10):
             self.stop()
             raise RuntimeError(f"{name} doesn't accept connections")
-
-    def accepts(self):
-        try:
-            connect(f"tcp:127.0.0.1:{self.port}").close()
-            return True
-        except ConnectionError:
-            return False
 
     def pids(self):
         """The process and all below it."""
@@ -295,19 +290,12 @@ def build_go_relay(folder):
     subprocess.run(["go", "build", "-o", f"{folder}/go_relay", f"{HERE}/go_relay.go"], check=True, env=env)
 
 
-def missing():
-    """What the bench needs and isn't there."""
-    return [it for it in ("cc", "haproxy", "nginx", "socat", "go", STREAM_MODULE) if not (shutil.which(it) or os.path.exists(it))]
-
-
 def install_missing():
     """Installs the peers by name, where one isn't there."""
-    if missing():
-        env = {**os.environ, "DEBIAN_FRONTEND": "noninteractive"}
-        words = ["apt-get", "install", "-y", "--no-install-recommends", "-o", "DPkg::Lock::Timeout=120", *PACKAGES]
-        subprocess.run(words, env=env, stdout=sys.stderr, check=False)
-    if left := [*missing(), *([] if os.path.exists(PROGRAM) else [PROGRAM])]:
-        sys.exit(f"not there: {', '.join(left)}")
+    module = f"{STREAM_MODULE}:libnginx-mod-stream"
+    install("cc:gcc libc6-dev", "haproxy:haproxy", "nginx:nginx-light", module, "socat:socat", "go:golang-go")
+    if not os.path.exists(PROGRAM):
+        sys.exit(f"not there: {PROGRAM}")
 
 
 def machine():

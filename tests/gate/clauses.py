@@ -1,0 +1,147 @@
+"""Compares what the crates promise with `tests/gate/clauses.list`, so that no clause is lost or weakened unseen.
+
+    python3 tests/gate/clauses.py            compares, and writes nothing
+    python3 tests/gate/clauses.py --write    makes the list anew, at a release, and empties `tests/gate/clauses.changes`
+
+The list has a line for each clause, ghost member and definition: `CRATE FUNCTION KIND:NAME DIGEST`. What is gone, or has another
+text, fails, as do a `requires` that came to a function which was there, and a second definition of a name, since a text that
+cites it may then mean another. It passes where `tests/gate/clauses.changes` has a line that names it with its reason:
+
+    CRATE FUNCTION KIND:NAME gone|changed|new REASON
+
+`*` in place of KIND:NAME stands for all of a function, type or definition of which nothing is left, and `* *` for all of a crate
+of which nothing is left. A line that names nothing which changed fails too. The last line is `N passed, M failed`.
+"""
+
+import argparse
+import os
+import sys
+from collections import Counter, defaultdict
+
+sys.path.insert(1, f"{sys.path[0]}/..")
+from lib import clause_texts
+from lib.clause_texts import DEFINITION, Key
+
+LIST, CHANGES = "tests/gate/clauses.list", "tests/gate/clauses.changes"
+HEAD = """# What became of promises since tests/gate/clauses.list was made (tests/gate/clauses.py): a line each,
+# CRATE FUNCTION KIND:NAME gone|changed|new REASON
+"""
+WORDS = ("gone", "changed", "new")
+
+
+def read(name):
+    path = f"{clause_texts.ROOT}/{name}"
+    if not os.path.exists(path):
+        return []
+    with open(path, encoding="utf-8") as file:
+        return [it for it in file.read().splitlines() if it and not it.startswith("#")]
+
+
+def write(name, text):
+    with open(f"{clause_texts.ROOT}/{name}", "w", encoding="utf-8") as file:
+        file.write(text)
+
+
+def by_key(pairs):
+    """The digests of each key; a key may stand more than once, as the methods of two traits on one type."""
+    found = defaultdict(Counter)
+    for key, digest in pairs:
+        found[key][digest] += 1
+    return found
+
+
+def listed():
+    lines = [it.split(" ") for it in read(LIST)]
+    return by_key((Key(*it[:3]), it[3]) for it in lines)
+
+
+def standing(promises, ambiguous):
+    return by_key((it.key, clause_texts.digest_of(it, ambiguous)) for it in promises)
+
+
+def differences(before, now):
+    """What became of each key that isn't as it was, where it matters."""
+    functions = {it[:2] for it in before if it.what.startswith(("requires:", "ensures:", "-"))}
+    names = {it.where for it in before if it.what == DEFINITION}
+    found = {}
+    for key in before.keys() | now.keys():
+        missing, more = (a.get(key, Counter()) - b.get(key, Counter()) for a, b in ((before, now), (now, before)))
+        asked = key.what.startswith("requires:") and key[:2] in functions
+        if missing and key.what != "-":
+            found[key] = "changed" if more else "gone"
+        elif more and (asked or key.what == DEFINITION and key.where in names):
+            found[key] = "new"
+    return found
+
+
+def said_of(lines):
+    """What the lines of changes name, and what is wrong with those that can't be read."""
+    said, wrong = {}, []
+    for line in lines:
+        parts = line.split(None, 4)
+        if len(parts) < 4 or parts[3] not in WORDS:
+            wrong.append(f"{CHANGES}: not `CRATE FUNCTION KIND:NAME gone|changed|new REASON`: {line}")
+        elif len(parts) < 5:
+            wrong.append(f"{CHANGES}: no reason is given: {line}")
+        else:
+            said[Key(*parts[:3])] = parts[3]
+    return said, wrong
+
+
+def judged(found, said, now):
+    """The differences that no line names, and the lines that name none."""
+    left, used = [], set()
+    stands = {it[:end] for it in now for end in (1, 2)}
+    for key, word in sorted(found.items()):
+        wider = [Key(*key[:end], *"**"[end - 1 :]) for end in (2, 1) if key[:end] not in stands]
+        named = next((it for it in [key, *wider] if said.get(it) == word), None)
+        if named:
+            used.add(named)
+        else:
+            left.append((key, word))
+    return left, [it for it in said if it not in used]
+
+
+TOLD = {
+    "gone": "is gone",
+    "changed": "has another text",
+    "new": "came to what was there: a `requires` asks more of callers, a second definition of a name may be meant for the first",
+}
+
+
+def compare(promises):
+    """Prints what isn't as it was and that no line of changes names, and says how many passed and failed."""
+    before = listed()
+    often = clause_texts.defined_often([key for key, digests in before.items() for _ in range(sum(digests.values()))])
+    now = standing(promises, often)
+    said, wrong = said_of(read(CHANGES))
+    left, idle = judged(differences(before, now), said, now)
+    for key, word in left:
+        print(f"{' '.join(key)} {TOLD[word]}\n    if that is meant, add to {CHANGES}: {' '.join(key)} {word} REASON")
+    wrong += [f"{CHANGES}: nothing became of this so: {' '.join(it)} {said[it]}" for it in idle]
+    if left:
+        print(f"    both texts of each: python3 tools/clauses.py $(git log -1 --format=%h {LIST})")
+    print(*wrong, sep="\n", end="\n" if wrong else "")
+    came = sum(it.what != "-" for it in now.keys() - before.keys())
+    print(f"{came} new, {len(said) - len(idle)} changes with a reason")
+    failed = len(left) + len(wrong) + (not before)
+    print(f"{len(before) - sum(word != 'new' for _, word in left)} passed, {failed} failed")
+    return 1 if failed else 0
+
+
+def main(words):
+    given = argparse.ArgumentParser(description="Compares what the crates promise with the list.")
+    given.add_argument("--write", action="store_true", help="make the list anew, and empty the changes")
+    promises = clause_texts.promises_of(clause_texts.texts_of())
+    if not given.parse_args(words).write:
+        return compare(promises)
+    often = clause_texts.defined_often([it.key for it in promises])
+    lines = sorted(" ".join([*it.key, clause_texts.digest_of(it, often)]) for it in promises)
+    write(LIST, "\n".join(lines) + "\n")
+    write(CHANGES, HEAD)
+    print(f"{len(lines)} lines in {LIST}")
+    return 0
+
+
+if __name__ == "__main__":
+    sys.exit(main(sys.argv[1:]))

@@ -1,0 +1,177 @@
+#!/bin/sh
+# Uses of the lock word's values, and of calls under way, that the compiler refuses. Each line below that ends in
+# `// refused: CODE` has to be refused with that code, and no other line with any. It proves nothing and takes about a minute.
+set -eu
+root=$(cd "$(dirname "$0")/../.." && pwd)
+work=$(mktemp -d)
+trap 'rm -rf "$work"' EXIT
+mkdir -p "$work/crates/misuse/src" "$work/crates/misuse/specs" "$work/crates/misuse/proofs"
+touch "$work/crates/misuse/specs/Lib.antt" "$work/crates/misuse/proofs/Lib.antt"
+cp "$root/HANDLES" "$work/"
+below='base_types lockword_core lockword fdmutex deadline_core rwloops fd_descriptor'
+for crate in $below; do
+    (cd "$root/crates" && tar --exclude=out --exclude=must-fail --exclude=wrong-bodies -cf - "$crate") | tar -C "$work/crates" -xf -
+done
+{
+    grep -E "^($(echo "$below" | tr ' ' '|'))[ :]" "$root/crates.txt"
+    echo 'misuse: base_types lockword rwloops fd_descriptor'
+} > "$work/crates.txt"
+cd "$work/crates/misuse"
+
+# refuses WHAT: the program on standard input is refused at each marked line, and at no other
+refuses() {
+    cat > src/lib.rt
+    refuses_in lib "$1"
+}
+
+# refuses_in FILE WHAT: src/FILE.rt of this crate is refused at each marked line, and at no other
+refuses_in() {
+    grep -n '// refused: ' "src/$1.rt" | sed 's/:.*refused: / /' | sort -u > "$work/wanted"
+    rt check --only "" 2>&1 | sed -n 's/^src\/'"$1"'\.rt:\([0-9]*\):[0-9]*: error\[\([a-z0-9-]*\)\].*/\1 \2/p' | sort -u > "$work/found"
+    shift
+    if ! diff "$work/wanted" "$work/found"; then
+        echo "$1: not refused as it must be (< wanted, > found)"
+        exit 1
+    fi
+    echo "$1: refused at $(wc -l < "$work/wanted") lines, as it must be"
+}
+
+refuses 'a half after the unlock, and a value spent twice' << 'END'
+//! A value goes into one call, and the half is lent for as long as its lock is.
+#![tactic(auto)]
+
+use lockword::{LockWord, ReadLock, Ref, UnlockRead, UnlockWrite, WriteLock};
+
+pub fn half_after_the_unlock(word: &LockWord<u64, u64>, mut lock: ReadLock<u64, u64>) -> UnlockRead<u64, u64> {
+    let half = lock.half(word);
+    let answer = word.try_unlock_read(lock); // refused: borrow-e0505
+    *half = 1;
+    answer
+}
+
+pub fn second_use_of_a_lock(word: &LockWord<u64, u64>, lock: WriteLock<u64, u64>) -> (UnlockWrite<u64, u64>, UnlockWrite<u64, u64>) {
+    let first = word.try_unlock_write(lock);
+    let second = word.try_unlock_write(lock); // refused: borrow-e0382
+    (first, second)
+}
+
+pub fn half_of_a_spent_lock(word: &LockWord<u64, u64>, mut lock: WriteLock<u64, u64>) -> UnlockWrite<u64, u64> {
+    let answer = word.try_unlock_write(lock);
+    *lock.half(word) = 1; // refused: borrow-e0382
+    answer
+}
+
+pub fn reference_copied(held: Ref<u64, u64>) -> (Ref<u64, u64>, Ref<u64, u64>) {
+    (held, held) // refused: borrow-e0382
+}
+END
+
+refuses 'a value that must be spent, and is let go' << 'END'
+//! A reference, a lock, a place in a queue, a signal owed, the close, the drain that owes signals and the duty to destroy
+//! can't be dropped.
+#![tactic(auto)]
+
+use lockword::{Closing, Drains, Last, Owing, ReadLock, ReadWait, Ref, WriteLock, WriteWait};
+
+pub fn reference(held: Ref<u64, u64>) {} // refused: linear-value-let-go
+
+pub fn read_lock(lock: ReadLock<u64, u64>) {} // refused: linear-value-let-go
+
+pub fn write_lock(lock: WriteLock<u64, u64>) {} // refused: linear-value-let-go
+
+pub fn queued_reader(wait: ReadWait<u64, u64>) {} // refused: linear-value-let-go
+
+pub fn queued_writer(wait: WriteWait<u64, u64>) {} // refused: linear-value-let-go
+
+pub fn signal_owed(owing: Owing<u64, u64>) {} // refused: linear-value-let-go
+
+pub fn close(closing: Closing<u64, u64>) {} // refused: linear-value-let-go
+
+pub fn drain(drains: Drains<u64, u64>) {} // refused: linear-value-let-go
+
+pub fn duty_to_destroy(last: Last<u64, u64>) {} // refused: linear-value-let-go
+END
+
+refuses 'a value that is taken apart, or made up' << 'END'
+//! The fields are private, so that nobody takes a half out of its lock or makes a seat of a reference.
+#![tactic(auto)]
+
+use lockword::{ReadLock, Ref, Seat};
+
+pub fn half_out_of_its_lock(lock: ReadLock<u64, u64>) -> u64 {
+    lock.half // refused: private-field
+}
+
+pub fn seat_of_a_reference(held: Ref<u64, u64>) -> Seat<u64, u64> {
+    Seat { place: held.place } // refused: private-field
+}
+END
+
+refuses 'a try call that takes a lock' << 'END'
+//! To take a lock is to wait, and a try call has no runtime to wait with.
+#![tactic(auto)]
+
+use std::sync::Mutex;
+
+pub fn try_with_a_mutex_around_the_state(state: &Mutex<u64>) -> u64 {
+    *state.lock() // refused: mismatched-argument-count
+}
+END
+
+refuses 'a call under way after its end' << 'END'
+//! A call under way goes into its end, which gives the handle back; while it is under way the handle is gone, and the half
+//! stays under its lock.
+#![tactic(auto)]
+
+use fd_descriptor::{Fault, FdHandle, Progress, ReadUnderWay, Resource, TryRead, TryWrite, WriteUnderWay};
+use std::sync::Wait;
+
+pub fn try_after_the_end<X: Resource, T: Wait + Copy>(
+    mut reading: ReadUnderWay<X, T>,
+    buf: &mut [u8],
+) -> (FdHandle<X>, Option<Result<usize, Fault>>)
+where
+    X::R: TryRead,
+{
+    let handle = reading.end();
+    let answer = reading.try_read(buf); // refused: borrow-e0382
+    (handle, answer)
+}
+
+pub fn try_after_it_was_let_go<X: Resource, T: Wait + Copy>(
+    mut writing: WriteUnderWay<X, T>,
+    bytes: &[u8],
+) -> Progress
+where
+    X::W: TryWrite,
+{
+    drop(writing);
+    writing.try_write(bytes) // refused: borrow-e0382
+}
+
+pub fn ended_twice<X: Resource, T: Wait + Copy>(reading: ReadUnderWay<X, T>) -> (FdHandle<X>, FdHandle<X>) {
+    let first = reading.end();
+    let second = reading.end(); // refused: borrow-e0382
+    (first, second)
+}
+
+pub fn handle_while_its_call_is_under_way<X: Resource, T: Wait + Copy>(
+    rt: T,
+    mut handle: FdHandle<X>,
+    buf: &mut [u8],
+) -> Result<usize, Fault>
+where
+    X::R: TryRead,
+{
+    let begun = handle.begin_read(rt);
+    drop(begun);
+    handle.read(&rt, buf) // refused: borrow-e0382
+}
+END
+
+# The same inside the word: a `LockWord` that keeps a mutex beside its table, and a try that takes it before its step.
+cd "$work/crates/lockword"
+sed -i 's|^    pub(crate) table: Table<.*|&\n    pub(crate) guard: std::sync::Mutex<u64>,|' src/holders.rt
+sed -i 's|^        match self\.try_step::<TakeReference>.*|        let held = self.guard.lock(); // refused: mismatched-argument-count\n&|' src/references.rt
+sed -i 's|Ok((LockWord { table }, |Ok((LockWord { table, guard: std::sync::Mutex::new(0) }, |' src/destroy.rt
+refuses_in references 'a lock held inside the word'

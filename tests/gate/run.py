@@ -1,0 +1,251 @@
+"""Runs tests in tiers, and proves nothing: what is proved, `rt ci` says.
+
+    sh tests/run.sh [--lanes N] [--list] [PART]..        the quick tier, or those parts
+    sh tests/run.sh [--lanes N] [--list] full            the full tier too
+
+The quick tier is the tests of each crate, and each program on its stored input, as `rt try` builds them, with checks in place
+of proofs; and the rows of the table in tests/README.md that are quick, among them those that try the relay from outside, on a
+program that is built the same way. A part has a line: how it ended, its seconds, and how many it passed. A part that failed is
+told with the end of what it said, and with the command that runs it alone. The last line is `N passed, M failed`.
+
+It needs the kit's rt on the path, python3, and what the rows of the table name.
+"""
+
+import argparse
+import os
+import re
+import shlex
+import subprocess
+import sys
+import tempfile
+import time
+from collections import namedtuple
+
+sys.path.insert(1, f"{sys.path[0]}/..")
+from lib.places import ROOT
+
+# What a test may take on a machine that is full of other work, in seconds.
+TEST_SECONDS = 300
+# What a part may take: so long, or so many times what the table says.
+PART_SECONDS, TIMES = 1_500, 5
+# How much is shown of what a failed part said.
+LINES_SHOWN = 40
+# How a part says how many it passed: rt's tests and most scripts, and Python's own tests.
+PASSED, RAN = re.compile(r"(\d+) passed[;,] (\d+) failed"), re.compile(r"^Ran (\d+) tests?", re.M)
+
+PROGRAM = "program"
+QUICK, FULL = "quick", "full"
+Row = namedtuple("Row", "name tier seconds needs command shows")
+
+
+def rows():
+    """The rows of the table of parts."""
+    found = []
+    for line in text_of(f"{ROOT}/tests/README.md").splitlines():
+        if re.match(r"\| `\w+` \| \w+ \| \d+ \|", line):
+            name, tier, seconds, needs, command, shows = (it.strip() for it in line.strip("|").split(" | "))
+            found.append(Row(name.strip("`"), tier, int(seconds), [it for it in needs.split(", ") if it], command.strip("`"), shows))
+    return found
+
+
+class Part:
+    """A part: a command, what it has to print, where that is stored, what it waits for, and a file that it needs and isn't there."""
+
+    def __init__(self, name, words, weight, folder="", on_program=False, is_alone=False, stdin=None, wanted=None, tier=QUICK, lacking=None):
+        self.name, self.words, self.weight, self.folder = name, words, weight, f"{ROOT}/{folder}"
+        self.on_program, self.is_alone, self.stdin, self.wanted = on_program, is_alone, stdin, wanted
+        self.tier, self.lacking = tier, lacking
+        self.running = self.said = None
+
+    def start(self, program):
+        self.began, self.said = time.monotonic(), tempfile.TemporaryFile()
+        self.printed = tempfile.TemporaryFile() if self.wanted is not None else self.said
+        env = {**os.environ, "RT_SECONDS": str(TEST_SECONDS), "PYTHONDONTWRITEBYTECODE": "1"}
+        if program:
+            env["POLLRELAY"] = program
+        with open(self.stdin or os.devnull, "rb") as given:
+            self.running = subprocess.Popen(
+                self.words, cwd=self.folder, env=env, stdin=given, stdout=self.printed, stderr=self.said, start_new_session=True
+            )
+
+    def seconds(self):
+        return time.monotonic() - self.began
+
+    def has_ended(self):
+        if self.running.poll() is None and self.seconds() > max(PART_SECONDS, TIMES * self.weight):
+            os.killpg(self.running.pid, 9)
+            self.running.wait()
+        return self.running.poll() is not None
+
+    def text(self, file=None):
+        file = file or self.said
+        file.seek(0)
+        return file.read().decode(errors="replace")
+
+    def counts(self):
+        """How many it passed and failed. A part that says no numbers is one."""
+        is_well = self.running.returncode == 0
+        if self.wanted is not None:
+            with open(self.wanted, encoding="utf-8") as file:
+                is_well = is_well and self.text(self.printed) == file.read()
+            return (1, 0) if is_well else (0, 1)
+        passed, failed = told_counts(self.text()) or (int(is_well), 0)
+        return passed, failed if is_well else max(failed, 1)
+
+
+def told_counts(said):
+    """How many a part says that it passed and failed, or None where it says nothing."""
+    told, ran = PASSED.findall(said), RAN.findall(said)
+    if told:
+        return int(told[-1][0]), int(told[-1][1])
+    return (int(ran[-1]), 0) if ran else None
+
+
+def text_of(path):
+    if not os.path.isfile(path):
+        return ""
+    with open(path, encoding="utf-8") as file:
+        return file.read()
+
+
+def crates():
+    found = re.findall(r"^(\w+)[^:\n#]*:", text_of(f"{ROOT}/crates.txt"), re.M)
+    return [(it, f"crates/{it}") for it in found]
+
+
+def has_tests(folder):
+    sources = (os.path.join(at, it) for at, _, files in os.walk(f"{ROOT}/{folder}/src") for it in files)
+    return any("#[test]" in text_of(it) for it in sources)
+
+
+def lines_in(folder):
+    sources = (os.path.join(at, it) for at, _, files in os.walk(f"{ROOT}/{folder}/src") for it in files)
+    return sum(text_of(it).count("\n") for it in sources)
+
+
+def part_of(row):
+    words = [sys.executable if it == "python3" else it for it in shlex.split(row.command)]
+    lacking = next((it for it in row.needs if "/" in it and not os.path.exists(f"{ROOT}/{it}")), None)
+    return Part(row.name, words, row.seconds, on_program=PROGRAM in row.needs, is_alone="alone" in row.needs, tier=row.tier, lacking=lacking)
+
+
+def parts():
+    """All parts, the program's build first, and then those that take longest."""
+    found = []
+    for name, folder in crates():
+        if has_tests(folder):
+            found.append(Part(name, ["rt", "try", "--test"], 60 + lines_in(folder) / 20, folder))
+        stored = f"{ROOT}/{folder}/stdout"
+        if os.path.isfile(f"{ROOT}/{folder}/src/main.rt") and os.path.isfile(stored):
+            args = text_of(f"{ROOT}/{folder}/args").split("\n")
+            words = ["rt", "try", "--", *[it for it in args if it]]
+            given = f"{ROOT}/{folder}/stdin"
+            found.append(Part(name, words, 50, folder, stdin=given if os.path.isfile(given) else None, wanted=stored))
+    found += map(part_of, rows())
+    found.sort(key=lambda it: (it.on_program, -it.weight))
+    return [Part(PROGRAM, [sys.executable, "tools/unproved.py"], 999), *found]
+
+
+class Run:
+    """Which parts wait, run, and have ended, and how."""
+
+    def __init__(self, chosen, lanes):
+        self.waiting, self.lanes, self.running = chosen, lanes, []
+        self.passed = self.failed = 0
+        self.program = os.environ.get("POLLRELAY")
+        self.is_built = self.program is not None
+
+    def may_start(self, part):
+        if part.on_program and not self.is_built:
+            return False
+        if part.is_alone:
+            return not self.running and all(it.is_alone for it in self.waiting)
+        return len(self.running) < self.lanes
+
+    def start_ready(self):
+        for part in list(self.waiting):
+            if part.lacking:
+                self.leave_out(part, f"there is no {part.lacking}")
+            elif not any(it.is_alone for it in self.running) and self.may_start(part):
+                self.waiting.remove(part)
+                part.start(self.program if part.on_program else None)
+                self.running.append(part)
+
+    def end(self, part):
+        passed, failed = part.counts()
+        self.passed, self.failed = self.passed + passed, self.failed + failed
+        word = "FAILED" if failed else "ok"
+        print(f"{word:6}  {part.name:18} {part.seconds():5.0f} s  {passed} passed, {failed} failed", flush=True)
+        if failed:
+            said = part.text() + (part.text(part.printed) if part.wanted is not None else "")
+            print("\n".join(f"    {it}" for it in said.splitlines()[-LINES_SHOWN:]))
+            print(f"    alone: sh tests/run.sh {part.name}", flush=True)
+        if part.name == PROGRAM:
+            self.note_program(part, failed)
+        part.said.close()
+        part.printed.close()
+
+    def note_program(self, part, failed):
+        """Parts on the program can't run where it wasn't built: each has failed."""
+        self.is_built = True
+        if not failed:
+            self.program = part.text().split()[-1]
+            return
+        for it in [it for it in self.waiting if it.on_program]:
+            self.leave_out(it, "no program was built")
+
+    def leave_out(self, part, why):
+        """A part that can't run has failed."""
+        self.waiting.remove(part)
+        self.failed += 1
+        print(f"FAILED  {part.name:18}     not run, since {why}", flush=True)
+
+    def run(self):
+        while self.waiting or self.running:
+            self.start_ready()
+            for part in [it for it in self.running if it.has_ended()]:
+                self.running.remove(part)
+                self.end(part)
+            time.sleep(0.1)
+
+
+def chosen_parts(names):
+    """Those that are named, or the quick tier, or with `full` both tiers; the program is built where one of them needs it."""
+    program, *found = parts()
+    tiers = {QUICK, FULL} if FULL in names else {QUICK} if QUICK in names or not names else set()
+    unknown = set(names) - {PROGRAM, QUICK, FULL, *(it.name for it in found)}
+    if unknown:
+        sys.exit(f"no part is named {' '.join(sorted(unknown))}: sh tests/run.sh --list")
+    chosen = [it for it in found if it.name in names or it.tier in tiers]
+    is_wanted = "POLLRELAY" not in os.environ and any(it.on_program for it in chosen)
+    return [program, *chosen] if is_wanted or PROGRAM in names else chosen
+
+
+def print_list(chosen):
+    shown = {it.name: f"{it.seconds:4} s  {it.shows}" + (f" (needs: {', '.join(it.needs)})" if it.needs else "") for it in rows()}
+    crate = "        the crate's tests pass, or its program prints what is stored for its input"
+    for it in chosen:
+        if it.name != PROGRAM:
+            print(f"{it.name:22} {it.tier:5} {shown.get(it.name, crate)}")
+
+
+def main():
+    options = argparse.ArgumentParser(description=__doc__.split("\n")[0])
+    options.add_argument("parts", nargs="*", metavar="PART", help="parts, or a tier: quick, full")
+    options.add_argument("--lanes", type=int, default=len(os.sched_getaffinity(0)), metavar="N")
+    options.add_argument("--list", action="store_true", help="say which parts there are")
+    given = options.parse_args()
+    if given.list:
+        print_list(chosen_parts(given.parts) if given.parts else parts())
+        return 0
+    chosen = chosen_parts(given.parts)
+    print("Runs tests, and proves nothing: `rt ci` proves.", flush=True)
+    began, run = time.monotonic(), Run(chosen, max(1, given.lanes))
+    run.run()
+    print(f"in {time.monotonic() - began:.0f} s, with nothing proved")
+    print(f"{run.passed} passed, {run.failed} failed")
+    return 1 if run.failed else 0
+
+
+if __name__ == "__main__":
+    sys.exit(main())

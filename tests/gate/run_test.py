@@ -1,0 +1,141 @@
+"""What `tests/gate/run.py` counts and says of parts that pass, fail, and print other text than is stored; and that each script has a
+row in its table, and takes from `tests/lib` alone. It takes seconds."""
+
+import ast
+import contextlib
+import io
+import os
+import sys
+import unittest
+from unittest import mock
+
+import run
+from lib.made import MadeFolder
+
+
+class Runs(MadeFolder):
+    def setUp(self):
+        super().setUp()
+        self.patched(mock.patch.object(run, "ROOT", self.folder), mock.patch.dict(os.environ))
+        os.environ.pop("POLLRELAY", None)
+
+    def part(self, name, script, **how):
+        return run.Part(name, ["sh", "-c", script], 0, **how)
+
+    def ran(self, *parts, lanes=2):
+        """The numbers that passed and failed, and the printed lines."""
+        whole = run.Run(list(parts), lanes)
+        with contextlib.redirect_stdout(io.StringIO()) as said:
+            whole.run()
+        return whole.passed, whole.failed, said.getvalue()
+
+    def stored(self, text):
+        return self.write("stdout", text)
+
+    def test_numbers_are_those_that_a_part_says(self):
+        parts = self.part("rt", "echo 'test result: ok. 7 passed; 0 failed'"), self.part("script", "echo 3 passed, 0 failed")
+        self.assertEqual(self.ran(*parts)[:2], (10, 0))
+
+    def test_a_part_that_says_no_number_is_one(self):
+        self.assertEqual(self.ran(self.part("quiet", "true"))[:2], (1, 0))
+        self.assertEqual(self.ran(self.part("python", "echo 'Ran 5 tests in 1s' >&2"))[:2], (5, 0))
+
+    def test_a_status_that_is_bad_has_failed_whatever_is_said(self):
+        passed, failed, said = self.ran(self.part("liar", "echo 9 passed, 0 failed; exit 3"))
+        self.assertEqual((passed, failed), (9, 1))
+        self.assertIn("FAILED  liar", said)
+        self.assertIn("alone: sh tests/run.sh liar", said)
+
+    def test_what_failed_is_shown(self):
+        passed, failed, said = self.ran(self.part("crate", "echo test close_ends_a_read ... FAILED; echo '4 passed; 2 failed'; exit 1"))
+        self.assertEqual((passed, failed), (4, 2))
+        self.assertIn("close_ends_a_read ... FAILED", said)
+
+    def test_a_printed_text_is_compared(self):
+        self.assertEqual(self.ran(self.part("same", "echo hello", wanted=self.stored("hello\n")))[:2], (1, 0))
+        self.assertEqual(self.ran(self.part("other", "echo hullo", wanted=self.stored("hello\n")))[:2], (0, 1))
+        self.assertEqual(self.ran(self.part("ended", "echo hello; exit 1", wanted=self.stored("hello\n")))[:2], (0, 1))
+
+    def test_parts_on_the_program_have_it(self):
+        program = self.part(run.PROGRAM, "sleep 0.3; echo /bin/true")
+        asks = self.part("asks", 'test "$POLLRELAY" = /bin/true', on_program=True)
+        self.assertEqual(self.ran(program, asks)[:2], (2, 0))
+
+    def test_parts_on_a_program_that_was_not_built_have_failed(self):
+        program = self.part(run.PROGRAM, "exit 1")
+        passed, failed, said = self.ran(program, self.part("asks", "true", on_program=True))
+        self.assertEqual((passed, failed), (0, 2))
+        self.assertIn("asks", said)
+
+    def test_a_part_that_lacks_a_file_has_failed(self):
+        passed, failed, said = self.ran(self.part("asks", "true", lacking="out/program"))
+        self.assertEqual((passed, failed), (0, 1))
+        self.assertIn("there is no out/program", said)
+
+    def test_a_part_that_runs_alone_does(self):
+        note = f"{self.folder}/note"
+        beside = self.part("beside", f"echo in >> {note}; sleep 0.5; echo out >> {note}")
+        alone = self.part("alone", f"echo alone >> {note}", is_alone=True)
+        self.ran(alone, beside)
+        with open(note, encoding="utf-8") as file:
+            self.assertEqual(file.read().split(), ["in", "out", "alone"])
+
+    def test_a_part_that_takes_too_long_is_ended(self):
+        with mock.patch.object(run, "PART_SECONDS", 0.3):
+            self.assertEqual(self.ran(self.part("hangs", "sleep 60"))[:2], (0, 1))
+
+    def test_tiers_and_names_choose_parts_and_the_program_comes_where_it_is_needed(self):
+        rows = ("| `one` | quick | 9 |  | `sh one` | x |", "| `two` | full | 5 | program, alone, gcc | `sh two` | x |", "| `three` | gate | 5 |  | `sh three` | x |")
+        self.write("tests/README.md", "\n".join(rows))
+        chosen = lambda *names: [it.name for it in run.chosen_parts(names)]
+        self.assertEqual((chosen(), chosen("quick"), chosen("three")), (["one"], ["one"], ["three"]))
+        self.assertEqual((chosen("full"), chosen("two", "one")), (["program", "one", "two"], ["program", "one", "two"]))
+        os.environ["POLLRELAY"] = "/bin/true"
+        self.assertEqual(chosen("two"), ["two"])
+
+    def test_an_unknown_part_is_refused(self):
+        with mock.patch.object(sys, "argv", ["run.py", "nobody"]), self.assertRaises(SystemExit) as refused:
+            run.main()
+        self.assertIn("nobody", str(refused.exception))
+
+
+def scripts():
+    """The scripts of tests/, by their paths from the top."""
+    folders = ("gate", "system", "fuzz", "packaging")
+    return [f"tests/{it}/{name}" for it in folders for name in os.listdir(f"{run.ROOT}/tests/{it}") if name.endswith((".py", ".sh"))]
+
+
+def imported(path):
+    """The modules that a script imports."""
+    with open(f"{run.ROOT}/{path}", encoding="utf-8") as file:
+        for it in ast.walk(ast.parse(file.read())):
+            if isinstance(it, ast.Import):
+                yield from (name.name for name in it.names)
+            elif isinstance(it, ast.ImportFrom):
+                yield it.module
+
+
+class Table(unittest.TestCase):
+    def test_each_script_has_a_row_and_each_row_its_files(self):
+        named = {word for row in run.rows() for word in row.command.split() if "/" in word}
+        # (the runner, and what stands in for the program)
+        self.assertEqual(set(scripts()) - named, {"tests/gate/run.py", "tests/system/wrong_relay.py"})
+        self.assertEqual([it for it in named if not os.path.isfile(f"{run.ROOT}/{it}")], [])
+
+    def test_each_row_is_read_and_no_name_stands_twice(self):
+        with open(f"{run.ROOT}/tests/README.md", encoding="utf-8") as file:
+            lines = [line for line in file if line.startswith("| `") and line.count("|") > 3]
+        names = [it.name for it in run.parts()]
+        self.assertEqual((len(run.rows()), len(set(names))), (len(lines), len(names)))
+
+    def test_a_script_takes_from_lib_alone_but_for_what_it_tests(self):
+        known = {os.path.basename(it)[:-3] for it in scripts()}
+        for path in scripts():
+            name = os.path.basename(path)[:-3]
+            tested = {"planted_faults": {"relay_program", "relay_rows"}}.get(name, {name.removesuffix("_test")})
+            if path.endswith(".py"):
+                self.assertEqual(set(imported(path)) & known - tested, set(), path)
+
+
+if __name__ == "__main__":
+    unittest.main()

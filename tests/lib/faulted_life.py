@@ -1,0 +1,204 @@
+"""A run of the built program on a system that fails it: a relay under a preloaded library or a tracer, from its start to its end, and
+what has to hold whatever failed.
+"""
+import random
+import re
+import time
+
+from lib.clients import TAG_BYTES, Desk, Ledger, Misses, exchange, open_connection
+from lib.relay import Relay, StartFault, totals_of
+from lib.sockets import free_port
+from lib.waiting import wait_until
+
+# What a relay that can't start may say, as docs/operations.md has it.
+START_LINES = re.compile(r"(cannot read rules|cannot listen [a-z0-9]+|relay fault: (device|memory))\n")
+STOP_SECONDS = 20
+GONE = ("error 404 no such connection", "error 409 closed")
+MARKS = ("[refused]\n", "[failed]\n")
+
+
+def said_of(errors):
+    """What the program itself wrote to standard error, and whether the library failed a call."""
+    said = errors
+    for mark in MARKS:
+        said = said.replace(mark, "")
+    return said, said != errors
+
+
+def start_fault(fault, may_lose_lines=0):
+    """What is wrong with a relay that didn't start. Where two lines may be lost, that of the fault may be one of them."""
+    said, _ = said_of(fault.errors)
+    if may_lose_lines > 1 and not said:
+        said = "relay fault: device\n"
+    wrong = []
+    if fault.is_hung:
+        wrong.append(f"it neither starts nor ends: {fault.said!r}")
+    elif fault.status != 3 or fault.said or not START_LINES.fullmatch(said):
+        wrong.append(f"it ended at its start with {fault.status}, {fault.said!r} and {said!r}")
+    if fault.left:
+        wrong.append(f"it left {fault.left}")
+    return wrong
+
+
+class Run:
+    """One relay with its clients, from its start to its end."""
+
+    def __init__(self, targets, port, rng, most=1):
+        self.targets, self.port, self.rng = targets, port, rng
+        # Each failed call may spoil a try.
+        self.tries = most + 2
+        self.ledger, self.misses, self.wrong = Ledger(), Misses(), []
+        self.standing = []
+        self.relay = self.rest = None
+
+    def options(self):
+        """What the relay is asked for beside its rules and its admin socket."""
+        return ()
+
+    def addresses(self):
+        yield "tcp", f"tcp:127.0.0.1:{self.port}"
+        yield "unix", f"unix:{self.relay.folder}/in.sock"
+
+    def open(self, kind, address):
+        tag = self.rng.randbytes(TAG_BYTES)
+        return open_connection(address, self.targets.accepts[kind], tag, self.ledger, self.misses, f"a {kind} connection")
+
+    def open_each(self):
+        """One connection by each rule; where one is dropped the next has to be taken."""
+        for kind, address in self.addresses():
+            for _ in range(self.tries):
+                if (taken := self.open(kind, address)) is not None:
+                    self.standing.append(taken)
+                    break
+            else:
+                self.wrong.append(f"no {kind} connection is taken any more")
+
+    def ids(self, desk):
+        """The list, asked again for up to three seconds while the workers of a connection that was cut have not ended."""
+        found = []
+
+        def is_short():
+            found[:] = desk.ask("list").split()[1:]
+            return len(found) <= 2 + 2 * len(self.standing)
+
+        wait_until(is_short, 3)
+        return found
+
+    def look(self, desk):
+        """The list, and deadlines that are far away. A connection that was cut isn't there any more."""
+        ids = self.ids(desk)
+        if ids[:2] != ["1", "2"] or ids[2:] != sorted(ids[2:], key=int) or len(ids) > 2 + 2 * len(self.standing):
+            self.wrong.append(f"the list is {ids} with {len(self.standing)} connections")
+        for id in {"1", *ids[-1:]}:
+            for when in ("86400000", "never"):
+                reply = desk.ask(f"deadline {id} {when}")
+                if reply != "ok" and (id in ("1", "2") or reply not in GONE):
+                    self.wrong.append(f"a deadline of {id} was answered {reply!r}")
+
+    def pass_and_end(self, size):
+        """Bytes both ways over the standing connections, and their ends."""
+        exchange(self.standing, self.rng, size, self.ledger, self.misses)
+        for it in self.standing:
+            it.close()
+        self.standing = []
+
+    def expect_rest(self, rest):
+        """Threads and descriptors are those of a relay at rest."""
+        quiet = wait_until(lambda: (self.relay.threads(), self.relay.descriptors()) == rest, 3)
+        if not quiet:
+            self.wrong.append(f"threads and descriptors {(self.relay.threads(), self.relay.descriptors())}, at rest {rest}")
+
+    def serve_and_stop(self, rest, size, may_lose_lines):
+        """Clients, sessions, the ends of the clients, others after them, drains, and the stop while those stand."""
+        desk = Desk(self.relay, self.misses, self.tries)
+        self.open_each()
+        self.look(desk)
+        desk.drop()
+        self.pass_and_end(size)
+        if not wait_until(lambda: desk.ask("list") == "ids 1 2", 5):
+            self.wrong.append(f"the list stays {desk.ask('list')!r}")
+        desk.drop()
+        if rest is not None:
+            self.expect_rest(rest)
+        self.open_each()
+        self.drain(desk)
+        self.stop(desk, may_lose_lines)
+        for it in self.standing:
+            it.close()
+
+    def drain(self, desk):
+        """Drains of the last id and of a listener, which take no memory. Where a reply was lost the drain was made before."""
+        for id in (self.ids(desk)[-1:] or ["2"])[0], "1":
+            reply = desk.ask(f"drain {id}")
+            if reply not in ("ok", "error 409 draining", *GONE):
+                self.wrong.append(f"a drain of {id} was answered {reply!r}")
+        if wanting := [it for it in self.misses.names if it.startswith("'drain ")]:
+            self.wrong.append(f"a drain wanted memory: {wanting}")
+
+    def stop(self, desk, may_lose_lines=0):
+        """Says stop, and looks at the relay's end. A last line that can't be written is status 3, and a second one that can't is
+        that of the fault."""
+        before = len(self.misses.names)
+        reply = desk.ask("stop")
+        desk.drop()
+        if reply != "ok" and len(self.misses.names) > before:
+            # It is carried out, and its reply was lost: one session, though later tries find nobody.
+            del self.misses.names[before + 1 :]
+        elif reply != "ok":
+            self.wrong.append(f"stop was answered {reply!r}")
+        if not self.relay.ends_within(STOP_SECONDS):
+            self.wrong.append("the relay doesn't end")
+            return
+        last = self.relay.process.stdout.read().decode()
+        end = self.relay.process.returncode, said_of(self.relay.errors())[0], last
+        is_right = end[:2] == (0, "") and self.ledger.holds(totals_of(last))
+        if not is_right and end not in [(3, "relay fault: device\n", ""), (3, "", "")][:may_lose_lines]:
+            self.wrong.append(f"it ended with {end}, and what arrived is {self.ledger}")
+        if self.relay.sockets():
+            self.wrong.append(f"it left {self.relay.sockets()}")
+
+
+def rest_of(targets, env, kind=Run):
+    """Threads and descriptors of a relay that has served, and serves nobody now."""
+    run = kind(targets, free_port(), random.Random(0))
+    with Relay(targets.rules(run.port), env=env, options=run.options()) as relay:
+        run.relay = relay
+        run.open_each()
+        run.pass_and_end(1_000)
+        wait_until(lambda: relay.ids() == [1, 2], 5)
+        time.sleep(0.3)
+        rest = relay.threads(), relay.descriptors()
+        run.stop(Desk(relay, run.misses))
+        if run.misses.names or run.wrong:
+            raise RuntimeError(f"a run in which nothing is refused: {run.misses.names} {run.wrong}")
+    return rest
+
+
+def single_run(targets, env, rest, seed, before=(), most=1, size=20_000, may_lose_lines=0, kind=Run):
+    """A run in which calls fail, at most so many of them noticed: what came of it, whether one failed, and what is wrong."""
+    run = kind(targets, free_port(), random.Random(seed), most)
+    targets.drain()
+    try:
+        relay = Relay(targets.rules(run.port), env=env, before=before, options=run.options())
+    except StartFault as fault:
+        return f"the start: {said_of(fault.errors)[0].strip()}", said_of(fault.errors)[1], start_fault(fault, may_lose_lines)
+    with relay:
+        run.relay = relay
+        run.serve_and_stop(rest, size, may_lose_lines)
+        has_failed = said_of(relay.errors())[1]
+    if rest is not None and len(run.misses.names) > (most if has_failed else 0):
+        run.wrong.append(f"too much was dropped: {run.misses.names}")
+    return (run.misses.names or ["nothing"])[0], has_failed, run.wrong + run.misses.wrong
+
+
+def tell(checks, name, came, wrong):
+    checks.holds(name, not wrong, f"{came}; {wrong[:3]}")
+
+
+def summary(name, kinds):
+    parts = ", ".join(f"{count} {kind}" for kind, count in kinds.most_common())
+    print(f"{name}: {sum(kinds.values())} runs: {parts}", flush=True)
+
+
+def kind_of(came):
+    return re.sub(r": (TimeoutError|ConnectionResetError|BrokenPipeError|EOFError|ConnectionRefusedError).*", "", came)

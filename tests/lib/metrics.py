@@ -1,0 +1,10 @@
+"""Asks a relay for its metrics."""
+from lib.sockets import connect, read_to_end
+
+
+def scrape(address, path="/metrics", timeout=20):
+    """Status and body of one request on a connection of its own."""
+    with connect(address, timeout) as sock:
+        sock.sendall(f"GET {path} HTTP/1.1\r\nHost: x\r\nConnection: close\r\n\r\n".encode())
+        head, _, body = read_to_end(sock).partition(b"\r\n\r\n")
+    return int((head.split() or [b"", b"0"])[1]), body.decode()

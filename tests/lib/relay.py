@@ -1,0 +1,169 @@
+"""A relay as a process: starts it, asks its admin socket, and looks at its threads, descriptors and memory."""
+import os
+import resource
+import shutil
+import signal
+import stat
+import subprocess
+import tempfile
+import time
+
+from lib.places import PROGRAM
+from lib.sockets import REPLY_SECONDS, connect
+
+# 2,000 pairs and 64 listeners take more descriptors than the 1,024 that a shell often gives.
+DESCRIPTORS = 8192
+
+
+class Session:
+    """One admin session: a line, its reply, and so on."""
+
+    def __init__(self, path):
+        self.sock = connect(f"unix:{path}")
+        self.replies = self.sock.makefile("r", encoding="ascii", newline="\n")
+
+    def ask(self, line):
+        self.sock.sendall(f"{line}\n".encode())
+        reply = self.replies.readline()
+        if not reply.endswith("\n"):
+            raise EOFError(f"no whole reply to {line!r}: {reply!r}")
+        return reply[:-1]
+
+    def __enter__(self):
+        return self
+
+    def __exit__(self, *_):
+        self.replies.close()
+        self.sock.close()
+
+
+class StartFault(RuntimeError):
+    """A relay that ended, or was ended, before it said that it listens: its status, its outputs and the sockets that it left."""
+
+    def __init__(self, relay, said):
+        self.said = said
+        self.is_hung = said != ""
+        if not self.is_hung:
+            self.is_hung = not relay.ends_within(REPLY_SECONDS)
+        self.status, self.errors, self.left = relay.process.poll(), relay.errors(), relay.sockets()
+        super().__init__(f"the relay didn't start: it said {said!r}")
+
+
+class Relay:
+    """A relay that serves a text of rules until stop() or the end of the with block. `{folder}` in the rules is its own folder.
+
+    With an environment of its own its standard error is kept, for errors(). `before` are words ahead of the program's, as of a
+    tracer, and `options` are added to those of `serve`.
+    """
+
+    def __init__(self, rules, program=PROGRAM, descriptors=DESCRIPTORS, env=None, before=(), options=()):
+        self.folder = tempfile.mkdtemp(prefix="relay-")
+        self.admin = f"{self.folder}/admin.sock"
+        with open(f"{self.folder}/rules", "w", encoding="ascii") as file:
+            file.write(rules.replace("{folder}", self.folder))
+        words = [*before, program, "serve", "--rules", f"{self.folder}/rules", "--admin", self.admin, *options]
+        self.kept_errors = None if env is None else open(f"{self.folder}/errors", "ab")
+        self.process = subprocess.Popen(
+            words, stdin=subprocess.DEVNULL, stdout=subprocess.PIPE, stderr=self.kept_errors,
+            env=None if env is None else {**os.environ, **env}, preexec_fn=lambda: allow_descriptors(descriptors),
+        )
+        said = self.process.stdout.readline().decode()
+        if not said.startswith("listening "):
+            fault = StartFault(self, said)
+            self.close()
+            raise fault
+        self.said = said
+
+    def errors(self):
+        """What it wrote to standard error so far, where that is kept, without what a tracer ahead of it says there."""
+        if self.kept_errors is None:
+            return ""
+        with open(self.kept_errors.name, encoding="utf-8", errors="replace") as file:
+            return "".join(line for line in file if not line.startswith("strace: "))
+
+    def sockets(self):
+        """The names of Unix sockets in its folder."""
+        return sorted(it.name for it in os.scandir(self.folder) if stat.S_ISSOCK(it.stat(follow_symlinks=False).st_mode))
+
+    def ends_within(self, seconds):
+        try:
+            self.process.wait(seconds)
+            return True
+        except subprocess.TimeoutExpired:
+            return False
+
+    def ask(self, line):
+        """The reply to one line, in a session of its own."""
+        with Session(self.admin) as session:
+            return session.ask(line)
+
+    def ids(self):
+        return [int(word) for word in self.ask("list").split()[1:]]
+
+    def totals(self):
+        return totals_of(self.ask("totals").removeprefix("totals "))
+
+    def stop(self):
+        """Stops the relay, and gives its status, its last totals and the seconds that it took."""
+        began = time.monotonic()
+        reply = self.ask("stop")
+        if reply != "ok":
+            raise RuntimeError(f"stop was answered {reply!r}")
+        last, _ = self.process.communicate(timeout=REPLY_SECONDS)
+        return self.process.returncode, totals_of(last.decode()), time.monotonic() - began
+
+    def threads(self):
+        return len(os.listdir(f"/proc/{self.process.pid}/task"))
+
+    def nanoseconds(self):
+        """The processor time of each of its threads."""
+        task = f"/proc/{self.process.pid}/task"
+        times = []
+        for thread in os.listdir(task):
+            with open(f"{task}/{thread}/schedstat", encoding="ascii") as file:
+                times.append(int(file.read().split()[0]))
+        return times
+
+    def descriptors(self):
+        return len(os.listdir(f"/proc/{self.process.pid}/fd"))
+
+    def resident_kib(self):
+        with open(f"/proc/{self.process.pid}/status", encoding="ascii") as file:
+            return next(int(line.split()[1]) for line in file if line.startswith("VmRSS"))
+
+    def traced(self):
+        """The processes that a tracer ahead of the program has started, which would outlive it."""
+        path = f"/proc/{self.process.pid}/task/{self.process.pid}/children"
+        with open(path, encoding="ascii") as file:
+            return [int(word) for word in file.read().split()]
+
+    def close(self):
+        if self.process.poll() is None:
+            for child in self.traced():
+                os.kill(child, signal.SIGKILL)
+            self.process.kill()
+        self.process.wait()
+        self.process.stdout.close()
+        if self.kept_errors is not None:
+            self.kept_errors.close()
+        shutil.rmtree(self.folder, ignore_errors=True)
+
+    def __enter__(self):
+        return self
+
+    def __exit__(self, *_):
+        self.close()
+
+
+def totals_of(text):
+    """The two numbers of `up U down D`, or None where the text is another."""
+    words = text.split()
+    if len(words) != 4 or words[0] != "up" or words[2] != "down":
+        return None
+    return int(words[1]), int(words[3])
+
+
+def allow_descriptors(count=DESCRIPTORS):
+    hard = resource.getrlimit(resource.RLIMIT_NOFILE)[1]
+    most = count if hard == resource.RLIM_INFINITY else min(count, hard)
+    resource.setrlimit(resource.RLIMIT_NOFILE, (most, hard))

@@ -1,0 +1,107 @@
+"""A relay with a target of this process behind each rule, and what is asked of a connection through it."""
+import tempfile
+import time
+
+from lib.relay import Relay
+from lib.sockets import connect, free_port, listener
+from lib.waiting import wait_until
+
+WAIT_SECONDS = 5
+
+
+class Served:
+    """A relay with one rule for each given idle time, and the listening socket of each target."""
+
+    def __init__(self, *idles, **limits):
+        self.folder = tempfile.TemporaryDirectory(prefix="rows-")
+        self.listens = [f"tcp:127.0.0.1:{free_port()}" for _ in idles]
+        pairs = [listener(f"{self.folder.name}/target-{at}" if at % 2 else None) for at in range(len(idles))]
+        self.accepts = [sock for sock, _ in pairs]
+        for sock in self.accepts:
+            sock.settimeout(WAIT_SECONDS)
+        lines = zip(self.listens, pairs, idles)
+        rules = [f"relay r{at} {listen} {target} {idle}\n" for at, (listen, (_, target), idle) in enumerate(lines)]
+        self.relay = Relay("".join(rules), **limits)
+
+    def open(self, at=0):
+        client = connect(self.listens[at], WAIT_SECONDS)
+        target, _ = self.accepts[at].accept()
+        target.settimeout(WAIT_SECONDS)
+        return client, target
+
+    def __enter__(self):
+        return self
+
+    def __exit__(self, *_):
+        self.relay.close()
+        for sock in self.accepts:
+            sock.close()
+        self.folder.cleanup()
+
+
+def passes(client, target):
+    """Whether a byte goes through and comes back."""
+    try:
+        client.sendall(b"x")
+        arrived = target.recv(1)
+        target.sendall(arrived)
+        return client.recv(1) == b"x"
+    except OSError:
+        return False
+
+
+def opens(served, at):
+    """Whether a new connection goes through."""
+    try:
+        return passes(*served.open(at))
+    except OSError:
+        return False
+
+
+def seconds_until_end(sock, most):
+    """How long it takes until the other side ends or resets, or None where it takes longer."""
+    began = time.monotonic()
+    sock.settimeout(most)
+    try:
+        while sock.recv(65_536):
+            pass
+    except TimeoutError:
+        return None
+    except OSError:
+        pass
+    return time.monotonic() - began
+
+
+def heard(sock, seconds):
+    """What comes next in so much time, or None where nothing does."""
+    sock.settimeout(seconds)
+    try:
+        return sock.recv(100)
+    except TimeoutError:
+        return None
+    except OSError as fault:
+        return repr(fault)
+
+
+def so_many_pairs(checks, name, count, *options):
+    """So many pairs stand at once and carry a byte each way; one more is dropped, until one of them ends."""
+    with Served("never", "never", options=options) as served:
+        relay = served.relay
+        held = [served.open(at % 2) for at in range(count)]
+        all_ids = 2 + 2 * count
+        checks.holds(f"{name}: ids", wait_until(lambda: len(relay.ids()) == all_ids, 2), f"{len(relay.ids())} of {all_ids}")
+        through = sum(passes(*pair) for pair in held)
+        checks.expect(f"{name}: each passes a byte both ways", count, through)
+        one_more = connect(served.listens[0])
+        checks.holds(f"{name}: one more is dropped", seconds_until_end(one_more, 3) is not None, "it stays open")
+        checks.holds(f"{name}: a full relay goes on", passes(*held[-1]), "no byte came back")
+        for sock in held[0]:
+            sock.close()
+        wait_until(lambda: len(relay.ids()) < all_ids, 2)
+        time.sleep(0.1)
+        checks.holds(f"{name}: room again", opens(served, 0), "no byte came back")
+        status, totals, seconds = relay.stop()
+        checks.expect(f"{name}: status and totals", (0, (count + 2, count + 2)), (status, totals))
+        checks.holds(f"{name}: stopped within 2 s", seconds <= 2, f"{seconds:.2f} s")
+        for sock in [sock for pair in held for sock in pair]:
+            sock.close()

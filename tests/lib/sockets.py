@@ -1,0 +1,73 @@
+"""Sockets on the loopback and at Unix paths, by addresses as a rule spells them."""
+import random
+import socket
+
+REPLY_SECONDS = 60
+
+# Ports below the range from which the system takes those of outgoing connections, so that none of these takes ours.
+_ports = random.sample(range(10_000, 32_000), 22_000)
+
+
+def share_ports(at, count):
+    """Leaves this process one of so many shares of the ports, where others that were forked with it take theirs."""
+    _ports[:] = _ports[at::count]
+
+
+def free_port():
+    """A port of the loopback that nobody has, for a program that cannot take a listening socket."""
+    while True:
+        port = _ports.pop()
+        with socket.socket() as probe:
+            try:
+                probe.bind(("127.0.0.1", port))
+                return port
+            except OSError:
+                continue
+
+
+def connect(address, timeout=REPLY_SECONDS):
+    """A connection to an address."""
+    if address.startswith("unix:"):
+        sock = socket.socket(socket.AF_UNIX)
+        where = address[len("unix:"):]
+    else:
+        sock = socket.socket()
+        host, port = address[len("tcp:"):].split(":")
+        where = (host, int(port))
+    sock.settimeout(timeout)
+    sock.connect(where)
+    if sock.family == socket.AF_INET:
+        sock.setsockopt(socket.IPPROTO_TCP, socket.TCP_NODELAY, 1)
+    return sock
+
+
+def is_served(address):
+    """Whether a connection to an address is taken."""
+    try:
+        connect(address).close()
+        return True
+    except (ConnectionError, FileNotFoundError):
+        return False
+
+
+def listener(path=None):
+    """A listening socket with its address: TCP, or a Unix socket at a path."""
+    if path:
+        sock = socket.socket(socket.AF_UNIX)
+        sock.bind(path)
+        address = f"unix:{path}"
+    else:
+        sock = socket.socket()
+        sock.bind(("127.0.0.1", 0))
+        address = f"tcp:127.0.0.1:{sock.getsockname()[1]}"
+    sock.listen(1024)
+    sock.settimeout(REPLY_SECONDS)
+    return sock, address
+
+
+def read_to_end(sock):
+    """All that comes until the end."""
+    parts = []
+    while part := sock.recv(65_536):
+        parts.append(part)
+    return b"".join(parts)

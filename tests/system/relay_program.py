@@ -1,0 +1,517 @@
+#!/usr/bin/env python3
+"""Printed lines and exit statuses of the built program: words, `trace` and `check`, faults at the start of `serve` and their order,
+admin sessions byte for byte, closed outputs, refused paths, and each sample of examples/.
+
+    python3 tests/system/relay_program.py [STAGE]..
+"""
+import glob
+import os
+import resource
+import socket
+import subprocess
+import sys
+import threading
+import time
+
+sys.path.insert(1, f"{sys.path[0]}/..")
+from lib.c_code import library
+from lib.checks import Checks
+from lib.metrics import scrape
+from lib.places import LIB, PROGRAM, ROOT
+from lib.relay import DESCRIPTORS, Relay, allow_descriptors
+from lib.served import heard, so_many_pairs
+from lib.sockets import REPLY_SECONDS, connect, free_port, listener
+from lib.stages import options, run_stages
+from lib.waiting import wait_until
+
+BAD_COMMAND = b"error 400 bad command\n"
+UNKNOWN = b"error 404 no such connection\n"
+DRAINING = b"error 409 draining\n"
+RULE = "relay {} tcp:127.0.0.1:{} tcp:127.0.0.1:9 never\n"
+MOST_LINES = 65_536
+# The bytes of a stream, and the processor time that a thread which copied one has taken at least, beside an eighth of all.
+STREAM = 64 << 20
+BUSY_NS = 10_000_000
+
+
+def run(words, stdin=subprocess.DEVNULL, stdout=subprocess.PIPE, before=None):
+    """The status, standard output and standard error of the program, which has to end by itself."""
+    ran = subprocess.run(
+        [PROGRAM, *words], stdin=stdin, stdout=stdout, stderr=subprocess.PIPE, timeout=20, preexec_fn=before
+    )
+    return ran.returncode, ran.stdout, ran.stderr
+
+
+def write(path, text):
+    with open(path, "wb") as file:
+        file.write(text if isinstance(text, bytes) else text.encode())
+    return path
+
+
+def text_of(path):
+    with open(path, encoding="ascii") as file:
+        return file.read()
+
+
+def command_lines(checks, folder):
+    """Refused words end with 2. Nothing is read: the rules are a pipe that nobody writes, and the script stays unread."""
+    pipe = f"{folder}/pipe"
+    os.mkfifo(pipe)
+    script = write(f"{folder}/script", "1 incref\n")
+    refused = [
+        ["--help"], ["check"], ["frob"], ["serve", "--rules", pipe], ["trace", "x"],
+        ["-h"], ["help"], ["-V"], [""], ["--", "trace"], ["--", "--"], ["trace", "--", "x"], ["trace", "trace"], ["check", pipe], ["check", "--rules"],
+        ["check", "--rules", pipe, "x"], ["check", "--rules", pipe, "--", "x"], ["check", "--rules", "--", pipe],
+        ["check", "--", "--rules", pipe], ["check", "--rules", pipe, "--rules", pipe], ["check", "--admin", pipe],
+        ["serve"], ["serve", "--admin", "/a"], ["serve", "--rules", pipe, "--admin"],
+        ["serve", "--rules", pipe, "--admin", "/a", "--loops"], ["serve", "--rules", pipe, "--admin", "/a", "--loops", "0"],
+        ["serve", "--rules", pipe, "--admin", "/a", "--loops", "65"], ["serve", "--rules", pipe, "--admin", "/a", "--loops=02"],
+        ["serve", "--rules", pipe, "--admin", "/a", "--loops", "2", "--loops", "2"], ["check", "--rules", pipe, "--loops", "2"],
+        *(["serve", "--rules", pipe, "--admin", "/a", "--connections", it] for it in ("", "0", "2001", "02", "+2", "two")),
+        ["serve", "--rules", pipe, "--admin", "/a", "--connections=2", "--connections=2"], ["check", "--rules", pipe, "--connections", "2"],
+        *(["serve", "--rules", pipe, "--admin", "/a", *more] for more in (
+            ["--log"], ["--log", ""], ["--log="], ["--log=a", "--log=a"], ["--metrics"], ["--metrics", ""], ["--metrics", "x"],
+            ["--metrics", "tcp:1.2.3:4"], ["--metrics", "tcp:1.2.3.4:0"], ["--metrics=unix:m"], ["--metrics=unix:/m", "--metrics=unix:/m"],
+        )),
+        ["check", "--rules", pipe, "--log=a"], ["check", "--rules", pipe, "--metrics=unix:/m"],
+        ["serve", "--rules", pipe, "--admin", "/a", "x"], ["trace", "--rules", pipe], [b"\xff"], ["check", "--rules", b"\xff"],
+    ]
+    for words in refused:
+        with open(script, "rb") as stdin:
+            checks.expect(f"words {words}", (2, b"", b"bad command line\n"), run(words, stdin))
+            checks.expect(f"words {words}: what was read", 0, os.lseek(stdin.fileno(), 0, os.SEEK_CUR))
+    for words in ([], ["trace"], ["--"], ["trace", "--"]):
+        with open(script, "rb") as stdin:
+            checks.expect(f"words {words}", (0, b"held 0000000000000008 0 0 -\n", b""), run(words, stdin))
+    rules = write(f"{folder}/empty", "")
+    checks.expect("words check --rules=F", (0, b"rules 0\n", b""), run(["check", f"--rules={rules}"]))
+    checks.expect("words check --rules F --", (0, b"rules 0\n", b""), run(["check", "--rules", rules, "--"]))
+
+
+def traces(checks, folder):
+    """Inputs and outputs of `trace` that fail, a bad line, and an answer that comes before the next line is written."""
+    script = write(f"{folder}/script", "1 incref\n01 incref\n")
+    with open("/dev/full", "wb") as full, open(script, "rb") as stdin:
+        checks.expect("trace: a full output", (3, None, b"trace fault: write\n"), run([], stdin, full))
+    with open(script, "rb") as stdin:
+        checks.expect("trace: a closed output", (3, b"", b"trace fault: write\n"), run([], stdin, before=lambda: os.close(1)))
+    unread = os.open("/", os.O_RDONLY)
+    checks.expect("trace: an input that can't be read", (3, b"", b"trace fault: read\n"), run([], unread))
+    os.close(unread)
+    with open(script, "rb") as stdin:
+        checks.expect("trace: a bad line", (1, b"held 0000000000000008 0 0 -\nbad line 2\n", b""), run([], stdin))
+    answers = []
+    with subprocess.Popen([PROGRAM], stdin=subprocess.PIPE, stdout=subprocess.PIPE, bufsize=0) as process:
+        for line in (b"1 incref\n", b"1 decref\n"):
+            process.stdin.write(line)
+            answers.append(process.stdout.readline())
+        process.stdin.close()
+        wanted = [b"held 0000000000000008 0 0 -\n", b"kept 0000000000000000 0 0 -\n"]
+        checks.expect("trace: answers before the next line", (wanted, 0), (answers, process.wait(20)))
+
+
+def many_rules(count):
+    return "".join(RULE.format(f"r{at}", at + 1) for at in range(count))
+
+
+VERDICTS = [
+    ("an empty file", "", "rules 0"),
+    ("any address", "# x\nrelay a tcp:0.0.0.0:1 tcp:255.255.255.255:65535 never", "rules 1"),
+    ("a front zero", "relay a tcp:0.0.0.0:01 tcp:1.1.1.1:1 never\n", "bad rules: line 1"),
+    ("a path twice", "relay a unix:/x unix:/y never\nrelay b unix:/x unix:/z 1\n", "bad rules: same listen address at line 2"),
+    ("an idle time too long", "relay a unix:/x unix:/y 86400001\n", "bad rules: line 1"),
+    ("the longest idle time", "relay a unix:/x unix:/y 86400000\n", "rules 1"),
+    ("an idle time of 0", "relay a unix:/x unix:/y 0\n", "bad rules: line 1"),
+    ("one rule", "relay web tcp:127.0.0.1:8080 unix:/tmp/a.sock 5000\n", "rules 1"),
+    ("a rule twice", "relay web tcp:127.0.0.1:8080 unix:/tmp/a.sock 5000\n" * 2, "bad rules: same name at line 2"),
+    ("one target twice", "relay a unix:/x unix:/z never\nrelay b unix:/y unix:/z never\n", "rules 2"),
+    ("lines that count", "\n# two\n\nfrob\n", "bad rules: line 4"),
+    ("a carriage return", "relay a unix:/x unix:/y never\r\n", "bad rules: line 1"),
+    ("a comment of any bytes", b"#\xff\x00\r\n", "rules 0"),
+    ("a space ahead", " relay a unix:/x unix:/y never\n", "bad rules: line 1"),
+    ("two spaces", "relay a  unix:/x unix:/y never\n", "bad rules: line 1"),
+    ("a port of 0", "relay a tcp:1.1.1.1:0 unix:/y never\n", "bad rules: line 1"),
+    ("a port too great", "relay a tcp:1.1.1.1:65536 unix:/y never\n", "bad rules: line 1"),
+    ("a name of 16", "relay a234567890123456 unix:/x unix:/y never\n", "rules 1"),
+    ("a name of 17", "relay a2345678901234567 unix:/x unix:/y never\n", "bad rules: line 1"),
+    ("a path of 100", f"relay a unix:/{'x' * 99} unix:/y never\n", "rules 1"),
+    ("a path of 101", f"relay a unix:/{'x' * 100} unix:/y never\n", "bad rules: line 1"),
+    ("64 rules", many_rules(64), "rules 64"),
+    ("65 rules", many_rules(65), "bad rules: too many at line 65"),
+    ("a bad line behind 64 rules", many_rules(64) + "frob\n", "bad rules: line 65"),
+    ("a name again behind 64 rules", many_rules(64) + RULE.format("r1", 99), "bad rules: too many at line 65"),
+    ("a rule wholly again", "relay a unix:/x unix:/y 1\nrelay a unix:/x unix:/y 1\n", "bad rules: same name at line 2"),
+    ("65,536 bytes", "#" + "x" * 65_535, "rules 0"),
+    ("65,537 bytes", "#" + "x" * 65_536, "bad rules: too long"),
+    ("65,537 bytes and a bad line", "frob\n" + "x" * 65_532, "bad rules: too long"),
+]
+
+
+def verdicts(checks, folder):
+    for name, text, verdict in VERDICTS:
+        path = write(f"{folder}/rules", text)
+        wanted = (0 if verdict.startswith("rules ") else 1, f"{verdict}\n".encode(), b"")
+        checks.expect(f"check: {name}", wanted, run(["check", "--rules", path]))
+    unread = (3, b"", b"cannot read rules\n")
+    for path in (f"{folder}/none", folder, f"{folder}/rules/x", ""):
+        checks.expect(f"check: {path!r}", unread, run(["check", "--rules", path]))
+
+
+def outputs(checks, folder):
+    """A verdict that can't be written is status 3 with no text; a message that can't be written leaves the status."""
+    good, bad = write(f"{folder}/good", ""), write(f"{folder}/bad", "frob\n")
+    for path in (good, bad):
+        with open("/dev/full", "wb") as full:
+            checks.expect("check: a full output", (3, None, b""), run(["check", "--rules", path], stdout=full))
+        closed = lambda: os.close(1)
+        checks.expect("check: a closed output", (3, b"", b""), run(["check", "--rules", path], before=closed))
+    deaf = lambda: os.close(2)
+    checks.expect("check: a closed error output", (3, b"", b""), run(["check", "--rules", f"{folder}/none"], before=deaf))
+    checks.expect("words frob with a closed error output", (2, b"", b""), run(["frob"], before=deaf))
+    inner = f"{folder}/in.sock"
+    rules = write(f"{folder}/rules", f"relay a unix:{inner} unix:/x never\n")
+    words = ["serve", "--rules", rules, "--admin", f"{folder}/admin"]
+    device = (3, b"relay fault: device\n")
+    with open("/dev/full", "wb") as full:
+        status, _, said = run(words, stdout=full)
+        checks.expect("serve: a full output", device, (status, said))
+    status, _, said = run(words, before=lambda: os.close(1))
+    checks.expect("serve: a closed output", device, (status, said))
+    checks.expect("serve: paths after a fault", [], [it for it in (inner, f"{folder}/admin") if os.path.lexists(it)])
+    last_line_lost(checks, words, [inner, f"{folder}/admin"])
+
+
+def last_line_lost(checks, words, paths):
+    """The reader of the output goes away before the last line."""
+    process = subprocess.Popen([PROGRAM, *words], stdout=subprocess.PIPE, stderr=subprocess.PIPE)
+    try:
+        checks.expect("serve: its first line", b"listening 1\n", process.stdout.readline())
+        process.stdout.close()
+        said = session(paths[1], b"stop\n")
+        status, errors = process.wait(20), process.stderr.read()
+        checks.expect("serve: the last line lost", (b"ok\n", 3, b"relay fault: device\n"), (said, status, errors))
+        checks.expect("serve: paths after a lost line", [], [it for it in paths if os.path.lexists(it)])
+    finally:
+        process.kill()
+
+
+def serve_fault(rules, admin, before=None):
+    status, out, said = run(["serve", "--rules", rules, "--admin", admin], before=before)
+    return status, out.decode(), said.decode()
+
+
+def start_faults(checks, folder):
+    """Each fault at the start, where all later ones stand as well: the first in the order is told."""
+    with listener()[0] as held:
+        port = held.getsockname()[1]
+        taken = RULE.format("first", free_port()) + RULE.format("second", port) + RULE.format("third", port).replace(":9 ", ":8 ")
+        taken = taken.replace(f"third tcp:127.0.0.1:{port}", f"third unix:{folder}/taken")
+        write(f"{folder}/taken", "")
+        in_use = write(f"{folder}/in-use", taken)
+        broken = write(f"{folder}/broken", "frob\n" + taken)
+        admin = f"{folder}/taken"
+        unread = (3, "", "cannot read rules\n")
+        checks.expect("start: rules that can't be read", unread, serve_fault(f"{folder}/none", admin))
+        checks.expect("start: bad rules", (1, "", "bad rules: line 1\n"), serve_fault(broken, admin))
+        checks.expect("start: a listener", (3, "", "cannot listen second\n"), serve_fault(in_use, admin))
+        only_third = write(f"{folder}/third", "".join(taken.splitlines(True)[::2]))
+        checks.expect("start: a later listener", (3, "", "cannot listen third\n"), serve_fault(only_third, admin))
+    good = write(f"{folder}/good", RULE.format("first", free_port()))
+    admin_fault = (3, "", "cannot listen admin\n")
+    checks.expect("start: the admin socket", admin_fault, serve_fault(good, admin))
+    for path in ("", f"{folder}/no/such", "/" + "x" * 100, f"{folder}/{'x' * (100 - len(folder))}"):
+        checks.expect(f"start: the admin path {path[:20]!r} of {len(path)} bytes", admin_fault, serve_fault(good, path))
+    checks.expect("start: a path that was there stays", True, os.path.isfile(admin))
+
+
+def poller_fault(checks, folder):
+    """With one descriptor more at a time the faults come in their order, the poller's between rules and listeners."""
+    rules = write(f"{folder}/poller-rules", RULE.format("one", free_port()) + RULE.format("two", free_port()))
+    order = ["cannot read rules", "relay fault: device", "cannot listen one", "cannot listen two", "cannot listen admin"]
+    seen = []
+    # The loader takes the fourth.
+    for most in range(4, 40):
+        words = [PROGRAM, "serve", "--rules", rules, "--admin", f"{folder}/{most}.sock"]
+        limit = lambda: resource.setrlimit(resource.RLIMIT_NOFILE, (most, most))
+        process = subprocess.Popen(words, stdout=subprocess.PIPE, stderr=subprocess.PIPE, preexec_fn=limit)
+        serves = process.stdout.readline() != b""
+        if serves:
+            process.kill()
+        said = process.communicate(timeout=20)[1].decode().strip()
+        if serves:
+            break
+        seen.append(said)
+        checks.expect(f"start with {most} descriptors: status", 3, process.returncode)
+    places = [order.index(it) if it in order else -1 for it in seen]
+    checks.holds("start: faults by descriptors, in their order", places == sorted(places) and -1 not in places, f"{seen}")
+    checks.holds("start: the poller's fault", "relay fault: device" in seen, f"{seen}")
+
+
+def refused_paths(checks, folder):
+    """A Unix path that is there is refused and left as it was; the paths that were bound before are removed."""
+    stale = f"{folder}/stale"
+    with socket.socket(socket.AF_UNIX) as sock:
+        sock.bind(stale)
+    link, file = f"{folder}/link", write(f"{folder}/file", "kept")
+    os.symlink(f"{folder}/nowhere", link)
+    for path in (stale, link, file, folder):
+        rules = f"relay early unix:{folder}/early unix:/x never\nrelay late unix:{path} unix:/x never\n"
+        said = serve_fault(write(f"{folder}/path-rules", rules), f"{folder}/path-admin")
+        checks.expect(f"start: a rule's path that is there, {path}", (3, "", "cannot listen late\n"), said)
+        checks.expect(f"start: what was at {path}", True, os.path.lexists(path))
+        checks.expect("start: an earlier path is removed", False, os.path.lexists(f"{folder}/early"))
+    checks.expect("start: the file's text", "kept", text_of(file))
+
+
+def session(path, sent):
+    """What an admin session answers to these bytes and their end."""
+    with connect(f"unix:{path}") as sock:
+        sender = threading.Thread(target=send_all, args=(sock, sent))
+        sender.start()
+        replies = rest_of(sock)
+        sender.join()
+        return replies
+
+
+def send_all(sock, sent):
+    try:
+        sock.sendall(sent)
+        sock.shutdown(socket.SHUT_WR)
+    except OSError:
+        pass  # the session ended before
+
+
+def rest_of(sock):
+    """All that comes until the end."""
+    rest = b""
+    while data := received(sock):
+        rest += data
+    return rest
+
+
+def received(sock):
+    try:
+        return sock.recv(65_536)
+    except ConnectionError:
+        return b""  # what the session hadn't read is given up at its end
+
+
+SESSIONS = [
+    ("nothing", b"", b""),
+    ("list", b"list\n", b"ids 1 2 3 4\n"),
+    ("totals, without a line feed", b"totals", b"totals up 12 down 0\n"),
+    ("commands in turn", b"totals\nclose 9\nlist\nfrob\nquit\n", b"totals up 12 down 0\n" + UNKNOWN + b"ids 1 2 3 4\n" + BAD_COMMAND + b"ok\n"),
+    ("a deadline too long", b"deadline 3 86400001\n", BAD_COMMAND),
+    ("a deadline", b"deadline 3 86400000\ndeadline 3 never\n", b"ok\nok\n"),
+    ("ids that are none", b"close 01\nclose 4503599627370495\nclose 0\nclose\nclose x\nclose 3 \n", BAD_COMMAND * 6),
+    ("the greatest id", b"close 4503599627370494\ndeadline 4503599627370494 5\n", UNKNOWN * 2),
+    ("drains of ids that are none", b"drain 9\ndrain 01\ndrain 0\ndrain\ndrain x\ndrain 3 \ndrain 3 never\n", UNKNOWN + BAD_COMMAND * 6),
+    ("quit, and more", b"quit\nlist\n", b"ok\n"),
+    ("65 bytes", b"x" * 65 + b"\nlist\n", BAD_COMMAND),
+    ("64 bytes", b"x" * 64 + b"\nlist\n", BAD_COMMAND + b"ids 1 2 3 4\n"),
+    ("an empty line, a carriage return, spaces", b"\nlist\r\n list\nlist \nlist", BAD_COMMAND * 4 + b"ids 1 2 3 4\n"),
+    ("words of another case", b"LIST\nStop\n", BAD_COMMAND * 2),
+    ("any bytes", b"\xff\x00\xfe\nquit", BAD_COMMAND + b"ok\n"),
+    ("65,536 lines and more", b"x\n" * (MOST_LINES + 5), BAD_COMMAND * MOST_LINES),
+]
+
+
+def admin_sessions(checks, _):
+    accepts, target = listener()
+    port = free_port()
+    rules = f"relay one tcp:127.0.0.1:{port} {target} never\nrelay two tcp:127.0.0.1:{free_port()} {target} 9999\n"
+    with accepts, Relay(rules) as relay:
+        checks.expect("serve: its first line", "listening 2\n", relay.said)
+        client = connect(f"tcp:127.0.0.1:{port}")
+        client.sendall(b"twelve bytes")
+        taken, _ = accepts.accept()
+        taken.recv(12, socket.MSG_WAITALL)
+        wait_until(lambda: relay.totals() == (12, 0), 5)
+        for name, sent, wanted in SESSIONS:
+            got = session(relay.admin, sent)
+            short = got if len(got) < 200 else f"{len(got)} bytes"
+            checks.holds(f"session: {name}", got == wanted, f"wanted {wanted[:200]!r}, got {short!r}")
+        in_pieces(checks, relay)
+        gone_without_reading(checks, relay)
+        drained = b"ok\n" + DRAINING * 3 + b"ok\n" + DRAINING + b"ids 1 2 3 4\n"
+        sent = b"drain 4\ndrain 4\ndeadline 4 9\ndeadline 4 never\ndrain 2\ndrain 2\nlist\n"
+        checks.expect("session: drains", drained, session(relay.admin, sent))
+        checks.expect("session: a deadline of 0", b"ok\n", session(relay.admin, b"deadline 3 0\n"))
+        checks.expect("session: the client sees the end", b"", rest_of(client))
+        wait_until(lambda: relay.ids() == [1, 2], 5)
+        checks.expect("session: a listener's id", b"ok\nids 2\n" + UNKNOWN, session(relay.admin, b"close 1\nlist\nclose 1\n"))
+        checks.expect("session: stop, and more", b"ok\n", session(relay.admin, b"stop\nlist\n"))
+        said, _ = relay.process.communicate(timeout=20)
+        checks.expect("serve: its last line and status", (b"up 12 down 0\n", 0), (said, relay.process.returncode))
+        client.close()
+        taken.close()
+
+
+def in_pieces(checks, relay):
+    """A reply comes before the next line, and a line may come byte by byte."""
+    with connect(f"unix:{relay.admin}") as sock:
+        for byte in b"list\n":
+            sock.sendall(bytes([byte]))
+        checks.expect("session: byte by byte", b"ids 1 2 3 4\n", received(sock))
+        sock.sendall(b"quit\n")
+        checks.expect("session: the next line", b"ok\n", rest_of(sock))
+
+
+def gone_without_reading(checks, relay):
+    """Clients that go away leave the next session served."""
+    for _ in range(20):
+        with connect(f"unix:{relay.admin}") as sock:
+            sock.sendall(b"list\n" * 1_000)
+    checks.expect("session: after clients that went away", b"ids 1 2 3 4\n", session(relay.admin, b"list\n"))
+
+
+def stopped_and_gone(checks, _):
+    """A client that says stop and goes away at once, whatever it asked before, stops the relay."""
+    for sent in (b"stop\n", b"stop", b"list\n" * 1_000 + b"stop\n"):
+        for _ in range(5):
+            with Relay("") as relay:
+                with connect(f"unix:{relay.admin}") as sock:
+                    sock.sendall(sent)
+                try:
+                    said, _ = relay.process.communicate(timeout=20)
+                except subprocess.TimeoutExpired:
+                    said = b"still running"
+                checks.expect("session: stop, and gone", (b"up 0 down 0\n", 0), (said, relay.process.poll()))
+
+
+def no_rule(checks, _):
+    with Relay("") as relay:
+        checks.expect("no rule: first line", "listening 0\n", relay.said)
+        checks.expect("no rule: list", b"ids\n", session(relay.admin, b"list\n"))
+        checks.expect("no rule: its end", (0, (0, 0)), relay.stop()[:2])
+
+
+def sample_rules(checks, _):
+    """Each sample says in a line what `check` prints."""
+    samples = sorted(glob.glob(f"{ROOT}/examples/rules/*.rules"))
+    checks.holds("samples: rules", len(samples) >= 6, f"{len(samples)} files")
+    for path in samples:
+        said = [line.split(": ", 1)[1] for line in text_of(path).splitlines(True) if line.startswith("# It prints: ")]
+        verdict = said[0] if said else ""
+        wanted = (0 if verdict.startswith("rules ") else 1, verdict.encode(), b"")
+        checks.expect(f"sample {os.path.basename(path)}", wanted, run(["check", "--rules", path]))
+
+
+def sample_sessions(checks, _):
+    """Each transcript is played to a relay with as many rules as it says; `>` lines are sent, `<` lines awaited."""
+    samples = sorted(glob.glob(f"{ROOT}/examples/admin/*.session"))
+    checks.holds("samples: sessions", len(samples) >= 3, f"{len(samples)} files")
+    for path in samples:
+        lines = text_of(path).splitlines()
+        count = next(int(line.split()[-1]) for line in lines if line.startswith("# Rules: "))
+        sent = "".join(f"{line[2:]}\n" for line in lines if line.startswith("> "))
+        wanted = "".join(f"{line[2:]}\n" for line in lines if line.startswith("< "))
+        rules = "".join(RULE.format(f"r{at}", free_port()) for at in range(count))
+        with Relay(rules) as relay:
+            checks.expect(f"sample {os.path.basename(path)}", wanted.encode(), session(relay.admin, sent.encode()))
+
+
+def sample_metrics(checks, folder):
+    """The script for Prometheus counts one connection and its bytes, and a relay that doesn't answer is down."""
+    output = f"{folder}/relay.prom"
+    accepts, target = listener()
+    port = free_port()
+    rules = f"# one\n\nrelay one tcp:127.0.0.1:{port} {target} never\nrelay two tcp:127.0.0.1:{free_port()} {target} 9\n"
+    words = [sys.executable, f"{ROOT}/examples/prometheus/pollrelay_textfile.py", "--output", output]
+    with accepts, Relay(rules) as relay, connect(f"tcp:127.0.0.1:{port}") as client:
+        client.sendall(b"twelve bytes")
+        wait_until(lambda: relay.totals() == (12, 0), 5)
+        words += ["--admin", relay.admin, "--rules", f"{relay.folder}/rules"]
+        for ends in (False, True):
+            if ends:
+                relay.stop()
+            checks.expect("metrics: status", 0, subprocess.run(words, timeout=20, check=False).returncode)
+            values = [line for line in text_of(output).splitlines() if not line.startswith("#")]
+            bytes_total = ['pollrelay_bytes_total{direction="up"} 12', 'pollrelay_bytes_total{direction="down"} 0']
+            wanted = ["pollrelay_up 0"] if ends else ["pollrelay_up 1", *bytes_total, "pollrelay_connections 1"]
+            checks.expect("metrics: values", wanted, values)
+            checks.expect("metrics: other files", ["relay.prom"], os.listdir(folder))
+
+
+def metrics_at_a_path(checks, folder):
+    """Metrics are given at a Unix path, which goes with the relay; a path that is there already keeps it from starting, and stays."""
+    rule, path = RULE.format("one", free_port()), f"{folder}/metrics.sock"
+    with Relay(rule, options=("--metrics", f"unix:{path}")) as relay:
+        answered, told = scrape(f"unix:{path}")
+        checks.holds("metrics: an answer", answered == 200 and "\npollrelay_loops " in told, told)
+        checks.expect("metrics: status", 0, relay.stop()[0])
+    checks.expect("metrics: what is left", [], os.listdir(folder))
+    rules, taken = write(f"{folder}/rules", rule), write(f"{folder}/taken", "")
+    for admin, fault in ((f"{folder}/admin", b"cannot listen metrics\n"), (taken, b"cannot listen admin\n")):
+        words = ["serve", "--rules", rules, "--admin", admin, "--metrics", f"unix:{taken}"]
+        checks.expect(f"metrics: a path that is taken, {fault}", (3, b"", fault), run(words))
+        checks.expect(f"metrics: what is left, {fault}", ["rules", "taken"], sorted(os.listdir(folder)))
+
+
+def spread(checks, _):
+    """Each of two loops copies for one of two streams, and for all connections there are two threads beside the loops."""
+    accepts, target = listener()
+    port = free_port()
+    with accepts, Relay(f"relay one tcp:127.0.0.1:{port} {target} never\n", options=("--loops", "2")) as relay:
+        pairs = []
+        for _ in range(40):
+            client = connect(f"tcp:127.0.0.1:{port}")
+            client.sendall(b"x")
+            taken, _ = accepts.accept()
+            taken.recv(1)
+            pairs.append((client, taken))
+        checks.expect("spread: threads", 4, relay.threads())
+        before = sorted(relay.nanoseconds())
+        for client, taken in pairs[-2:]:
+            sending = threading.Thread(target=client.sendall, args=(bytes(STREAM),))
+            sending.start()
+            left = STREAM
+            while left > 0:
+                left -= len(taken.recv(min(left, 1 << 20)))
+            sending.join()
+        grown = [now - then for now, then in zip(sorted(relay.nanoseconds()), before)]
+        busy = sum(one > max(BUSY_NS, sum(grown) / 8) for one in grown)
+        checks.holds("spread: threads that copied", busy == 2, f"{busy} of {grown}")
+        for pair in pairs:
+            for sock in pair:
+                sock.close()
+
+
+def asked_pairs(checks, _):
+    """As many pairs stand as --connections asks for, up to the most."""
+    allow_descriptors(DESCRIPTORS)
+    so_many_pairs(checks, "3 pairs", 3, "--connections", "3")
+    so_many_pairs(checks, "2,000 pairs", 2_000, "--connections=2000")
+
+
+def silent_sessions(checks, folder):
+    """A session that says nothing for ten minutes is ended, and the next one served; until then it keeps it waiting."""
+    shim = library(f"{LIB}/fast_clock.c", f"{folder}/fast_clock.so")
+    for fast, stays_seconds in ((1, 2.5), (200, 2.0)):
+        with Relay("", env={"LD_PRELOAD": shim, "FAST": str(fast)}) as relay, connect(f"unix:{relay.admin}") as silent:
+            began = time.monotonic()
+            silent.sendall(b"list\nlist")
+            checks.expect(f"silent {fast}: its whole line is answered", b"ids\n", heard(silent, stays_seconds))
+            checks.expect(f"silent {fast}: it stays", None, heard(silent, stays_seconds))
+            if fast > 1:
+                checks.expect(f"silent {fast}: its end", b"", heard(silent, REPLY_SECONDS))
+                real = time.monotonic() - began
+                checks.holds(f"silent {fast}: after ten minutes", 600 / fast - 0.1 < real < 600 / fast + 3, f"after {real * fast:.0f} s")
+                checks.expect(f"silent {fast}: the next is served", "ids", relay.ask("list"))
+
+
+STAGES = {it.__name__: it for it in (
+    command_lines, traces, verdicts, outputs, start_faults, poller_fault, refused_paths, admin_sessions, stopped_and_gone,
+    no_rule, sample_rules, sample_sessions, sample_metrics, metrics_at_a_path, spread,
+    asked_pairs, silent_sessions,
+)}
+
+
+def main():
+    given, checks = options(__doc__, STAGES), Checks()
+    run_stages(checks, STAGES, given.stages)
+    return checks.end()
+
+
+if __name__ == "__main__":
+    sys.exit(main())
