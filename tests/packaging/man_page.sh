@@ -18,7 +18,7 @@ none "sections" "$(sed -n 's/^\.Sh //p' $page | diff "$words_file" -)"
 # The page as running text.
 text=$(mandoc -Tascii $page | sed "s/.$(printf '\b')//g" | tr -s ' \n\t' ' ' | sed "s/[\`']//g")
 # The first cell of each row of a table, and each number with a thousand.
-sed -n 's/^| `\([^`]*\)`.*/\1/p' $guide | sed 's/FILE/file/g; s/PATH/path/g; s/LOOPS/loops/g; s/CONNECTIONS/connections/g; s/LOG/log/g; s/ADDRESS/address/g' >"$words_file"
+sed -n 's/^| `\([^`]*\)`.*/\1/p' $guide | sed 's/FILE/file/g; s/PATH/path/g; s/LOOPS/loops/g; s/CONNECTIONS/connections/g; s/LOG/log/g; s/ADDRESS/address/g; s/WORD\.\./word .../g' >"$words_file"
 grep -o '[0-9]\{1,3\}\(,[0-9]\{3\}\)\{1,\}' $guide | sort -u >>"$words_file"
 while read -r words; do
     case $text in

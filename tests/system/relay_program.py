@@ -60,7 +60,7 @@ def command_lines(checks, folder):
     script = write(f"{folder}/script", "1 incref\n")
     refused = [
         ["--help"], ["check"], ["frob"], ["serve", "--rules", pipe], ["trace", "x"],
-        ["-h"], ["help"], ["-V"], [""], ["--", "trace"], ["--", "--"], ["trace", "--", "x"], ["trace", "trace"], ["check", pipe], ["check", "--rules"],
+        ["-h"], ["-V"], ["help", "x"], ["version", "x"], [""], ["--", "trace"], ["--", "--"], ["trace", "--", "x"], ["trace", "trace"], ["check", pipe], ["check", "--rules"],
         ["check", "--rules", pipe, "x"], ["check", "--rules", pipe, "--", "x"], ["check", "--rules", "--", pipe],
         ["check", "--", "--rules", pipe], ["check", "--rules", pipe, "--rules", pipe], ["check", "--admin", pipe],
         ["serve"], ["serve", "--admin", "/a"], ["serve", "--rules", pipe, "--admin"],
@@ -74,7 +74,8 @@ def command_lines(checks, folder):
             ["--metrics", "tcp:1.2.3:4"], ["--metrics", "tcp:1.2.3.4:0"], ["--metrics=unix:m"], ["--metrics=unix:/m", "--metrics=unix:/m"],
         )),
         ["check", "--rules", pipe, "--log=a"], ["check", "--rules", pipe, "--metrics=unix:/m"],
-        ["serve", "--rules", pipe, "--admin", "/a", "x"], ["trace", "--rules", pipe], [b"\xff"], ["check", "--rules", b"\xff"],
+        *(["ctl", "--admin", "/a", *more] for more in ([], ["frob"], ["list", "x"], ["close"], ["close", "01"], ["a", "b", "c", "d"], ["--", "list"], [""])),
+        ["ctl", "list"], ["serve", "--rules", pipe, "--admin", "/a", "x"], ["trace", "--rules", pipe], [b"\xff"], ["check", "--rules", b"\xff"],
     ]
     for words in refused:
         with open(script, "rb") as stdin:
@@ -316,6 +317,53 @@ SESSIONS = [
 ]
 
 
+def ctl(path, *words, stdout=subprocess.PIPE):
+    return run(["ctl", "--admin", path, *words], stdout=stdout)
+
+
+def control(checks, folder):
+    """`ctl` on a relay: replies as they are, refused ones with 1, and 3 where no relay answers."""
+    unreached = (3, b"", b"cannot reach admin\n")
+    with Relay(RULE.format("r", free_port())) as relay:
+        path = relay.admin
+        for words, status, reply in (
+            (["list"], 0, b"ids 1\n"), (["totals"], 0, b"totals up 0 down 0\n"), (["deadline", "1", "never"], 0, b"ok\n"),
+            (["deadline 1 never"], 0, b"ok\n"), (["close", "9"], 1, UNKNOWN), (["reload"], 0, b"rules 1\n"),
+            (["drain", "1"], 0, b"ok\n"), (["drain", "1"], 1, DRAINING), (["quit"], 0, b"ok\n"),
+        ):
+            checks.expect(f"ctl {' '.join(words)}", (status, reply, b""), ctl(path, *words))
+        write(f"{relay.folder}/rules", "frob\n")
+        checks.expect("ctl reload of bad rules", (1, b"bad rules: line 1\n", b""), ctl(path, "reload"))
+        with open("/dev/full", "wb") as full:
+            checks.expect("ctl: a full output", (3, None, b"cannot print reply\n"), ctl(path, "list", stdout=full))
+        checks.expect("ctl stop", (0, b"ok\n", b""), ctl(path, "stop"))
+        relay.process.wait(20)
+        checks.expect("ctl where no relay is any more", unreached, ctl(path, "list"))
+    checks.expect("ctl where nothing is", unreached, ctl(f"{folder}/none", "list"))
+    with listener(f"{folder}/deaf")[0] as deaf:
+        for said in (b"", b"o", b"ok\nids"):
+            answer = threading.Thread(target=answer_once, args=(deaf, said))
+            answer.start()
+            checks.expect(f"ctl where {said!r} is all that is said", unreached, ctl(f"{folder}/deaf", "list"))
+            answer.join()
+
+
+def answer_once(sock, said):
+    client, _ = sock.accept()
+    with client:
+        rest_of(client)
+        client.sendall(said)
+
+
+def own_texts(checks, _):
+    """The words of `help` name each command; `version` is one line."""
+    status, said, errors = run(["help"])
+    named = all(f"pollrelay {it}".encode() in said for it in ("serve --rules", "check --rules", "ctl --admin", "trace", "help", "version"))
+    checks.expect("help", (0, True, b""), (status, named, errors))
+    status, said, errors = run(["version"])
+    checks.expect("version", (0, b"pollrelay", 1, b""), (status, said.split()[0], said.count(b"\n"), errors))
+
+
 def admin_sessions(checks, _):
     accepts, target = listener()
     port = free_port()
@@ -503,7 +551,7 @@ def silent_sessions(checks, folder):
 STAGES = {it.__name__: it for it in (
     command_lines, traces, verdicts, outputs, start_faults, poller_fault, refused_paths, admin_sessions, stopped_and_gone,
     no_rule, sample_rules, sample_sessions, sample_metrics, metrics_at_a_path, spread,
-    asked_pairs, silent_sessions,
+    asked_pairs, silent_sessions, control, own_texts,
 )}
 
 

@@ -1,5 +1,7 @@
-//! The program's rows: what scripts print, which words it takes, and what it says of a fault.
+//! The program's rows: what scripts print, which words it takes, what it says of a fault, and the
+//! statuses of replies.
 
 mod faults;
+mod replies;
 mod scripts;
 mod words;

@@ -5,20 +5,21 @@
 use base_types::OutOfMemory;
 use log_writer::{LogFile, open_log};
 use relay::{Capacity, Loops, Outlets, PairLimit, serve, text_of};
-use relay_admin::{Addr, check_status};
-use relay_command::{Fault, Job, NO_MEMORY, job_of, trace_status};
+use relay_admin::{Addr, Command, check_status};
+use relay_command::{Fault, HELP, Job, NO_MEMORY, VERSION, job_of, reply_status, trace_status};
 use relay_ledger::PARTS;
 use std::alloc::Global;
 use std::fs::{File, Files};
-use std::io::ErrorKind;
+use std::io::{ErrorKind, Write};
 use std::marker::Brand;
-use std::net::{Net, TcpListener, TcpStream};
+use std::net::{Net, Shutdown, TcpListener, TcpStream};
+use std::os::unix::net::UnixStream;
 use std::process::ExitCode;
 use std::random::RandomSource;
 use std::sync::Wait;
 use std::sync::ledger::Blank;
 use std::thread::Threads;
-use std::time::Clock;
+use std::time::{Clock, Duration};
 use std::{env, io};
 
 /// Tells a fault on standard error. Where that cannot be written either, nobody is left to tell.
@@ -113,6 +114,42 @@ where
     }
 }
 
+/// How long a relay may say nothing.
+const PATIENCE: Duration = Duration::from_secs(10);
+
+/// A connection to an admin socket on which a line was sent, and nothing more will be.
+fn asked(rt: &HostRuntime, admin: &str, line: &str) -> io::Result<UnixStream> {
+    let mut stream = UnixStream::connect(rt, admin)?;
+    stream.set_read_timeout(Some(PATIENCE))?;
+    stream.set_write_timeout(Some(PATIENCE))?;
+    stream.write_all(line.as_bytes())?;
+    stream.write_all(b"\n")?;
+    stream.shutdown(Shutdown::Write)?;
+    Ok(stream)
+}
+
+/// Has the relay carry out an admin command, and prints its reply.
+fn control(rt: &HostRuntime, admin: &str, line: &str) -> ExitCode {
+    if Command::parse(line.as_bytes()).is_none() {
+        return told(rt, Fault::BadCommandLine);
+    }
+    let Ok(mut stream) = asked(rt, admin, line) else {
+        return told(rt, Fault::Reach);
+    };
+    match reply_status(rt.alloc(), &mut stream, &mut rt.stdout()) {
+        Ok(status) => ExitCode::from(status),
+        Err(fault) => told(rt, fault),
+    }
+}
+
+/// Prints a text of the program's own.
+fn say(rt: &HostRuntime, text: &str) -> ExitCode {
+    match rt.stdout().write_all(text.as_bytes()) {
+        Ok(()) => ExitCode::from(0),
+        Err(_) => told(rt, Fault::Print),
+    }
+}
+
 /// The words of the command line, with the program's name.
 fn words_of(rt: &HostRuntime) -> Result<Vec<String>, Fault> {
     match env::args(rt) {
@@ -156,6 +193,9 @@ fn main(rt: HostRuntime) -> ExitCode {
             };
             run_relay(rt, &rules, &admin, capacity, log, metrics)
         }
+        Ok(Job::Ctl { admin, line }) => control(&rt, admin.as_str(), line.as_str()),
+        Ok(Job::Help) => say(&rt, HELP),
+        Ok(Job::Version) => say(&rt, VERSION),
         Err(fault) => told(&rt, fault),
     }
 }

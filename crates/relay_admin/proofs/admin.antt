@@ -1,6 +1,7 @@
 pub mod CommandLemmas
 pub mod LineTranscripts
 pub mod OneDialogue
+pub mod Refusals
 pub mod SessionEnds
 pub mod SessionLemmas
 pub mod ShownLines

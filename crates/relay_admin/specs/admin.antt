@@ -2,6 +2,7 @@ pub mod Command
 pub mod CommandReading
 pub mod Devices
 pub mod Progress
+pub mod Refusal
 pub mod Reply
 pub mod ReplyBytes
 pub mod Shown

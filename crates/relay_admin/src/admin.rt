@@ -6,6 +6,7 @@
 //! | an end by a command | `end`: how it is told; `command`: `Command::end`, and `end_of` |
 //! | a question to the desk | `desk`: the question, its row in `ask`, a new answer |
 //! | a reply | `reply_text`: its words; `reply`: which answer has it |
+//! | a reply that refuses | `refusal`: its first word, if it is none of those there |
 //! | a word of what is shown | `shown`: its field, and its place in the line |
 
 pub mod command;
@@ -13,6 +14,7 @@ pub mod desk;
 pub mod dialogue;
 pub mod end;
 pub mod line_answer;
+pub mod refusal;
 pub mod reply;
 pub mod reply_bytes;
 pub mod reply_text;

@@ -13,6 +13,7 @@ ghost use Rattle.relay_admin.specs.declared.rules.addr.TheConstants.{MAX_ADDR_BY
 ghost use Rattle.relay_admin.specs.declared.rules.addr.TheConstants.{MAX_PATH_BYTES};
 ghost use Rattle.relay_admin.specs.declared.rules.file.TheConstants.{MAX_BYTES, MAX_RULES};
 ghost use Rattle.relay_admin.specs.declared.rules.rule.TheConstants.{MAX_IDLE_MS, MAX_NAME_BYTES};
+ghost use Rattle.relay_admin.specs.admin.Refusal.{BadCommandsAreRefused, RepliesTellRefusals};
 ghost use Rattle.relay_admin.specs.Laws.{NoRulesWithFault, OneCommandALine, OneDialogueAText};
 ghost use Rattle.relay_admin.specs.Laws.{OneFault, OneLineAShow, OneListOfRules, OneRuleALine};
 ghost use Rattle.relay_admin.specs.Laws.{OneTextAnAddress, ReadsItsText};
@@ -46,6 +47,13 @@ pub fn one_dialogue_a_text()
 /// one reply look like two.
 pub fn a_show_is_one_line()
     ensures { OneLineAShow }
+{}
+
+/// A reply tells its reader whether the command was carried out: of a desk's replies
+/// [`reply_refuses`](crate::reply_refuses) is true of exactly those to answers that refuse.
+pub fn a_reply_tells_whether_it_refuses()
+    ensures answers { RepliesTellRefusals }
+    ensures bad_command { BadCommandsAreRefused }
 {}
 
 /// The limits of a rules file in figures. The definitions follow the code's constants, so that this

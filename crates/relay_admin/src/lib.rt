@@ -11,6 +11,7 @@ mod text;
 pub use admin::command::Command;
 pub use admin::desk::{Desk, DeskAnswer};
 pub use admin::end::{AdminEnd, AdminFault};
+pub use admin::refusal::reply_refuses;
 pub use admin::reply::{reply_in, reply_of};
 pub use admin::session::{serve_admin, serve_on};
 pub use admin::shown::{Shown, ShownSide, peer_name};

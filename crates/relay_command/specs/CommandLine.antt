@@ -1,6 +1,6 @@
 -- What the words of the command line ask for.
 use Rattle.std.specs.Prelude.{ℕ, Bool, true, false, List, [], ◌∷◌, Option, Some, None, codes, if◌then◌else◌}
-use Rattle.std.specs.Prelude.{◌-◌, length, option_map, slice_get, take, unwrap_or}
+use Rattle.std.specs.Prelude.{◌-◌, ◌++◌, length, option_map, slice_get, take, unwrap_or}
 use Rattle.std.specs.Option.{option_and_then, option_map_or}
 use Rattle.std.specs.List.{list_any}
 use Rattle.std.specs.Str.{bytes_eq}
@@ -25,6 +25,9 @@ pub data Asked : Type 0 where
   Check : (rules : Text) → Asked
   Serve : (rules admin : Text) → (loops pairs : Option ℕ) → (log : Option Text) →
       (metrics : Option Address) → Asked
+  Ctl : (admin line : Text) → Asked
+  Help : Asked
+  Version : Asked
 
 abbrev pub asked_of : Job → Asked
 asked_of job.Trace = Trace
@@ -32,6 +35,9 @@ asked_of (job.Check rules) = Check (string_bytes rules)
 asked_of (job.Serve rules admin loops pairs log metrics) =
     Serve (string_bytes rules) (string_bytes admin) (option_map (λ l. l.count) loops)
     (option_map (λ p. p.count) pairs) (option_map string_bytes log) (option_map address_of metrics)
+asked_of (job.Ctl admin line) = Ctl (string_bytes admin) (string_bytes line)
+asked_of job.Help = Help
+asked_of job.Version = Version
 
 -- an option that has to be there, with one value
 abbrev pub required_option : Text → Rule
@@ -61,14 +67,43 @@ serve_app =
     (optional_option (codes "log")))
     (optional_option (codes "metrics"))
 
--- the program as `clap` sees it: three commands, and no name ahead of the words
+-- a word that stands alone, without an option ahead of it
+abbrev pub operand : Text → Bool → Rule
+operand name has_to_be =
+    record (new_rule name) { action = Some Set; required = has_to_be }
+
+-- `ctl` with the path of an admin socket and one to three words
+abbrev pub ctl_app : App
+ctl_app =
+    with_rule
+    (with_rule
+    (with_rule
+    (with_rule (new_app (codes "ctl")) (required_option (codes "admin")))
+    (operand (codes "command") true))
+    (operand (codes "first") false))
+    (operand (codes "second") false)
+
+-- the program's name, which doesn't stand ahead of the words; it has a command `help` of its own
+abbrev pub named_app : App
+named_app =
+    let bare = new_app (codes "pollrelay") in
+    record bare {
+      top = record bare.top { no_binary_name = true; disable_help_subcommand = true };
+    }
+
+-- the commands that work by a script or a rules file
+abbrev pub working : App
+working =
+    with_subcommand
+    (with_subcommand (with_subcommand named_app (new_app (codes "trace")).top) check_app.top)
+    serve_app.top
+
+-- the program as `clap` sees it: with the commands that ask a relay or tell of the program
 abbrev pub program : App
 program =
-    let bare = new_app (codes "pollrelay") in
-    let named = record bare { top = record bare.top { no_binary_name = true } } in
     with_subcommand
-    (with_subcommand (with_subcommand named (new_app (codes "trace")).top) check_app.top)
-    serve_app.top
+    (with_subcommand (with_subcommand working ctl_app.top) (new_app (codes "help")).top)
+    (new_app (codes "version")).top
 
 -- the value of an option
 abbrev pub value_of : Text → List Row → Text
@@ -112,12 +147,25 @@ served_job rows = do
   metrics ← metrics_given (first_of (codes "metrics") rows)
   Some (Serve (value_of (codes "rules") rows) (value_of (codes "admin") rows) loops pairs log metrics)
 
+-- a word behind others, if there is one more
+abbrev pub spaced : Option Text → Text
+spaced None = []
+spaced (Some word) = codes " " ++ word
+
+-- the words of an admin command as a line
+abbrev pub line_in : List Row → Text
+line_in rows = value_of (codes "command") rows
+    ++ spaced (first_of (codes "first") rows) ++ spaced (first_of (codes "second") rows)
+
 -- the job of a command with its options, or none
 abbrev pub named_job : Text → List Row → Option Asked
 named_job name rows =
     if bytes_eq name (codes "trace") then Some Trace
     else if bytes_eq name (codes "check") then Some (Check (value_of (codes "rules") rows))
     else if bytes_eq name (codes "serve") then served_job rows
+    else if bytes_eq name (codes "ctl") then Some (Ctl (value_of (codes "admin") rows) (line_in rows))
+    else if bytes_eq name (codes "help") then Some Help
+    else if bytes_eq name (codes "version") then Some Version
     else None
 
 -- the job of what a command line holds: no command stands for `trace`

@@ -1,5 +1,7 @@
 -- The exit statuses of the program.
-use Rattle.std.specs.Prelude.{ℕ}
+use Rattle.std.specs.Prelude.{◌≡◌, ◌==◌, ◌⊎◌, ℕ, Bool, List, [], ◌∷◌, if◌then◌else◌}
+use Rattle.std.specs.List.{ends_with}
+use Rattle.relay_admin.specs.admin.Refusal.{reply_refuses}
 use Rattle.lockword_script.specs.declared.outcome.TraceFault.{TraceFault}
 use Rattle.lockword_script.specs.declared.outcome.TraceFault.TheVariants as trace
 use Rattle.relay_admin.specs.declared.serve_fault.ServeFault.TheVariants as relay
@@ -17,3 +19,15 @@ abbrev pub fault_of_trace : TraceFault → Fault
 fault_of_trace trace.Read = fault.TraceRead
 fault_of_trace trace.Write = fault.TraceWrite
 fault_of_trace trace.OutOfMemory = fault.TraceMemory
+
+-- a text that ends with a line feed
+abbrev pub ends_a_line : List ℕ → Bool
+ends_a_line text = ends_with ◌==◌ text (10 ∷ [])
+
+-- 1 for a reply that refuses, 0 for any other
+abbrev pub status_of_reply : List ℕ → ℕ
+status_of_reply reply = if reply_refuses reply then 1 else 0
+
+-- no whole reply came, it couldn't be printed, or memory was refused
+abbrev pub IsFaultOfReply : Fault → Type 0
+IsFaultOfReply told = (told ≡ fault.Reach) ⊎ (told ≡ fault.Print) ⊎ (told ≡ fault.Relay relay.Memory)

@@ -21,6 +21,12 @@ pub enum Fault {
     /// The log can't be opened.
     #[error("cannot open log")]
     Log,
+    /// No relay answers at an admin socket in time, or not with a whole reply.
+    #[error("cannot reach admin")]
+    Reach,
+    /// A relay's reply can't be printed.
+    #[error("cannot print reply")]
+    Print,
     /// A relay doesn't run, or a rules file can't be read.
     #[error("{0}")]
     Relay(ServeFault),
@@ -36,7 +42,8 @@ impl Fault {
     {
         match self {
             Fault::BadCommandLine => 2,
-            Fault::TraceRead | Fault::TraceWrite | Fault::TraceMemory | Fault::Log => 3,
+            Fault::TraceRead | Fault::TraceWrite | Fault::TraceMemory => 3,
+            Fault::Log | Fault::Reach | Fault::Print => 3,
             Fault::Relay(ServeFault::BadRules(_)) => 1,
             Fault::Relay(_) => 3,
         }

@@ -1,27 +1,22 @@
-//! The command line.
+//! The job that the words of the command line ask for.
 
-ghost use Rattle.std.specs.Prelude.{◌≡◌, IfOk, map, option_map, false};
+ghost use Rattle.std.specs.Prelude.{◌≡◌, ◌++◌, IfOk, OnOk, map, option_map};
 ghost use Rattle.std.specs.String.{string_bytes};
-ghost use Rattle.clap.specs.Walk.{first_of, rows_of, rule_of};
+ghost use Rattle.clap.specs.Walk.{first_of, rows_of};
 ghost use Rattle.clap.specs.Matches.{found_of};
-ghost use Rattle.clap.specs.Simple.{app_of, subcommand_rows_of};
-ghost use Rattle.clap.specs.declared.builder.command.Command.TheViews.{out-Command};
-ghost use Rattle.relay_command.specs.CommandLine.{asked_of, check_app, found_job, job_asked};
-ghost use Rattle.relay_command.specs.CommandLine.{named_job};
+ghost use Rattle.clap.specs.Simple.{subcommand_rows_of};
+ghost use Rattle.relay_command.specs.CommandLine.{asked_of, found_job, job_asked, line_in};
+ghost use Rattle.relay_command.specs.CommandLine.{named_job, served_job, spaced, value_of};
 ghost use Rattle.relay_command.specs.CommandLine as spec;
-ghost use Rattle.relay_command.specs.CommandLine.{program, required_option, serve_app, value_of};
-ghost use Rattle.relay_command.specs.CommandLine.{loops_given, loops_in, optional_option};
-ghost use Rattle.relay_command.specs.CommandLine.{pairs_given, pairs_in, served_job};
-ghost use Rattle.relay_command.specs.CommandLine.{log_given, metrics_given, serve_needs};
-ghost use Rattle.relay_admin.specs.rules.Addr.{address_of};
 
+use crate::grammar::command;
+use crate::options::{log_asked, loops_asked, metrics_asked, pairs_asked};
 use base_types::OutOfMemory;
+use clap::ArgMatches;
 use clap::error::ErrorKind;
-use clap::{Arg, ArgAction, ArgMatches, Command};
-use relay_admin::{Addr, addr_of};
+use relay_admin::Addr;
 use relay_core::{Loops, PairLimit};
 use std::alloc::Global;
-use stream_base::decimal::parse_decimal;
 
 /// What the program is asked to do.
 #[derive(Debug, PartialEq, Eq, Drop)]
@@ -44,63 +39,15 @@ pub enum Job {
         log: Option<String>,
         metrics: Option<Addr>,
     },
-}
-
-// An option that has to be there, with a value.
-fn option<'a>(alloc: Global, name: &'a str) -> Arg<'a>
-    ensures rule { rule_of result ≡ required_option name.now }
-    ensures local { result.global ≡ false }
-{
-    Arg::new(alloc, name)
-        .long(name)
-        .required(true)
-        .action(ArgAction::Set)
-}
-
-// An option that may be left out, with a value.
-fn optional<'a>(alloc: Global, name: &'a str) -> Arg<'a>
-    ensures rule { rule_of result ≡ optional_option name.now }
-    ensures local { result.global ≡ false }
-{
-    Arg::new(alloc, name).long(name).action(ArgAction::Set)
-}
-
-fn check<'a>(alloc: Global) -> Result<Command<'a>, OutOfMemory>
-    ensures app { IfOk result (λ command. app_of command ≡ check_app) }
-    ensures local { IfOk result (λ command. (out-Command command).has_globals ≡ false) }
-{
-    Command::new(alloc, "check").arg(option(alloc, "rules"))
-}
-
-// `serve` with the options that have to be there.
-fn serve_needs<'a>(alloc: Global) -> Result<Command<'a>, OutOfMemory>
-    ensures app { IfOk result (λ command. app_of command ≡ serve_needs) }
-    ensures local { IfOk result (λ command. (out-Command command).has_globals ≡ false) }
-{
-    Command::new(alloc, "serve")
-        .arg(option(alloc, "rules"))?
-        .arg(option(alloc, "admin"))
-}
-
-fn serve<'a>(alloc: Global) -> Result<Command<'a>, OutOfMemory>
-    ensures app { IfOk result (λ command. app_of command ≡ serve_app) }
-    ensures local { IfOk result (λ command. (out-Command command).has_globals ≡ false) }
-{
-    serve_needs(alloc)?
-        .arg(optional(alloc, "loops"))?
-        .arg(optional(alloc, "connections"))?
-        .arg(optional(alloc, "log"))?
-        .arg(optional(alloc, "metrics"))
-}
-
-fn command<'a>(alloc: Global) -> Result<Command<'a>, OutOfMemory>
-    ensures { IfOk result (λ command. app_of command ≡ program) }
-{
-    Command::new(alloc, "pollrelay")
-        .no_binary_name(true)
-        .subcommand(Command::new(alloc, "trace"))?
-        .subcommand(check(alloc)?)?
-        .subcommand(serve(alloc)?)
+    /// Ask the relay whose admin socket is at `admin` this line, which may be no admin command.
+    Ctl {
+        admin: String,
+        line: String,
+    },
+    /// Print what the program can be asked.
+    Help,
+    /// Print which version it is.
+    Version,
 }
 
 // The value of an option that has to be there.
@@ -109,80 +56,6 @@ fn value(alloc: Global, matches: &ArgMatches<'_>, id: &str) -> Result<String, Ou
         ≡ value_of id.now (rows_of (found_of matches.now))) }
 {
     String::from_str(alloc, matches.get_str(id).unwrap_or(""))
-}
-
-// The loops that a text asks for, in digits without a zero ahead, or none where it has no such
-// number.
-fn loops_of(text: &str) -> Option<Loops>
-    ensures { option_map (λ loops. loops.count) result ≡ loops_in text.now }
-{
-    Loops::of(parse_decimal(text.as_bytes())?)
-}
-
-// The loops that an option asks for, if it is there; none where it asks for no number of them.
-fn loops_asked(given: Option<&str>) -> Option<Option<Loops>>
-    ensures { option_map (option_map (λ loops. loops.count)) result
-        ≡ loops_given (option_map (λ text. text.now) given.entry) }
-{
-    match given {
-        None => Some(None),
-        Some(text) => match loops_of(text) {
-            Some(loops) => Some(Some(loops)),
-            None => None,
-        },
-    }
-}
-
-// The connections that a text asks for, in digits without a zero ahead, or none where it has no
-// such number.
-fn pairs_of(text: &str) -> Option<PairLimit>
-    ensures { option_map (λ pairs. pairs.count) result ≡ pairs_in text.now }
-{
-    PairLimit::of(parse_decimal(text.as_bytes())?)
-}
-
-// The connections that an option asks for, if it is there; none where it asks for no number of
-// them. One function for these and the loops would need a trait over both types, for no less text.
-fn pairs_asked(given: Option<&str>) -> Option<Option<PairLimit>>
-    ensures { option_map (option_map (λ pairs. pairs.count)) result
-        ≡ pairs_given (option_map (λ text. text.now) given.entry) }
-{
-    match given {
-        None => Some(None),
-        Some(text) => match pairs_of(text) {
-            Some(pairs) => Some(Some(pairs)),
-            None => None,
-        },
-    }
-}
-
-// The path of the log that an option asks for, if it is there; none where the path has no byte.
-fn log_asked(alloc: Global, given: Option<&str>) -> Result<Option<Option<String>>, OutOfMemory>
-    ensures { IfOk result (λ log. option_map (option_map string_bytes) log
-        ≡ log_given (option_map (λ text. text.now) given.entry)) }
-{
-    match given {
-        None => Ok(Some(None)),
-        Some(path) if path.is_empty() => Ok(None),
-        Some(path) => {
-            let path = String::from_str(alloc, path)?;
-            Ok(Some(Some(path)))
-        }
-    }
-}
-
-// The address for metrics that an option asks for, if it is there; none where its text spells none.
-fn metrics_asked(given: Option<&str>) -> Option<Option<Addr>>
-    ensures { option_map (option_map address_of) result
-        ≡ metrics_given (option_map (λ text. text.now) given.entry) }
-{
-    match given {
-        None => Some(None),
-        Some(text) => match addr_of(text.as_bytes()) {
-            Some(addr) => Some(Some(addr)),
-            None => None,
-        },
-    }
 }
 
 // The value of an option that may be left out.
@@ -221,6 +94,28 @@ fn serve_job(alloc: Global, matches: &ArgMatches<'_>) -> Result<Option<Job>, Out
     }))
 }
 
+// A word behind those of a line, if there is one more.
+fn add_word(line: &mut String, word: Option<&str>) -> Result<(), OutOfMemory>
+    ensures { OnOk result (string_bytes line.new
+        ≡ string_bytes line.old ++ spaced (option_map (λ text. text.now) word.entry)) }
+{
+    if let Some(word) = word {
+        line.push_str(" ")?;
+        line.push_str(word)?;
+    }
+    Ok(())
+}
+
+// The words of an admin command, as a line.
+fn line_of(alloc: Global, matches: &ArgMatches<'_>) -> Result<String, OutOfMemory>
+    ensures { IfOk result (λ line. string_bytes line ≡ line_in (rows_of (found_of matches.now))) }
+{
+    let mut line = value(alloc, matches, "command")?;
+    add_word(&mut line, given(matches, "first"))?;
+    add_word(&mut line, given(matches, "second"))?;
+    Ok(line)
+}
+
 fn job_named(
     alloc: Global,
     name: &str,
@@ -236,6 +131,13 @@ fn job_named(
             Ok(Some(Job::Check { rules }))
         }
         "serve" => serve_job(alloc, matches),
+        "ctl" => {
+            let admin = value(alloc, matches, "admin")?;
+            let line = line_of(alloc, matches)?;
+            Ok(Some(Job::Ctl { admin, line }))
+        }
+        "help" => Ok(Some(Job::Help)),
+        "version" => Ok(Some(Job::Version)),
         _ => Ok(None),
     }
 }
@@ -265,8 +167,9 @@ fn options_of<'a>(words: &'a [&'a str]) -> &'a [&'a str]
 /// No word and the word `trace` ask for [`Job::Trace`]; `check` with `--rules` and `serve` with
 /// `--rules` and `--admin`, in any order, for the others. `serve` may have `--loops` too, with a
 /// number from 1 to 64 in digits without a zero ahead, `--connections`, with one from 1 to 2,000,
-/// `--log`, with the path of a file, and `--metrics`, with an address as the rules file has it. A
-/// value follows its option as the next word, which begins with no `-`, or behind a `=`. A
+/// `--log`, with the path of a file, and `--metrics`, with an address as the rules file has it;
+/// `ctl` with `--admin` and one to three words asks for [`Job::Ctl`]; `help` and `version` stand
+/// alone. A value follows its option as the next word, which begins with no `-`, or behind a `=`. A
 /// `--` ends the options: what follows it is an operand, and no command has one. The only fault is
 /// want of memory.
 pub fn job_of(alloc: Global, words: &[&str]) -> Result<Option<Job>, OutOfMemory>

@@ -2,10 +2,16 @@
 //! to, and what is said of a fault, with the exit status of each.
 #![tactic(auto)]
 
+mod ctl;
 mod fault;
+mod grammar;
 mod job;
+mod options;
 mod status;
+mod usage;
 
+pub use ctl::reply_status;
 pub use fault::{Fault, NO_MEMORY};
 pub use job::{Job, job_of};
 pub use status::trace_status;
+pub use usage::{HELP, VERSION};

@@ -125,9 +125,48 @@ fn a_command_is_taken_with_its_options(rt: HostRuntime) {
     }
 }
 
+fn controlled(alloc: Global, line: &str) -> Option<Job> {
+    let admin = String::from_str(alloc, "/a b").ok()?;
+    let line = String::from_str(alloc, line).ok()?;
+    Some(Job::Ctl { admin, line })
+}
+
+#[test]
+fn ctl_takes_one_to_three_words_as_a_line(rt: HostRuntime) {
+    let alloc = rt.alloc();
+    let rows: [(&[&str], &str); 6] = [
+        (&["ctl", "--admin", "/a b", "list"], "list"),
+        (&["ctl", "list", "--admin=/a b"], "list"),
+        (&["ctl", "--admin", "/a b", "close", "9"], "close 9"),
+        (&["ctl", "deadline", "--admin", "/a b", "3", "never"], "deadline 3 never"),
+        (&["ctl", "--admin", "/a b", "deadline 3 0"], "deadline 3 0"),
+        (&["ctl", "--admin", "/a b", "frob", ""], "frob "),
+    ];
+    for (words, line) in rows {
+        let job = controlled(alloc, line);
+        let is_taken = job.is_some() && is_job(alloc, words, &job);
+        assert!(&rt; is_taken, "{words:?}");
+    }
+}
+
+#[test]
+fn help_and_version_stand_alone(rt: HostRuntime) {
+    let rows: [(&[&str], &Option<Job>); 6] = [
+        (&["help"], &Some(Job::Help)),
+        (&["version"], &Some(Job::Version)),
+        (&["help", "--"], &Some(Job::Help)),
+        (&["help", "serve"], &None),
+        (&["version", "x"], &None),
+        (&["--version"], &None),
+    ];
+    for (words, job) in rows {
+        assert!(&rt; is_job(rt.alloc(), words, job), "{words:?}");
+    }
+}
+
 #[test]
 fn no_other_words_are_taken(rt: HostRuntime) {
-    let refused: [&[&str]; 43] = [
+    let refused: [&[&str]; 49] = [
         &["check"],
         &["check", "F"],
         &["check", "--rules"],
@@ -180,7 +219,13 @@ fn no_other_words_are_taken(rt: HostRuntime) {
         &["frob"],
         &["--help"],
         &["-h"],
-        &["help"],
+        &["ctl"],
+        &["ctl", "list"],
+        &["ctl", "--admin", "A"],
+        &["ctl", "--admin", "A", "--admin", "A", "list"],
+        &["ctl", "--admin", "A", "deadline", "1", "2", "3"],
+        &["ctl", "--admin", "A", "--", "list"],
+        &["ctl", "--admin", "A", "--rules", "F", "list"],
         &["-V"],
         &["--", "trace"],
         &["--", "--"],

@@ -1,0 +1,103 @@
+//! The commands of the program with their options, as `clap` is told them.
+
+ghost use Rattle.std.specs.Prelude.{◌≡◌, IfOk, false};
+ghost use Rattle.clap.specs.Walk.{rule_of};
+ghost use Rattle.clap.specs.Simple.{app_of};
+ghost use Rattle.clap.specs.declared.builder.command.Command.TheViews.{out-Command};
+ghost use Rattle.relay_command.specs.CommandLine.{check_app, ctl_app, operand, optional_option};
+ghost use Rattle.relay_command.specs.CommandLine.{program, required_option, serve_app, serve_needs};
+ghost use Rattle.relay_command.specs.CommandLine as spec;
+
+use base_types::OutOfMemory;
+use clap::{Arg, ArgAction, Command};
+use std::alloc::Global;
+
+// An option that has to be there, with a value.
+fn option<'a>(alloc: Global, name: &'a str) -> Arg<'a>
+    ensures rule { rule_of result ≡ required_option name.now }
+    ensures local { result.global ≡ false }
+{
+    Arg::new(alloc, name)
+        .long(name)
+        .required(true)
+        .action(ArgAction::Set)
+}
+
+// An option that may be left out, with a value.
+fn optional<'a>(alloc: Global, name: &'a str) -> Arg<'a>
+    ensures rule { rule_of result ≡ optional_option name.now }
+    ensures local { result.global ≡ false }
+{
+    Arg::new(alloc, name).long(name).action(ArgAction::Set)
+}
+
+fn check<'a>(alloc: Global) -> Result<Command<'a>, OutOfMemory>
+    ensures app { IfOk result (λ command. app_of command ≡ check_app) }
+    ensures local { IfOk result (λ command. (out-Command command).has_globals ≡ false) }
+{
+    Command::new(alloc, "check").arg(option(alloc, "rules"))
+}
+
+// `serve` with the options that have to be there.
+fn serve_needs<'a>(alloc: Global) -> Result<Command<'a>, OutOfMemory>
+    ensures app { IfOk result (λ command. app_of command ≡ serve_needs) }
+    ensures local { IfOk result (λ command. (out-Command command).has_globals ≡ false) }
+{
+    Command::new(alloc, "serve")
+        .arg(option(alloc, "rules"))?
+        .arg(option(alloc, "admin"))
+}
+
+fn serve<'a>(alloc: Global) -> Result<Command<'a>, OutOfMemory>
+    ensures app { IfOk result (λ command. app_of command ≡ serve_app) }
+    ensures local { IfOk result (λ command. (out-Command command).has_globals ≡ false) }
+{
+    serve_needs(alloc)?
+        .arg(optional(alloc, "loops"))?
+        .arg(optional(alloc, "connections"))?
+        .arg(optional(alloc, "log"))?
+        .arg(optional(alloc, "metrics"))
+}
+
+// A word of an admin command.
+fn word<'a>(alloc: Global, name: &'a str, has_to_be: bool) -> Arg<'a>
+    ensures rule { rule_of result ≡ operand name.now has_to_be }
+    ensures local { result.global ≡ false }
+{
+    Arg::new(alloc, name)
+        .required(has_to_be)
+        .action(ArgAction::Set)
+}
+
+fn ctl<'a>(alloc: Global) -> Result<Command<'a>, OutOfMemory>
+    ensures app { IfOk result (λ command. app_of command ≡ ctl_app) }
+    ensures local { IfOk result (λ command. (out-Command command).has_globals ≡ false) }
+{
+    Command::new(alloc, "ctl")
+        .arg(option(alloc, "admin"))?
+        .arg(word(alloc, "command", true))?
+        .arg(word(alloc, "first", false))?
+        .arg(word(alloc, "second", false))
+}
+
+// (the words `help` and `version` are commands of the program's own, `--help` is none)
+fn working<'a>(alloc: Global) -> Result<Command<'a>, OutOfMemory>
+    ensures { IfOk result (λ command. app_of command ≡ spec.working) }
+{
+    Command::new(alloc, "pollrelay")
+        .no_binary_name(true)
+        .disable_help_subcommand(true)
+        .subcommand(Command::new(alloc, "trace"))?
+        .subcommand(check(alloc)?)?
+        .subcommand(serve(alloc)?)
+}
+
+/// The program's commands.
+pub(crate) fn command<'a>(alloc: Global) -> Result<Command<'a>, OutOfMemory>
+    ensures { IfOk result (λ command. app_of command ≡ program) }
+{
+    working(alloc)?
+        .subcommand(ctl(alloc)?)?
+        .subcommand(Command::new(alloc, "help"))?
+        .subcommand(Command::new(alloc, "version"))
+}

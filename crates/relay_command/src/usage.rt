@@ -1,0 +1,31 @@
+//! What the program says of itself.
+
+/// What `pollrelay version` prints.
+pub const VERSION: &str = "pollrelay 0.1.0\n";
+
+/// What `pollrelay help` prints.
+pub const HELP: &str = "\
+pollrelay relays TCP and Unix-socket connections by a rules file.
+
+pollrelay serve --rules FILE --admin PATH [OPTION..]
+    relays until an admin session says stop
+    --loops N           loops that copy, 1 to 64 (as many as suit the machine)
+    --connections N     connections at once, 1 to 2000 (512)
+    --log FILE          a line for each connection that ended
+    --metrics ADDRESS   figures for Prometheus, and /healthz
+pollrelay check --rules FILE
+    says whether a rules file is good
+pollrelay ctl --admin PATH WORD..
+    has a relay carry out an admin command, and prints its reply:
+    list, totals, show ID, close ID, drain ID, deadline ID MS, deadline ID never,
+    reload, stop
+pollrelay trace
+    runs a script of the lock word on standard input; without a word, likewise
+pollrelay help, pollrelay version
+    print this, and which version it is
+
+A line of a rules file is `relay NAME LISTEN TARGET IDLE`, IDLE in milliseconds or `never`:
+    relay web tcp:127.0.0.1:8080 unix:/run/web.sock 60000
+
+Status: 0 done, 1 refused, 2 bad command line, 3 a device or memory failed.
+";
