@@ -5,3 +5,4 @@ pub mod Refusals
 pub mod SessionEnds
 pub mod SessionLemmas
 pub mod ShownLines
+pub mod StepLemmas

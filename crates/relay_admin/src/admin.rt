@@ -20,3 +20,4 @@ pub mod reply_bytes;
 pub mod reply_text;
 pub mod session;
 pub mod shown;
+pub mod stepwise;

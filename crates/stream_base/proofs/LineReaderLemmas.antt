@@ -155,3 +155,9 @@ line_is_long limit old new lacks (part, takes, full, byte, rest, begins, other) 
     ∙ ap (λ (t : List ℕ). old.held ++ ((part ++ t) ++ more)) (sym begins)
     ∙ ap (λ (t : List ℕ). old.held ++ (t ++ more)) (sym takes.cut) in
     subst (HasLongFirstLine limit) text (long_first_line limit new.held byte (rest ++ more) unended other full)
+
+-- a line that is too long has no line feed so far
+pub long_unended : (limit : ℕ) (old new : Reading) → Lacks line_feed old.held → Finds limit TooLong old new
+    → Lacks line_feed new.held
+long_unended limit old new lacks (part, takes, full, byte, rest, begins, other) =
+    subst (Lacks line_feed) (sym takes.held) (lacks-append line_feed old.held part lacks takes.unbroken)

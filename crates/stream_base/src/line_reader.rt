@@ -1,7 +1,8 @@
 //! The lines of a source, as they come. The source is read in chunks, and one line is held at a
 //! time, up to a limit, so that memory grows with neither the source nor its lines.
 
-ghost use Rattle.std.specs.Prelude.{◌≡◌, ◌<◌, ◌≤◌, ◌-◌, [], IfOk, OnOk, OnErr, drop, length, take};
+ghost use Rattle.std.specs.Prelude.{◌≡◌, ◌≢◌, ◌<◌, ◌≤◌, ◌-◌, [], IfOk, OnOk, OnErr, drop, length, min};
+ghost use Rattle.std.specs.Prelude.{take};
 ghost use Rattle.std.specs.Io.KnownBytes.{Consumes, IsAtEnd, Keeps};
 ghost use Rattle.stream_base.specs.Attempt.{FailedOrInterrupted};
 ghost use Rattle.stream_base.specs.LineReader.{Finds, Reading, nothing_read};
@@ -11,8 +12,8 @@ use crate::source::{Source, SourceFault, read_from};
 use arrayvec::ArrayVec;
 use std::marker::Model;
 
-/// The most bytes that one read takes.
-const CHUNK_BYTES: usize = 4_096;
+/// The most bytes that are taken at once.
+pub const CHUNK_BYTES: usize = 4_096;
 
 /// What the bytes that were read say of the line that is held.
 #[derive(Clone, Copy, Debug, PartialEq, Eq, Drop)]
@@ -85,6 +86,24 @@ impl<const LIMIT: usize> LineReader<LIMIT> {
         };
         self.end = count;
         Ok(count)
+    }
+
+    /// Takes bytes that came otherwise than from a source, 4,096 of them at most, and says how many.
+    /// Where bytes are still ahead it takes none. The line that is held stays.
+    pub fn take(&mut self, bytes: &[u8]) -> usize
+        ensures held { self.new.held ≡ self.old.held }
+        ensures took { self.old.ahead ≡ [] → (result ≡ min (length bytes.now) CHUNK_BYTES)
+            × (self.new.ahead ≡ take result bytes.now) }
+        ensures none { self.old.ahead ≢ [] → (result ≡ 0) × (self.new.ahead ≡ self.old.ahead) }
+    {
+        if self.at < self.end {
+            return 0;
+        }
+        let count = bytes.len().min(CHUNK_BYTES);
+        self.chunk[..count].copy_from_slice(&bytes[..count]);
+        self.at = 0;
+        self.end = count;
+        count
     }
 
     /// Goes on with the line that is held, through the bytes ahead, up to its line feed or to the

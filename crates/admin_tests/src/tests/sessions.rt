@@ -1,6 +1,7 @@
 //! Whole sessions: replies, ends, and 65,536 lines at most.
 mod devices;
 mod each_reply;
+mod in_pieces;
 
 use crate::tests::fake_desk::FakeDesk;
 use relay_admin::{AdminEnd, serve_admin};

@@ -86,7 +86,7 @@ closes_long_cut number kept bytes k long rest =
 
 -- ---- A last line that lacks its line feed
 
-last_line_closes : (number : ℕ) (kept : List ℕ) (exchanges : List Exchange) (replies : List ℕ) (ending : Ending)
+pub last_line_closes : (number : ℕ) (kept : List ℕ) (exchanges : List Exchange) (replies : List ℕ) (ending : Ending)
     → Lacks line_feed kept → 0 < length kept → ((lines : List (List ℕ))
     → Transcript number (kept ∷ lines) exchanges replies ending)
     → Transcript number (lines_of kept) exchanges replies ending
@@ -94,7 +94,7 @@ last_line_closes number kept exchanges replies ending lacks some are =
     subst (λ (ls : List (List ℕ)). Transcript number ls exchanges replies ending)
     (sym (lines_of-last_line kept lacks some)) (are [])
 
-last_line_ends : (number : ℕ) (kept : List ℕ) (exchanges : List Exchange) (reply : List ℕ) → Lacks line_feed kept
+pub last_line_ends : (number : ℕ) (kept : List ℕ) (exchanges : List Exchange) (reply : List ℕ) → Lacks line_feed kept
     → 0 < length kept → number < MAX_LINES → LineTranscript kept exchanges reply None
     → Transcript number (lines_of kept) exchanges reply (ended ends.End)
 last_line_ends number kept exchanges reply lacks some few are =

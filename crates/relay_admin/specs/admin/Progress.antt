@@ -1,7 +1,7 @@
--- How far a session has come, and what bytes do to it. No public clause cites this module.
-use Rattle.std.specs.Prelude.{◌≡◌, ◌≢◌, ◌≤◌, ◌<◌, ◌+◌, ◌*◌, ◌∷◌, ◌++◌}
+-- How far a session has come, and what bytes do to it.
+use Rattle.std.specs.Prelude.{◌≡◌, ◌≢◌, ◌≤◌, ◌<◌, ◌+◌, ◌*◌, ◌∷◌, ◌++◌, ◌⊎◌}
 use Rattle.relay_admin.specs.Words.{ℕ, Bool, List, []}
-use Rattle.relay_admin.specs.Words.{length, Option, None, Result, Ok, Err, Appends, lines_of}
+use Rattle.relay_admin.specs.Words.{length, Option, Some, None, Result, Ok, Err, Appends, lines_of}
 use Rattle.relay_admin.specs.Words.{line_feed, Lacks, EndsLines, WriteStopped}
 use Rattle.relay_admin.specs.declared.admin.end.AdminEnd.{AdminEnd}
 use Rattle.relay_admin.specs.declared.admin.end.AdminEnd.TheVariants as ends
@@ -85,6 +85,52 @@ LinesComeTo (step.Ended end) old new bytes asked asked' contents contents' =
 LinesComeTo step.CutOff old new bytes asked asked' contents contents' =
     Meanwhile asked asked' contents contents'
     (λ exchanges replies. Closes old bytes exchanges replies cut_off)
+
+-- what the reply to a whole line came to: the session goes on, or it ends by the line, or since no
+-- line more may come
+abbrev pub ReplyComesTo : Option AdminEnd → Position → Position
+    → Option (List Exchange) → Option (List Exchange) → List ℕ → Type 0
+ReplyComesTo None old new asked asked' reply =
+    (old.number < MAX_LINES) × (new ≡ record { number = old.number + 1; kept = [] })
+    × AnswersLine asked asked' old.kept reply None
+ReplyComesTo (Some end) old new asked asked' reply =
+    (new ≡ old) × (AnswersLine asked asked' old.kept reply (Some end)
+    ⊎ (old.number ≡ MAX_LINES) × (end ≡ ends.TooManyLines)
+    × AnswersLine asked asked' old.kept reply None)
+
+-- what was asked meanwhile is so
+pub record Asks (asked asked' : Option (List Exchange)) (P : List Exchange → Type 0) : Type 0 where
+  pub exchanges : List Exchange
+  pub told : AddsExchanges asked asked' exchanges
+  pub holds : P exchanges
+
+-- a line among the bytes ahead brings this reply, and the session goes on behind it
+pub record GoesOnBy (reply : List ℕ) (old new : Dialogue) (asked asked' : Option (List Exchange))
+    : Type 0 where
+  pub bytes : List ℕ
+  pub some : 0 < length bytes
+  pub cut : ahead_of old ≡ bytes ++ ahead_of new
+  pub brings : Asks asked asked'
+      (λ exchanges. Advances (position old) (position new) bytes exchanges reply)
+
+-- what the bytes ahead came to: no line is whole, or one has its reply, and may end the session
+abbrev pub NextComesTo : Option (List ℕ × Option AdminEnd) → Dialogue → Dialogue
+    → Option (List Exchange) → Option (List Exchange) → Type 0
+NextComesTo None old new asked asked' =
+    (ahead_of new ≡ []) × (asked' ≡ asked)
+    × Advances (position old) (position new) (ahead_of old) [] []
+NextComesTo (Some (reply, None)) old new asked asked' = GoesOnBy reply old new asked asked'
+NextComesTo (Some (reply, Some end)) old new asked asked' =
+    (end ≢ ends.End) × Asks asked asked'
+    (λ exchanges. Closes (position old) (ahead_of old) exchanges reply (ended end))
+
+-- what the end of the bytes comes to, where a last line has its reply
+abbrev pub LastComesTo : Option (List ℕ × AdminEnd) → Position
+    → Option (List Exchange) → Option (List Exchange) → Type 0
+LastComesTo None old asked asked' = (asked' ≡ asked)
+    × Transcript old.number (lines_of old.kept) [] [] (ended ends.End)
+LastComesTo (Some told) old asked asked' = Asks asked asked'
+    (λ exchanges. Transcript old.number (lines_of old.kept) exchanges told.0 (ended told.1))
 
 -- what a whole line came to
 abbrev pub LineComesTo : Step → Position → Position

@@ -1,15 +1,21 @@
-//! A session, line by line. Each reply is written and flushed when its line is whole. The desk may
-//! take memory of `alloc`; replies take theirs of `memory`, which a session passes as the same.
+//! A session, line by line. Who has one session has each reply written and flushed when its line is
+//! whole (`answer_lines`, `finish`); who has many takes each reply and writes it (`take`,
+//! `next_reply`, `last_reply`; `stepwise` has these for callers). The desk may take memory of `alloc`; replies take theirs of
+//! `memory`, which a session passes as the same.
 
-ghost use Rattle.std.specs.Prelude.{◌≡◌};
+ghost use Rattle.std.specs.Prelude.{◌≡◌, ◌≢◌, length, min, option_map, take};
 ghost use Rattle.relay_admin.specs.Words.{[], OnOk, OnErr, WriteStopped};
 ghost use Rattle.relay_admin.specs.admin.Devices.{IsFlushedOrUntouched};
 ghost use Rattle.relay_admin.specs.admin.Progress.{EndComesTo, IsReady, LineComesTo, LinesComeTo};
+ghost use Rattle.relay_admin.specs.admin.Progress.{LastComesTo, NextComesTo, ReplyComesTo};
 ghost use Rattle.relay_admin.specs.admin.Progress.{SinkAfter, ahead_of, position, start};
+ghost use Rattle.relay_admin.specs.admin.ReplyBytes.{bytes_of};
+ghost use Rattle.stream_base.specs.declared.line_reader.TheConstants.{CHUNK_BYTES};
 
 use crate::admin::desk::Desk;
 use crate::admin::end::AdminEnd;
 use crate::admin::line_answer::answer_line;
+use crate::admin::reply_bytes::Reply;
 use crate::admin::reply_text::BAD_COMMAND;
 use std::alloc::{Allocator, Global};
 use stream_base::line_reader::{Found, LineReader};
@@ -105,21 +111,38 @@ impl Dialogue {
             (K.failed sink.new) (K.interruptions sink.new) (K.took_nothing sink.new) }
         ensures same { K.stays sink.old sink.new }
     {
-        let (reply, end) = answer_line(alloc, memory, desk, self.lines.line());
+        let (reply, end) = self.reply_to_line(alloc, memory, desk);
         if let Err(_) = deliver_to(sink, reply.as_slice()) {
             return Step::CutOff;
         }
         match end {
             Some(end) => Step::Ended(end),
-            None => {
-                if self.number >= MAX_LINES {
-                    return Step::Ended(AdminEnd::TooManyLines);
-                }
-                self.number += 1;
-                self.lines.start_line();
-                Step::GoesOn
-            }
+            None => Step::GoesOn,
         }
+    }
+
+    // The reply to the line, which is whole, and how the session ends by it, if it does.
+    fn reply_to_line<A: Allocator + Copy, D: Desk>(
+        &mut self,
+        alloc: Global,
+        memory: A,
+        desk: &mut D,
+    ) -> (Reply<A>, Option<AdminEnd>)
+        requires ready { IsReady (position self.old) }
+        ensures does { ReplyComesTo result.1 (position self.old) (position self.new)
+            (D.exchanges desk.old) (D.exchanges desk.new) (bytes_of result.0) }
+        ensures ahead { ahead_of self.new ≡ ahead_of self.old }
+    {
+        let (reply, end) = answer_line(alloc, memory, desk, self.lines.line());
+        if end.is_some() {
+            return (reply, end);
+        }
+        if self.number >= MAX_LINES {
+            return (reply, Some(AdminEnd::TooManyLines));
+        }
+        self.number += 1;
+        self.lines.start_line();
+        (reply, None)
     }
 
     /// Answers what has come of a last line that lacks its line feed: no byte is left.
@@ -149,5 +172,55 @@ impl Dialogue {
             Step::Ended(end) => Ok(end),
             Step::CutOff => Err(SinkFault),
         }
+    }
+    /// Takes bytes that the client sent, as many as there is room for, and says how many.
+    pub(crate) fn take(&mut self, bytes: &[u8]) -> usize
+        ensures at { position self.new ≡ position self.old }
+        ensures took { ahead_of self.old ≡ [] → (result ≡ min (length bytes.now) CHUNK_BYTES)
+            × (ahead_of self.new ≡ take result bytes.now) }
+        ensures none { ahead_of self.old ≢ []
+            → (result ≡ 0) × (ahead_of self.new ≡ ahead_of self.old) }
+    {
+        self.lines.take(bytes)
+    }
+
+    /// The reply to the next line among the bytes that were taken, and how the session ends by it,
+    /// if it does; none where no line is whole.
+    pub(crate) fn next_reply<A: Allocator + Copy, D: Desk>(
+        &mut self,
+        alloc: Global,
+        memory: A,
+        desk: &mut D,
+    ) -> Option<(Reply<A>, Option<AdminEnd>)>
+        requires ready { IsReady (position self.old) }
+        ensures ready { IsReady (position self.new) }
+        ensures does { NextComesTo (option_map (λ told. (bytes_of told.0, told.1)) result)
+            self.old self.new (D.exchanges desk.old) (D.exchanges desk.new) }
+    {
+        match self.lines.find_line() {
+            Found::Unended => None,
+            Found::TooLong => Some((Reply::Fixed(BAD_COMMAND), Some(AdminEnd::TooLong))),
+            Found::Line => Some(self.reply_to_line(alloc, memory, desk)),
+        }
+    }
+
+    /// The same of a last line that lacks its line feed, once no byte is left; none where there is
+    /// none. The session ends here.
+    pub(crate) fn last_reply<A: Allocator + Copy, D: Desk>(
+        &mut self,
+        alloc: Global,
+        memory: A,
+        desk: &mut D,
+    ) -> Option<(Reply<A>, AdminEnd)>
+        requires ready { IsReady (position self.old) }
+        ensures ready { IsReady (position self.new) }
+        ensures does { LastComesTo (option_map (λ told. (bytes_of told.0, told.1)) result)
+            (position self.old) (D.exchanges desk.old) (D.exchanges desk.new) }
+    {
+        if self.lines.line().is_empty() {
+            return None;
+        }
+        let (reply, end) = self.reply_to_line(alloc, memory, desk);
+        Some((reply, end.unwrap_or(AdminEnd::End)))
     }
 }

@@ -8,7 +8,7 @@ use std::alloc::Allocator;
 /// The bytes of a reply: a fixed text, one that lies in the value itself, or one that was made and
 /// is freed with the value.
 #[derive(Drop)]
-pub(crate) enum Reply<A: Allocator> {
+pub enum Reply<A: Allocator> {
     Fixed(&'static [u8]),
     Held(ArrayString<64>),
     Made(Vec<u8, A>),
@@ -18,7 +18,7 @@ impl<A: Allocator> Reply<A> {
     ghost use Rattle.relay_admin.specs.admin.ReplyBytes.{bytes_of};
 
     /// Its bytes.
-    pub(crate) fn as_slice(&self) -> &[u8]
+    pub fn as_slice(&self) -> &[u8]
         ensures { result.now ≡ bytes_of self.now }
     {
         match self {

@@ -1,0 +1,95 @@
+//! Sessions that are answered a line at a time, with their bytes in pieces.
+use super::SESSIONS;
+use crate::tests::fake_desk::FakeDesk;
+use relay_admin::{AdminEnd, AdminSession};
+use std::alloc::Global;
+
+/// Adds the replies to all whole lines, and says how the session ended, if it did; none where
+/// memory was refused.
+fn answered(
+    alloc: Global,
+    session: &mut AdminSession,
+    desk: &mut FakeDesk,
+    replies: &mut Vec<u8>,
+) -> Option<Option<AdminEnd>> {
+    while let Some((reply, end)) = session.next_reply(alloc, alloc, desk) {
+        replies.extend_from_slice(reply.as_slice()).ok()?;
+        if end.is_some() {
+            return Some(end);
+        }
+    }
+    Some(None)
+}
+
+/// The end of a session whose bytes come in pieces of this length.
+fn played(
+    alloc: Global,
+    text: &str,
+    piece: usize,
+    desk: &mut FakeDesk,
+    replies: &mut Vec<u8>,
+) -> Option<AdminEnd> {
+    let mut session = AdminSession::new();
+    for bytes in text.as_bytes().chunks(piece) {
+        session.take(bytes);
+        if let Some(end) = answered(alloc, &mut session, desk, replies)? {
+            return Some(end);
+        }
+    }
+    match session.last_reply(alloc, alloc, desk) {
+        None => Some(AdminEnd::End),
+        Some((reply, end)) => {
+            replies.extend_from_slice(reply.as_slice()).ok()?;
+            Some(end)
+        }
+    }
+}
+
+/// Whether a session in pieces has these replies, this end and so many questions.
+fn is_played(alloc: Global, piece: usize, row: &(&str, &str, AdminEnd, u64)) -> bool {
+    let (text, want, end, asked) = row;
+    let mut desk = FakeDesk::new();
+    let mut replies = Vec::new(alloc);
+    let played = played(alloc, text, piece, &mut desk, &mut replies);
+    played == Some(*end) && replies.as_slice() == want.as_bytes() && desk.asked == *asked
+}
+
+fn are_played(alloc: Global, piece: usize) -> Option<&'static str> {
+    for row in SESSIONS {
+        if !is_played(alloc, piece, row) {
+            return Some(row.0);
+        }
+    }
+    None
+}
+
+#[test]
+fn a_session_in_pieces_is_the_same_session(rt: HostRuntime) {
+    for piece in [1, 2, 7, 64, 4096] {
+        let failed = are_played(rt.alloc(), piece);
+        assert!(rt; failed.is_none(), "{failed:?} in pieces of {piece}");
+    }
+}
+
+/// How many bytes a session takes of so many, where as many are still unanswered.
+const TAKEN: &[(usize, usize, usize)] = &[
+    (0, 0, 0),
+    (0, 1, 1),
+    (0, 4096, 4096),
+    (0, 4097, 4096),
+    (1, 1, 0),
+];
+
+fn taken(before: usize, count: usize) -> usize {
+    let bytes = [b'x'; 5000];
+    let mut session = AdminSession::new();
+    session.take(&bytes[..before]);
+    session.take(&bytes[..count])
+}
+
+#[test]
+fn a_session_takes_bytes_once_all_before_are_answered(rt: HostRuntime) {
+    for (before, count, want) in TAKEN {
+        assert!(rt; taken(*before, *count) == *want, "{count} behind {before}");
+    }
+}

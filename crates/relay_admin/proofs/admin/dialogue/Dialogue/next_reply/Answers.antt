@@ -1,0 +1,57 @@
+use Rattle.stream_base.proofs.LineReaderLemmas.{line_found, line_grown, line_is_long, long_unended}
+use Rattle.relay_admin.specs.declared.admin.dialogue.TheConstants.{MAX_LINE_BYTES}
+use Rattle.relay_admin.specs.admin.Progress.{position}
+use Rattle.relay_admin.proofs.admin.SessionLemmas.{advances_part}
+use Rattle.relay_admin.proofs.admin.StepLemmas.{long_comes, next_comes, ready_after}
+use Rattle.relay_admin.proofs.admin.dialogue.Dialogue.next_reply.Goals as goal
+
+-- no line is whole
+
+pub returns-in-Unended-clause-ready : goal.returns-in-Unended-clause-ready
+returns-in-Unended-clause-ready g c =
+    let l = line_grown MAX_LINE_BYTES c.args.self.now.lines c.find_line.new.self c.requires.ready.unended
+    c.in-Unended.ensures.found in
+    record { numbered = c.requires.ready.numbered; short = c.find_line.ensures.fits; unended = l.unended }
+
+-- a line is too long
+
+pub returns-in-TooLong-clause-ready : goal.returns-in-TooLong-clause-ready
+returns-in-TooLong-clause-ready g c = record {
+  numbered = c.requires.ready.numbered;
+  short = c.find_line.ensures.fits;
+  unended = long_unended MAX_LINE_BYTES c.args.self.now.lines c.find_line.new.self c.requires.ready.unended
+      c.in-TooLong.ensures.found;
+}
+
+pub returns-in-TooLong-clause-does : goal.returns-in-TooLong-clause-does
+returns-in-TooLong-clause-does g c =
+    long_comes c.args.self.now.number c.args.self.now.lines
+    (record { number = c.args.self.now.number; lines = c.find_line.new.self }) (g.D.Desk.exchanges c.args.desk.now)
+    (line_is_long MAX_LINE_BYTES c.args.self.now.lines c.find_line.new.self c.requires.ready.unended
+    c.in-TooLong.ensures.found)
+
+-- a line
+
+pub reply_to_line-requires : goal.reply_to_line-requires
+reply_to_line-requires g c =
+    let l = line_found MAX_LINE_BYTES c.args.self.now.lines c.find_line.new.self c.requires.ready.unended
+    c.in-Line.ensures.found in
+    record {
+      ready =
+          record { numbered = c.requires.ready.numbered; short = c.find_line.ensures.fits; unended = l.unended };
+    }
+
+pub returns-in-Line-clause-ready : goal.returns-in-Line-clause-ready
+returns-in-Line-clause-ready g c =
+    let l = line_found MAX_LINE_BYTES c.args.self.now.lines c.find_line.new.self c.requires.ready.unended
+    c.in-Line.ensures.found in
+    ready_after c.reply_to_line.result.1 _ (position c.reply_to_line.new.self) _ _ _
+    (record { numbered = c.requires.ready.numbered; short = c.find_line.ensures.fits; unended = l.unended })
+    c.reply_to_line.ensures.does
+
+pub returns-in-Line-clause-does : goal.returns-in-Line-clause-does
+returns-in-Line-clause-does g c =
+    next_comes c.reply_to_line.result.1 c.args.self.now.number c.args.self.now.lines c.find_line.new.self
+    c.reply_to_line.new.self _ _ _
+    (line_found MAX_LINE_BYTES c.args.self.now.lines c.find_line.new.self c.requires.ready.unended
+    c.in-Line.ensures.found) c.reply_to_line.ensures.ahead c.reply_to_line.ensures.does
