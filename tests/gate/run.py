@@ -33,7 +33,7 @@ LINES_SHOWN = 40
 # How a part says how many it passed: rt's tests and most scripts, and Python's own tests.
 PASSED, RAN = re.compile(r"(\d+) passed[;,] (\d+) failed"), re.compile(r"^Ran (\d+) tests?", re.M)
 
-PROGRAM = "program"
+PROGRAM, PROVED = "program", "crates/pollrelay/out/pollrelay"
 QUICK, FULL = "quick", "full"
 Row = namedtuple("Row", "name tier seconds needs command shows")
 
@@ -125,7 +125,8 @@ def lines_in(folder):
 
 def part_of(row):
     words = [sys.executable if it == "python3" else it for it in shlex.split(row.command)]
-    lacking = next((it for it in row.needs if "/" in it and not os.path.exists(f"{ROOT}/{it}")), None)
+    files = [it for it in row.needs if "/" in it] + [os.environ.get("POLLRELAY", PROVED)] * (f"proved {PROGRAM}" in row.needs)
+    lacking = next((it for it in files if not os.path.exists(os.path.join(ROOT, it))), None)
     return Part(row.name, words, row.seconds, on_program=PROGRAM in row.needs, is_alone="alone" in row.needs, tier=row.tier, lacking=lacking)
 
 
