@@ -1,6 +1,6 @@
 #!/usr/bin/env python3
 """Checks that each call, clause, fact and file that README.md and docs/guarantees.md name is there, and each step of a
-model, with its functions, that docs/wake-ups.md names.
+model, with its functions, that models/README.md names.
 
 A row of a table that promises something names, in its second cell, functions, followed by the clauses that each of them
 has, as `Timers::arm`, `arm_both` `armed`, `unchanged`; items are parted by semicolons, and what definitions a clause
@@ -217,9 +217,9 @@ def main():
             print(f"{name}:{number}: names no function that a program calls, and no law, and doesn't say `library call`")
         failed, passed = failed + len(missing) + len(unused), passed + seen - len(missing)
     missing, seen = check_models(
-        (ROOT / "docs/wake-ups.md").read_text(), steps_of((ROOT / "models").iterdir()), source_of)
+        (ROOT / "models/README.md").read_text(), steps_of((ROOT / "models").iterdir()), source_of)
     for number, token in missing:
-        print(f"docs/wake-ups.md:{number}: nothing is called `{token}`")
+        print(f"models/README.md:{number}: nothing is called `{token}`")
     failed, passed = failed + len(missing) + (not seen), passed + seen - len(missing)
     lines = lines_of_programs()
     for name in ("README.md", "docs/sockets.md"):

@@ -12,9 +12,11 @@ It needs the kit's rt on the path, python3, and what the rows of the table name.
 """
 
 import argparse
+import contextlib
 import os
 import re
 import shlex
+import signal
 import subprocess
 import sys
 import tempfile
@@ -32,6 +34,9 @@ PART_SECONDS, TIMES = 1_500, 5
 LINES_SHOWN = 40
 # How a part says how many it passed: rt's tests and most scripts, and Python's own tests.
 PASSED, RAN = re.compile(r"(\d+) passed[;,] (\d+) failed"), re.compile(r"^Ran (\d+) tests?", re.M)
+
+# A word of the check that `rt try` makes beside each run, for a hint on names, which takes as long as the run.
+HINT, HINT_SECONDS = b"no function", 1
 
 PROGRAM, PROVED = "program", "crates/pollrelay/out/pollrelay"
 QUICK, FULL = "quick", "full"
@@ -147,6 +152,19 @@ def parts():
     return [Part(PROGRAM, [sys.executable, "tools/unproved.py"], 999), *found]
 
 
+def words_of(pid):
+    with open(f"/proc/{pid}/cmdline", "rb") as file:
+        return file.read().split(b"\0")
+
+
+def end_hints(groups):
+    """Ends the hints of the parts with these process groups: `rt ci` says the same, and they take half of the processors."""
+    for pid in map(int, filter(str.isdigit, os.listdir("/proc"))):
+        with contextlib.suppress(OSError):
+            if os.getpgid(pid) in groups and HINT in words_of(pid):
+                os.kill(pid, signal.SIGKILL)
+
+
 class Run:
     """Which parts wait, run, and have ended, and how."""
 
@@ -202,8 +220,12 @@ class Run:
         print(f"FAILED  {part.name:18}     not run, since {why}", flush=True)
 
     def run(self):
+        looked = 0
         while self.waiting or self.running:
             self.start_ready()
+            if time.monotonic() - looked > HINT_SECONDS:
+                looked = time.monotonic()
+                end_hints({it.running.pid for it in self.running})
             for part in [it for it in self.running if it.has_ended()]:
                 self.running.remove(part)
                 self.end(part)

@@ -56,6 +56,14 @@ class Runs(MadeFolder):
         self.assertEqual(self.ran(self.part("other", "echo hullo", wanted=self.stored("hello\n")))[:2], (0, 1))
         self.assertEqual(self.ran(self.part("ended", "echo hello; exit 1", wanted=self.stored("hello\n")))[:2], (0, 1))
 
+    def test_the_hint_of_a_run_is_ended_and_no_other_process(self):
+        hint, other = (f'python3 -c "import time; time.sleep(5)" "{it}" & wait $!; echo $?' for it in ("no function", "no fun"))
+        for script, status in ((hint, "137"), (other, "0")):
+            part = self.part("rt", f"{script} >{self.folder}/status; echo 1 passed, 0 failed")
+            self.assertEqual(self.ran(part)[:2], (1, 0))
+            with open(f"{self.folder}/status", encoding="ascii") as file:
+                self.assertEqual(status, file.read().strip())
+
     def test_parts_on_the_program_have_it(self):
         program = self.part(run.PROGRAM, "sleep 0.3; echo /bin/true")
         asks = self.part("asks", 'test "$POLLRELAY" = /bin/true', on_program=True)
