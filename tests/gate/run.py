@@ -38,7 +38,7 @@ PASSED, RAN = re.compile(r"(\d+) passed[;,] (\d+) failed"), re.compile(r"^Ran (\
 # A word of the check that `rt try` makes beside each run, for a hint on names, which takes as long as the run.
 HINT, HINT_SECONDS = b"no function", 1
 
-PROGRAM = "program"
+PROGRAM, PROVED = "program", "crates/pollrelay/out/pollrelay"
 QUICK, FULL = "quick", "full"
 Row = namedtuple("Row", "name tier seconds needs command shows")
 
@@ -130,7 +130,8 @@ def lines_in(folder):
 
 def part_of(row):
     words = [sys.executable if it == "python3" else it for it in shlex.split(row.command)]
-    lacking = next((it for it in row.needs if "/" in it and not os.path.exists(f"{ROOT}/{it}")), None)
+    files = [it for it in row.needs if "/" in it] + [os.environ.get("POLLRELAY", PROVED)] * (f"proved {PROGRAM}" in row.needs)
+    lacking = next((it for it in files if not os.path.exists(os.path.join(ROOT, it))), None)
     return Part(row.name, words, row.seconds, on_program=PROGRAM in row.needs, is_alone="alone" in row.needs, tier=row.tier, lacking=lacking)
 
 

@@ -101,6 +101,12 @@ class Runs(MadeFolder):
         os.environ["POLLRELAY"] = "/bin/true"
         self.assertEqual(chosen("two"), ["two"])
 
+    def test_files_and_the_proved_program_are_what_a_part_may_lack(self):
+        for needs, lacking in (([], None), (["program"], None), (["out/it", "alone"], "out/it"), (["proved program"], run.PROVED)):
+            self.assertEqual(run.part_of(run.Row("x", "full", 1, needs, "sh x", "y")).lacking, lacking)
+        os.environ["POLLRELAY"] = "/bin/true"
+        self.assertIsNone(run.part_of(run.Row("x", "full", 1, ["proved program"], "sh x", "y")).lacking)
+
     def test_an_unknown_part_is_refused(self):
         with mock.patch.object(sys, "argv", ["run.py", "nobody"]), self.assertRaises(SystemExit) as refused:
             run.main()

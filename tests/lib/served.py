@@ -90,8 +90,9 @@ def so_many_pairs(checks, name, count, *options):
         held = [served.open(at % 2) for at in range(count)]
         all_ids = 2 + 2 * count
         checks.holds(f"{name}: ids", wait_until(lambda: len(relay.ids()) == all_ids, 2), f"{len(relay.ids())} of {all_ids}")
-        through = sum(passes(*pair) for pair in held)
-        checks.expect(f"{name}: each passes a byte both ways", count, through)
+        # (the first that doesn't is enough, since who waits for it waits long)
+        first = next((at for at, pair in enumerate(held) if not passes(*pair)), None)
+        checks.expect(f"{name}: each passes a byte both ways", None, first)
         one_more = connect(served.listens[0])
         checks.holds(f"{name}: one more is dropped", seconds_until_end(one_more, 3) is not None, "it stays open")
         checks.holds(f"{name}: a full relay goes on", passes(*held[-1]), "no byte came back")

@@ -106,8 +106,8 @@ def lines_of(fault, stages):
     status, said = 0, ""
     for words, chosen in ((["byte_conservation.py", "--small", "--seed", "5"], others), (["relay_rows.py"], rows)):
         if chosen or not stages:
-            words = [sys.executable, f"{HERE}/{words[0]}", *words[1:], "--all", *chosen]
-            ran = subprocess.run(words, env=env, stdout=subprocess.PIPE, stderr=subprocess.STDOUT, text=True, timeout=600)
+            words = ["timeout", "600", sys.executable, f"{HERE}/{words[0]}", *words[1:], "--all", *chosen]
+            ran = subprocess.run(words, env=env, stdout=subprocess.PIPE, stderr=subprocess.STDOUT, text=True, check=False)
             status, said = status or ran.returncode, said + ran.stdout
     return status, said
 
