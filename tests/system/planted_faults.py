@@ -81,6 +81,8 @@ PLANTED = [
     ("drained_listener_stays_open", "drained_listeners", "drain: the listener refuses"),
     ("uses_ids_again", "ids", "list: ids don't come again"),
     ("lists_a_thousand", "pairs", "pairs: ids"),
+    ("skips_ids", "many_ids", "list: after 300 connections"),
+    ("keeps_ids", "many_ids", "list: connections that went"),
     ("skips_ids", "ids", "list: a connection"),
     ("replies_otherwise", "ids lifted listeners drains drained_in_time drained_listeners", "close: again"),
     ("lists_backwards", "whole rough ids", "whole: what the admin session saw"),
