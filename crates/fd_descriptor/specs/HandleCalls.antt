@@ -13,8 +13,11 @@ use Rattle.fd_descriptor.specs.Marks.{Marks, SawTheEnd, NowDraining, SameButDrai
 -- what a handle is asked to do
 pub data Call : Type 0 where
   Reads : Call
+  TimedReads : Call
   Accepts : Call
   Writes : Call
+  TimedWrites : Call
+  Connects : Call
   Shuts : Call
   SetsDeadline : Call
   Closes : Call
@@ -55,6 +58,12 @@ IsOwnFault Reads fault.DeadlineExceeded = Unit {0}
 IsOwnFault Reads fault.EndOfFile = Unit {0}
 IsOwnFault Reads (fault.Device kind) = Unit {0}
 IsOwnFault Reads fault.TooManyRetries = Unit {0}
+IsOwnFault TimedReads fault.Closed = Unit {0}
+IsOwnFault TimedReads fault.DeadlineExceeded = Unit {0}
+IsOwnFault TimedReads fault.EndOfFile = Unit {0}
+IsOwnFault TimedReads (fault.Device kind) = Unit {0}
+IsOwnFault TimedReads fault.TooManyRetries = Unit {0}
+IsOwnFault TimedReads fault.OutOfMemory = Unit {0}
 IsOwnFault Accepts fault.Closed = Unit {0}
 IsOwnFault Accepts fault.DeadlineExceeded = Unit {0}
 IsOwnFault Accepts (fault.Device kind) = Unit {0}
@@ -64,6 +73,15 @@ IsOwnFault Writes fault.DeadlineExceeded = Unit {0}
 IsOwnFault Writes fault.UnexpectedEof = Unit {0}
 IsOwnFault Writes (fault.Device kind) = Unit {0}
 IsOwnFault Writes fault.TooManyRetries = Unit {0}
+IsOwnFault TimedWrites fault.Closed = Unit {0}
+IsOwnFault TimedWrites fault.DeadlineExceeded = Unit {0}
+IsOwnFault TimedWrites fault.UnexpectedEof = Unit {0}
+IsOwnFault TimedWrites (fault.Device kind) = Unit {0}
+IsOwnFault TimedWrites fault.TooManyRetries = Unit {0}
+IsOwnFault TimedWrites fault.OutOfMemory = Unit {0}
+IsOwnFault Connects fault.Closed = Unit {0}
+IsOwnFault Connects fault.DeadlineExceeded = Unit {0}
+IsOwnFault Connects (fault.Device kind) = Unit {0}
 IsOwnFault Shuts (fault.Device kind) = Unit {0}
 IsOwnFault SetsDeadline fault.Closed = Unit {0}
 IsOwnFault SetsDeadline fault.OutOfMemory = Unit {0}

@@ -13,6 +13,7 @@ mod handle;
 mod leave;
 mod poll_cell;
 mod resource;
+mod timed;
 mod trying;
 mod under_way;
 mod watched;
@@ -22,6 +23,7 @@ pub use deadlines::{AlarmPlan, Setting};
 pub use descriptor::{Fd, FdHandle};
 pub use poll_cell::{CellWaits, PollCell};
 pub use resource::{Alarms, HalfClose, Resource};
+pub use timed::{BegunCall, CallTimes};
 pub use under_way::{ReadUnderWay, UnderWay, WriteUnderWay};
 pub use watched::{Parked, Watched};
 

@@ -33,6 +33,12 @@ pub trait HalfClose {
         false
     }
 
+    /// What came of its connection, once that isn't being made any more. Whoever has nothing to say
+    /// of it leaves it out.
+    fn connected(&self) -> Result<(), DevKind> {
+        Ok(())
+    }
+
     /// Shuts it for good.
     fn shut(&mut self) -> Result<(), DevKind>
         ensures told { shut_told self.new result };

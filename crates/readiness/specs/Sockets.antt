@@ -1,5 +1,5 @@
 -- Sockets and halves, as callers see them.
-use Rattle.std.specs.Prelude.{ℕ, Bool, true, false, List, Option, Some, None}
+use Rattle.std.specs.Prelude.{ℕ, Bool, true, false, List, Option, Some, None, Result, Ok, Err}
 use Rattle.std.specs.Option.{option_map}
 use Rattle.std.specs.Arc.{arc_value}
 use Rattle.mio.specs.declared.net.stream.TcpStream.{TcpStream}
@@ -25,6 +25,10 @@ abbrev pub is_tcp : Sock → Bool
 is_tcp (TcpSock stream) = true
 is_tcp (UnixSock stream) = false
 
+-- an address of TCP of its four bytes and its port
+abbrev pub tcp_addr : List ℕ × ℕ → Addr
+tcp_addr from = TcpAddr from.0 from.1
+
 -- the peer's address, where the system's accept gave one
 abbrev pub peer_of : Sock → Option Addr
 peer_of (TcpSock tcp) = option_map (λ from. TcpAddr from.0 from.1) tcp.peer
@@ -49,6 +53,11 @@ path_in (UnixSock unix) = option_map bytes_of unix.peer
 abbrev pub is_tcp_listener : Listen → Bool
 is_tcp_listener (TcpListen listener) = true
 is_tcp_listener (UnixListen listener) = false
+
+-- what came of a connection of which this failure is known
+abbrev pub came_of : Option DevKind → Result (Unit {0}) DevKind
+came_of None = Ok tt
+came_of (Some kind) = Err kind
 
 module _ {A : Type 0} where
   -- the socket that a half reads from

@@ -1,7 +1,8 @@
 //! Sockets that never wait, and a poller that tells the descriptors in a table what is ready and
 //! what time it is: Go's network poller, over `epoll`.
 //!
-//! `addr`, `peer`, `sock` and `open` have the sockets, `resources` what a descriptor makes of them. `batch`
+//! `addr`, `peer`, `local`, `sock` and `open` have the sockets, `resources` what a descriptor makes of
+//! them, and `last_codes` and `noted_listen` the numbers of the system's errors. `batch`
 //! and `poll_timeout` decide what a poll's events say and how long a poll waits, `poller` polls,
 //! `holding` puts sockets into its table, and `timer_alarms` has deadlines wake it.
 #![tactic(auto)]
@@ -11,15 +12,19 @@ mod agenda;
 mod batch;
 mod event_loop;
 mod holding;
+mod last_codes;
 pub mod laws;
+mod local;
 mod loop_remote;
 mod loop_token;
 mod named_tasks;
+mod noted_listen;
 mod open;
 mod peer;
 mod poll_timeout;
 mod polled_events;
 mod poller;
+mod registrar;
 mod resources;
 mod resuming;
 mod sock;
@@ -33,13 +38,16 @@ pub use agenda::{Step, Why, step_of_event, step_of_timer};
 pub use batch::{Ev, MAX_EVENTS, Ready, batch_of};
 pub use event_loop::EventLoop;
 pub use holding::{HeldSocket, HoldFault, Holds};
+pub use last_codes::LastCodes;
 pub use loop_remote::{LoopRemote, RemoteAlarms};
 pub use loop_token::{LAST_SERIAL, MAX_PLACES, Place, Side};
 pub use named_tasks::MAX_NAMED;
-pub use open::{connect, listen};
+pub use noted_listen::{NotedListen, NotedListenRes};
+pub use open::{connect, connect_io, listen, listen_io};
 pub use peer::PeerStream;
 pub use poll_timeout::{MAX_WAIT_MS, sleep_ms, wait_ms};
 pub use poller::{HasCell, Poller};
+pub use registrar::Registrar;
 pub use resources::{ListenRes, NoWrites, ReadHalf, SockRes, WriteHalf};
 pub use sock::{Listen, Sock};
 pub use tasks::{Host, NoPlace, Turn};

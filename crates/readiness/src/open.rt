@@ -20,7 +20,8 @@ fn socket_address(bytes: [u8; 4], port: u16) -> SocketAddr {
     SocketAddr::from((Ipv4Addr::new(a, b, c, d), port))
 }
 
-fn begin<R: Net>(rt: &R, addr: &Addr) -> io::Result<Sock>
+/// Begins a connection as `connect` does, with the system's own error.
+pub fn connect_io<R: Net>(rt: &R, addr: &Addr) -> io::Result<Sock>
     ensures family { IfOk result (λ sock. is_tcp sock ≡ is_tcp_addr addr.now) }
     ensures no_peer { IfOk result (λ sock. peer_of sock ≡ None) }
 {
@@ -48,13 +49,14 @@ pub fn connect<R: Net>(rt: &R, addr: &Addr) -> Result<Sock, DevKind>
     ensures no_peer { IfOk result (λ sock. peer_of sock ≡ None) }
     ensures kinds { IfErr result IsConnectKind }
 {
-    match begin(rt, addr) {
+    match connect_io(rt, addr) {
         Ok(sock) => Ok(sock),
         Err(error) => Err(connect_kind_of(&error)),
     }
 }
 
-fn bind<R: Files + Net>(rt: &R, addr: &Addr) -> io::Result<Listen>
+/// Opens a listener as `listen` does, with the system's own error.
+pub fn listen_io<R: Files + Net>(rt: &R, addr: &Addr) -> io::Result<Listen>
     ensures family { IfOk result (λ listen. is_tcp_listener listen ≡ is_tcp_addr addr.now) }
 {
     match addr {
@@ -72,7 +74,7 @@ pub fn listen<R: Files + Net>(rt: &R, addr: &Addr) -> Result<Listen, DevKind>
     ensures family { IfOk result (λ listen. is_tcp_listener listen ≡ is_tcp_addr addr.now) }
     ensures kinds { IfErr result (λ kind. kind ≡ DevKind.Other) }
 {
-    match bind(rt, addr) {
+    match listen_io(rt, addr) {
         Ok(listen) => Ok(listen),
         Err(_) => Err(DevKind::Other),
     }

@@ -13,7 +13,8 @@ use crate::batch::Ev;
 use crate::loop_token::waker_token;
 use crate::poll_timeout::{MAX_WAIT_MS, wait_ms};
 use crate::polled_events::PolledEvents;
-use crate::sock::{Listen, Sock};
+use crate::registrar::Registrar;
+use crate::sock::{Listen, Sock, or_other};
 use crate::telling::{CellsThemselves, notify_entries, tick_entries};
 use base_types::OutOfMemory;
 use conntable::ConnTable;
@@ -22,6 +23,7 @@ use fd_descriptor::PollCell;
 use mio::{Poll, Token, Waker};
 use rwloops::{DevKind, Fault};
 use std::alloc::{Allocator, Global};
+use std::io;
 use std::net::Net;
 use std::sync::{Arc, Mutex, Wait};
 
@@ -101,7 +103,7 @@ impl<A: Allocator> Poller<A> {
         ensures same { sock.new ≡ sock.old }
         ensures kinds { IfErr result (λ kind. kind ≡ DevKind.Other) }
     {
-        sock.register(self.poll.registry(), token)
+        or_other(sock.register_at(self.poll.registry(), token))
     }
 
     /// Has turns tell of a listener under this token, until the listener is dropped.
@@ -109,7 +111,13 @@ impl<A: Allocator> Poller<A> {
         ensures same { listen.new ≡ listen.old }
         ensures kinds { IfErr result (λ kind. kind ≡ DevKind.Other) }
     {
-        listen.register(self.poll.registry(), token)
+        or_other(listen.register_at(self.poll.registry(), token))
+    }
+
+    /// What registers sockets from any thread, also while a turn waits. It takes one file more.
+    pub fn registrar(&self) -> io::Result<Registrar> {
+        let registry = self.poll.registry().try_clone()?;
+        Ok(Registrar { registry })
     }
 
     /// What ends a turn early, from any thread. It takes no memory; refused is only a waker that is

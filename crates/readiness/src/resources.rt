@@ -2,12 +2,14 @@
 //! half is dropped.
 
 ghost use Rattle.std.specs.Prelude.{◌≡◌, ◌<◌, Ok, None, IfOk, true, false, length};
-ghost use Rattle.readiness.specs.Sockets.{read_from, written_to, failure_of, known_made};
+ghost use Rattle.readiness.specs.Sockets.{read_from, written_to, failure_of, known_made, came_of};
+ghost use Rattle.readiness.specs.SystemErrors.{outcome_told};
 ghost use Rattle.rwloops.specs.Outcome.{IsCountWithin, count_in};
 
+use crate::last_codes::LastCodes;
 use crate::sock::{Listen, Sock};
 use crate::system_error::{accepted_of, kind_of, outcome_of};
-use base_types::OutOfMemory;
+use base_types::{Dir, OutOfMemory};
 use fd_descriptor::{HalfClose, Resource};
 use rwloops::{AcceptOutcome, DevKind, Outcome, TryAccept, TryRead, TryWrite};
 use std::alloc::{Allocator, Global};
@@ -20,6 +22,7 @@ use std::sync::Arc;
 #[derive(Drop)]
 pub struct ReadHalf<A: Allocator = Global> {
     sock: Arc<Sock, A>,
+    codes: Option<Arc<LastCodes, A>>,
 }
 
 /// What is written to a socket.
@@ -30,6 +33,35 @@ pub struct WriteHalf<A: Allocator = Global> {
     failed: Option<DevKind>,
     // Whether a write has shown that the connection is made. It is never unset.
     made: bool,
+    codes: Option<Arc<LastCodes, A>>,
+}
+
+// Both halves of a socket, each with the place for the numbers of its errors, where there is one.
+fn halves_of<A: Allocator>(
+    alloc: A,
+    sock: Sock,
+    read_codes: Option<Arc<LastCodes, A>>,
+    write_codes: Option<Arc<LastCodes, A>>,
+) -> Result<(ReadHalf<A>, WriteHalf<A>), OutOfMemory>
+    ensures read { IfOk result (λ halves. read_from halves.0 ≡ sock) }
+    ensures written { IfOk result (λ halves. written_to halves.1 ≡ sock) }
+    ensures unfailed { IfOk result (λ halves. failure_of halves.1 ≡ None) }
+    ensures unmade { IfOk result (λ halves. known_made halves.1 ≡ false) }
+{
+    let sock = Arc::new(alloc, sock)?;
+    let other = Arc::try_clone(&sock)?;
+    Ok((
+        ReadHalf {
+            sock,
+            codes: read_codes,
+        },
+        WriteHalf {
+            sock: other,
+            failed: None,
+            made: false,
+            codes: write_codes,
+        },
+    ))
 }
 
 impl Sock {
@@ -40,17 +72,39 @@ impl Sock {
         ensures unfailed { IfOk result (λ halves. failure_of halves.1 ≡ None) }
         ensures unmade { IfOk result (λ halves. known_made halves.1 ≡ false) }
     {
-        let sock = Arc::new(alloc, self)?;
-        let other = Arc::try_clone(&sock)?;
-        Ok((
-            ReadHalf { sock },
-            WriteHalf {
-                sock: other,
-                failed: None,
-                made: false,
-            },
-        ))
+        halves_of(alloc, self, None, None)
     }
+
+    /// Both halves as of `split`, which note the numbers of their errors there.
+    pub fn split_noting<A: Allocator>(
+        self,
+        alloc: A,
+        codes: &Arc<LastCodes, A>,
+    ) -> Result<(ReadHalf<A>, WriteHalf<A>), OutOfMemory>
+        ensures read { IfOk result (λ halves. read_from halves.0 ≡ self) }
+        ensures written { IfOk result (λ halves. written_to halves.1 ≡ self) }
+        ensures unfailed { IfOk result (λ halves. failure_of halves.1 ≡ None) }
+        ensures unmade { IfOk result (λ halves. known_made halves.1 ≡ false) }
+    {
+        let read = Arc::try_clone(codes)?;
+        let write = Arc::try_clone(codes)?;
+        halves_of(alloc, self, Some(read), Some(write))
+    }
+}
+
+// What one system call to read or to write gave. The number of a fault is noted, where there is a
+// place for it.
+fn noted_outcome<A: Allocator>(
+    codes: &Option<Arc<LastCodes, A>>,
+    dir: Dir,
+    done: io::Result<usize>,
+) -> Outcome
+    ensures { result ≡ outcome_told done }
+{
+    if let (Some(codes), Err(error)) = (codes, &done) {
+        codes.note(dir, error);
+    }
+    outcome_of(done)
 }
 
 impl<A: Allocator> TryRead for ReadHalf<A> {
@@ -59,7 +113,7 @@ impl<A: Allocator> TryRead for ReadHalf<A> {
     // It doesn't try again before it says that it would block: a yield gives the processor to a
     // busy neighbour for milliseconds, and a spin keeps it from the peer.
     fn try_read(&mut self, buf: &mut [u8]) -> Outcome {
-        outcome_of(match &*self.sock {
+        let done = match &*self.sock {
             Sock::Tcp(tcp) => {
                 let mut reader = &tcp.stream;
                 reader.read(buf)
@@ -68,7 +122,8 @@ impl<A: Allocator> TryRead for ReadHalf<A> {
                 let mut reader = &unix.stream;
                 reader.read(buf)
             }
-        })
+        };
+        noted_outcome(&self.codes, Dir::Read, done)
     }
 }
 
@@ -80,7 +135,7 @@ impl<A: Allocator> TryWrite for WriteHalf<A> {
         ensures made { 0 < count_in result → known_made self.new ≡ true }
         ensures kept { count_in result ≡ 0 → known_made self.new ≡ known_made self.old }
     {
-        let outcome = outcome_of(match &*self.sock {
+        let done = match &*self.sock {
             Sock::Tcp(tcp) => {
                 let mut writer = &tcp.stream;
                 writer.write(bytes)
@@ -89,7 +144,8 @@ impl<A: Allocator> TryWrite for WriteHalf<A> {
                 let mut writer = &unix.stream;
                 writer.write(bytes)
             }
-        });
+        };
+        let outcome = noted_outcome(&self.codes, Dir::Write, done);
         if let Outcome::Count(1..) = outcome {
             self.made = true;
         }
@@ -114,6 +170,15 @@ impl<A: Allocator> HalfClose for WriteHalf<A> {
                 false
             }
             _ => false,
+        }
+    }
+
+    fn connected(&self) -> Result<(), DevKind>
+        ensures own { result ≡ came_of (failure_of self.now) }
+    {
+        match self.failed {
+            Some(kind) => Err(kind),
+            None => Ok(()),
         }
     }
 

@@ -60,15 +60,14 @@ fn watched() -> Interest
 }
 
 impl Sock {
-    pub(crate) fn register(&mut self, registry: &Registry, token: u64) -> Result<(), DevKind>
+    pub(crate) fn register_at(&mut self, registry: &Registry, token: u64) -> io::Result<()>
         ensures same { self.new ≡ self.old }
-        ensures kinds { IfErr result (λ kind. kind ≡ DevKind.Other) }
     {
         let token = Token(token as usize);
-        or_other(match self {
+        match self {
             Sock::Tcp(tcp) => registry.register(&mut tcp.stream, token, watched()),
             Sock::Unix(unix) => registry.register(&mut unix.stream, token, watched()),
-        })
+        }
     }
 
     /// The peer's address, as the system's accept gave it. A socket that comes from `connect` has
@@ -134,15 +133,14 @@ fn accepted_unix(stream: UnixStream, path: Option<Path<'_>>) -> Sock
 }
 
 impl Listen {
-    pub(crate) fn register(&mut self, registry: &Registry, token: u64) -> Result<(), DevKind>
+    pub(crate) fn register_at(&mut self, registry: &Registry, token: u64) -> io::Result<()>
         ensures same { self.new ≡ self.old }
-        ensures kinds { IfErr result (λ kind. kind ≡ DevKind.Other) }
     {
         let token = Token(token as usize);
-        or_other(match self {
+        match self {
             Listen::Tcp(listener) => registry.register(listener, token, Interest::READABLE),
             Listen::Unix(listener) => registry.register(listener, token, Interest::READABLE),
-        })
+        }
     }
 
     /// The port of a TCP listener, as for one that was opened at port 0. A Unix one has none.

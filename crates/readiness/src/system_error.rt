@@ -3,7 +3,7 @@
 ghost use Rattle.std.specs.Prelude.{◌≡◌};
 ghost use Rattle.std.specs.IoError.{error_kind};
 ghost use Rattle.readiness.specs.SystemErrors.{kind_told, refused_or_other, outcome_told};
-ghost use Rattle.readiness.specs.SystemErrors.{accept_told, IsConnectKind};
+ghost use Rattle.readiness.specs.SystemErrors.{accept_told, error_told, IsConnectKind};
 
 use crate::sock::Sock;
 use rwloops::{AcceptOutcome, DevKind, Outcome};
@@ -34,18 +34,25 @@ pub(crate) fn connect_kind_of(error: &io::Error) -> DevKind
     }
 }
 
-/// What one system call to read or to write gave. A socket that isn't connected yet would block.
+/// What an error of a try to read or to write says. A socket that isn't connected yet would block.
+pub(crate) fn outcome_of_error(error: &io::Error) -> Outcome
+    ensures { result ≡ error_told (error_kind error.now) }
+{
+    match error.kind() {
+        ErrorKind::WouldBlock | ErrorKind::NotConnected => Outcome::WouldBlock,
+        ErrorKind::Interrupted => Outcome::Interrupted,
+        ErrorKind::ConnectionAborted => Outcome::Aborted,
+        _ => Outcome::Broken(kind_of(error)),
+    }
+}
+
+/// What one system call to read or to write gave.
 pub(crate) fn outcome_of(done: io::Result<usize>) -> Outcome
     ensures { result ≡ outcome_told done }
 {
     match done {
         Ok(count) => Outcome::Count(count),
-        Err(error) => match error.kind() {
-            ErrorKind::WouldBlock | ErrorKind::NotConnected => Outcome::WouldBlock,
-            ErrorKind::Interrupted => Outcome::Interrupted,
-            ErrorKind::ConnectionAborted => Outcome::Aborted,
-            _ => Outcome::Broken(kind_of(&error)),
-        },
+        Err(error) => outcome_of_error(&error),
     }
 }
 

@@ -48,3 +48,12 @@ pub struct WriteFault {
     /// The sum of the counts of all its tries: the bytes from the front that are written.
     pub count: usize,
 }
+
+/// For who has no use for the count, as whoever closes a connection at the first fault.
+impl From<WriteFault> for Fault {
+    ghost from_gives = { λ failed fault. fault ≡ failed.fault };
+
+    fn from(failed: WriteFault) -> Fault {
+        failed.fault
+    }
+}
