@@ -118,44 +118,44 @@ pub fn try_with_a_mutex_around_the_state(state: &Mutex<u64>) -> u64 {
 }
 END
 
-refuses 'a call under way after its end' << 'END'
-//! A call under way goes into its end, which gives the handle back; while it is under way the handle is gone, and the half
-//! stays under its lock.
+refuses "a task's half after its end" << 'END'
+//! A task's half goes into its end, which gives a handle back; while there is a half its handle is gone, and a half that is in
+//! use stays under its lock.
 #![tactic(auto)]
 
-use fd_descriptor::{Fault, FdHandle, Progress, ReadUnderWay, Resource, TryRead, TryWrite, WriteUnderWay};
+use fd_descriptor::{Fault, FdHandle, Progress, Resource, TaskReader, TaskWriter, TryRead, TryWrite};
 use std::sync::Wait;
 
-pub fn try_after_the_end<X: Resource, T: Wait + Copy>(
-    mut reading: ReadUnderWay<X, T>,
+pub fn read_after_the_end<X: Resource, T: Wait + Copy>(
+    mut reader: TaskReader<X, T>,
     buf: &mut [u8],
 ) -> (FdHandle<X>, Option<Result<usize, Fault>>)
 where
     X::R: TryRead,
 {
-    let handle = reading.end();
-    let answer = reading.try_read(buf); // refused: borrow-e0382
+    let handle = reader.into_handle();
+    let answer = reader.poll_read(buf); // refused: borrow-e0382
     (handle, answer)
 }
 
-pub fn try_after_it_was_let_go<X: Resource, T: Wait + Copy>(
-    mut writing: WriteUnderWay<X, T>,
+pub fn write_after_it_was_let_go<X: Resource, T: Wait + Copy>(
+    mut writer: TaskWriter<X, T>,
     bytes: &[u8],
 ) -> Progress
 where
     X::W: TryWrite,
 {
-    drop(writing);
-    writing.try_write(bytes) // refused: borrow-e0382
+    drop(writer);
+    writer.poll_write(bytes) // refused: borrow-e0382
 }
 
-pub fn ended_twice<X: Resource, T: Wait + Copy>(reading: ReadUnderWay<X, T>) -> (FdHandle<X>, FdHandle<X>) {
-    let first = reading.end();
-    let second = reading.end(); // refused: borrow-e0382
+pub fn ended_twice<X: Resource, T: Wait + Copy>(reader: TaskReader<X, T>) -> (FdHandle<X>, FdHandle<X>) {
+    let first = reader.into_handle();
+    let second = reader.into_handle(); // refused: borrow-e0382
     (first, second)
 }
 
-pub fn handle_while_its_call_is_under_way<X: Resource, T: Wait + Copy>(
+pub fn handle_while_a_task_has_its_half<X: Resource, T: Wait + Copy>(
     rt: T,
     mut handle: FdHandle<X>,
     buf: &mut [u8],
@@ -163,8 +163,8 @@ pub fn handle_while_its_call_is_under_way<X: Resource, T: Wait + Copy>(
 where
     X::R: TryRead,
 {
-    let begun = handle.begin_read(rt);
-    drop(begun);
+    let reader = TaskReader::new(rt, handle);
+    drop(reader);
     handle.read(&rt, buf) // refused: borrow-e0382
 }
 END

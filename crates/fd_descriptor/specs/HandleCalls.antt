@@ -22,6 +22,7 @@ pub data Call : Type 0 where
   SetsDeadline : Call
   Closes : Call
   Drains : Call
+  Begins : Call
 
 -- the fault that a refusal of the lock word is to the caller of a handle
 abbrev pub lock_fault : Refusal → Fault

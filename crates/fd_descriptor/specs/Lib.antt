@@ -2,8 +2,10 @@ pub mod CellKey
 pub mod Deadlines
 pub mod Entry
 pub mod FdHandle
+pub mod HalfState
 pub mod HalfUse
 pub mod HandleCalls
 pub mod Marks
 pub mod Parking
-pub mod UnderWay
+pub mod Polled
+pub mod TaskHalf

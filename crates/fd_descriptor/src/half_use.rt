@@ -13,6 +13,7 @@ ghost use Rattle.fd_descriptor.specs.HandleCalls.{IsOwnFault};
 ghost use Rattle.fd_descriptor.specs.HandleCalls.{IsRefusedEntry, IfFailed, IsShut};
 ghost use Rattle.fd_descriptor.specs.Marks.{HoldsSeatOf, KeepsMarks, marks_in, closes_in};
 ghost use Rattle.fd_descriptor.specs.Marks.{drains_in};
+ghost use Rattle.fd_descriptor.specs.Polled.{IsTriedOrRefused, fails_by, write_fails_by};
 
 use crate::descriptor::Fd;
 use crate::leave::{leave, lock_fault};
@@ -127,6 +128,17 @@ pub(crate) fn shut_connected<H: HalfClose, W: Waits>(
     unreachable!()
 }
 
+/// What the cell says to a read into this buffer that doesn't wait. One of nothing asks nothing, and
+/// so forgets no notice.
+pub(crate) fn prepare_read<T: Wait>(rt: &T, cell: &PollCell, buf: &[u8]) -> Result<(), Refusal>
+    ensures { length buf.now ≡ 0 → result ≡ Ok tt }
+{
+    if buf.is_empty() {
+        return Ok(());
+    }
+    cell.prepare(rt, Dir::Read)
+}
+
 /// Tries to read from a half, once the cell was asked, with this answer: so closing comes before
 /// expiry, and both before what the half gives. A `prepare` forgets the notice that an earlier one
 /// left; since a try follows it at once, what that notice was for is found there, and no wake-up is
@@ -138,11 +150,14 @@ pub(crate) fn read_now_in<H: TryRead>(
 ) -> Option<Result<usize, Fault>>
     ensures within { IfSome result (λ answer. IfOk answer (λ count. count ≤ length buf.old)) }
     ensures some { 0 < length buf.old → IfSome result (λ answer. IfOk answer (λ count. 0 < count)) }
+    ensures empty { length buf.old ≡ 0 → IfOk prepared (λ u. result ≡ Some (Ok 0)) }
     ensures faults { IfSome result (λ answer. IfErr answer (IsOwnFault Reads)) }
     ensures refused { IfErr prepared (λ refusal. (result ≡ Some (Err (fault_of refusal)))
         × (half.new ≡ half.old)) }
     ensures tried { IfOk prepared (λ u. IsTried (λ tries. ReadNow buf.new tries result)
         (H.tells half.old) (H.tells half.new)) }
+    ensures polled { IsTriedOrRefused fails_by H.tells (λ tries. ReadNow buf.new tries result)
+        result }
 {
     match prepared {
         Ok(()) => rwloops::read_now(half, buf),
@@ -160,6 +175,7 @@ pub(crate) fn accept_now_in<H: TryAccept>(
         × (half.new ≡ half.old)) }
     ensures tried { IfOk prepared (λ u. IsTried (λ tries. AcceptNow tries result)
         (H.tells half.old) (H.tells half.new)) }
+    ensures polled { IsTriedOrRefused fails_by H.tells (λ tries. AcceptNow tries result) result }
 {
     match prepared {
         Ok(()) => rwloops::accept_now(half),
@@ -180,6 +196,8 @@ pub(crate) fn write_now_in<H: TryWrite>(
         × (half.new ≡ half.old)) }
     ensures tried { IfOk prepared (λ u. IsTried (λ tries. WriteNow bytes.now tries result)
         (H.tells half.old) (H.tells half.new)) }
+    ensures polled { IsTriedOrRefused write_fails_by H.tells
+        (λ tries. WriteNow bytes.now tries result) result }
 {
     match prepared {
         Ok(()) => rwloops::write_now(half, bytes),

@@ -87,12 +87,7 @@ impl<R: Wait + Clock + Copy + Drop> Desk<R> {
     // Has a client wait for its next bytes, for the idle time at most.
     fn rests(&self, client: &mut Client<R>) -> Result<(), Fault> {
         let now = self.now();
-        client.wait_until(
-            &self.rt,
-            now.saturating_add(self.idle_ns),
-            now,
-            &self.alarms,
-        )
+        client.wait_until(now.saturating_add(self.idle_ns), now, &self.alarms)
     }
 
     // Accepts until nobody waits, but only so many at once. Where the system refuses, it rests.
@@ -169,8 +164,7 @@ where
 {
     let place = tasks.vacant().ok()?;
     let (handle, port) = opened(&rt, alloc, tasks.poller(), place.first)?;
-    let listener = Listener::begin(rt, handle)?;
-    match tasks.put(Task::Listener(listener)) {
+    match tasks.put(Task::Listener(Listener::new(rt, handle))) {
         Ok(_) => Some((place.first, port)),
         Err(_) => None,
     }
@@ -210,7 +204,7 @@ impl<R: Wait + Net + Files + Clock + Copy + Drop> Server<R> {
             .poller()
             .open(self.alloc, sock, place.first)
             .ok()?;
-        let mut client = Client::begin(rt, self.alloc, handle)?;
+        let mut client = Client::new(rt, self.alloc, handle)?;
         self.desk.rests(&mut client).ok()?;
         if let Err(task) = self.tasks.put(Task::Client(client)) {
             self.desk.over(task);

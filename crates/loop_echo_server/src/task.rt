@@ -1,15 +1,15 @@
 //! The tasks of a server: its listener, and its clients.
 
 ghost use Rattle.std.specs.Prelude.{◌≡◌, true, Err, IfSome};
-ghost use Rattle.fd_descriptor.specs.Entry.{IsEntry};
-ghost use Rattle.fd_descriptor.specs.FdHandle.{saw_closed};
 ghost use Rattle.fd_descriptor.specs.HandleCalls.{SetsDeadline};
-ghost use Rattle.fd_descriptor.specs.UnderWay.{IsBegunWith};
+ghost use Rattle.fd_descriptor.specs.TaskHalf.{IsHalfEntry, IsHalfOf, marks_of_half};
 ghost use Rattle.readiness.specs.declared.tasks.Turn.{Turn};
 ghost use Rattle.rwloops.specs.declared.fault.Fault.{Fault};
 ghost use Rattle.loop_echo_server.specs.Task.{accepted_of, kept_bytes};
 
-use fd_descriptor::{Deadline, Fault, FdHandle, PollCell, Progress, ReadUnderWay, WriteUnderWay};
+use fd_descriptor::{
+    Deadline, Dirs, Fault, FdHandle, PollCell, Progress, Setting, TaskReader, TaskWriter,
+};
 use readiness::{ListenRes, RemoteAlarms, Sock, SockRes, Turn};
 use std::alloc::Global;
 use std::sync::{Arc, Wait};
@@ -20,10 +20,10 @@ pub const MOST_AT_ONCE: u32 = 16;
 /// The most bytes that are read at once.
 const BUFFER_BYTES: usize = 4_096;
 
-/// A listener, which accepts from its beginning to its end.
+/// A listener.
 #[derive(Drop)]
 pub struct Listener<R: Wait + Copy + Drop> {
-    accepting: ReadUnderWay<ListenRes, R>,
+    half: TaskReader<ListenRes, R>,
 }
 
 /// What came of a listener that went on.
@@ -50,27 +50,26 @@ impl Accepted {
 }
 
 impl<R: Wait + Copy + Drop> Listener<R> {
-    /// Begins to accept: the first that it takes is the first who comes.
-    pub fn begin(rt: R, handle: FdHandle<ListenRes>) -> Option<Listener<R>>
-        ensures begun { IfSome result (λ listener. IsBegunWith handle listener.accepting) }
+    /// A listener that has accepted nobody yet: the first that it takes is the first who comes.
+    pub fn new(rt: R, handle: FdHandle<ListenRes>) -> Listener<R>
+        ensures { IsHalfOf handle result.half }
     {
-        let accepting = handle.begin_read(rt).ok()?;
-        Some(Listener { accepting })
+        let half = TaskReader::new(rt, handle);
+        Listener { half }
     }
 
     /// Accepts a connection, if one waits.
     pub fn accept(&mut self) -> Accepted {
-        Accepted::of(self.accepting.try_accept())
+        Accepted::of(self.half.poll_accept())
     }
 }
 
-/// A client, whose read and whose write are under way from its beginning to its end.
+/// A client: the two halves of its connection, and what it said.
 #[derive(Drop)]
 pub struct Client<R: Wait + Copy + Drop> {
     pub cell: Arc<PollCell>,
-    handle: FdHandle<SockRes>,
-    reading: ReadUnderWay<SockRes, R>,
-    writing: WriteUnderWay<SockRes, R>,
+    reader: TaskReader<SockRes, R>,
+    writer: TaskWriter<SockRes, R>,
     buf: Vec<u8>,
     // What was read and isn't given back yet: from here to there in the buffer.
     from: usize,
@@ -85,50 +84,37 @@ enum Given {
     Failed,
 }
 
-/// A read and a write under way on this descriptor.
-fn both_begun<R: Wait + Copy + Drop>(
-    rt: R,
-    handle: &mut FdHandle<SockRes>,
-) -> Option<(ReadUnderWay<SockRes, R>, WriteUnderWay<SockRes, R>)> {
-    let (reader, writer) = (handle.share().ok()?, handle.share().ok()?);
-    match (reader.begin_read(rt), writer.begin_write(rt)) {
-        (Ok(reading), Ok(writing)) => Some((reading, writing)),
-        _ => None,
-    }
-}
-
 impl<R: Wait + Copy + Drop> Client<R> {
-    /// Begins to read and to write.
-    pub fn begin(rt: R, alloc: Global, handle: FdHandle<SockRes>) -> Option<Client<R>>
+    /// A client that has said nothing yet.
+    pub fn new(rt: R, alloc: Global, handle: FdHandle<SockRes>) -> Option<Client<R>>
         ensures nothing { IfSome result (λ client. kept_bytes client ≡ 0) }
     {
         let mut handle = handle;
         let buf = vec![in alloc; 0u8; BUFFER_BYTES].ok()?;
         let cell = handle.cell().ok()?;
-        let (reading, writing) = both_begun(rt, &mut handle)?;
+        let writer = TaskWriter::new(rt, handle.share().ok()?);
+        let reader = TaskReader::new(rt, handle);
         Some(Client {
             cell,
-            handle,
-            reading,
-            writing,
+            reader,
+            writer,
             buf,
             from: 0,
             to: 0,
         })
     }
 
-    /// Has the client until this moment for its next read, and for the write after it.
+    /// Begins the next read, for which the client has until this moment, as for the write after it.
     pub fn wait_until(
         &mut self,
-        rt: &R,
         until: u64,
         now: u64,
         alarms: &RemoteAlarms<R>,
     ) -> Result<(), Fault>
-        ensures entry { IsEntry SetsDeadline self.old.handle self.new.handle result }
+        ensures entry { IsHalfEntry SetsDeadline self.old.reader self.new.reader result }
     {
-        self.handle
-            .set_deadline(rt, Deadline::At(until), now, alarms)
+        let setting = Setting::new(Dirs::Both, Deadline::At(until), now);
+        self.reader.set(alarms, setting)
     }
 
     // Gives back what is kept, as far as it doesn't wait.
@@ -136,7 +122,7 @@ impl<R: Wait + Copy + Drop> Client<R> {
         let Some(kept) = self.buf.as_slice().get(self.from..self.to) else {
             return Given::All;
         };
-        match self.writing.try_write(kept) {
+        match self.writer.poll_write(kept) {
             Progress::Whole => {
                 self.from = self.to;
                 Given::All
@@ -161,7 +147,7 @@ impl<R: Wait + Copy + Drop> Client<R> {
                 Given::Waits => return (Turn::Waits, has_read),
                 Given::Failed => return (Turn::Over, has_read),
             }
-            match self.reading.try_read(&mut self.buf[..]) {
+            match self.reader.poll_read(&mut self.buf[..]) {
                 None => return (Turn::Waits, has_read),
                 Some(Ok(count)) => {
                     self.from = 0;
@@ -176,16 +162,10 @@ impl<R: Wait + Copy + Drop> Client<R> {
 
     /// Ends the calls that are under way, and then closes, so that the close waits for nobody.
     pub fn close(self, rt: &R) -> Result<(), Fault>
-        ensures closed { saw_closed self.handle ≡ true → result ≡ Err Fault.Closed }
+        ensures closed { (marks_of_half self.reader).closed ≡ true → result ≡ Err Fault.Closed }
     {
-        let Client {
-            handle,
-            reading,
-            writing,
-            ..
-        } = self;
-        drop((reading, writing));
-        let mut handle = handle;
-        handle.close(rt)
+        let Client { reader, writer, .. } = self;
+        drop(writer);
+        reader.into_handle().close(rt)
     }
 }

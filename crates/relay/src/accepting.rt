@@ -10,7 +10,7 @@ use crate::clock::Moments;
 use crate::closing::Closer;
 use crate::shared::Shared;
 use deadline_core::Dirs;
-use fd_descriptor::{Alarms, FdHandle, PollCell, ReadUnderWay};
+use fd_descriptor::{Alarms, PollCell, TaskReader};
 use readiness::{Host, ListenRes, Place, RemoteAlarms, Side, Sock, Turn, Why};
 use relay_core::{AcceptEnded, AcceptStep, Accepting, PollAcceptGate, has_come, pause_end};
 use relay_watch::connection_facts::Acceptance;
@@ -20,55 +20,12 @@ use std::sync::ledger::Ledger;
 use std::sync::{Arc, Wait};
 use std::time::Clock;
 
-/// A rule's listener, as its task has it. The handle isn't there exactly while an accept is under
-/// way.
+/// A rule's listener, as its task has it.
 #[derive(Drop)]
 pub(crate) struct RuleListener<R: Wait + Copy> {
     pub(crate) id: u64,
     pub(crate) cell: Arc<PollCell>,
-    pub(crate) handle: Option<FdHandle<ListenRes>>,
-    pub(crate) under_way: Option<ReadUnderWay<ListenRes, R>>,
-}
-
-impl<R: Wait + Copy> RuleListener<R> {
-    // Begins an accept, where none is under way.
-    fn begin(&mut self, rt: R) -> Result<(), Fault> {
-        if self.under_way.is_some() {
-            return Ok(());
-        }
-        let Some(handle) = self.handle.take() else {
-            return Err(Fault::Closed);
-        };
-        match handle.begin_read(rt) {
-            Ok(accept) => {
-                self.under_way = Some(accept);
-                Ok(())
-            }
-            Err((handle, fault)) => {
-                self.handle = Some(handle);
-                Err(fault)
-            }
-        }
-    }
-
-    // Ends the accept that is under way.
-    fn end(&mut self) {
-        if let Some(accept) = self.under_way.take() {
-            self.handle = Some(accept.end());
-        }
-    }
-
-    fn poll_accept(&mut self, rt: R) -> Option<Result<Sock, Fault>> {
-        if let Err(fault) = self.begin(rt) {
-            return Some(Err(fault));
-        }
-        let Some(accept) = &mut self.under_way else {
-            return Some(Err(Fault::Closed));
-        };
-        let answer = accept.try_accept()?;
-        self.end();
-        Some(answer)
-    }
+    pub(crate) half: TaskReader<ListenRes, R>,
 }
 
 // Accepts from a rule's listener, and delivers to the loops.
@@ -121,7 +78,7 @@ where
     ghost blocked = { λ _. ⊤ };
 
     fn poll_accept(&mut self) -> Option<Result<Sock, Fault>> {
-        self.listener.poll_accept(self.rt)
+        self.listener.half.poll_accept()
     }
 
     fn deliver(&mut self, taken: Sock) {

@@ -1,14 +1,18 @@
 //! The idle time of a rule, and the deadlines that come of it.
 
-ghost use Rattle.std.specs.Prelude.{◌≡◌, ◌+◌, ◌*◌, ◌-◌, ◌^◌, ℕ, min, Some, None, IfSome, IfNone};
+ghost use Rattle.std.specs.Prelude.{◌≡◌, ◌+◌, ◌*◌, ◌-◌, ◌^◌, ℕ, min, Some, None, true, IfSome, IfNone, OnOk};
 ghost use Rattle.deadline_core.specs.declared.deadline.Deadline.{Deadline};
+ghost use Rattle.fd_descriptor.specs.TaskHalf.{KeepsHalf, is_under_way};
 ghost use Rattle.relay.specs.Deadlines.{dirs_of};
 
 use crate::clock::Moments;
 use base_types::Dir;
 use deadline_core::{Deadline, Dirs};
-use fd_descriptor::Setting;
+use fd_descriptor::{Alarms, Guards, Setting, TaskHalf};
+use readiness::{ReadHalf, SockRes, WriteHalf};
 use relay_core::idle_deadline;
+use rwloops::Fault;
+use std::sync::Wait;
 
 /// An idle time in milliseconds, or none, by this clock.
 #[derive(Drop)]
@@ -48,5 +52,24 @@ impl<C: Moments> IdleTime<C> {
             Dir::Write => Dirs::Write,
         };
         Some(Setting::new(dirs, deadline, now))
+    }
+
+    /// Begins a call of this half, where none is under way, and with an idle time sets the deadline
+    /// of its direction to that long from now.
+    pub(crate) fn begin<D: Guards<ReadHalf, WriteHalf>, R: Wait + Copy, A: Alarms>(
+        &self,
+        half: &mut TaskHalf<D, SockRes, R>,
+        alarms: &A,
+    ) -> Result<(), Fault>
+        ensures keeps { KeepsHalf half.old half.new }
+        ensures begun { OnOk result (is_under_way half.new ≡ true) }
+    {
+        if half.is_under_way() {
+            return Ok(());
+        }
+        match self.next_setting(D::dir()) {
+            Some(setting) => half.set(alarms, setting),
+            None => half.begin(),
+        }
     }
 }

@@ -13,7 +13,7 @@ use crate::loops::ConnLoop;
 use crate::threads::Unstarted;
 use arrayvec::ArrayString;
 use conntable::ConnTable;
-use fd_descriptor::FdHandle;
+use fd_descriptor::{FdHandle, TaskReader};
 use readiness::{Addr, EventLoop, HoldFault, Listen, ListenRes, Poller, Waker, listen};
 use relay_admin::{Rule, ServeFault};
 use relay_core::{Accepting, Loops};
@@ -104,6 +104,7 @@ pub(crate) fn bind<R: Wait + Net + Files>(
 
 // A descriptor of a rule's listener, which stands in the table.
 fn listener_in<R: Wait + Copy>(
+    rt: R,
     table: &mut ConnTable<Entry>,
     handle: FdHandle<ListenRes>,
     owner: Owner,
@@ -117,8 +118,7 @@ fn listener_in<R: Wait + Copy>(
     Some(RuleListener {
         id,
         cell,
-        handle: Some(handle),
-        under_way: None,
+        half: TaskReader::new(rt, handle),
     })
 }
 
@@ -126,6 +126,7 @@ fn listener_in<R: Wait + Copy>(
 /// under the next id. After a fault no task is left, and an entry may be, of the id that the rule
 /// then has.
 pub(crate) fn hold_rule<R: Wait + Copy>(
+    rt: R,
     alloc: Global,
     tasks: &mut EventLoop<RuleTask<R>>,
     table: &mut ConnTable<Entry>,
@@ -144,7 +145,7 @@ pub(crate) fn hold_rule<R: Wait + Copy>(
         remote: need(tasks.remote().ok())?,
         token: place.first,
     };
-    let listener = need(listener_in(table, handle, owner, &served))?;
+    let listener = need(listener_in(rt, table, handle, owner, &served))?;
     served.note_listener(listener.id, place.first, now);
     let task = RuleTask {
         served,
@@ -168,15 +169,14 @@ impl<R: Wait + Copy> Acceptors<R> {
     }
 
     // Listens for a rule, under the table's next id.
-    fn listen<N: Wait + Net + Files>(
-        &mut self,
-        rt: &N,
-        alloc: Global,
-        served: &Arc<ServedRule>,
-    ) -> Result<(), ServeFault> {
+    fn listen(&mut self, rt: &R, alloc: Global, served: &Arc<ServedRule>) -> Result<(), ServeFault>
+    where
+        R: Net + Files,
+    {
         let socket = bind(rt, served)?;
         let served = need(Arc::try_clone(served).ok())?;
-        hold_rule(alloc, &mut self.tasks, &mut self.table, socket, served, 0)
+        let Acceptors { tasks, table } = self;
+        hold_rule(*rt, alloc, tasks, table, socket, served, 0)
     }
 }
 

@@ -117,6 +117,7 @@ impl<U: Ledger, D: Ledger, R: Wait + Net + Files + Copy> Relay<U, D, R> {
         };
         let mut table = self.shared.table.lock(rt);
         hold_rule(
+            *rt,
             self.alloc,
             &mut self.tasks,
             &mut *table,

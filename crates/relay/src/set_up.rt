@@ -3,6 +3,7 @@
 ghost use Rattle.std.specs.Prelude.{◌≡◌, ◌<◌, [], ◌∷◌, ◌++◌, length, Some, IfSome};
 ghost use Rattle.std.specs.Arc.{arc_value};
 ghost use Rattle.base_types.specs.declared.direction.Dir.{Dir};
+ghost use Rattle.fd_descriptor.specs.TaskHalf.{IsHalfOf};
 ghost use Rattle.relay_core.specs.declared.pair_tasks.Standing.{Standing};
 
 use crate::address::socket_address;
@@ -76,7 +77,7 @@ impl<U: Ledger, D: Ledger, R: Wait + Net + Clock + Copy> LoopHost<U, D, R> {
         target: FdHandle<SockRes>,
     ) -> Option<WayCopy<L, R>>
         requires both { length inserted.now ≡ 2 }
-        ensures target { IfSome result (λ way. way.gate.target ≡ Some target) }
+        ensures target { IfSome result (λ way. IsHalfOf target way.gate.target) }
         ensures idle { IfSome result (λ way. way.gate.idle.idle_ms ≡ idle_ms) }
     {
         let idle = IdleTime::new(self.clock, idle_ms);
@@ -129,8 +130,8 @@ impl<U: Ledger, D: Ledger, R: Wait + Net + Clock + Copy> LoopHost<U, D, R> {
         inserted: &mut InsertedSides,
     ) -> Option<Connection<U, D, R>>
         requires none_inserted { inserted.old ≡ [] }
-        ensures up { IfSome result (λ c. c.up.gate.target ≡ Some target.writer) }
-        ensures down { IfSome result (λ c. c.down.gate.target ≡ Some client.writer) }
+        ensures up { IfSome result (λ c. IsHalfOf target.writer c.up.gate.target) }
+        ensures down { IfSome result (λ c. IsHalfOf client.writer c.down.gate.target) }
         ensures up_idle { IfSome result (λ c. c.up.gate.idle.idle_ms
             ≡ (arc_value facts).acceptance.rule.idle_ms) }
         ensures down_idle { IfSome result (λ c. c.down.gate.idle.idle_ms

@@ -4,7 +4,7 @@
 
 use super::{KEY, Silent};
 use deadline_core::Deadline;
-use fd_descriptor::{FdHandle, Progress, Resource};
+use fd_descriptor::{FdHandle, Progress, Resource, TaskReader, TaskWriter};
 use linked_list_allocator::LocalHeap;
 use rwloops::{DevKind, Fault, Outcome, TryRead, TryWrite};
 use std::alloc::{AllocError, Global};
@@ -87,8 +87,8 @@ fn fill<'a>(alloc: Global, heap: &'a LocalHeap) -> Result<Vec<Vec<u8, &'a LocalH
 enum Call {
     Read,
     Write,
-    ReadUnderWay,
-    WriteUnderWay,
+    PollRead,
+    PollWrite,
     Tick,
     SetDeadline,
     Share,
@@ -101,8 +101,8 @@ enum Call {
 const CALLS: [(&str, Call); 10] = [
     ("a read", Call::Read),
     ("a write", Call::Write),
-    ("a try to read", Call::ReadUnderWay),
-    ("a try to write", Call::WriteUnderWay),
+    ("a task's read", Call::PollRead),
+    ("a task's write", Call::PollWrite),
     ("a tick", Call::Tick),
     ("a deadline", Call::SetDeadline),
     ("a share of a share", Call::Share),
@@ -113,22 +113,16 @@ const CALLS: [(&str, Call); 10] = [
 
 type OnHeap<'a> = FdHandle<Pair, &'a LocalHeap>;
 
-fn reads_under_way<T: Wait + Copy>(rt: T, handle: OnHeap<'_>) -> bool {
-    let Ok(reading) = handle.begin_read(rt) else {
-        return false;
-    };
-    let mut reading = reading;
-    let read = reading.try_read(&mut [0; 3]);
-    let _handle = reading.end();
+fn polls_read<T: Wait + Copy>(rt: T, handle: OnHeap<'_>) -> bool {
+    let mut reader = TaskReader::new(rt, handle);
+    let read = reader.poll_read(&mut [0; 3]);
+    let _handle = reader.into_handle();
     read == Some(Ok(3))
 }
 
-fn writes_under_way<T: Wait + Copy>(rt: T, handle: OnHeap<'_>) -> bool {
-    let Ok(writing) = handle.begin_write(rt) else {
-        return false;
-    };
-    let mut writing = writing;
-    writing.try_write(b"abc") == Progress::Whole
+fn polls_write<T: Wait + Copy>(rt: T, handle: OnHeap<'_>) -> bool {
+    let mut writer = TaskWriter::new(rt, handle);
+    writer.poll_write(b"abc") == Progress::Whole
 }
 
 fn ticks<T: Wait>(rt: &T, handle: &OnHeap<'_>) -> bool {
@@ -147,8 +141,8 @@ fn does<T: Wait + Copy>(rt: T, handle: OnHeap<'_>, call: Call) -> bool {
     match call {
         Call::Read => handle.read(&rt, &mut [0; 3]) == Ok(3),
         Call::Write => handle.write(&rt, b"abc") == Ok(3),
-        Call::ReadUnderWay => reads_under_way(rt, handle),
-        Call::WriteUnderWay => writes_under_way(rt, handle),
+        Call::PollRead => polls_read(rt, handle),
+        Call::PollWrite => polls_write(rt, handle),
         Call::Tick => ticks(&rt, &handle),
         Call::SetDeadline => handle
             .set_deadline(&rt, Deadline::At(10), 5, &Silent)

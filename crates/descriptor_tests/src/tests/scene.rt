@@ -67,21 +67,23 @@ pub(super) enum Count {
     Tellings,
 }
 
-/// What is done to a call under way.
+/// What is done to a task's half: by the name of a call, what that answers.
 #[derive(Clone, Copy)]
 pub(super) enum Task {
-    /// Begins one, on a handle of its own.
+    /// Makes one of a handle of its own, and begins a call.
     Begin(Dir),
-    /// The last handle can't begin one, for this fault, and comes back.
+    /// One of the last handle can't begin a call, for this fault, and the handle comes back.
     Refuse(Dir, Fault),
     /// With so much room.
     Read(usize, Option<Result<usize, Fault>>),
     Accept(Option<Result<usize, Fault>>),
     Write(&'static [u8], Progress),
     Shut(Option<Result<(), Fault>>),
-    /// Ends one; its handle is the last then.
+    /// Of what is read: a deadline for these directions, at this moment.
+    Set(Dirs, Deadline, u64, Result<(), Fault>),
+    /// Makes a handle of one; it is the last then.
     End(Dir),
-    /// Lets go of one, and of its handle.
+    /// Lets go of one.
     Drop(Dir),
 }
 

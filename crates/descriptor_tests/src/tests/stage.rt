@@ -20,7 +20,7 @@ use std::time::{Clock, Duration};
 pub(super) struct Stage<T: Wait + Clock + Copy + Drop> {
     pub(super) rt: T,
     pub(super) told: Arc<Told, Global>,
-    alarms: Noted<T>,
+    pub(super) alarms: Noted<T>,
     pub(super) handles: Vec<Plain<T>>,
     pub(super) started: Vec<JoinHandle<Answer>>,
 }

@@ -5,7 +5,7 @@ use super::scripts::ALWAYS_BLOCKS;
 use super::watch::Watch;
 use super::{Plain, Silent, comes_to, open, share};
 use deadline_core::Deadline;
-use fd_descriptor::ReadUnderWay;
+use fd_descriptor::TaskReader;
 use rwloops::{Fault, WriteFault};
 use std::alloc::Global;
 use std::process::Abort;
@@ -130,11 +130,17 @@ fn takes_turns<T: Wait + Clock + Drop>(
     unreachable!()
 }
 
-/// Tries a read until the descriptor is closed, and says whether no other answer came.
-fn tries_on<T: Wait + Clock + Copy + Drop>(rt: &T, reading: &mut ReadUnderWay<Pair<T>, T>) -> bool {
+/// Reads until the descriptor is closed, or drained, and says whether no other answer came. A drain
+/// is told where a deadline has ended the read that was under way.
+fn reads_on<T: Wait + Clock + Copy + Drop>(
+    rt: &T,
+    reader: &mut TaskReader<Pair<T>, T>,
+    is_drained: bool,
+) -> bool {
     for _ in rt.forever() {
-        match reading.try_read(&mut [0; 4]) {
+        match reader.poll_read(&mut [0; 4]) {
             None | Some(Err(Fault::DeadlineExceeded)) => thread::yield_now(),
+            Some(Err(Fault::Draining)) => return is_drained,
             answer => return answer == Some(Err(Fault::Closed)),
         }
     }
@@ -142,11 +148,15 @@ fn tries_on<T: Wait + Clock + Copy + Drop>(rt: &T, reading: &mut ReadUnderWay<Pa
 }
 
 /// The same, and ends it.
-fn runs<T: Wait + Clock + Copy + Drop>(rt: &T, reading: ReadUnderWay<Pair<T>, T>) -> bool {
-    let mut reading = reading;
-    let closed = tries_on(rt, &mut reading);
-    let _handle = reading.end();
-    closed
+fn runs<T: Wait + Clock + Copy + Drop>(
+    rt: &T,
+    reader: TaskReader<Pair<T>, T>,
+    is_drained: bool,
+) -> bool {
+    let mut reader = reader;
+    let ended = reads_on(rt, &mut reader, is_drained);
+    let _handle = reader.into_handle();
+    ended
 }
 
 /// Whether a role comes to its end as it should.
@@ -182,9 +192,11 @@ fn start<T: Threads + Wait + Clock + Copy + Send + Drop + 'static>(
 fn start_task<T: Threads + Wait + Clock + Copy + Send + Drop + 'static>(
     rt: T,
     handle: Plain<T>,
+    is_drained: bool,
 ) -> Option<JoinHandle<bool>> {
-    match handle.begin_read(rt) {
-        Ok(reading) => thread::spawn(&rt, move || runs(&rt, reading)).ok(),
+    let mut reader = TaskReader::new(rt, handle);
+    match reader.begin() {
+        Ok(()) => thread::spawn(&rt, move || runs(&rt, reader, is_drained)).ok(),
         Err(_) => None,
     }
 }
@@ -207,7 +219,7 @@ fn start_all<T: Threads + Wait + Clock + Copy + Send + Drop + 'static>(
 ) -> Result<bool, Fail> {
     let mut all = true;
     if storm.3 {
-        all = keep(threads, start_task(rt, share(handle)?));
+        all = keep(threads, start_task(rt, share(handle)?, is_drained));
     }
     for role in storm.1 {
         all = keep(threads, start(rt, share(handle)?, told, role, is_drained)) && all;

@@ -1,4 +1,4 @@
-//! A scene's calls under way: one read and one write at a time.
+//! A scene's task: one half that is read and one that is written at a time.
 
 use super::Plain;
 use super::calls::are_given;
@@ -6,83 +6,99 @@ use super::scene::Task;
 use super::scripted::Pair;
 use super::stage::Stage;
 use base_types::Dir;
-use fd_descriptor::{ReadUnderWay, WriteUnderWay};
+use deadline_core::{Deadline, Dirs};
+use fd_descriptor::{Setting, TaskReader, TaskWriter};
 use rwloops::Fault;
 use std::sync::Wait;
 use std::sync::atomic::Ordering;
 use std::time::Clock;
 
-/// The read under way and the write under way, where there is one. They aren't on the stage, since
-/// no struct states what a generic type has as its field that has a ghost field of its own.
+/// The half that is read and the half that is written, where there is one. They aren't on the stage,
+/// since no struct states what a generic type has as its field that has a ghost field of its own.
 pub(super) type Tasks<T> = (
-    Option<ReadUnderWay<Pair<T>, T>>,
-    Option<WriteUnderWay<Pair<T>, T>>,
+    Option<TaskReader<Pair<T>, T>>,
+    Option<TaskWriter<Pair<T>, T>>,
 );
 
-fn begin_read<T: Wait + Clock + Copy + Drop>(
+/// Whether this handle's half begins a read. It is the task's then.
+fn begins_read<T: Wait + Clock + Copy + Drop>(
     rt: T,
     tasks: &mut Tasks<T>,
     handle: Plain<T>,
-) -> Option<(Plain<T>, Fault)> {
-    match handle.begin_read(rt) {
-        Ok(call) => {
-            tasks.0 = Some(call);
-            None
-        }
-        Err(refused) => Some(refused),
-    }
+) -> bool {
+    let mut half = TaskReader::new(rt, handle);
+    let begun = half.begin().is_ok();
+    tasks.0 = Some(half);
+    begun
 }
 
-fn begin_write<T: Wait + Clock + Copy + Drop>(
+/// The same of a write.
+fn begins_write<T: Wait + Clock + Copy + Drop>(
     rt: T,
     tasks: &mut Tasks<T>,
     handle: Plain<T>,
-) -> Option<(Plain<T>, Fault)> {
-    match handle.begin_write(rt) {
-        Ok(call) => {
-            tasks.1 = Some(call);
-            None
-        }
-        Err(refused) => Some(refused),
-    }
+) -> bool {
+    let mut half = TaskWriter::new(rt, handle);
+    let begun = half.begin().is_ok();
+    tasks.1 = Some(half);
+    begun
+}
+
+/// A handle whose half was to begin a read, and what that came to.
+fn tried_read<T: Wait + Clock + Copy + Drop>(
+    rt: T,
+    handle: Plain<T>,
+) -> (Plain<T>, Result<(), Fault>) {
+    let mut half = TaskReader::new(rt, handle);
+    let begun = half.begin();
+    (half.into_handle(), begun)
+}
+
+/// The same of a write.
+fn tried_write<T: Wait + Clock + Copy + Drop>(
+    rt: T,
+    handle: Plain<T>,
+) -> (Plain<T>, Result<(), Fault>) {
+    let mut half = TaskWriter::new(rt, handle);
+    let begun = half.begin();
+    (half.into_handle(), begun)
 }
 
 impl<T: Wait + Clock + Copy + Drop> Stage<T> {
-    /// Begins a call; one that can't begin gives its handle back.
-    fn begin(&self, tasks: &mut Tasks<T>, handle: Plain<T>, dir: Dir) -> Option<(Plain<T>, Fault)> {
+    fn begins(&mut self, tasks: &mut Tasks<T>, dir: Dir) -> bool {
+        let Some(handle) = self.share() else {
+            return false;
+        };
         match dir {
-            Dir::Read => begin_read(self.rt, tasks, handle),
-            Dir::Write => begin_write(self.rt, tasks, handle),
+            Dir::Read => begins_read(self.rt, tasks, handle),
+            Dir::Write => begins_write(self.rt, tasks, handle),
         }
     }
 
-    fn begin_shared(&mut self, tasks: &mut Tasks<T>, dir: Dir) -> bool {
-        match self.share() {
-            Some(handle) => self.begin(tasks, handle, dir).is_none(),
-            None => false,
-        }
-    }
-
-    /// Whether the last handle can't begin a call, and comes back.
-    fn refuse(&mut self, tasks: &mut Tasks<T>, dir: Dir, fault: Fault) -> bool {
+    /// Whether a half of the last handle can't begin a call, for this fault.
+    fn refuses(&mut self, dir: Dir, fault: Fault) -> bool {
         let Some(handle) = self.handles.pop() else {
             return false;
         };
-        match self.begin(tasks, handle, dir) {
-            Some((back, why)) => self.keep(Some(back)) && why == fault,
-            None => false,
-        }
+        let (back, begun) = match dir {
+            Dir::Read => tried_read(self.rt, handle),
+            Dir::Write => tried_write(self.rt, handle),
+        };
+        self.keep(Some(back)) && begun == Err(fault)
     }
 
-    /// A try to read; none where there is no read under way, or the bytes are others than the half
-    /// gave.
-    fn try_read(&self, tasks: &mut Tasks<T>, room: usize) -> Option<Option<Result<usize, Fault>>> {
-        let Some(call) = &mut tasks.0 else {
+    /// A read; none where there is no half, or the bytes are others than it gave.
+    fn polls_read(
+        &self,
+        tasks: &mut Tasks<T>,
+        room: usize,
+    ) -> Option<Option<Result<usize, Fault>>> {
+        let Some(half) = &mut tasks.0 else {
             return None;
         };
         let mut buf = [0u8; 8];
         let before = self.told.given.load(Ordering::SeqCst);
-        let answer = call.try_read(&mut buf[..room.min(8)]);
+        let answer = half.poll_read(&mut buf[..room.min(8)]);
         let count = match answer {
             Some(Ok(count)) => count,
             _ => 0,
@@ -94,38 +110,52 @@ impl<T: Wait + Clock + Copy + Drop> Stage<T> {
         }
     }
 
-    fn end_task(&mut self, tasks: &mut Tasks<T>, dir: Dir) -> bool {
+    fn sets(
+        &self,
+        tasks: &mut Tasks<T>,
+        dirs: Dirs,
+        deadline: Deadline,
+        now: u64,
+    ) -> Option<Result<(), Fault>> {
+        match &mut tasks.0 {
+            Some(half) => Some(half.set(&self.alarms, Setting::new(dirs, deadline, now))),
+            None => None,
+        }
+    }
+
+    fn ends(&mut self, tasks: &mut Tasks<T>, dir: Dir) -> bool {
         let handle = match dir {
-            Dir::Read => tasks.0.take().map(|call| call.end()),
-            Dir::Write => tasks.1.take().map(|call| call.end()),
+            Dir::Read => tasks.0.take().map(|half| half.into_handle()),
+            Dir::Write => tasks.1.take().map(|half| half.into_handle()),
         };
         self.keep(handle)
     }
 
     pub(super) fn runs(&mut self, tasks: &mut Tasks<T>, task: Task) -> bool {
         match task {
-            Task::Begin(dir) => self.begin_shared(tasks, dir),
-            Task::Refuse(dir, fault) => self.refuse(tasks, dir, fault),
-            Task::Read(room, want) => self.try_read(tasks, room) == Some(want),
+            Task::Begin(dir) => self.begins(tasks, dir),
+            Task::Refuse(dir, fault) => self.refuses(dir, fault),
+            Task::Read(room, want) => self.polls_read(tasks, room) == Some(want),
             Task::Accept(want) => match &mut tasks.0 {
-                Some(call) => call.try_accept() == want,
+                Some(half) => half.poll_accept() == want,
                 None => false,
             },
             Task::Write(bytes, want) => match &mut tasks.1 {
-                Some(call) => call.try_write(bytes) == want,
+                Some(half) => half.poll_write(bytes) == want,
                 None => false,
             },
             Task::Shut(want) => match &mut tasks.1 {
-                Some(call) => call.try_shut() == want,
+                Some(half) => half.poll_shut() == want,
                 None => false,
             },
-            Task::End(dir) => self.end_task(tasks, dir),
-            Task::Drop(dir) => drop_task(tasks, dir),
+            Task::Set(dirs, at, now, want) => self.sets(tasks, dirs, at, now) == Some(want),
+            Task::End(dir) => self.ends(tasks, dir),
+            Task::Drop(dir) => drops(tasks, dir),
         }
     }
 }
 
-fn drop_task<T: Wait + Clock + Copy + Drop>(tasks: &mut Tasks<T>, dir: Dir) -> bool {
+fn drops<T: Wait + Clock + Copy + Drop>(tasks: &mut Tasks<T>, dir: Dir) -> bool {
     match dir {
         Dir::Read => tasks.0.take().is_some(),
         Dir::Write => tasks.1.take().is_some(),

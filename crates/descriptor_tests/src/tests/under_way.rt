@@ -1,6 +1,7 @@
-//! Calls under way: what their tries answer, that each keeps its half's lock until it ends, and who
-//! is told of a close.
+//! Halves of a task: what its calls answer, that each keeps its half's lock until it has its answer
+//! or is ended, and who is told of a close.
 
+use super::KEY;
 use super::playing::play_all;
 use super::scene::{
     CLOSED, CLOSED_UNDER_READ, Call, Count, Event, FREE, NONE_READ, OK, READ, READ_4, Scene, Step,
@@ -21,6 +22,11 @@ const RESET: Fault = Fault::Device(DevKind::Reset);
 
 const LATE: Fault = Fault::DeadlineExceeded;
 
+const NO_BYTES_LATE: Progress = Progress::Failed(WriteFault {
+    fault: LATE,
+    count: 0,
+});
+
 /// One writes.
 const WRITTEN: Word = Word {
     wlock: true,
@@ -39,15 +45,20 @@ const SCENES: &[Scene] = &[
         &[
             Step::Runs(Task::Begin(Dir::Read)),
             Step::Runs(Task::Read(0, Some(Ok(0)))),
+            Step::Shows(FREE),
+            Step::Runs(Task::Read(0, Some(Ok(0)))),
             Step::Counts(Count::Tries, 0),
             Step::Runs(BLOCKED),
+            Step::Shows(READ),
             Step::Runs(TWO),
+            Step::Shows(FREE),
             Step::Runs(BLOCKED),
             Step::Runs(Task::Accept(Some(Ok(1)))),
             Step::Runs(Task::Read(4, Some(Err(RESET)))),
             Step::Runs(Task::Begin(Dir::Write)),
             Step::Runs(Task::Write(b"abc", Progress::Part(0))),
             Step::Runs(Task::Write(b"abc", Progress::Part(2))),
+            Step::Shows(WRITTEN),
             Step::Runs(Task::Write(
                 b"cd",
                 Progress::Failed(WriteFault {
@@ -55,9 +66,11 @@ const SCENES: &[Scene] = &[
                     count: 1,
                 }),
             )),
+            Step::Shows(FREE),
             Step::Runs(Task::Shut(Some(Err(Fault::Device(DevKind::BrokenPipe))))),
+            Step::Shows(FREE),
             Step::Runs(Task::End(Dir::Read)),
-            Step::Shows(WRITTEN),
+            Step::By(1, Call::Close, OK),
         ],
     ),
     Scene(
@@ -106,8 +119,10 @@ const SCENES: &[Scene] = &[
             Step::Runs(BLOCKED),
             Step::By(0, Call::Drain, OK),
             Step::Runs(TWO),
+            Step::Runs(Task::Read(4, Some(Err(Fault::Draining)))),
             Step::Runs(Task::End(Dir::Read)),
             Step::Runs(Task::Refuse(Dir::Read, Fault::Draining)),
+            Step::Runs(Task::Refuse(Dir::Write, Fault::Draining)),
             Step::By(1, Call::Close, OK),
         ],
     ),
@@ -124,16 +139,49 @@ const SCENES: &[Scene] = &[
             Step::Counts(Count::Tries, 2),
             Step::Runs(Task::Read(4, Some(Err(LATE)))),
             Step::Runs(Task::Accept(Some(Err(LATE)))),
-            Step::Runs(Task::Write(
-                b"ab",
-                Progress::Failed(WriteFault {
-                    fault: LATE,
-                    count: 0,
-                }),
-            )),
+            Step::Runs(Task::Write(b"ab", NO_BYTES_LATE)),
             Step::Counts(Count::Tries, 2),
             Step::By(0, Call::Set(Dirs::Both, Deadline::Never, 6), OK),
             Step::Runs(TWO),
+        ],
+    ),
+    Scene(
+        "a call under way is refused once its deadline has passed",
+        ALWAYS_BLOCKS,
+        None,
+        &[
+            Step::Runs(Task::Begin(Dir::Read)),
+            Step::Runs(Task::Begin(Dir::Write)),
+            Step::Runs(BLOCKED),
+            Step::Runs(Task::Write(b"ab", Progress::Part(0))),
+            Step::Runs(Task::Set(Dirs::Both, Deadline::At(9), 5, Ok(()))),
+            Step::Alarm(Some((KEY, Dirs::Both, Some(9)))),
+            Step::Runs(BLOCKED),
+            Step::Has(Event::Clock(9)),
+            Step::Counts(Count::Tries, 3),
+            Step::Runs(Task::Read(4, Some(Err(LATE)))),
+            Step::Runs(Task::Write(b"ab", NO_BYTES_LATE)),
+            Step::Shows(FREE),
+            Step::Counts(Count::Tries, 3),
+        ],
+    ),
+    Scene(
+        "a deadline that a task sets begins its call",
+        ALWAYS_BLOCKS,
+        None,
+        &[
+            Step::Runs(Task::Begin(Dir::Read)),
+            Step::Runs(Task::Read(0, Some(Ok(0)))),
+            Step::Shows(FREE),
+            Step::Runs(Task::Set(Dirs::Read, Deadline::At(9), 5, Ok(()))),
+            Step::Shows(READ),
+            Step::By(0, Call::Drain, OK),
+            Step::Runs(Task::Set(Dirs::Read, Deadline::At(5), 5, Ok(()))),
+            Step::Runs(Task::Read(4, Some(Err(LATE)))),
+            Step::Runs(Task::Set(Dirs::Read, Deadline::Never, 6, Err(Fault::Draining))),
+            Step::By(0, Call::Close, OK),
+            Step::Runs(Task::Set(Dirs::Read, Deadline::Never, 6, Err(Fault::Closed))),
+            Step::Counts(Count::Tries, 0),
         ],
     ),
     Scene(
