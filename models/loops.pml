@@ -143,10 +143,10 @@ proctype Main() {
   atomic { if :: accepting -> users[LISTENER]--; accepting = 0 :: else -> skip fi };
 #endif
 #ifndef END_JOINS_NOBODY
-  admin_over;                                           /* Helpers::join */
+  admin_over;                                           /* StartedThreads::join */
   loops_over == LOOPS;
 #endif
-  do                                                    /* close_all */
+  do                                                    /* close_listeners */
   :: id < IDS ->
      if
      :: in_table[id] -> close(id, 0); id = 0

@@ -7,17 +7,14 @@ use log_writer::{LogFile, open_log};
 use relay::{Capacity, Loops, Outlets, PairLimit, serve, text_of};
 use relay_admin::{Addr, Command, check_status};
 use relay_command::{Fault, HELP, Job, NO_MEMORY, VERSION, job_of, reply_status, trace_status};
-use relay_ledger::PARTS;
 use std::alloc::Global;
 use std::fs::{File, Files};
 use std::io::{ErrorKind, Write};
-use std::marker::Brand;
 use std::net::{Net, Shutdown, TcpListener, TcpStream};
 use std::os::unix::net::UnixStream;
 use std::process::ExitCode;
 use std::random::RandomSource;
 use std::sync::Wait;
-use std::sync::ledger::Blank;
 use std::thread::Threads;
 use std::time::{Clock, Duration};
 use std::{env, io};
@@ -96,32 +93,22 @@ where
         Err(fault) => return told(&rt, fault),
     };
     let outlets = Outlets { log, metrics };
-    let (up, down) = (Blank::new(PARTS), Blank::new(PARTS));
     let mut output = io::writer(&rt);
-    let served = serve::<Brand, Brand, _, R, _>(
-        rt,
-        rules,
-        admin,
-        capacity,
-        outlets,
-        up,
-        down,
-        &mut output,
-    );
-    match served {
+    match serve(rt, rules, admin, capacity, outlets, &mut output) {
         Ok(()) => ExitCode::from(0),
         Err(fault) => told(&rt, Fault::Relay(fault)),
     }
 }
 
-/// How long a relay may say nothing.
-const PATIENCE: Duration = Duration::from_secs(10);
+/// How many seconds a relay may say nothing.
+const PATIENCE_SECONDS: u64 = 10;
 
 /// A connection to an admin socket on which a line was sent, and nothing more will be.
 fn asked(rt: &HostRuntime, admin: &str, line: &str) -> io::Result<UnixStream> {
+    let patience = Some(Duration::from_secs(PATIENCE_SECONDS));
     let mut stream = UnixStream::connect(rt, admin)?;
-    stream.set_read_timeout(Some(PATIENCE))?;
-    stream.set_write_timeout(Some(PATIENCE))?;
+    stream.set_read_timeout(patience)?;
+    stream.set_write_timeout(patience)?;
     stream.write_all(line.as_bytes())?;
     stream.write_all(b"\n")?;
     stream.shutdown(Shutdown::Write)?;

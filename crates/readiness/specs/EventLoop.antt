@@ -4,6 +4,7 @@ use Rattle.std.specs.Arc.{arc_value}
 use Rattle.mio.specs.declared.waker.Waker.{Waker}
 use Rattle.readiness.specs.Poller.{heard_by}
 use Rattle.readiness.specs.declared.batch.Ev.{Ev}
+use Rattle.readiness.specs.declared.loop_driver.LoopDriver.{LoopDriver}
 use Rattle.readiness.specs.declared.loop_remote.LoopRemote.{LoopRemote}
 use Rattle.readiness.specs.declared.loop_remote.RemoteAlarms.{RemoteAlarms}
 use Rattle.readiness.specs.declared.event_loop.EventLoop.{EventLoop}
@@ -13,6 +14,14 @@ use Rattle.readiness.specs.declared.tasks.Tasks.{Tasks}
 -- what wakes the loop behind a remote
 abbrev pub waker_behind : {A : Type 0} → LoopRemote A → Waker
 waker_behind remote = arc_value remote.waker
+
+-- the poller of a driver
+abbrev pub driver_poller : {A : Type 0} → LoopDriver A → Poller A
+driver_poller driver = driver.poller
+
+-- the remote of a driver
+abbrev pub driver_remote : {A : Type 0} → LoopDriver A → LoopRemote A
+driver_remote driver = arc_value driver.remote
 
 module _ {T A : Type 0} where
   -- the tasks of a loop

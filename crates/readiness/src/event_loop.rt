@@ -13,13 +13,14 @@ ghost use Rattle.readiness.specs.LoopToken.{place_in};
 ghost use Rattle.readiness.specs.Agenda.{steps_of};
 ghost use Rattle.readiness.specs.EventLoop.{tasks_of, remote_in, poller_of, waker_behind};
 ghost use Rattle.readiness.specs.EventLoop.{events_in, told_in, round_in};
+ghost use Rattle.readiness.specs.EventLoop.{driver_poller, driver_remote};
 ghost use Rattle.readiness.specs.Resuming.{MakesSteps};
 ghost use Rattle.readiness.specs.Poller.{waker_of};
 
 use crate::agenda::Why;
+use crate::loop_driver::LoopDriver;
 use crate::loop_remote::LoopRemote;
 use crate::loop_token::Place;
-use crate::named_tasks::MAX_NAMED;
 use crate::poller::Poller;
 use crate::tasks::{Host, NoPlace, Tasks};
 use crate::telling::{CellsThemselves, Telling};
@@ -51,27 +52,30 @@ impl<T, A: Allocator + Copy> EventLoop<T, A> {
         ensures faults { IfErr result (λ fault. (fault ≡ Fault.OutOfMemory)
             ⊎ (fault ≡ Fault.Device DevKind.Other)) }
     {
-        let poller = Poller::new(rt, alloc)?;
-        let Ok(waker) = poller.waker() else {
-            return Err(Fault::OutOfMemory);
-        };
-        let Ok(remote) = LoopRemote::new(alloc, waker) else {
-            return Err(Fault::OutOfMemory);
-        };
-        let Ok(remote) = Arc::new(alloc, remote) else {
-            return Err(Fault::OutOfMemory);
-        };
-        let Ok(told) = Vec::with_capacity(alloc, MAX_NAMED) else {
-            return Err(Fault::OutOfMemory);
-        };
-        Ok(EventLoop {
+        let driver = LoopDriver::new(rt, alloc)?;
+        Ok(EventLoop::on(driver))
+    }
+
+    /// The loop of this driver, without tasks. It takes no memory.
+    pub fn on(driver: LoopDriver<A>) -> EventLoop<T, A>
+        ensures none { (token : ℕ) → task_in (tasks_of result) token ≡ None }
+        ensures poller { poller_of result ≡ driver_poller driver }
+        ensures remote { remote_in result ≡ driver_remote driver }
+    {
+        let LoopDriver {
+            alloc,
+            poller,
+            remote,
+            told,
+        } = driver;
+        EventLoop {
             alloc,
             poller,
             remote,
             tasks: Tasks::new(alloc),
             round: Vec::new(alloc),
             told,
-        })
+        }
     }
 
     /// Makes room for one task more, and gives the place that `put` gives next: its descriptors are

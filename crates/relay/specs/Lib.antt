@@ -1,16 +1,14 @@
 pub mod Addr
+pub mod Books
 pub mod Connection
 pub mod Deadlines
-pub mod Delivering
 pub mod Desk
 pub mod Ending
 pub mod Fault
 pub mod Handle
 pub mod Output
-pub mod RelayEnd
 pub mod Reload
 pub mod ReloadWish
 pub mod Session
-pub mod Stopping
 pub mod Subject
 pub mod Worker

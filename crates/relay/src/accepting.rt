@@ -16,7 +16,6 @@ use relay_core::{AcceptEnded, AcceptStep, Accepting, PollAcceptGate, has_come, p
 use relay_watch::connection_facts::Acceptance;
 use relay_watch::served_rule::ServedRule;
 use rwloops::Fault;
-use std::sync::ledger::Ledger;
 use std::sync::{Arc, Wait};
 use std::time::Clock;
 
@@ -30,18 +29,16 @@ pub(crate) struct RuleListener<R: Wait + Copy> {
 
 // Accepts from a rule's listener, and delivers to the loops.
 #[derive(Drop)]
-struct RuleGate<'a, U: Ledger, D: Ledger, R: Wait + Copy, C> {
+struct RuleGate<'a, R: Wait + Copy, C> {
     rt: R,
     clock: &'a C,
     served: &'a Arc<ServedRule>,
     listener: &'a mut RuleListener<R>,
-    shared: &'a Shared<U, D>,
+    shared: &'a Shared,
 }
 
-impl<'a, U, D, R, C> RuleGate<'a, U, D, R, C>
+impl<'a, R, C> RuleGate<'a, R, C>
 where
-    U: Ledger,
-    D: Ledger,
     R: Wait + Copy,
     C: Moments,
 {
@@ -63,10 +60,8 @@ where
     }
 }
 
-impl<'a, U, D, R, C> PollAcceptGate for RuleGate<'a, U, D, R, C>
+impl<'a, R, C> PollAcceptGate for RuleGate<'a, R, C>
 where
-    U: Ledger,
-    D: Ledger,
     R: Wait + Clock + Copy,
     C: Moments,
 {
@@ -108,10 +103,10 @@ fn turn_after(step: &AcceptStep) -> Turn
 }
 
 // Has a task accept by its rule.
-fn accept_on<'a, U: Ledger, D: Ledger, R: Wait + Clock + Copy, C: Moments>(
+fn accept_on<'a, R: Wait + Clock + Copy, C: Moments>(
     rt: R,
     clock: &'a C,
-    shared: &'a Shared<U, D>,
+    shared: &'a Shared,
     task: &'a mut RuleTask<R>,
 ) -> AcceptStep {
     let RuleTask {
@@ -142,15 +137,15 @@ pub(crate) struct RuleTask<R: Wait + Copy> {
 
 /// What the main thread has beside its accept tasks.
 #[derive(Drop)]
-pub(crate) struct AcceptHost<U: Ledger, D: Ledger, R: Wait + Copy, C: Moments> {
+pub(crate) struct AcceptHost<R: Wait + Copy, C: Moments> {
     pub(crate) rt: R,
     pub(crate) clock: C,
-    pub(crate) shared: Arc<Shared<U, D>>,
+    pub(crate) shared: Arc<Shared>,
     /// A moment to which no alarm could be armed, since memory was refused.
     pub(crate) unarmed: Option<u64>,
 }
 
-impl<U: Ledger, D: Ledger, R: Wait + Copy, C: Moments> AcceptHost<U, D, R, C> {
+impl<R: Wait + Copy, C: Moments> AcceptHost<R, C> {
     // Has a task pause: its timer has the second token of its place, which no descriptor has.
     fn pause(&mut self, task: &mut RuleTask<R>, ms: u64) {
         let until = pause_end(self.clock.now(), ms);
@@ -194,10 +189,8 @@ impl<U: Ledger, D: Ledger, R: Wait + Copy, C: Moments> AcceptHost<U, D, R, C> {
     }
 }
 
-impl<U, D, R, C> Host for AcceptHost<U, D, R, C>
+impl<R, C> Host for AcceptHost<R, C>
 where
-    U: Ledger,
-    D: Ledger,
     R: Wait + Clock + Copy,
     C: Moments,
 {
@@ -228,7 +221,7 @@ where
     }
 }
 
-impl<U: Ledger, D: Ledger, R: Wait + Copy, C: Moments> AcceptHost<U, D, R, C> {
+impl<R: Wait + Copy, C: Moments> AcceptHost<R, C> {
     // A drained listener is closed: else its clients would wait in the system's queue, and nobody
     // would come for them.
     fn end(&self, listener: &RuleListener<R>, ended: AcceptEnded) {

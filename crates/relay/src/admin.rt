@@ -10,12 +10,12 @@ use crate::admin_session::{SessionReader, SessionWriter};
 use crate::admin_waits::AdminWaits;
 use crate::clock::Moments;
 use crate::desk::RelayDesk;
+use crate::shared::Shared;
 use readiness::{Listen, Poller, Sock};
 use relay_admin::{AdminEnd, serve_admin};
 use relay_core::{AcceptGate, accept_worker};
 use rwloops::Fault;
 use std::alloc::Global;
-use std::sync::ledger::Ledger;
 use std::sync::{Arc, Mutex, Wait};
 use std::thread::sleep;
 use std::time::{Clock, Duration};
@@ -27,27 +27,38 @@ const SESSION_TOKEN: u64 = 2;
 #[derive(Drop)]
 pub(crate) struct AdminSocket {
     pub(crate) listener: Listen,
-    pub(crate) poller: Arc<Mutex<Poller>>,
+    pub(crate) poller: Poller,
 }
 
 /// Accepts sessions, and serves each before it accepts the next.
 #[derive(Drop)]
-pub(crate) struct AdminGate<U: Ledger, D: Ledger, R: Wait + Clock + Copy, C: Moments + Drop> {
+pub(crate) struct AdminGate<R: Wait + Clock + Copy, C: Moments + Drop> {
+    pub(crate) rt: R,
     pub(crate) alloc: Global,
     pub(crate) listener: Listen,
-    pub(crate) waits: AdminWaits<U, D, R>,
+    pub(crate) poller: Mutex<Poller>,
     pub(crate) clock: C,
+    pub(crate) shared: Arc<Shared>,
 }
 
-impl<U: Ledger, D: Ledger, R: Wait + Clock + Copy, C: Moments + Drop> AdminGate<U, D, R, C> {
+impl<R: Wait + Clock + Copy, C: Moments + Drop> AdminGate<R, C> {
+    // How a session waits.
+    fn waits(&self) -> AdminWaits<'_, R, C> {
+        AdminWaits {
+            rt: self.rt,
+            poller: &self.poller,
+            stop: &self.shared.stop,
+            clock: &self.clock,
+            until: None,
+        }
+    }
+
     // One session; a socket that can't be served is dropped.
     fn session(&self, sock: Sock) -> Option<AdminEnd> {
         let mut sock = sock;
-        let rt = self.waits.rt;
         let registered = self
-            .waits
             .poller
-            .lock(&rt)
+            .lock(&self.rt)
             .register(&mut sock, SESSION_TOKEN);
         if registered.is_err() {
             return None;
@@ -55,43 +66,44 @@ impl<U: Ledger, D: Ledger, R: Wait + Clock + Copy, C: Moments + Drop> AdminGate<
         let (read, write) = sock.split(self.alloc).ok()?;
         let mut reader = SessionReader {
             half: read,
-            waits: self.waits.again()?,
+            waits: self.waits(),
         };
         let mut writer = SessionWriter {
             half: write,
-            waits: self.waits.again()?,
+            waits: self.waits(),
         };
-        let mut desk = RelayDesk::new(rt, &self.clock, &self.waits.shared);
+        let mut desk = RelayDesk::new(self.rt, &self.clock, &self.shared);
         serve_admin(self.alloc, &mut reader, &mut writer, &mut desk).ok()
     }
 }
 
-impl<U, D, R, C> AcceptGate for AdminGate<U, D, R, C>
-where
-    U: Ledger,
-    D: Ledger,
-    R: Wait + Clock + Copy,
-    C: Moments + Drop,
-{
+impl<R: Wait + Clock + Copy, C: Moments + Drop> AcceptGate for AdminGate<R, C> {
     type T = Sock;
 
     ghost tells = { λ _ _. ⊥ };
 
     fn accept(&mut self) -> Result<Sock, Fault> {
-        let rt = self.waits.rt;
-        rwloops::accept(&rt, &mut self.listener, &mut self.waits)
+        let rt = self.rt;
+        let mut waits = AdminWaits {
+            rt,
+            poller: &self.poller,
+            stop: &self.shared.stop,
+            clock: &self.clock,
+            until: None,
+        };
+        rwloops::accept(&rt, &mut self.listener, &mut waits)
     }
 
     // A session that says stop has the main thread stop the relay; the next accept is then refused.
     fn deliver(&mut self, taken: Sock) {
-        self.waits.shared.sessions.add(1);
+        self.shared.sessions.add(1);
         if self.session(taken) == Some(AdminEnd::Stop) {
-            self.waits.shared.stop();
+            self.shared.stop();
         }
     }
 
     fn pause(&mut self, ms: u64) {
-        sleep(&self.waits.rt, Duration::from_millis(ms));
+        sleep(&self.rt, Duration::from_millis(ms));
     }
 }
 

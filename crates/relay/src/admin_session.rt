@@ -5,14 +5,13 @@ ghost use Rattle.std.specs.Result.{result_ok};
 ghost use Rattle.relay.specs.Session.{told_of_read, told_to_session};
 
 use crate::admin_waits::AdminWaits;
+use crate::clock::Moments;
 use fd_descriptor::HalfClose;
 use readiness::{ReadHalf, WriteHalf};
 use rwloops::{Fault, WriteFault};
 use std::io;
 use std::io::{ErrorKind, Read, Write};
 use std::sync::Wait;
-use std::sync::ledger::Ledger;
-use std::time::Clock;
 
 // What a session is told of a read. One that failed isn't the end: the line that it broke off would
 // be carried out.
@@ -28,9 +27,9 @@ fn told_of_read(read: Result<usize, Fault>) -> io::Result<usize>
 
 /// What a session reads from its client.
 #[derive(Drop)]
-pub(crate) struct SessionReader<U: Ledger, D: Ledger, R: Wait + Clock + Copy> {
+pub(crate) struct SessionReader<'a, R: Wait + Copy, C: Moments> {
     pub(crate) half: ReadHalf,
-    pub(crate) waits: AdminWaits<U, D, R>,
+    pub(crate) waits: AdminWaits<'a, R, C>,
 }
 
 // What a session is told of a write of so many bytes. The replies of a client that has gone are
@@ -53,12 +52,12 @@ fn told_to_session(len: usize, written: Result<usize, WriteFault>) -> io::Result
 
 /// What a session answers its client by.
 #[derive(Drop)]
-pub(crate) struct SessionWriter<U: Ledger, D: Ledger, R: Wait + Clock + Copy> {
+pub(crate) struct SessionWriter<'a, R: Wait + Copy, C: Moments> {
     pub(crate) half: WriteHalf,
-    pub(crate) waits: AdminWaits<U, D, R>,
+    pub(crate) waits: AdminWaits<'a, R, C>,
 }
 
-impl<U: Ledger, D: Ledger, R: Wait + Clock + Copy> Read for SessionReader<U, D, R> {
+impl<'a, R: Wait + Copy, C: Moments> Read for SessionReader<'a, R, C> {
     fn read(&mut self, buf: &mut [u8]) -> io::Result<usize> {
         let rt = self.waits.rt;
         self.waits.begin();
@@ -66,7 +65,7 @@ impl<U: Ledger, D: Ledger, R: Wait + Clock + Copy> Read for SessionReader<U, D, 
     }
 }
 
-impl<U: Ledger, D: Ledger, R: Wait + Clock + Copy> Write for SessionWriter<U, D, R> {
+impl<'a, R: Wait + Copy, C: Moments> Write for SessionWriter<'a, R, C> {
     fn write(&mut self, bytes: &[u8]) -> io::Result<usize> {
         let rt = self.waits.rt;
         self.waits.begin();

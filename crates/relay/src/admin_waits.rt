@@ -4,25 +4,24 @@
 ghost use Rattle.std.specs.Prelude.{◌≡◌, true, false, Ok, Err};
 ghost use Rattle.deadline_core.specs.declared.refusal.Refusal.{Refusal};
 
-use crate::clock::{Moments, RelayClock};
-use crate::shared::Shared;
+use crate::clock::Moments;
+use crate::stopping::StopFlag;
 use base_types::Dir;
 use deadline_core::Refusal;
 use readiness::Poller;
 use relay_core::{has_come, silence_end};
 use rwloops::Waits;
-use std::sync::ledger::Ledger;
-use std::sync::{Arc, Mutex, Wait};
-use std::time::Clock;
+use std::sync::{Mutex, Wait};
 
 /// Waits on the admin poller, until the relay stops or its moment has come. The admin thread alone
 /// takes the poller's lock.
 #[derive(Drop)]
-pub(crate) struct AdminWaits<U: Ledger, D: Ledger, R: Wait + Clock + Copy> {
+pub(crate) struct AdminWaits<'a, R: Wait + Copy, C: Moments> {
     pub(crate) rt: R,
-    pub(crate) poller: Arc<Mutex<Poller>>,
-    pub(crate) shared: Arc<Shared<U, D>>,
-    pub(crate) clock: RelayClock<R>,
+    pub(crate) poller: &'a Mutex<Poller>,
+    /// Whether the relay has stopped.
+    pub(crate) stop: &'a StopFlag,
+    pub(crate) clock: &'a C,
     /// When its session has been silent for too long; none where nobody's session waits.
     pub(crate) until: Option<u64>,
 }
@@ -43,31 +42,18 @@ fn after_a_wait(is_stopped: bool, is_silent: bool) -> Result<(), Refusal>
     }
 }
 
-impl<U: Ledger, D: Ledger, R: Wait + Clock + Copy> AdminWaits<U, D, R> {
-    /// The same waits once more, for a session. It takes no memory.
-    pub(crate) fn again(&self) -> Option<AdminWaits<U, D, R>> {
-        let poller = Arc::try_clone(&self.poller).ok()?;
-        let shared = Arc::try_clone(&self.shared).ok()?;
-        Some(AdminWaits {
-            rt: self.rt,
-            poller,
-            shared,
-            clock: self.clock,
-            until: None,
-        })
-    }
-
+impl<'a, R: Wait + Copy, C: Moments> AdminWaits<'a, R, C> {
     /// A session's read or write begins, for which it may be silent from now on.
     pub(crate) fn begin(&mut self) {
         self.until = Some(silence_end(self.clock.now()));
     }
 }
 
-impl<U: Ledger, D: Ledger, R: Wait + Clock + Copy> Waits for AdminWaits<U, D, R> {
+impl<'a, R: Wait + Copy, C: Moments> Waits for AdminWaits<'a, R, C> {
     ghost tells = { λ _ _. ⊥ };
 
     fn prepare(&mut self, _dir: Dir) -> Result<(), Refusal> {
-        after_a_wait(self.shared.is_stopped(), false)
+        after_a_wait(self.stop.is_set(), false)
     }
 
     fn wait(&mut self, _dir: Dir) -> Result<(), Refusal> {
@@ -75,6 +61,6 @@ impl<U: Ledger, D: Ledger, R: Wait + Clock + Copy> Waits for AdminWaits<U, D, R>
             return Err(Refusal::Closed);
         }
         let is_silent = has_come(self.until, self.clock.now());
-        after_a_wait(self.shared.is_stopped(), is_silent)
+        after_a_wait(self.stop.is_set(), is_silent)
     }
 }

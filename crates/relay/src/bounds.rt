@@ -1,9 +1,8 @@
-//! What a relay's threads have in common: what they run on, and what counts their bytes.
+//! What a relay's threads run on.
 
 use std::net::{Net, TcpListener, TcpStream};
 use std::random::RandomSource;
 use std::sync::Wait;
-use std::sync::ledger::Ledger;
 use std::thread::Threads;
 use std::time::Clock;
 
@@ -35,8 +34,3 @@ where
 pub trait MeteredRuntime: RelayRuntime + RandomSource {}
 
 impl<R: RelayRuntime + RandomSource> MeteredRuntime for R {}
-
-/// The ledger of a book that threads share.
-pub trait SharedLedger: Ledger + Send + Sync + 'static {}
-
-impl<L: Ledger + Send + Sync + 'static> SharedLedger for L {}

@@ -6,20 +6,23 @@ ghost use Rattle.relay_core.specs.declared.pair_tasks.PairNext.{PairNext};
 ghost use Rattle.relay_core.specs.declared.ways.Way.{Way};
 ghost use Rattle.relay_core.specs.PairTasks.{standing_of, standing_after, other_way};
 ghost use Rattle.relay.specs.Connection.{GoesOn, HasHeard, side_of_pair, stop_told};
+ghost use Rattle.relay.specs.Books.{TakesBack};
 ghost use Rattle.relay.specs.Ending as spec;
 
+use crate::books::LoopBooks;
 use crate::clock::{Moments, RelayClock};
-use crate::closing::Closer;
-use crate::settled::{Settlement, settle};
-use crate::shared::Shared;
+use crate::closing::{Closer, close_by_id};
+use crate::entry::Entry;
 use crate::task_gate::TaskGate;
 use base_types::Dir;
+use conntable::ConnTable;
 use fd_descriptor::PollCell;
+use log_writer::Log;
 use readiness::{RemoteAlarms, Side, Why};
 use relay_core::{
-    Copying, Ended, LoopMemory, PairNext, PairTasks, Standing, Step, Way, Ways, source_of,
+    Copying, Credits, Ended, LoopMemory, PairNext, PairTasks, Standing, Step, Way, Ways, source_of,
 };
-use relay_ledger::{Book, CarriedShare};
+use relay_ledger::CarriedShare;
 use relay_log::ended::Ended as How;
 use relay_watch::connection_facts::ConnectionFacts;
 use relay_watch::how_ended::how_of;
@@ -44,14 +47,14 @@ pub(crate) struct WayCopy<L: Ledger, R: Wait + Clock + Copy> {
 
 impl<L: Ledger, R: Wait + Clock + Copy> WayCopy<L, R> {
     // Goes on. Without a share it has nothing to do.
-    fn go_on(&mut self, rt: &R, book: &Mutex<Book<L>>, memory: &mut LoopMemory) -> Step {
+    fn go_on<C: Credits<L>>(&mut self, book: &mut C, memory: &mut LoopMemory) -> Step {
         let Some(carried) = self.share.take() else {
             return Step::Waits(Dir::Read);
         };
         let mut share = carried.into_share();
         let step = self
             .copying
-            .resume(rt, &mut self.gate, book, &mut share, memory);
+            .resume(&mut self.gate, book, &mut share, memory);
         self.passed = share.amount();
         self.share = Some(CarriedShare::new(share));
         step
@@ -77,15 +80,6 @@ impl<L: Ledger, R: Wait + Clock + Copy> WayCopy<L, R> {
 pub(crate) struct ConnSide {
     pub(crate) id: u64,
     pub(crate) cell: Arc<PollCell>,
-}
-
-impl ConnSide {
-    pub(crate) fn new(id: u64, cell: Arc<PollCell>) -> ConnSide
-        ensures id { result.id ≡ id }
-        ensures cell { result.cell ≡ cell }
-    {
-        ConnSide { id, cell }
-    }
 }
 
 /// A connection: both its sides, how far its ways are, and the ways; and what others know of it.
@@ -151,14 +145,6 @@ fn stop_ahead_of(way: Way, why: Why) -> bool
 }
 
 impl<U: Ledger, D: Ledger, R: Wait + Clock + Copy> Connection<U, D, R> {
-    /// The cell of a side.
-    pub(crate) fn cell(&self, side: Side) -> &PollCell {
-        match side {
-            Side::First => &*self.client.cell,
-            Side::Second => &*self.target.cell,
-        }
-    }
-
     // Which ways go on by what its loop heard.
     fn ways(&self, why: Why) -> Ways
         ensures up { result.up ≡ true ↔ GoesOn self.now.tasks why Way.Up }
@@ -194,8 +180,7 @@ impl<U: Ledger, D: Ledger, R: Wait + Clock + Copy> Connection<U, D, R> {
     /// Goes on by what its loop heard, and says what follows.
     pub(crate) fn go_on(
         &mut self,
-        rt: &R,
-        shared: &Shared<U, D>,
+        books: &mut LoopBooks<U, D>,
         why: Why,
         memory: &mut LoopMemory,
     ) -> PairNext
@@ -214,11 +199,11 @@ impl<U: Ledger, D: Ledger, R: Wait + Clock + Copy> Connection<U, D, R> {
         let ways = self.ways(why);
         self.hear(why);
         if ways.up {
-            let step = self.up.go_on(rt, &shared.up, memory);
+            let step = self.up.go_on(&mut books.up, memory);
             self.note(Way::Up, &step);
         }
         if ways.down && self.tasks.next() != PairNext::Closes {
-            let step = self.down.go_on(rt, &shared.down, memory);
+            let step = self.down.go_on(&mut books.down, memory);
             self.note(Way::Down, &step);
         }
         self.tasks.next()
@@ -259,9 +244,16 @@ impl<U: Ledger, D: Ledger, R: Wait + Clock + Copy> Connection<U, D, R> {
 
     /// Ends it. First its calls under way end, so that no close waits for them; then both sides are
     /// closed, and the books take the shares back, however it ended.
-    pub(crate) fn end(self, rt: &R, shared: &Shared<U, D>, now: u64) -> Settlement<U, D>
-        ensures up { result.up ≡ self.up.share }
-        ensures down { result.down ≡ self.down.share }
+    pub(crate) fn end(
+        self,
+        rt: &R,
+        table: &Mutex<ConnTable<Entry>>,
+        books: &mut LoopBooks<U, D>,
+        log: &Option<Arc<Log>>,
+        now: u64,
+    )
+        ensures up { TakesBack books.old.up.book books.new.up.book self.up.share }
+        ensures down { TakesBack books.old.down.book books.new.down.book self.down.share }
     {
         let how = self.how();
         let Connection {
@@ -274,16 +266,15 @@ impl<U: Ledger, D: Ledger, R: Wait + Clock + Copy> Connection<U, D, R> {
             failure: _,
         } = self;
         let (up, down) = (up.leave(), down.leave());
-        shared.close(rt, client.id, Closer::ItsLoop);
-        shared.close(rt, target.id, Closer::ItsLoop);
-        let up = settle(rt, &shared.up, up);
-        let down = settle(rt, &shared.down, down);
+        close_by_id(rt, table, client.id, Closer::ItsLoop);
+        close_by_id(rt, table, target.id, Closer::ItsLoop);
+        books.up.settle(up);
+        books.down.settle(down);
         if let Some(counts) = facts.counts() {
             counts.note_end(how);
         }
-        if let Some(log) = &shared.log {
+        if let Some(log) = log {
             tell_end(rt, log, &facts, (client.id, target.id), now, how);
         }
-        Settlement { up, down }
     }
 }

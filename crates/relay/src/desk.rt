@@ -7,26 +7,35 @@ ghost use Rattle.relay.specs.Deadlines.{asked_deadline};
 ghost use Rattle.relay.specs.Desk.{desk_answer};
 
 use crate::clock::Moments;
-use crate::closing::Closer;
-use crate::entry::{Handle, Owner};
+use crate::closing::{Closer, close_by_id};
+use crate::entry::{Entry, Handle, Owner};
+use crate::home::{Home, totals_of};
+use crate::reload_wish::ReloadWish;
 use crate::shared::Shared;
-use crate::totals::{Total, Totals};
+use crate::stopping::StopFlag;
+use conntable::ConnTable;
 use deadline_core::{Deadline, Dirs};
 use fd_descriptor::Setting;
+use readiness::LoopRemote;
 use relay_admin::{Desk, DeskAnswer};
 use relay_core::idle_deadline;
 use rwloops::Fault;
 use std::alloc::Global;
-use std::sync::Wait;
-use std::sync::ledger::Ledger;
+use std::sync::{Mutex, Wait};
 use std::time::Clock;
 
 /// A desk for one session.
 #[derive(Drop)]
-pub(crate) struct RelayDesk<'a, U: Ledger, D: Ledger, R: Wait + Copy, C: Moments> {
+pub(crate) struct RelayDesk<'a, R: Wait + Copy, C: Moments> {
     rt: R,
     clock: &'a C,
-    shared: &'a Shared<U, D>,
+    table: &'a Mutex<ConnTable<Entry>>,
+    homes: &'a [Home],
+    reload: &'a ReloadWish,
+    /// The remote of the main thread's loop, which reloads.
+    main: &'a LoopRemote,
+    /// Whether the relay has stopped.
+    stop: &'a StopFlag,
 }
 
 // What a close, a drain or a deadline that ended so is to the session. A device's fault while the
@@ -68,15 +77,23 @@ fn asked_setting(now: u64, after_ms: Option<u32>) -> Setting
     Setting::new(Dirs::Both, deadline, now)
 }
 
-impl<'a, U: Ledger, D: Ledger, R: Wait + Copy, C: Moments> RelayDesk<'a, U, D, R, C> {
-    pub(crate) fn new(rt: R, clock: &'a C, shared: &'a Shared<U, D>) -> RelayDesk<'a, U, D, R, C> {
-        RelayDesk { rt, clock, shared }
+impl<'a, R: Wait + Copy, C: Moments> RelayDesk<'a, R, C> {
+    pub(crate) fn new(rt: R, clock: &'a C, shared: &'a Shared) -> RelayDesk<'a, R, C> {
+        RelayDesk {
+            rt,
+            clock,
+            table: &shared.table,
+            homes: shared.homes.as_slice(),
+            reload: &shared.reload,
+            main: &*shared.main,
+            stop: &shared.stop,
+        }
     }
 
     // A handle of its own on the connection or listener with this id, with whose it is, so that the
     // table's lock is given back before a deadline is set or it is drained.
     fn handle(&self, id: u64) -> Result<(Handle, Owner), DeskAnswer> {
-        let table = self.shared.table.lock(&self.rt);
+        let table = self.table.lock(&self.rt);
         let Some(entry) = table.by_id(id) else {
             return Err(DeskAnswer::Unknown);
         };
@@ -103,10 +120,8 @@ impl<'a, U: Ledger, D: Ledger, R: Wait + Copy, C: Moments> RelayDesk<'a, U, D, R
     }
 }
 
-impl<'a, U, D, R, C> Desk for RelayDesk<'a, U, D, R, C>
+impl<'a, R, C> Desk for RelayDesk<'a, R, C>
 where
-    U: Ledger,
-    D: Ledger,
     R: Wait + Clock + Copy,
     C: Moments,
 {
@@ -114,20 +129,18 @@ where
     ghost exchanges = { λ _. None };
 
     fn ids(&mut self, alloc: Global) -> DeskAnswer {
-        match self.shared.table.lock(&self.rt).ids(alloc) {
+        match self.table.lock(&self.rt).ids(alloc) {
             Ok(ids) => DeskAnswer::Ids(ids),
             Err(_) => DeskAnswer::NoMemory,
         }
     }
 
     fn totals(&mut self) -> DeskAnswer {
-        let up = Total::of(&*self.shared.up.lock(&self.rt));
-        let down = Total::of(&*self.shared.down.lock(&self.rt));
-        Totals { up, down }.answer()
+        totals_of(self.homes).answer()
     }
 
     fn close(&mut self, id: u64) -> DeskAnswer {
-        answer_of_close(self.shared.close(&self.rt, id, Closer::Another))
+        answer_of_close(close_by_id(&self.rt, self.table, id, Closer::Another))
     }
 
     fn drain(&mut self, id: u64) -> DeskAnswer {
@@ -145,7 +158,7 @@ where
     }
 
     fn show(&mut self, id: u64) -> DeskAnswer {
-        let table = self.shared.table.lock(&self.rt);
+        let table = self.table.lock(&self.rt);
         let Some(entry) = table.by_id(id) else {
             return DeskAnswer::Unknown;
         };
@@ -154,8 +167,8 @@ where
 
     // The main thread, whose loop accepts, carries it out.
     fn reload(&mut self, _alloc: Global) -> DeskAnswer {
-        self.shared.reload.ask(&self.rt);
-        self.shared.main.wake();
-        self.shared.reload.wait(&self.rt, &self.shared.stop)
+        self.reload.ask(&self.rt);
+        self.main.wake();
+        self.reload.wait(&self.rt, self.stop)
     }
 }

@@ -1,9 +1,10 @@
 //! The relay's figures, for its metrics.
 
 use crate::address::socket_address;
-use crate::bounds::{MeteredRuntime, SharedLedger};
+use crate::bounds::MeteredRuntime;
 use crate::clock::{Moments, RelayClock};
 use crate::fault::of_metrics;
+use crate::home::totals_of;
 use crate::shared::Shared;
 use base_types::OutOfMemory;
 use metrics_server::{LIMIT_NS, MetricsServer, Running};
@@ -13,28 +14,28 @@ use relay_watch::bound_path::BoundPath;
 use relay_watch::rule_figures::rule_figures;
 use std::alloc::Global;
 use std::fs::Files;
-use std::sync::ledger::Ledger;
 use std::sync::{Arc, Wait};
 use std::time::Clock;
 
 /// What reads a running relay's figures.
 #[derive(Drop)]
-pub(crate) struct RelayFigures<U: Ledger, D: Ledger, R: Wait + Clock + Copy> {
+pub(crate) struct RelayFigures<R: Wait + Clock + Copy> {
     rt: R,
     clock: RelayClock<R>,
-    shared: Arc<Shared<U, D>>,
+    shared: Arc<Shared>,
 }
 
-impl<U: Ledger, D: Ledger, R: Wait + Clock + Copy> RelayFigures<U, D, R> {
+impl<R: Wait + Clock + Copy> RelayFigures<R> {
     fn read_whole(&self, figures: &mut Figures) {
         let shared = &self.shared;
         figures.up_ms = self.clock.now() / 1_000_000;
         figures.admin_sessions = shared.sessions.get();
         figures.connections_limit = shared.limit.count as u64;
         figures.reloads = shared.reloads.get();
+        let totals = totals_of(shared.homes.as_slice());
         figures.bytes = CarriedBytes {
-            up: shared.up.lock(&self.rt).total(),
-            down: shared.down.lock(&self.rt).total(),
+            up: totals.up.bytes,
+            down: totals.down.bytes,
         };
         if let Some(log) = &shared.log {
             let counts = log.counts(&self.rt);
@@ -44,7 +45,7 @@ impl<U: Ledger, D: Ledger, R: Wait + Clock + Copy> RelayFigures<U, D, R> {
     }
 }
 
-impl<U: Ledger, D: Ledger, R: Wait + Clock + Copy> Metered for RelayFigures<U, D, R> {
+impl<R: Wait + Clock + Copy> Metered for RelayFigures<R> {
     fn read(&self, figures: &mut Figures) -> Result<(), OutOfMemory> {
         self.read_whole(figures);
         figures.turns.clear();
@@ -61,16 +62,14 @@ impl<U: Ledger, D: Ledger, R: Wait + Clock + Copy> Metered for RelayFigures<U, D
 
 /// Serves the figures of a relay at this address from now on. Where that is refused, no path of
 /// its listener is left.
-pub(crate) fn serve_figures<U, D, R>(
+pub(crate) fn serve_figures<R>(
     rt: R,
     alloc: Global,
     addr: &Addr,
     clock: RelayClock<R>,
-    shared: Arc<Shared<U, D>>,
+    shared: Arc<Shared>,
 ) -> Result<Running, ServeFault>
 where
-    U: SharedLedger,
-    D: SharedLedger,
     R: MeteredRuntime + Files,
 {
     let figures = RelayFigures { rt, clock, shared };

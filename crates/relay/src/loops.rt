@@ -1,37 +1,70 @@
-//! The loops: each a thread that resumes the tasks of its connections.
+//! The loops: each a thread that resumes the tasks of its connections, and has books of its own.
 
 ghost use Rattle.std.specs.Prelude.{◌≡◌, ◌↔◌};
 ghost use Rattle.readiness.specs.declared.tasks.Turn.{Turn};
 ghost use Rattle.relay_core.specs.PairTasks.{HasToClose, MayGoOn};
+ghost use Rattle.relay_ledger.specs.declared.book.TheConstants.{PARTS};
 
+use crate::books::LoopBooks;
 use crate::clock::{Moments, RelayClock};
 use crate::connection::Connection;
 use crate::fault::of_poller;
-use crate::home::{Accepted, Home};
+use crate::home::{Accepted, Counted};
 use crate::shared::Shared;
+use crate::totals::{PublishedTotals, Totals};
 use fd_descriptor::PollCell;
-use readiness::{EventLoop, Host, Side, Turn, Why};
+use readiness::{EventLoop, Host, LoopDriver, Side, Turn, Why};
 use relay_admin::ServeFault;
 use relay_core::{LoopMemory, PairNext};
+use relay_ledger::PARTS;
 use std::alloc::Global;
+use std::marker::Brand;
 use std::mem;
 use std::net::{Net, TcpListener, TcpStream};
-use std::sync::ledger::Ledger;
+use std::sync::ledger::{Blank, Ledger};
 use std::sync::{Arc, Wait};
-use std::time::{Clock, Instant};
+use std::time::Clock;
+
+/// A connection as a task of its loop, which counts it.
+#[derive(Drop)]
+pub(crate) struct ConnTask<U: Ledger, D: Ledger, R: Wait + Clock + Copy> {
+    pub(crate) connection: Connection<U, D, R>,
+    pub(crate) counted: Counted,
+}
 
 /// A loop that has connections.
-pub(crate) type ConnLoop<U, D, R> = EventLoop<Connection<U, D, R>>;
+pub(crate) type ConnLoop<U, D, R> = EventLoop<ConnTask<U, D, R>>;
 
-/// What a loop's thread has beside its tasks.
+/// What a loop's thread knows of its relay: it sets connections up by it, and ends them.
 #[derive(Drop)]
-pub(crate) struct LoopHost<U: Ledger, D: Ledger, R: Wait + Clock + Copy> {
+pub(crate) struct LoopContext<R: Wait + Clock + Copy> {
     pub(crate) rt: R,
     pub(crate) alloc: Global,
     pub(crate) clock: RelayClock<R>,
     /// The place of its home.
     pub(crate) home: usize,
-    pub(crate) shared: Arc<Shared<U, D>>,
+    pub(crate) shared: Arc<Shared>,
+}
+
+impl<R: Wait + Clock + Copy> LoopContext<R> {
+    fn note_turn(&self) {
+        if let Some(home) = self.shared.homes.get(self.home) {
+            home.turns.add(1);
+        }
+    }
+
+    fn take_inbox(&self, taken: &mut Vec<Accepted>) {
+        if let Some(home) = self.shared.homes.get(self.home) {
+            home.give_all(&self.rt, taken);
+        }
+    }
+}
+
+/// What a loop's thread has beside its tasks.
+#[derive(Drop)]
+pub(crate) struct LoopHost<U: Ledger, D: Ledger, R: Wait + Clock + Copy> {
+    pub(crate) context: LoopContext<R>,
+    pub(crate) books: LoopBooks<U, D>,
     /// The accepted sockets that are being set up, an empty list between turns: it and the inbox
     /// change places, so that a turn takes no memory for a list.
     taken: Vec<Accepted>,
@@ -40,19 +73,21 @@ pub(crate) struct LoopHost<U: Ledger, D: Ledger, R: Wait + Clock + Copy> {
 }
 
 impl<U: Ledger, D: Ledger, R: Wait + Clock + Copy> Host for LoopHost<U, D, R> {
-    type Task = Connection<U, D, R>;
+    type Task = ConnTask<U, D, R>;
 
-    fn cell<'a>(&self, task: &'a Connection<U, D, R>, side: Side) -> Option<&'a PollCell> {
-        Some(task.cell(side))
+    fn cell<'a>(&self, task: &'a ConnTask<U, D, R>, side: Side) -> Option<&'a PollCell> {
+        match side {
+            Side::First => Some(&*task.connection.client.cell),
+            Side::Second => Some(&*task.connection.target.cell),
+        }
     }
 
-    fn resume(&mut self, task: &mut Connection<U, D, R>, why: Why) -> Turn {
-        self.go_on_with(task, why)
+    fn resume(&mut self, task: &mut ConnTask<U, D, R>, why: Why) -> Turn {
+        self.go_on_with(&mut task.connection, why)
     }
 
-    fn over(&mut self, task: Connection<U, D, R>) {
-        task.end(&self.rt, &self.shared, self.clock.now());
-        self.note_end();
+    fn over(&mut self, task: ConnTask<U, D, R>) {
+        self.end(task);
     }
 }
 
@@ -62,8 +97,8 @@ impl<U: Ledger, D: Ledger, R: Wait + Clock + Copy> LoopHost<U, D, R> {
         ensures over { result ≡ Turn.Over ↔ HasToClose task.new.tasks }
         ensures again { result ≡ Turn.Again ↔ MayGoOn task.new.tasks }
     {
-        let next = task.go_on(&self.rt, &self.shared, why, &mut self.memory);
-        task.tell_bytes(&self.clock);
+        let next = task.go_on(&mut self.books, why, &mut self.memory);
+        task.tell_bytes(&self.context.clock);
         match next {
             PairNext::Waits => Turn::Waits,
             PairNext::Again => Turn::Again,
@@ -71,53 +106,45 @@ impl<U: Ledger, D: Ledger, R: Wait + Clock + Copy> LoopHost<U, D, R> {
         }
     }
 
-    fn home(&self) -> Option<&Home> {
-        self.shared.homes.get(self.home)
-    }
-
-    // One of its connections is no more, or was never set up.
-    fn note_end(&self) {
-        if let Some(home) = self.home() {
-            home.note_end();
-        }
-    }
-
-    fn note_turn(&self) {
-        if let Some(home) = self.home() {
-            home.turns.add(1);
-        }
-    }
-
-    fn take_inbox(&self, taken: &mut Vec<Accepted>) {
-        if let Some(home) = self.home() {
-            home.give_all(&self.rt, taken);
-        }
+    /// Ends a connection, which is counted until it has ended.
+    pub(crate) fn end(&mut self, task: ConnTask<U, D, R>) {
+        let ConnTask {
+            connection,
+            counted: _counted,
+        } = task;
+        let now = self.context.clock.now();
+        let shared = &self.context.shared;
+        connection.end(
+            &self.context.rt,
+            &shared.table,
+            &mut self.books,
+            &shared.log,
+            now,
+        );
     }
 }
 
 impl<U: Ledger, D: Ledger, R: Wait + Net + Clock + Copy> LoopHost<U, D, R> {
     // Sets up what was delivered. The inbox is held for the exchange alone.
     fn empty_inbox(&mut self, tasks: &mut ConnLoop<U, D, R>) {
-        let mut taken = mem::replace(&mut self.taken, Vec::new(self.alloc));
-        self.take_inbox(&mut taken);
+        let mut taken = mem::replace(&mut self.taken, Vec::new(self.context.alloc));
+        self.context.take_inbox(&mut taken);
         for accepted in taken.drain(..) {
-            if !self.set_up(tasks, accepted) {
-                self.note_end();
-            }
+            self.set_up(tasks, accepted);
         }
         self.taken = taken;
     }
 
     // Turns until the relay stops, or the poller fails.
     fn turn_until_stop(&mut self, tasks: &mut ConnLoop<U, D, R>) -> Result<(), ServeFault> {
-        let rt = self.rt;
+        let rt = self.context.rt;
         for _ in rt.forever() {
-            let now = self.clock.now();
+            let now = self.context.clock.now();
             if let Err(fault) = tasks.turn(&rt, now, self) {
                 return Err(of_poller(fault));
             }
-            self.note_turn();
-            if self.shared.is_stopped() {
+            self.context.note_turn();
+            if self.context.shared.is_stopped() {
                 return Ok(());
             }
             self.empty_inbox(tasks);
@@ -126,46 +153,62 @@ impl<U: Ledger, D: Ledger, R: Wait + Net + Clock + Copy> LoopHost<U, D, R> {
     }
 }
 
-/// What a loop is started with.
+/// What a loop waits by, and where it tells what its books are credited.
 #[derive(Drop)]
-pub(crate) struct Lot<U: Ledger, D: Ledger, R: Wait + Clock + Copy> {
-    pub(crate) alloc: Global,
-    pub(crate) start: Instant,
-    pub(crate) home: usize,
-    pub(crate) shared: Arc<Shared<U, D>>,
-    pub(crate) tasks: ConnLoop<U, D, R>,
-    pub(crate) memory: LoopMemory,
+pub(crate) struct LoopParts {
+    pub(crate) driver: LoopDriver,
+    pub(crate) published: PublishedTotals,
 }
 
-/// A loop from its first turn to its end. One whose poller fails stops the relay.
-pub(crate) fn run_loop<U, D, R>(rt: R, lot: Lot<U, D, R>) -> Result<(), ServeFault>
+/// A loop from its first turn to its end, on books that nobody else has. It gives their totals, or
+/// none where a share is missing. One whose poller fails stops the relay.
+pub(crate) fn run_loop<R>(
+    context: LoopContext<R>,
+    parts: LoopParts,
+    memory: LoopMemory,
+) -> Result<Option<Totals>, ServeFault>
+where
+    R: Wait + Net<Listener = TcpListener, Stream = TcpStream> + Clock + Copy,
+{
+    let (up, down) = (Blank::new(PARTS), Blank::new(PARTS));
+    run_on::<Brand, Brand, R>(context, parts, memory, up, down)
+}
+
+// The same on the ledgers of these blanks, which no other loop names.
+fn run_on<U, D, R>(
+    context: LoopContext<R>,
+    parts: LoopParts,
+    memory: LoopMemory,
+    up: Blank,
+    down: Blank,
+) -> Result<Option<Totals>, ServeFault>
 where
     U: Ledger,
     D: Ledger,
     R: Wait + Net<Listener = TcpListener, Stream = TcpStream> + Clock + Copy,
+    requires up_name { up.name ≡ U.name }
+    requires up_parts { up.parts ≡ U.parts }
+    requires up_all { up.parts ≡ PARTS }
+    requires down_name { down.name ≡ D.name }
+    requires down_parts { down.parts ≡ D.parts }
+    requires down_all { down.parts ≡ PARTS }
 {
-    let Lot {
-        alloc,
-        start,
-        home,
-        shared,
-        tasks,
-        memory,
-    } = lot;
-    let mut tasks = tasks;
+    let LoopParts { driver, published } = parts;
+    let alloc = context.alloc;
+    let mut tasks: ConnLoop<U, D, R> = EventLoop::on(driver);
     let mut host = LoopHost {
-        rt,
-        alloc,
-        clock: RelayClock::new(rt, start),
-        home,
-        shared,
+        context,
+        books: LoopBooks::<U, D>::new(up, down, published),
         taken: Vec::new(alloc),
         memory,
     };
     let turned = host.turn_until_stop(&mut tasks);
     tasks.end_all(&mut host);
-    if turned.is_err() {
-        host.shared.stop();
+    match turned {
+        Ok(()) => Ok(host.books.gather(alloc)),
+        Err(fault) => {
+            host.context.shared.stop();
+            Err(fault)
+        }
     }
-    turned
 }

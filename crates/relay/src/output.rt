@@ -10,7 +10,6 @@ use arrayvec::ArrayString;
 use itoa::Buffer;
 use relay_admin::ServeFault;
 use std::io::Write;
-use std::sync::ledger::Ledger;
 use stream_base::sink::deliver_to;
 use stream_base::writer_sink::WriterSink;
 
@@ -42,10 +41,7 @@ pub(crate) fn write_listening<W: Write>(writer: &mut W, rules: u64) -> Result<()
 }
 
 /// Says how many bytes were copied to the targets, and how many to the clients.
-pub(crate) fn write_totals<U: Ledger, D: Ledger, W: Write>(
-    writer: &mut W,
-    totals: &Totals<U, D>,
-) -> Result<(), ServeFault>
+pub(crate) fn write_totals<W: Write>(writer: &mut W, totals: &Totals) -> Result<(), ServeFault>
     ensures said { OnOk result (Appends (W.contents writer.old) (W.contents writer.new)
         (totals_line totals.now.up.bytes totals.now.down.bytes)) }
     ensures faults { IfErr result (λ fault. fault ≡ ServeFault.Device) }

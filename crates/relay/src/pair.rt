@@ -37,14 +37,6 @@ impl<G: CopyGate, L: Ledger> Promise<Done<L>> for CopyOf<G> {
 /// The thread of a worker.
 pub type Worker<G, L> = PromisedHandle<Done<L>, CopyOf<G>>;
 
-/// Has the book take back the share of a worker that was joined, so that none piles up.
-pub(crate) fn settle<L: Ledger, R: Wait>(rt: &R, book: &Mutex<Book<L>>, done: Done<L>) {
-    let Done { ended: _, share } = done;
-    if let Some(share) = share {
-        book.lock(rt).settle(share.into_share());
-    }
-}
-
 /// Who is told, on the worker's own thread, how it ended.
 pub trait AtEnd {
     fn ended(&self, ended: Ended);

@@ -6,8 +6,8 @@ ghost use Rattle.std.specs.Prelude.{◌≡◌};
 ghost use Rattle.relay.specs.Reload.{answer_of_fault};
 
 use crate::closing::Closer;
-use crate::opening::{bind, hold_rule};
-use crate::relay::Relay;
+use crate::main_loop::MainLoop;
+use crate::opening::listen_by;
 use crate::rules_file::text_of;
 use relay_admin::{Addr, DeskAnswer, Rule, Rules, ServeFault, Verdict};
 use relay_watch::served_rule::ServedRule;
@@ -15,8 +15,8 @@ use std::alloc::Global;
 use std::fs::Files;
 use std::mem;
 use std::net::Net;
-use std::sync::ledger::Ledger;
 use std::sync::{Arc, Wait};
+use std::time::Clock;
 
 /// A rule of the file, as it is to be served.
 #[derive(Drop)]
@@ -53,24 +53,19 @@ fn is_listened_at(rules: &[Rule], addr: &Addr) -> bool {
 fn listed(alloc: Global, planned: &[Planned]) -> Result<Vec<Arc<ServedRule>>, ServeFault> {
     let mut list = Vec::new(alloc);
     for one in planned {
-        let Ok(served) = Arc::try_clone(&one.served) else {
-            return Err(ServeFault::Memory);
-        };
-        if list.push(served).is_err() {
-            return Err(ServeFault::Memory);
-        }
+        list.push(Arc::try_clone(&one.served)?)?;
     }
     Ok(list)
 }
 
-impl<U: Ledger, D: Ledger, R: Wait + Net + Files + Copy> Relay<U, D, R> {
+impl<R: Wait + Net + Files + Clock + Copy> MainLoop<R> {
     // The rule with this listening address, if its listener stands. Of one whose listener has gone
     // the path goes too, so that another can be bound.
     fn standing(&self, rt: &R, listen: &Addr) -> Option<Arc<ServedRule>> {
-        let rules = self.shared.rules.lock(rt);
+        let rules = self.host.shared.rules.lock(rt);
         for served in rules.iter() {
             if served.listen == *listen {
-                if self.shared.table.lock(rt).by_id(served.id()).is_some() {
+                if self.host.shared.table.lock(rt).by_id(served.id()).is_some() {
                     return Arc::try_clone(served).ok();
                 }
                 served.remove_path(rt);
@@ -88,43 +83,20 @@ impl<U: Ledger, D: Ledger, R: Wait + Net + Files + Copy> Relay<U, D, R> {
                 is_new: false,
             });
         }
-        match ServedRule::new(self.alloc, rule, self.shared.homes.len()) {
-            Ok(served) => Ok(Planned {
-                rule: *rule,
-                served,
-                is_new: true,
-            }),
-            Err(_) => Err(ServeFault::Memory),
-        }
+        Ok(Planned {
+            rule: *rule,
+            served: ServedRule::new(self.alloc, rule, self.host.shared.homes.len())?,
+            is_new: true,
+        })
     }
 
     // The rules of the file, as they are to be served.
     fn all_planned(&self, rt: &R, rules: &[Rule]) -> Result<Vec<Planned>, ServeFault> {
         let mut all = Vec::new(self.alloc);
         for rule in rules {
-            if all.push(self.planned(rt, rule)?).is_err() {
-                return Err(ServeFault::Memory);
-            }
+            all.push(self.planned(rt, rule)?)?;
         }
         Ok(all)
-    }
-
-    // Listens for a rule that is new, and accepts there from the next turn on.
-    fn listen_anew(&mut self, rt: &R, one: &Planned, now: u64) -> Result<(), ServeFault> {
-        let socket = bind(rt, &one.served)?;
-        let Ok(served) = Arc::try_clone(&one.served) else {
-            return Err(ServeFault::Memory);
-        };
-        let mut table = self.shared.table.lock(rt);
-        hold_rule(
-            *rt,
-            self.alloc,
-            &mut self.tasks,
-            &mut *table,
-            socket,
-            served,
-            now,
-        )
     }
 
     // Ends the listener of a rule, if it has one: first its task, so that no accept is under way,
@@ -132,7 +104,7 @@ impl<U: Ledger, D: Ledger, R: Wait + Net + Files + Copy> Relay<U, D, R> {
     fn end_listener(&mut self, rt: &R, served: &ServedRule) {
         let task = self.tasks.take(served.token());
         drop(task);
-        self.shared.close(rt, served.id(), Closer::ItsLoop);
+        self.host.shared.close(rt, served.id(), Closer::ItsLoop);
         served.remove_path(rt);
     }
 
@@ -141,7 +113,8 @@ impl<U: Ledger, D: Ledger, R: Wait + Net + Files + Copy> Relay<U, D, R> {
         let mut listened = Ok(());
         for one in planned {
             if one.is_new && listened.is_ok() {
-                listened = self.listen_anew(rt, one, now);
+                let table = &self.host.shared.table;
+                listened = listen_by(rt, self.alloc, &mut self.tasks, table, &one.served, now);
             }
         }
         if listened.is_err() {
@@ -162,20 +135,20 @@ impl<U: Ledger, D: Ledger, R: Wait + Net + Files + Copy> Relay<U, D, R> {
         for one in planned.iter() {
             one.served.change(rt, &one.rule);
         }
-        let before = mem::replace(&mut *self.shared.rules.lock(rt), list);
+        let before = mem::replace(&mut *self.host.shared.rules.lock(rt), list);
         for served in before.iter() {
             if !is_listened_at(rules, &served.listen) {
                 self.end_listener(rt, served);
             }
         }
-        self.shared.reloads.add(1);
+        self.host.shared.reloads.add(1);
         Ok(())
     }
 
     // Reads the rules file again, and serves its rules from now on. Where it can't be read, is bad,
     // or has a new address that can't be listened on, nothing changes.
     fn reload(&mut self, rt: &R, now: u64) -> DeskAnswer {
-        let text = match text_of(rt, self.alloc, self.shared.rules_path.as_str()) {
+        let text = match text_of(rt, self.alloc, self.host.shared.rules_path.as_str()) {
             Ok(text) => text,
             Err(fault) => return answer_of_fault(fault),
         };
@@ -191,9 +164,9 @@ impl<U: Ledger, D: Ledger, R: Wait + Net + Files + Copy> Relay<U, D, R> {
 
     /// Reloads where a session has asked for it.
     pub(crate) fn reload_if_asked(&mut self, rt: &R, now: u64) {
-        if self.shared.reload.take(rt) {
+        if self.host.shared.reload.take(rt) {
             let answer = self.reload(rt, now);
-            self.shared.reload.answer(rt, answer);
+            self.host.shared.reload.answer(rt, answer);
         }
     }
 }

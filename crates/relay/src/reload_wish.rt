@@ -4,9 +4,9 @@ ghost use Rattle.std.specs.Prelude.{◌≡◌, ◌↔◌, true, false};
 ghost use Rattle.relay.specs.declared.reload_wish.WishState.{WishState};
 ghost use Rattle.relay.specs.ReloadWish.{answer_in, left_in};
 
+use crate::stopping::StopFlag;
 use relay_admin::DeskAnswer;
 use std::mem;
-use std::sync::atomic::{AtomicBool, Ordering};
 use std::sync::{Condvar, CondvarTimeouts, Mutex, Wait};
 use std::time::{Clock, Duration};
 
@@ -57,10 +57,10 @@ impl ReloadWish {
     }
 
     /// Waits for the answer. It is `Closed` where the relay stopped before the wish was taken.
-    pub(crate) fn wait<R: Wait + Clock>(&self, rt: &R, stop: &AtomicBool) -> DeskAnswer {
+    pub(crate) fn wait<R: Wait + Clock>(&self, rt: &R, stop: &StopFlag) -> DeskAnswer {
         for _ in rt.forever() {
             let mut state = self.state.lock(rt);
-            if let Some(answer) = answered(&mut *state, stop.load(Ordering::SeqCst)) {
+            if let Some(answer) = answered(&mut *state, stop.is_set()) {
                 return answer;
             }
             let longest = Duration::from_millis(LONGEST_WAIT_MS);

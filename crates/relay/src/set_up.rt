@@ -13,22 +13,20 @@ use crate::connection::{ConnSide, Connection, WayCopy};
 use crate::entry::{Entry, Owner};
 use crate::home::Accepted;
 use crate::idle_time::IdleTime;
-use crate::loops::{ConnLoop, LoopHost};
+use crate::loops::{ConnLoop, ConnTask, LoopContext, LoopHost};
 use crate::new_side::{NewSide, new_side, subjects};
-use crate::settled::settle;
 use crate::task_gate::{Source, TaskGate};
 use base_types::Dir;
 use conntable::ConnTable;
 use fd_descriptor::FdHandle;
 use readiness::{RemoteAlarms, Sock, SockRes, connect};
 use relay_core::{Copying, InsertedSides, PairTasks, Step, Way};
-use relay_ledger::{Book, CarriedShare};
 use relay_log::ended::Ended as How;
 use relay_watch::connection_facts::{Acceptance, ConnectionFacts};
 use std::alloc::Global;
 use std::net::Net;
 use std::sync::ledger::Ledger;
-use std::sync::{Arc, Mutex, Wait};
+use std::sync::{Arc, Wait};
 use std::time::Clock;
 
 // A pair of which both reads are under way. Its sides were just registered, so that the poller
@@ -41,14 +39,6 @@ fn reading_tasks() -> PairTasks
     tasks.note(Way::Up, &Step::Waits(Dir::Read));
     tasks.note(Way::Down, &Step::Waits(Dir::Read));
     tasks
-}
-
-// A share of the book.
-fn opened<L: Ledger, R: Wait>(rt: &R, book: &Mutex<Book<L>>) -> Option<CarriedShare<L>> {
-    match book.lock(rt).open_share() {
-        Ok(share) => Some(CarriedShare::new(share)),
-        Err(_) => None,
-    }
 }
 
 // Puts a side into the table, and notes it among those that were inserted.
@@ -65,7 +55,22 @@ fn insert_side(
     Some(id)
 }
 
-impl<U: Ledger, D: Ledger, R: Wait + Net + Clock + Copy> LoopHost<U, D, R> {
+// Puts both sides into the table, one right after the other.
+fn insert_sides(
+    table: &mut ConnTable<Entry>,
+    client: Entry,
+    target: Entry,
+    inserted: &mut InsertedSides,
+) -> Option<(u64, u64)>
+    requires none_inserted { inserted.old ≡ [] }
+    ensures both { IfSome result (λ _. length inserted.new ≡ 2) }
+{
+    let client = insert_side(table, client, inserted)?;
+    let target = insert_side(table, target, inserted)?;
+    Some((client, target))
+}
+
+impl<R: Wait + Net + Clock + Copy> LoopContext<R> {
     // A way whose first read is under way, without a share. With an idle time that read arms an
     // alarm, which is disarmed with its side's entry: so both sides were inserted before.
     fn way<L: Ledger>(
@@ -92,37 +97,9 @@ impl<U: Ledger, D: Ledger, R: Wait + Net + Clock + Copy> LoopHost<U, D, R> {
         })
     }
 
-    // Puts both sides into the table, one right after the other.
-    fn insert_sides(
-        &self,
-        client: Entry,
-        target: Entry,
-        inserted: &mut InsertedSides,
-    ) -> Option<(u64, u64)>
-        requires none_inserted { inserted.old ≡ [] }
-        ensures both { IfSome result (λ _. length inserted.new ≡ 2) }
-    {
-        let mut table = self.shared.table.lock(&self.rt);
-        let client = insert_side(&mut *table, client, inserted)?;
-        let target = insert_side(&mut *table, target, inserted)?;
-        Some((client, target))
-    }
-
-    // A share of each book, or of none.
-    fn open_shares(&self) -> Option<(CarriedShare<U>, CarriedShare<D>)> {
-        let up = opened(&self.rt, &self.shared.up)?;
-        match opened(&self.rt, &self.shared.down) {
-            Some(down) => Some((up, down)),
-            None => {
-                settle(&self.rt, &self.shared.up, Some(up));
-                None
-            }
-        }
-    }
-
-    // Puts both sides into the table, and then begins the reads of both ways. The shares come last,
-    // so that none has to be given back.
-    fn join_sides(
+    // Puts both sides into the table, and then begins the reads of both ways, which have no shares
+    // yet.
+    fn join_sides<U: Ledger, D: Ledger>(
         &self,
         client: NewSide<R>,
         target: NewSide<R>,
@@ -142,27 +119,33 @@ impl<U: Ledger, D: Ledger, R: Wait + Net + Clock + Copy> LoopHost<U, D, R> {
         ensures target { IfSome result (λ c. c.target.cell ≡ target.cell) }
     {
         let idle_ms = facts.acceptance.rule.idle_ms;
-        let (client_id, target_id) = self.insert_sides(client.entry, target.entry, inserted)?;
-        let mut up = self.way(
+        let mut table = self.shared.table.lock(&self.rt);
+        let ids = insert_sides(&mut *table, client.entry, target.entry, inserted);
+        drop(table);
+        let (client_id, target_id) = ids?;
+        let up = self.way(
             inserted,
             client.alarms,
             idle_ms,
             client.source,
             target.writer,
         )?;
-        let mut down = self.way(
+        let down = self.way(
             inserted,
             target.alarms,
             idle_ms,
             target.source,
             client.writer,
         )?;
-        let (up_share, down_share) = self.open_shares()?;
-        up.share = Some(up_share);
-        down.share = Some(down_share);
         Some(Connection {
-            client: ConnSide::new(client_id, client.cell),
-            target: ConnSide::new(target_id, target.cell),
+            client: ConnSide {
+                id: client_id,
+                cell: client.cell,
+            },
+            target: ConnSide {
+                id: target_id,
+                cell: target.cell,
+            },
             tasks: reading_tasks(),
             up,
             down,
@@ -172,7 +155,7 @@ impl<U: Ledger, D: Ledger, R: Wait + Net + Clock + Copy> LoopHost<U, D, R> {
     }
 
     // A connection of both sockets.
-    fn sides(
+    fn sides<U: Ledger, D: Ledger>(
         &self,
         tasks: &mut ConnLoop<U, D, R>,
         client: Sock,
@@ -196,28 +179,6 @@ impl<U: Ledger, D: Ledger, R: Wait + Net + Clock + Copy> LoopHost<U, D, R> {
         let client = new_side(self.rt, self.alloc, poller, client, first, of_client)?;
         let target = new_side(self.rt, self.alloc, poller, target, second, of_target)?;
         self.join_sides(client, target, facts, inserted)
-    }
-
-    // Connects to the target, and makes a connection of both sockets; or says why not.
-    fn connect_sides(
-        &self,
-        tasks: &mut ConnLoop<U, D, R>,
-        sock: Sock,
-        acceptance: &Acceptance,
-        inserted: &mut InsertedSides,
-    ) -> Result<Connection<U, D, R>, How>
-        requires none_inserted { inserted.old ≡ [] }
-    {
-        let Some(facts) = self.facts(acceptance) else {
-            return Err(How::Full);
-        };
-        let Ok(target) = connect(&self.rt, &socket_address(&acceptance.rule.target)) else {
-            return Err(How::NoTarget);
-        };
-        match self.sides(tasks, sock, target, facts, inserted) {
-            Some(connection) => Ok(connection),
-            None => Err(How::Full),
-        }
     }
 
     // What is known of a connection with this client.
@@ -252,27 +213,63 @@ impl<U: Ledger, D: Ledger, R: Wait + Net + Clock + Copy> LoopHost<U, D, R> {
             counts.note_begin();
         }
     }
+}
 
-    /// Sets a connection up, and says whether it stands. An accepted socket whose setting up is
-    /// refused is dropped, and nothing is left of it.
-    pub(crate) fn set_up(&self, tasks: &mut ConnLoop<U, D, R>, accepted: Accepted) -> bool {
-        let Accepted { sock, acceptance } = accepted;
+impl<U: Ledger, D: Ledger, R: Wait + Net + Clock + Copy> LoopHost<U, D, R> {
+    // Connects to the target, and makes a connection of both sockets; or says why not. The shares
+    // come last, so that none has to be given back.
+    fn connect_sides(
+        &mut self,
+        tasks: &mut ConnLoop<U, D, R>,
+        sock: Sock,
+        acceptance: &Acceptance,
+        inserted: &mut InsertedSides,
+    ) -> Result<Connection<U, D, R>, How>
+        requires none_inserted { inserted.old ≡ [] }
+    {
+        let Some(facts) = self.context.facts(acceptance) else {
+            return Err(How::Full);
+        };
+        let address = socket_address(&acceptance.rule.target);
+        let Ok(target) = connect(&self.context.rt, &address) else {
+            return Err(How::NoTarget);
+        };
+        let sides = self.context.sides(tasks, sock, target, facts, inserted);
+        let Some(mut connection) = sides else {
+            return Err(How::Full);
+        };
+        let Some((up, down)) = self.books.open_shares() else {
+            return Err(How::Full);
+        };
+        connection.up.share = Some(up);
+        connection.down.share = Some(down);
+        Ok(connection)
+    }
+
+    /// Sets a connection up. An accepted socket whose setting up is refused is dropped, and nothing
+    /// is left of it.
+    pub(crate) fn set_up(&mut self, tasks: &mut ConnLoop<U, D, R>, accepted: Accepted) {
+        let Accepted {
+            sock,
+            acceptance,
+            counted,
+        } = accepted;
         let mut inserted = InsertedSides::none();
         let connection = match self.connect_sides(tasks, sock, &acceptance, &mut inserted) {
             Ok(connection) => connection,
             Err(how) => {
-                self.undo(inserted);
-                self.refuse(&acceptance, how);
-                return false;
+                self.context.undo(inserted);
+                self.context.refuse(&acceptance, how);
+                return;
             }
         };
-        self.note_begin(&acceptance);
-        match tasks.put(connection) {
-            Ok(_) => true,
-            Err(connection) => {
-                connection.end(&self.rt, &self.shared, self.clock.now());
-                false
-            }
+        self.context.note_begin(&acceptance);
+        let task = ConnTask {
+            connection,
+            counted,
+        };
+        if let Err(task) = tasks.put(task) {
+            self.end(task);
         }
     }
 }

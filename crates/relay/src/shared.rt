@@ -1,45 +1,37 @@
 //! What the relay's threads share.
 //!
-//! Locks are held for a few steps, and taken in this order: the table's, an entry's or a cell's, a
-//! remote's. The inboxes' and the books' are held alone.
+//! Locks are held for a few steps, and taken in this order: the rules', the table's, an entry's, a
+//! rule's or a cell's, a remote's. The inboxes' are held alone.
 
 use crate::closing::{Closer, close_by_id};
 use crate::entry::Entry;
-use crate::home::{Accepted, Home};
+use crate::home::Home;
 use crate::reload_wish::ReloadWish;
-use crate::stopping::{ByItsFlag, stop_all};
+use crate::stopping::{StopFlag, Stopped};
 use arrayvec::ArrayVec;
 use conntable::ConnTable;
 use log_writer::Log;
 use readiness::{LoopRemote, Sock};
 use relay_core::{MAX_LOOPS, PairLimit, place_of_pair};
-use relay_ledger::Book;
 use relay_log::ended::Ended;
 use relay_watch::connection_facts::Acceptance;
 use relay_watch::counts::Counter;
 use relay_watch::log_lines::tell_refused;
 use relay_watch::served_rule::ServedRule;
 use rwloops::Fault;
-use std::sync::atomic::{AtomicBool, Ordering};
-use std::sync::ledger::Ledger;
 use std::sync::{Arc, Mutex, Wait};
 use std::time::Clock;
 
-/// The rules that are served, as all threads have them.
-pub(crate) type ServedRules = Arc<Mutex<Vec<Arc<ServedRule>>>>;
-
 #[derive(Drop)]
-pub(crate) struct Shared<U: Ledger, D: Ledger> {
+pub(crate) struct Shared {
     pub(crate) table: Mutex<ConnTable<Entry>>,
     /// The rules that are served, in the order of their file, as it was read last.
-    pub(crate) rules: ServedRules,
+    pub(crate) rules: Mutex<Vec<Arc<ServedRule>>>,
     /// The remote of the main thread's loop, which accepts.
     pub(crate) main: Arc<LoopRemote>,
     /// The loops', by their places.
     pub(crate) homes: Vec<Home>,
-    pub(crate) up: Mutex<Book<U>>,
-    pub(crate) down: Mutex<Book<D>>,
-    pub(crate) stop: AtomicBool,
+    pub(crate) stop: StopFlag,
     /// How many connections stand at once.
     pub(crate) limit: PairLimit,
     /// Where the rules file is.
@@ -51,7 +43,7 @@ pub(crate) struct Shared<U: Ledger, D: Ledger> {
     pub(crate) reloads: Counter,
 }
 
-impl<U: Ledger, D: Ledger> Shared<U, D> {
+impl Shared {
     // The loop with the fewest connections; none where as many stand as may.
     fn place(&self) -> Option<&Home> {
         let mut counts = ArrayVec::<u64, MAX_LOOPS>::new();
@@ -72,7 +64,7 @@ impl<U: Ledger, D: Ledger> Shared<U, D> {
             return;
         };
         let is_there = match self.place() {
-            Some(home) => home.deliver(rt, Accepted { sock, acceptance }),
+            Some(home) => home.deliver(rt, sock, acceptance),
             None => false,
         };
         if !is_there {
@@ -105,15 +97,13 @@ impl<U: Ledger, D: Ledger> Shared<U, D> {
     }
 
     /// Tells the main thread and all loops that no more turns are wanted.
-    pub(crate) fn stop(&self) {
-        let mut by = ByItsFlag {
-            stop: &self.stop,
-            main: &*self.main,
-        };
-        stop_all(&mut by, self.homes.as_slice());
+    pub(crate) fn stop(&self) -> Stopped {
+        let stopped = self.stop.set();
+        stopped.wake_loops(&self.main, self.homes.as_slice());
+        stopped
     }
 
     pub(crate) fn is_stopped(&self) -> bool {
-        self.stop.load(Ordering::SeqCst)
+        self.stop.is_set()
     }
 }

@@ -1,177 +1,159 @@
 //! The loops' threads and the admin thread.
 
-ghost use Rattle.std.specs.Prelude.{◌≡◌, IfErr};
+ghost use Rattle.std.specs.Prelude.{◌≡◌, false, Err, IfErr};
+ghost use Rattle.relay_admin.specs.ServeFault.{IsRunFault};
 ghost use Rattle.relay_admin.specs.declared.serve_fault.ServeFault.{ServeFault};
 
 use crate::admin::{AdminGate, AdminSocket, serve_sessions};
-use crate::admin_waits::AdminWaits;
-use crate::bounds::{RelayRuntime, SharedLedger};
-use crate::clock::RelayClock;
-use crate::loops::{ConnLoop, Lot, run_loop};
+use crate::bounds::RelayRuntime;
+use crate::loops::{LoopContext, LoopParts, run_loop};
+use crate::main_loop::{AcceptsEnded, MainLoop};
 use crate::pair::STACK_BYTES;
-use crate::relay::Relay;
+use crate::stopping::Stopped;
+use crate::totals::Totals;
 use readiness::Waker;
 use relay_admin::ServeFault;
-use relay_core::{AcceptGate, LoopMemory};
+use relay_core::LoopMemory;
 use std::alloc::Global;
-use std::sync::ledger::Ledger;
-use std::sync::{Arc, Wait};
+use std::sync::{Arc, Mutex};
 use std::thread::{Builder, JoinHandle, Threads};
-use std::time::Clock;
 
-/// What the threads beside the main one are started with.
-#[derive(Drop)]
-pub(crate) struct Unstarted<U: Ledger, D: Ledger, R: Wait + Clock + Copy> {
-    /// The loops, by their places.
-    pub(crate) loops: Vec<ConnLoop<U, D, R>>,
-    pub(crate) admin: AdminSocket,
-    pub(crate) admin_waker: Arc<Waker>,
+/// The stack of a loop's thread, in bytes. Its turns, and a set-up within them, hand on values of
+/// some KiB; a page that nobody touches takes no memory.
+const LOOP_STACK_BYTES: usize = 262_144;
+
+/// The threads beside the main one, as far as they were started. It isn't `Drop`: `join` alone lets
+/// it go, so that no thread is left.
+pub(crate) struct StartedThreads {
+    loops: Vec<JoinHandle<Result<Option<Totals>, ServeFault>>>,
+    admin: Option<AdminThread>,
 }
 
-/// The threads beside the main one, as far as they were started.
+/// The admin thread, and what ends its wait.
 #[derive(Drop)]
-pub(crate) struct Helpers {
-    loops: Vec<JoinHandle<Result<(), ServeFault>>>,
-    admin: Option<JoinHandle<()>>,
-    admin_waker: Arc<Waker>,
+struct AdminThread {
+    join: JoinHandle<()>,
+    waker: Arc<Waker>,
 }
 
-fn spawn_admin<G, R>(rt: R, gate: G) -> Result<JoinHandle<()>, ServeFault>
-where
-    G: AcceptGate + Drop + Send + 'static,
-    R: Wait + Threads + Copy + Send + 'static,
+/// That all threads have ended: their join alone makes one. What they may still have used is closed
+/// only after that.
+#[derive(Drop)]
+pub(crate) struct Joined {
+    /// Whether no loop's poller has failed.
+    turned: bool,
+    /// What the books of all loops came to; none where a share is missing.
+    totals: Option<Totals>,
+}
+
+impl Joined {
+    /// The totals. A loop's fault is the relay's, and so is a share that is missing.
+    pub(crate) fn totals(self) -> Result<Totals, ServeFault>
+        ensures turned { self.turned ≡ false → result ≡ Err ServeFault.Device }
+        ensures faults { IfErr result (λ fault. IsRunFault fault) }
+    {
+        let Joined { turned, totals } = self;
+        if !turned {
+            return Err(ServeFault::Device);
+        }
+        match totals {
+            Some(totals) => Ok(totals),
+            None => Err(ServeFault::Memory),
+        }
+    }
+}
+
+fn spawn_loop<R: RelayRuntime>(
+    context: LoopContext<R>,
+    parts: LoopParts,
+    memory: LoopMemory,
+) -> Result<JoinHandle<Result<Option<Totals>, ServeFault>>, ServeFault>
     ensures faults { IfErr result (λ fault. fault ≡ ServeFault.Memory) }
 {
-    let job = move || {
-        let mut gate = gate;
-        serve_sessions(&rt, &mut gate)
-    };
-    match Builder::new().stack_size(STACK_BYTES).spawn(&rt, job) {
+    let rt = context.rt;
+    let job = move || run_loop(context, parts, memory);
+    match Builder::new().stack_size(LOOP_STACK_BYTES).spawn(&rt, job) {
         Ok(join) => Ok(join),
         Err(_) => Err(ServeFault::Memory),
     }
 }
 
-fn spawn_loop<U, D, R>(
-    rt: R,
-    lot: Lot<U, D, R>,
-) -> Result<JoinHandle<Result<(), ServeFault>>, ServeFault>
-where
-    U: SharedLedger,
-    D: SharedLedger,
-    R: RelayRuntime,
-    ensures faults { IfErr result (λ fault. fault ≡ ServeFault.Memory) }
-{
-    let job = move || run_loop(rt, lot);
-    match Builder::new().stack_size(STACK_BYTES).spawn(&rt, job) {
-        Ok(join) => Ok(join),
-        Err(_) => Err(ServeFault::Memory),
-    }
-}
-
-impl Helpers {
-    pub(crate) fn none(alloc: Global, admin_waker: Arc<Waker>) -> Helpers {
-        Helpers {
+impl StartedThreads {
+    pub(crate) fn none(alloc: Global) -> StartedThreads {
+        StartedThreads {
             loops: Vec::new(alloc),
             admin: None,
-            admin_waker,
         }
     }
 
-    // Starts the loops. After a fault those that were started run on.
-    fn start_loops<U, D, R>(
+    /// Starts the loops beside the main thread's. After a fault those that were started run on.
+    pub(crate) fn start_loops<R: RelayRuntime>(
         &mut self,
-        rt: R,
-        relay: &Relay<U, D, R>,
-        loops: Vec<ConnLoop<U, D, R>>,
+        main: &MainLoop<R>,
+        loops: Vec<LoopParts>,
     ) -> Result<(), ServeFault>
-    where
-        U: SharedLedger,
-        D: SharedLedger,
-        R: RelayRuntime,
         ensures faults { IfErr result (λ fault. fault ≡ ServeFault.Memory) }
     {
-        if self.loops.reserve(loops.len()).is_err() {
-            return Err(ServeFault::Memory);
-        }
-        let mut home = 0usize;
-        for tasks in loops {
-            let Ok(shared) = Arc::try_clone(&relay.shared) else {
-                return Err(ServeFault::Memory);
-            };
-            let Ok(memory) = LoopMemory::new(relay.alloc) else {
-                return Err(ServeFault::Memory);
-            };
-            let lot = Lot {
-                alloc: relay.alloc,
-                start: relay.start,
-                home,
-                shared,
-                tasks,
-                memory,
-            };
-            let _ = self.loops.push(spawn_loop(rt, lot)?);
-            home = home.saturating_add(1);
+        self.loops.reserve(loops.len())?;
+        for parts in loops {
+            let context = main.context(self.loops.len())?;
+            let memory = LoopMemory::new(main.alloc)?;
+            let _ = self.loops.push(spawn_loop(context, parts, memory)?);
         }
         Ok(())
     }
 
-    /// Starts the loops and the admin thread. After a fault those that were started run on.
-    pub(crate) fn start<U, D, R>(
+    /// Starts the admin thread.
+    pub(crate) fn start_admin<R: RelayRuntime>(
         &mut self,
-        rt: R,
-        relay: &Relay<U, D, R>,
-        loops: Vec<ConnLoop<U, D, R>>,
+        main: &MainLoop<R>,
         admin: AdminSocket,
     ) -> Result<(), ServeFault>
-    where
-        U: SharedLedger,
-        D: SharedLedger,
-        R: RelayRuntime,
         ensures faults { IfErr result (λ fault. fault ≡ ServeFault.Memory) }
     {
-        self.start_loops(rt, relay, loops)?;
-        let Ok(shared) = Arc::try_clone(&relay.shared) else {
-            return Err(ServeFault::Memory);
-        };
+        let waker = admin.poller.waker()?;
+        let shared = Arc::try_clone(&main.host.shared)?;
         let AdminSocket { listener, poller } = admin;
-        let clock = RelayClock::new(rt, relay.start);
+        let rt = main.host.rt;
         let gate = AdminGate {
-            alloc: relay.alloc,
+            rt,
+            alloc: main.alloc,
             listener,
-            waits: AdminWaits {
-                rt,
-                poller,
-                shared,
-                clock,
-                until: None,
-            },
-            clock,
+            poller: Mutex::new(poller),
+            clock: main.host.clock,
+            shared,
         };
-        self.admin = Some(spawn_admin(rt, gate)?);
-        Ok(())
+        let job = move || {
+            let mut gate = gate;
+            serve_sessions(&rt, &mut gate)
+        };
+        match Builder::new().stack_size(STACK_BYTES).spawn(&rt, job) {
+            Ok(join) => {
+                self.admin = Some(AdminThread { join, waker });
+                Ok(())
+            }
+            Err(_) => Err(ServeFault::Memory),
+        }
     }
 
-    /// Ends the admin thread's wait. The relay is to be marked as stopped before.
-    pub(crate) fn wake_admin(&self) {
-        let _ = self.admin_waker.wake();
-    }
-
-    /// Waits for all of them. A loop's fault is the relay's.
-    pub(crate) fn join<R: Threads>(&mut self, rt: &R) -> Result<(), ServeFault>
-        ensures faults { IfErr result (λ fault. fault ≡ ServeFault.Device) }
-    {
-        if let Some(admin) = self.admin.take() {
-            admin.join(rt);
+    /// Waits for all of them, once they see that the relay has stopped, and no accept is under way
+    /// for which a session waits. It adds up what the loops' books came to.
+    pub(crate) fn join<R: Threads>(self, rt: &R, stopped: Stopped, _ended: AcceptsEnded) -> Joined {
+        let StartedThreads { loops, admin } = self;
+        if let Some(AdminThread { join, waker }) = admin {
+            stopped.wake_admin(&waker);
+            join.join(rt);
         }
-        let mut turned = true;
-        for one in self.loops.drain(..) {
-            turned = one.join(rt).is_ok() && turned;
+        let mut all = Totals::none();
+        let (mut turned, mut whole) = (true, true);
+        for one in loops {
+            match one.join(rt) {
+                Ok(Some(totals)) => all = all.plus(totals),
+                Ok(None) => whole = false,
+                Err(_) => turned = false,
+            }
         }
-        if turned {
-            Ok(())
-        } else {
-            Err(ServeFault::Device)
-        }
+        let totals = if whole { Some(all) } else { None };
+        Joined { turned, totals }
     }
 }

@@ -1,45 +1,150 @@
-//! The totals of a relay's books. Each has the type of its own book's ledger, so that none can be
-//! told as the other.
+//! The totals of a relay: the sums of what its loops' books were credited. Each has the type of its
+//! way, so that none can be told as the other. A loop's thread publishes its own at each credit, so
+//! that whoever reads them takes no lock of the loop's.
 
-ghost use Rattle.std.specs.Prelude.{◌≡◌};
+ghost use Rattle.std.specs.Prelude.{◌≡◌, ◌+◌, ◌-◌, ◌^◌, min};
 ghost use Rattle.relay_admin.specs.declared.admin.desk.DeskAnswer.{DeskAnswer};
 
 use relay_admin::DeskAnswer;
 use relay_ledger::Book;
+use std::alloc::{AllocError, Global};
 use std::marker::PhantomData;
+use std::sync::Arc;
+use std::sync::atomic::{AtomicU64, Ordering};
 use std::sync::ledger::Ledger;
 
-/// The total of the book with this ledger, in bytes.
+/// The way of bytes to targets.
 #[derive(Drop)]
-pub(crate) struct Total<L: Ledger> {
+pub(crate) struct ToTargets;
+
+/// The way of bytes to clients.
+#[derive(Drop)]
+pub(crate) struct ToClients;
+
+/// So many bytes that went one way.
+#[derive(Drop)]
+pub(crate) struct Total<W> {
     pub(crate) bytes: u64,
-    book: PhantomData<L>,
+    way: PhantomData<W>,
 }
 
-impl<L: Ledger> Total<L> {
+impl<W> Total<W> {
     /// What a book has been credited so far.
-    pub(crate) fn of(book: &Book<L>) -> Total<L>
+    pub(crate) fn of<L: Ledger>(book: &Book<L>) -> Total<W>
         ensures { result.bytes ≡ book.now.total }
     {
         Total {
             bytes: book.total(),
-            book: PhantomData,
+            way: PhantomData,
         }
     }
 }
 
 /// What was copied to the targets, and to the clients.
 #[derive(Drop)]
-pub(crate) struct Totals<U: Ledger, D: Ledger> {
-    pub(crate) up: Total<U>,
-    pub(crate) down: Total<D>,
+pub(crate) struct Totals {
+    pub(crate) up: Total<ToTargets>,
+    pub(crate) down: Total<ToClients>,
 }
 
-impl<U: Ledger, D: Ledger> Totals<U, D> {
+impl Totals {
+    /// Those of no loop.
+    pub(crate) fn none() -> Totals
+        ensures up { result.up.bytes ≡ 0 }
+        ensures down { result.down.bytes ≡ 0 }
+    {
+        Totals {
+            up: Total {
+                bytes: 0,
+                way: PhantomData,
+            },
+            down: Total {
+                bytes: 0,
+                way: PhantomData,
+            },
+        }
+    }
+
+    /// Those of some loops with those of others. A sum past the greatest `u64` is told as that.
+    pub(crate) fn plus(self, other: Totals) -> Totals
+        ensures up { result.up.bytes ≡ min (self.up.bytes + other.up.bytes) (2 ^ 64 - 1) }
+        ensures down { result.down.bytes ≡ min (self.down.bytes + other.down.bytes) (2 ^ 64 - 1) }
+    {
+        Totals {
+            up: Total {
+                bytes: self.up.bytes.saturating_add(other.up.bytes),
+                way: PhantomData,
+            },
+            down: Total {
+                bytes: self.down.bytes.saturating_add(other.down.bytes),
+                way: PhantomData,
+            },
+        }
+    }
+
     /// What a session is told: first what was copied to the targets.
     pub(crate) fn answer(&self) -> DeskAnswer
         ensures { result ≡ DeskAnswer.Totals self.now.up.bytes self.now.down.bytes }
     {
         DeskAnswer::Totals(self.up.bytes, self.down.bytes)
+    }
+}
+
+/// The total of one way of a loop, as its thread told it last and anybody reads it.
+#[derive(Drop)]
+pub(crate) struct Published<W> {
+    pub(crate) bytes: AtomicU64,
+    way: PhantomData<W>,
+}
+
+impl<W> Published<W> {
+    fn get(&self) -> Total<W> {
+        Total {
+            bytes: self.bytes.load(Ordering::SeqCst),
+            way: PhantomData,
+        }
+    }
+}
+
+/// The totals of both ways of a loop.
+#[derive(Drop)]
+pub(crate) struct PublishedTotals {
+    pub(crate) up: Arc<Published<ToTargets>>,
+    pub(crate) down: Arc<Published<ToClients>>,
+}
+
+impl PublishedTotals {
+    /// Those of a loop whose books are empty.
+    pub(crate) fn new(alloc: Global) -> Result<PublishedTotals, AllocError> {
+        let up = Arc::new(
+            alloc,
+            Published {
+                bytes: AtomicU64::new(0),
+                way: PhantomData,
+            },
+        )?;
+        let down = Arc::new(
+            alloc,
+            Published {
+                bytes: AtomicU64::new(0),
+                way: PhantomData,
+            },
+        )?;
+        Ok(PublishedTotals { up, down })
+    }
+
+    /// The same once more. It takes no memory; refused are only totals that are held too often.
+    pub(crate) fn again(&self) -> Option<PublishedTotals> {
+        let up = Arc::try_clone(&self.up).ok()?;
+        let down = Arc::try_clone(&self.down).ok()?;
+        Some(PublishedTotals { up, down })
+    }
+
+    /// Each as it was told last.
+    pub(crate) fn get(&self) -> Totals {
+        Totals {
+            up: self.up.get(),
+            down: self.down.get(),
+        }
     }
 }

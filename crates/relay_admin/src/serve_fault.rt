@@ -1,8 +1,12 @@
 //! Why a relay doesn't run, or can't go on, as its program says it.
 
+ghost use Rattle.std.specs.Prelude.{◌≡◌};
+ghost use Rattle.relay_admin.specs.declared.serve_fault.ServeFault.TheVariants.{Memory};
+
 use crate::rules::file::RulesFault;
 use crate::rules::verdict::Verdict;
 use arrayvec::ArrayString;
+use std::alloc::{AllocError, AllocFailed};
 use thiserror::Error;
 
 /// Why a relay doesn't run, or can't go on. The texts are the lines on standard error.
@@ -38,5 +42,21 @@ impl ServeFault {
         let mut text = Verdict::Bad(fault).line();
         let _ = text.pop();
         ServeFault::BadRules(text)
+    }
+}
+
+impl From<AllocError> for ServeFault {
+    ghost from_gives = { λ _ fault. fault ≡ Memory };
+
+    fn from(_: AllocError) -> ServeFault {
+        ServeFault::Memory
+    }
+}
+
+impl<T: Drop> From<AllocFailed<T>> for ServeFault {
+    ghost from_gives = { λ _ fault. fault ≡ Memory };
+
+    fn from(_: AllocFailed<T>) -> ServeFault {
+        ServeFault::Memory
     }
 }

@@ -1,13 +1,13 @@
 //! The worker that copies: it reads, writes what it read, and credits what the write reported.
 
-ghost use Rattle.std.specs.Prelude.{◌≡◌, ◌+◌, ◌<◌, length, OnOk, OnErr, IfOk, IfErr, IfSome};
-ghost use Rattle.std.specs.Prelude.{IfNone};
+ghost use Rattle.std.specs.Prelude.{◌≡◌, ◌<◌, length, IfOk, IfErr, IfSome, IfNone};
 ghost use Rattle.relay_core.specs.CopyTrace.{IsCopied, IsCopiedSoFar};
 ghost use Rattle.relay_core.specs.Passing.{IfOpen};
 
+use crate::credits::LockedBook;
 use crate::gate::CopyGate;
 use crate::passing::{Step, close_once, offer, read_once};
-use relay_ledger::{Book, Full, Share};
+use relay_ledger::{Book, Share};
 use rwloops::{Fault, WriteFault};
 use std::sync::ledger::Ledger;
 use std::sync::{Mutex, Wait};
@@ -89,8 +89,9 @@ fn copy_once<G: CopyGate, L: Ledger, R: Wait>(
         IsCopied (G.tells gate.old) (G.tells gate.new) share.old share.new ended) }
 {
     let most = buf.len();
+    let mut credits = LockedBook { rt, book };
     match read_once(gate, buf, most) {
-        Ok(Some(count)) => match offer(rt, gate, book, share, &buf[..count]) {
+        Ok(Some(count)) => match offer(gate, &mut credits, share, &buf[..count]) {
             Ok(_) => Ok(count),
             Err(step) => Err(end_of(step)),
         },
@@ -108,17 +109,4 @@ fn end_of(step: Step) -> Ended
         Step::Ended(ended) => ended,
         _ => unreachable!(),
     }
-}
-
-// A credit under the book's lock. The lock is held for nothing else.
-pub(crate) fn credited<L: Ledger, R: Wait>(
-    rt: &R,
-    book: &Mutex<Book<L>>,
-    share: &mut Share<L>,
-    n: u64,
-) -> Result<(), Full>
-    ensures amount { OnOk result (share.new ≡ share.old + n) }
-    ensures kept { OnErr result (share.new ≡ share.old) }
-{
-    book.lock(rt).credit(share, n)
 }

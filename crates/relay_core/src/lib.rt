@@ -8,6 +8,7 @@ mod accepting;
 mod buffers;
 mod capacity;
 mod copying;
+mod credits;
 mod gate;
 mod idle;
 mod kept;
@@ -31,6 +32,7 @@ pub use accepting::{AcceptEnded, AcceptGate, MAX_FAULTS_IN_A_ROW, accept_worker,
 pub use buffers::{BUFFER_BYTES, FIRST_BUFFER_BYTES, LOOP_BUFFER_BYTES, copy_by_need};
 pub use capacity::Capacity;
 pub use copying::{Ended, copy_worker};
+pub use credits::{Credits, LockedBook};
 pub use gate::CopyGate;
 pub use idle::{has_come, idle_deadline, pause_end, silence_end};
 pub use lent::LoopMemory;

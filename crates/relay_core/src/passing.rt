@@ -4,13 +4,13 @@ ghost use Rattle.std.specs.Prelude.{◌≡◌, ◌<◌, ◌≤◌, ℕ, [], leng
 ghost use Rattle.std.specs.Prelude.{IfOk, IfErr, IfSome, IfNone};
 ghost use Rattle.relay_core.specs.Passing.{Bytes, Close, IsPassing, IsPassed, IsStop};
 
-use crate::copying::{Ended, credited};
+use crate::copying::Ended;
+use crate::credits::Credits;
 use crate::poll_gate::PollGate;
 use base_types::Dir;
-use relay_ledger::{Book, Full, Share};
+use relay_ledger::{Full, Share};
 use rwloops::Fault;
 use std::sync::ledger::Ledger;
-use std::sync::{Mutex, Wait};
 
 /// How far a copy came.
 #[derive(Clone, Copy, Debug, PartialEq, Eq, Drop)]
@@ -55,10 +55,9 @@ pub(crate) fn read_once<G: PollGate>(
 }
 
 /// Offers bytes once, and credits what was taken of them. It gives how many those are.
-pub(crate) fn offer<G: PollGate, L: Ledger, R: Wait>(
-    rt: &R,
+pub(crate) fn offer<G: PollGate, L: Ledger, C: Credits<L>>(
     gate: &mut G,
-    book: &Mutex<Book<L>>,
+    credits: &mut C,
     share: &mut Share<L>,
     bytes: &[u8],
 ) -> Result<usize, Step>
@@ -75,11 +74,11 @@ pub(crate) fn offer<G: PollGate, L: Ledger, R: Wait>(
 {
     match gate.poll_write(bytes) {
         None => Err(Step::Waits(Dir::Write)),
-        Some(Ok(count)) => match credited(rt, book, share, count as u64) {
+        Some(Ok(count)) => match credits.credit(share, count as u64) {
             Ok(()) => Ok(count),
             Err(Full) => Err(Step::Ended(Ended::BookFull(count as u64))),
         },
-        Some(Err(failed)) => match credited(rt, book, share, failed.count as u64) {
+        Some(Err(failed)) => match credits.credit(share, failed.count as u64) {
             Ok(()) => Err(Step::Ended(Ended::WriteFault(failed))),
             Err(Full) => Err(Step::Ended(Ended::BookFull(failed.count as u64))),
         },

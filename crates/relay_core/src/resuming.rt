@@ -4,16 +4,16 @@ ghost use Rattle.std.specs.Prelude.{◌≡◌, ◌<◌, ◌≤◌, [], length, t
 ghost use Rattle.relay_core.specs.Passing.{Bytes, IsPassing, IsPassed, IsStop};
 ghost use Rattle.relay_core.specs.Passing.{next_dir, unwritten, IfWaits, IfEnded};
 
+use crate::credits::Credits;
 use crate::kept::Kept;
 use crate::lent::LoopMemory;
 use crate::passing::{Step, close_once, offer};
 use crate::poll_gate::PollGate;
 use base_types::OutOfMemory;
-use relay_ledger::{Book, Share};
+use relay_ledger::Share;
 use std::alloc::{Allocator, Global};
 use std::marker::Model;
 use std::sync::ledger::Ledger;
-use std::sync::{Mutex, Wait};
 
 /// The turns of one `resume`, each a read and a write at most, after which others have theirs: so
 /// one reads at most 8 times 64 KiB, half a MiB, in a row. This project's own rule. The clauses
@@ -49,12 +49,12 @@ impl<A: Allocator> Copying<A> {
     }
 
     /// Goes on until the gate says "not yet", the copy ends, or others are to have their turn. The
-    /// share is credited what each write reported, at once. After an end it isn't resumed.
-    pub fn resume<G: PollGate, L: Ledger, R: Wait>(
+    /// share is credited what each write reported, at once. It waits for nothing but what a credit
+    /// waits for. After an end it isn't resumed.
+    pub fn resume<G: PollGate, L: Ledger, C: Credits<L>>(
         &mut self,
-        rt: &R,
         gate: &mut G,
-        book: &Mutex<Book<L>>,
+        credits: &mut C,
         share: &mut Share<L>,
         memory: &mut LoopMemory<A>,
     ) -> Step
@@ -68,7 +68,7 @@ impl<A: Allocator> Copying<A> {
             (G.tells gate.new) share.old share.new self.old ended 8) }
     {
         for _turn in 0..TURNS_IN_A_ROW {
-            match self.turn(rt, gate, book, share, memory) {
+            match self.turn(gate, credits, share, memory) {
                 Ok(()) => {}
                 Err(step) => return step,
             }
@@ -77,11 +77,10 @@ impl<A: Allocator> Copying<A> {
     }
 
     // What is to be done next.
-    fn turn<G: PollGate, L: Ledger, R: Wait>(
+    fn turn<G: PollGate, L: Ledger, C: Credits<L>>(
         &mut self,
-        rt: &R,
         gate: &mut G,
-        book: &Mutex<Book<L>>,
+        credits: &mut C,
         share: &mut Share<L>,
         memory: &mut LoopMemory<A>,
     ) -> Result<(), Step>
@@ -97,17 +96,16 @@ impl<A: Allocator> Copying<A> {
             return Err(close_once(gate));
         }
         if self.kept.is_empty() {
-            return self.begin(rt, gate, book, share, memory);
+            return self.begin(gate, credits, share, memory);
         }
-        self.go_on(rt, gate, book, share)
+        self.go_on(gate, credits, share)
     }
 
     // A write of what is kept. What isn't taken stays kept.
-    fn go_on<G: PollGate, L: Ledger, R: Wait>(
+    fn go_on<G: PollGate, L: Ledger, C: Credits<L>>(
         &mut self,
-        rt: &R,
         gate: &mut G,
-        book: &Mutex<Book<L>>,
+        credits: &mut C,
         share: &mut Share<L>,
     ) -> Result<(), Step>
         requires some { 0 < length (unwritten self.old) }
@@ -119,7 +117,7 @@ impl<A: Allocator> Copying<A> {
             (λ ended. IsPassed G.takes (G.tells gate.old) (G.tells gate.new) share.old share.new
             self.old ended 0)) }
     {
-        match offer(rt, gate, book, share, self.kept.as_slice()) {
+        match offer(gate, credits, share, self.kept.as_slice()) {
             Ok(count) => {
                 self.kept.advance(count);
                 Ok(())
@@ -129,11 +127,10 @@ impl<A: Allocator> Copying<A> {
     }
 
     // A read, and a write of what it gave.
-    fn begin<G: PollGate, L: Ledger, R: Wait>(
+    fn begin<G: PollGate, L: Ledger, C: Credits<L>>(
         &mut self,
-        rt: &R,
         gate: &mut G,
-        book: &Mutex<Book<L>>,
+        credits: &mut C,
         share: &mut Share<L>,
         memory: &mut LoopMemory<A>,
     ) -> Result<(), Step>
@@ -147,7 +144,7 @@ impl<A: Allocator> Copying<A> {
             self.old ended 1)) }
     {
         match memory.read(gate) {
-            Ok(Some(count)) => self.pass(rt, gate, book, share, memory, count),
+            Ok(Some(count)) => self.pass(gate, credits, share, memory, count),
             Ok(None) => {
                 self.at_end = true;
                 Ok(())
@@ -157,11 +154,10 @@ impl<A: Allocator> Copying<A> {
     }
 
     // The first write of bytes that were read. What isn't taken is kept.
-    fn pass<G: PollGate, L: Ledger, R: Wait>(
+    fn pass<G: PollGate, L: Ledger, C: Credits<L>>(
         &mut self,
-        rt: &R,
         gate: &mut G,
-        book: &Mutex<Book<L>>,
+        credits: &mut C,
         share: &mut Share<L>,
         memory: &mut LoopMemory<A>,
         count: usize,
@@ -178,7 +174,7 @@ impl<A: Allocator> Copying<A> {
             (λ ended. IsPassed G.takes (G.tells gate.old) (G.tells gate.new) share.old share.new
             (Bytes (take count memory.old.buffer)) ended 0)) }
     {
-        match offer(rt, gate, book, share, memory.first(count)) {
+        match offer(gate, credits, share, memory.first(count)) {
             Ok(taken) => {
                 memory.keep(taken, count, &mut self.kept);
                 Ok(())

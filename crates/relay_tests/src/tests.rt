@@ -13,6 +13,18 @@ macro_rules! holds {
     };
 }
 
+// A relay by the rules of a place, on a thread of its own. (a macro: what a function sends to a thread
+// may rest on no bound that is assumed of its own runtime)
+macro_rules! started {
+    ($rt:expr, $place:expr, $capacity:expr, $outlets:expr) => {{
+        let (rt, capacity, outlets) = ($rt, $capacity, $outlets);
+        let (rules, admin, socket) = $place.parts();
+        let run = move || $crate::tests::served_at(rt, &rules, &socket, capacity, outlets);
+        let thread = std::thread::spawn(&rt, run).expect(&rt, "thread");
+        $crate::tests::Running { thread, admin }
+    }};
+}
+
 mod ages;
 mod at_once;
 mod cause_rows;
@@ -46,16 +58,13 @@ mod watch;
 mod watching;
 
 use relay::{Capacity, Loops, Outlets, PairLimit, ServeFault, serve};
-use relay_ledger::PARTS;
 use std::fs::{File, Files};
 use std::io::Write;
-use std::marker::Brand;
 use std::net::{Net, Shutdown, TcpListener, TcpStream};
 use std::process::Abort;
 use std::random::RandomSource;
 use std::sync::Wait;
 use std::sync::atomic::{AtomicU64, Ordering};
-use std::sync::ledger::Blank;
 use std::thread::{self, JoinHandle, Threads};
 use std::time::{Clock, Duration};
 use streams::{heard, reach_unix};
@@ -121,11 +130,8 @@ where
         + Sync
         + 'static,
 {
-    let (up, down) = (Blank::new(PARTS), Blank::new(PARTS));
     let mut text = Vec::new(rt.alloc());
-    let done = serve::<Brand, Brand, _, R, _>(
-        rt, rules, admin, capacity, outlets, up, down, &mut text,
-    );
+    let done = serve(rt, rules, admin, capacity, outlets, &mut text);
     Said { done, text }
 }
 

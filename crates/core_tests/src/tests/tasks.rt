@@ -9,7 +9,7 @@ use base_types::Dir;
 use linked_list_allocator::LocalHeap;
 use paced_gate::{Pace, PacedGate};
 use relay_core::laws::{bytes_pass_in_parts, parts_join};
-use relay_core::{Copying, Ended, LOOP_BUFFER_BYTES, LoopMemory, Step, TURNS_IN_A_ROW};
+use relay_core::{Copying, Ended, LOOP_BUFFER_BYTES, LockedBook, LoopMemory, Step, TURNS_IN_A_ROW};
 use relay_ledger::{Book, PARTS, Share};
 use rwloops::{DevKind, Fault, WriteFault};
 use std::alloc::{AllocGlobal, Allocator, Global};
@@ -61,8 +61,9 @@ fn turns_of<L: Ledger, R: Wait, A: Allocator>(
     share: &mut Share<L>,
 ) -> (Turns, Ended) {
     let mut turns = Turns(0, 0, 0);
+    let mut credits = LockedBook { rt, book };
     for _ in rt.forever() {
-        let step = copying.resume(rt, gate, book, share, memory);
+        let step = copying.resume(gate, &mut credits, share, memory);
         if let Some(ended) = turns.note(step) {
             return (turns, ended);
         }

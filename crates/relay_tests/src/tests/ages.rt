@@ -3,7 +3,7 @@
 
 use super::ends::{Ends, are_rules};
 use super::places::place_to;
-use super::started::{sized_by_default, started};
+use super::started::sized_by_default;
 use super::streams::{free_port, target};
 use super::watch::Watch;
 use super::{Running, TURNS, no_outlets, pause};
@@ -182,7 +182,7 @@ fn ages_and_silences_are_shown_as_long_as_they_were(rt: HostRuntime) {
     let (place, port) = place_to(&rt, target, "never").expect(&rt, "a place");
     let mut marks = Marks::new(&rt).expect(&rt, "clock");
     let capacity = sized_by_default(1).expect(&rt, "a size");
-    let running = started(rt, place, capacity, no_outlets());
+    let running = started!(rt, place, capacity, no_outlets());
     holds!(rt; running.answers(&rt, "list\n", "ids 1\n"));
     marks.now(&rt);
     marks.after_a_silence(&rt);

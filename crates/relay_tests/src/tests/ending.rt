@@ -5,15 +5,12 @@ use super::places::{Place, place_to};
 use super::watch::Watch;
 use super::{Running, no_outlets, served_on};
 use relay::{Capacity, Loops, PairLimit, ServeFault, serve};
-use relay_ledger::PARTS;
 use std::fs::Files;
 use std::io::{ErrorKind, Write};
-use std::marker::Brand;
 use std::net::{Net, TcpListener, TcpStream};
 use std::process::Abort;
 use std::random::RandomSource;
 use std::sync::Wait;
-use std::sync::ledger::Blank;
 use std::thread::Threads;
 use std::time::{Clock, Duration, Instant};
 use std::{io, thread};
@@ -65,13 +62,12 @@ where
         + Sync
         + 'static,
 {
-    let (up, down) = (Blank::new(PARTS), Blank::new(PARTS));
     let loops = Loops::of(1).expect(&rt, "loops");
     let pairs = PairLimit::by_default();
     let capacity = Capacity { loops, pairs };
     let (rules, admin) = (&place.rules, &place.admin);
     let outlets = no_outlets();
-    serve::<Brand, Brand, _, R, _>(rt, rules, admin, capacity, outlets, up, down, &mut Broken)
+    serve(rt, rules, admin, capacity, outlets, &mut Broken)
 }
 
 #[test]

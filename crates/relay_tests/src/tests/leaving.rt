@@ -3,7 +3,7 @@
 use super::ends::Ends;
 use super::live_threads::live_threads;
 use super::places::{is_there, own_path, place_to};
-use super::started::{own_log, sized_by_default, started};
+use super::started::{own_log, sized_by_default};
 use super::streams::{heard, reach_unix, target};
 use super::watch::Watch;
 use super::{FEW_TURNS, rest};
@@ -55,7 +55,7 @@ fn a_relay_with_outlets_leaves_no_thread_no_file_and_no_path(rt: HostRuntime) {
     let path = own_path(&rt, "metrics").expect(&rt, "a path");
     let outlets = metered_at(&rt, &path).expect(&rt, "a log");
     let capacity = sized_by_default(2).expect(&rt, "a size");
-    let running = started(rt, place, capacity, outlets);
+    let running = started!(rt, place, capacity, outlets);
     let mut ends = Ends::new(&rt, &listener, port).expect(&rt, "a connection");
     holds!(rt; ends.pass());
     holds!(rt; are_given(&rt, &path) == Some(true));

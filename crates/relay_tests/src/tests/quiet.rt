@@ -5,7 +5,7 @@ use super::ends::Ends;
 use super::figures::turns_of_both;
 use super::metrics::comes_to_tell;
 use super::places::Place;
-use super::started::{logged_and_metered, sized_by_default, started};
+use super::started::{logged_and_metered, sized_by_default};
 use super::streams::{free_port, target};
 use super::watch::Watch;
 use std::net::TcpListener;
@@ -100,7 +100,7 @@ fn a_relay_sleeps_where_nothing_happens_and_no_alarm_is_left(rt: HostRuntime) {
     let (place, never, idle) = place_of_both(&rt, target).expect(&rt, "a place");
     let (outlets, metrics) = logged_and_metered(&rt).expect(&rt, "a log");
     let capacity = sized_by_default(2).expect(&rt, "a size");
-    let running = started(rt, place, capacity, outlets);
+    let running = started!(rt, place, capacity, outlets);
     let _standing = whole_and_half(&rt, &listener, never).expect(&rt, "two connections");
     holds!(rt; come_and_go(&rt, &listener, idle));
     holds!(rt; comes_to_tell(&rt, metrics, NONE_STANDS));

@@ -5,7 +5,7 @@ use super::draining::is_refused;
 use super::ends::{Ends, are_rules};
 use super::no_outlets;
 use super::places::place_to;
-use super::started::{sized_by_default, started};
+use super::started::sized_by_default;
 use super::streams::target;
 use super::watch::Watch;
 
@@ -26,7 +26,7 @@ fn a_reload_renews_an_idle_time_and_a_listener_that_was_closed(rt: HostRuntime) 
     let (listener, target) = target(&rt).expect(&rt, "a target");
     let (place, port) = place_to(&rt, target, "never").expect(&rt, "a place");
     let capacity = sized_by_default(1).expect(&rt, "a size");
-    let running = started(rt, place, capacity, no_outlets());
+    let running = started!(rt, place, capacity, no_outlets());
     let mut old = Ends::new(&rt, &listener, port).expect(&rt, "a connection");
     holds!(rt; is_idle_time(&rt, port, target, "50"));
     holds!(rt; running.answers(&rt, "reload\n", "rules 1\n"));

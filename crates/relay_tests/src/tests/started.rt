@@ -1,40 +1,10 @@
-//! A relay that a test starts, with its log and its figures.
+//! How large a relay is that a test starts, its log and its figures.
 
-use super::places::{Place, own_path};
+use super::places::own_path;
 use super::streams::free_port;
-use super::{Running, served_at};
 use relay::{Capacity, Loops, Outlets, PairLimit};
 use relay_admin::addr_of;
-use std::fs::{File, Files};
-use std::net::{Net, TcpListener, TcpStream};
-use std::process::Abort;
-use std::random::RandomSource;
-use std::sync::Wait;
-use std::thread;
-use std::thread::Threads;
-use std::time::Clock;
-
-/// A relay by the rules of this place, on a thread of its own.
-pub(super) fn started<R>(rt: R, place: Place, capacity: Capacity, outlets: Outlets<File>) -> Running
-where
-    R: Wait
-        + Threads
-        + Net<Listener = TcpListener, Stream = TcpStream>
-        + Clock
-        + Files
-        + RandomSource
-        + Abort
-        + AllocGlobal
-        + Copy
-        + Send
-        + Sync
-        + 'static,
-{
-    let (rules, admin, socket) = place.parts();
-    let run = move || served_at(rt, &rules, &socket, capacity, outlets);
-    let thread = thread::spawn(&rt, run).expect(&rt, "thread");
-    Running { thread, admin }
-}
+use std::fs::File;
 
 /// So many loops, and so many connections at most.
 pub(super) fn sized(loops: u64, pairs: u64) -> Option<Capacity> {

@@ -24,17 +24,17 @@ returns-in-Err-clause-stopped g c = AtItsEnd _ (last_call (AtCredit c.args.bytes
     (omega (arith, c.in-Err.ensures.kept)))
 
 -- a write failed, and what it reported is credited
-pub returns-in-Ok-credited-clause-stopped : goal.returns-in-Ok-credited-clause-stopped
-returns-in-Ok-credited-clause-stopped g c =
+pub returns-in-Ok-credit-clause-stopped : goal.returns-in-Ok-credit-clause-stopped
+returns-in-Ok-credit-clause-stopped g c =
     AtItsEnd _ (last_call (AtWrite c.args.bytes.now c.requires.some c.in-Some-Err.failed
     (rw c.in-Some-Err.field-0-is at c.in-Some-Err.ensures.part))
     (λ calls h. rw c.in-Some-Err.field-0-is at (c.in-Some-Err.ensures.told calls h))
-    (omega (arith, c.in-Ok-credited.ensures.amount)))
+    (omega (arith, c.in-Ok-credit.ensures.amount)))
 
 -- a write failed, and what it reported is not credited
-pub returns-in-Err-credited-clause-stopped : goal.returns-in-Err-credited-clause-stopped
-returns-in-Err-credited-clause-stopped g c =
+pub returns-in-Err-credit-clause-stopped : goal.returns-in-Err-credit-clause-stopped
+returns-in-Err-credit-clause-stopped g c =
     AtItsEnd _ (last_call (AtCredit c.args.bytes.now c.requires.some (Err c.in-Some-Err.failed)
     (rw c.in-Some-Err.field-0-is at c.in-Some-Err.ensures.part))
     (λ calls h. rw c.in-Some-Err.field-0-is at (c.in-Some-Err.ensures.told calls h))
-    (omega (arith, c.in-Err-credited.ensures.kept)))
+    (omega (arith, c.in-Err-credit.ensures.kept)))

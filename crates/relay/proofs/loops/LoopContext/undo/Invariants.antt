@@ -1,5 +1,5 @@
 use Rattle.std.proofs.Common.{ℕ, length}
-use Rattle.relay.proofs.loops.LoopHost.undo.Given as goal
+use Rattle.relay.proofs.loops.LoopContext.undo.Given as goal
 
 abbrev pub invariant-loop-id : goal.invariant-loop-id
 invariant-loop-id g l = Unit {0}

@@ -1,0 +1,65 @@
+//! What a relay is asked to be.
+
+ghost use Rattle.std.specs.Prelude.{◌≡◌, IfErr};
+ghost use Rattle.relay_admin.specs.declared.serve_fault.ServeFault.{ServeFault};
+
+use crate::rules_file::rules_in;
+use log_writer::Log;
+use relay_admin::{Rule, ServeFault};
+use relay_core::Capacity;
+use relay_watch::served_rule::ServedRule;
+use std::alloc::Global;
+use std::fs::Files;
+use std::sync::Arc;
+
+/// What a relay is asked to be, in memory of its own.
+#[derive(Drop)]
+pub(crate) struct Config {
+    /// None of them has a listener yet.
+    pub(crate) rules: Vec<Arc<ServedRule>>,
+    /// Where their file is.
+    pub(crate) rules_path: String,
+    pub(crate) capacity: Capacity,
+    pub(crate) log: Option<Arc<Log>>,
+}
+
+// The rules as a relay with so many loops serves them, none of which has a listener yet.
+fn served_rules(
+    alloc: Global,
+    rules: &[Rule],
+    loops: usize,
+) -> Result<Vec<Arc<ServedRule>>, ServeFault>
+    ensures faults { IfErr result (λ fault. fault ≡ ServeFault.Memory) }
+{
+    let mut all = Vec::new(alloc);
+    for rule in rules {
+        all.push(ServedRule::new(alloc, rule, loops)?)?;
+    }
+    Ok(all)
+}
+
+impl Config {
+    /// By the rules file at this path, of this size, and with a log or without one.
+    pub(crate) fn read<R: Files>(
+        rt: &R,
+        alloc: Global,
+        path: &str,
+        capacity: Capacity,
+        has_log: bool,
+    ) -> Result<Config, ServeFault> {
+        let rules = rules_in(rt, alloc, path)?;
+        let rules = served_rules(alloc, rules.as_slice(), capacity.loops.count)?;
+        let rules_path = String::from_str(alloc, path)?;
+        let log = if has_log {
+            Some(Arc::new(alloc, Log::new(alloc))?)
+        } else {
+            None
+        };
+        Ok(Config {
+            rules,
+            rules_path,
+            capacity,
+            log,
+        })
+    }
+}

@@ -1,0 +1,103 @@
+//! The main thread's loop: it accepts by all rules until the relay stops.
+
+ghost use Rattle.std.specs.Prelude.{◌≡◌, IfErr};
+ghost use Rattle.relay_admin.specs.ServeFault.{IsRunFault};
+ghost use Rattle.relay_admin.specs.declared.serve_fault.ServeFault.{ServeFault};
+
+use crate::accepting::{AcceptHost, RuleTask};
+use crate::clock::{Moments, RelayClock};
+use crate::fault::of_poller;
+use crate::loops::LoopContext;
+use crate::opening::listen_by;
+use crate::shared::Shared;
+use readiness::EventLoop;
+use relay_admin::ServeFault;
+use std::alloc::Global;
+use std::fs::Files;
+use std::net::Net;
+use std::sync::{Arc, Wait};
+use std::time::Clock;
+
+/// The loop that accepts, and what its tasks go on with.
+#[derive(Drop)]
+pub(crate) struct MainLoop<R: Wait + Clock + Copy> {
+    pub(crate) alloc: Global,
+    pub(crate) tasks: EventLoop<RuleTask<R>>,
+    pub(crate) host: AcceptHost<R, RelayClock<R>>,
+}
+
+/// That no accept is under way any more, for which a close by another thread would wait: the end of
+/// the loop alone makes one.
+#[derive(Clone, Copy)]
+pub(crate) struct AcceptsEnded {
+    by_loop: (),
+}
+
+impl<R: Wait + Clock + Copy> MainLoop<R> {
+    /// What the thread of the loop with this home knows of the relay.
+    pub(crate) fn context(&self, home: usize) -> Result<LoopContext<R>, ServeFault>
+        ensures faults { IfErr result (λ fault. fault ≡ ServeFault.Memory) }
+    {
+        Ok(LoopContext {
+            rt: self.host.rt,
+            alloc: self.alloc,
+            clock: self.host.clock,
+            home,
+            shared: Arc::try_clone(&self.host.shared)?,
+        })
+    }
+
+    /// Ends the accepts that are under way, and gives what the threads share.
+    pub(crate) fn end(self) -> (R, Arc<Shared>, AcceptsEnded) {
+        let MainLoop {
+            alloc: _,
+            tasks,
+            host,
+        } = self;
+        let (mut tasks, mut host) = (tasks, host);
+        tasks.end_all(&mut host);
+        let AcceptHost { rt, shared, .. } = host;
+        (rt, shared, AcceptsEnded { by_loop: () })
+    }
+}
+
+impl<R: Wait + Net + Files + Clock + Copy> MainLoop<R> {
+    /// Listens for all rules, in their order.
+    pub(crate) fn listen(&mut self) -> Result<(), ServeFault> {
+        let MainLoop { alloc, tasks, host } = self;
+        let shared = &host.shared;
+        for served in shared.rules.lock(&host.rt).iter() {
+            listen_by(&host.rt, *alloc, tasks, &shared.table, served, 0)?;
+        }
+        Ok(())
+    }
+
+    // Has the accept tasks of all rules go on.
+    fn accept_again(&mut self) {
+        for served in self.host.shared.rules.lock(&self.host.rt).iter() {
+            self.tasks.again(served.token());
+        }
+    }
+
+    /// Turns until an admin session says stop, or the poller fails.
+    pub(crate) fn turn_until_stop(&mut self) -> Result<(), ServeFault>
+        ensures faults { IfErr result (λ fault. IsRunFault fault) }
+    {
+        let rt = self.host.rt;
+        for _ in rt.forever() {
+            let now = self.host.clock.now();
+            if let Err(fault) = self.tasks.turn(&rt, now, &mut self.host) {
+                return Err(of_poller(fault));
+            }
+            if self.host.shared.is_stopped() {
+                return Ok(());
+            }
+            let now = self.host.clock.now();
+            self.reload_if_asked(&rt, now);
+            if self.host.takes_unarmed() {
+                self.accept_again();
+            }
+        }
+        unreachable!()
+    }
+}
