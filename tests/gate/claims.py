@@ -11,7 +11,8 @@ What is promised is to be of use: a row names a function that a program's `main`
 `laws`, or else says `library call`, or in its last cell that it is tested. Calls are found by name, so that a name which
 two functions share counts for both.
 
-An example in README.md and docs/sockets.md is a quotation: each of its lines stands in the sources of a program.
+An example in README.md and docs/sockets.md is a quotation: each of its lines stands in the sources of a program, or of
+`metrics_server`.
 Prints a line for each name that is missing, for each row that names no such function, for each line that nobody wrote, and
 `N passed, M failed`.
 """
@@ -26,6 +27,8 @@ from lib.clause_texts import HEAD, owner_of
 ROOT = pathlib.Path(places.ROOT)
 HEADS = ("Function and clause", "Contract that carries it", "Clause")
 PROGRAMS = ("pollrelay", "echo_server", "page_server", "loop_echo_server")
+# Also the server of the metrics is quoted, which is a library of one of them.
+QUOTED = (*PROGRAMS, "metrics_server")
 WORD = re.compile(r"[A-Za-z_]\w*")
 ITEM = re.compile(r"^\s*(?:pub(?:\([a-z]+\))? )?(?:struct|enum|trait|const|type|mod) (\w+)", re.M)
 # (a definition; an indented line without one of these words is a field of a record)
@@ -197,7 +200,7 @@ def quoted(text, lines):
 
 
 def lines_of_programs():
-    files = (it for name in PROGRAMS for it in (ROOT / "crates" / name / "src").glob("**/*.rt"))
+    files = (it for name in QUOTED for it in (ROOT / "crates" / name / "src").glob("**/*.rt"))
     return {line.strip() for it in files for line in it.read_text().splitlines()}
 
 

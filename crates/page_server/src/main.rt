@@ -1,75 +1,35 @@
 //! `page_server`: serves one page by HTTP/1.1.
 //!
-//! With a port it serves there until it is ended. With no word it serves any port that is free,
-//! asks itself for the page, prints what came, and ends.
+//! With a port it serves there until it is ended. With no word it serves one client at any port
+//! that is free: itself, which prints what came.
 #![tactic(auto)]
 
 mod client;
+mod own_client;
 mod page;
-mod server;
-mod shared;
 
-use crate::client::{REQUEST, hear};
-use crate::server::Server;
-use std::alloc::Global;
+use crate::own_client::{asked, asks};
+use crate::page::serve_page;
+use net::{Listener, Net, tcp};
 use std::io::Write;
-use std::net::{Ipv4Addr, Net, SocketAddr, TcpStream};
-use std::process::ExitCode;
-use std::sync::Arc;
-use std::sync::atomic::Ordering;
 use std::{env, io, thread};
 
-/// The time that a connection has: ten seconds.
-const LIMIT_NS: u64 = 10_000_000_000;
-
-/// The port that the words ask for, which is 0 where any will do.
-fn asked(words: &[String]) -> Option<u16> {
-    match words {
-        [_] => Some(0),
-        [_, port] => Some(port.parse().ok()?),
-        _ => None,
-    }
-}
-
-/// What comes from this port of loopback to whoever asks for the page.
-fn page_at<N: Net>(net: &N, alloc: Global, port: u16) -> io::Result<String> {
-    let mut stream = TcpStream::connect(net, SocketAddr::from((Ipv4Addr::LOCALHOST, port)))?;
-    stream.write_all(REQUEST)?;
-    hear(&mut stream, alloc)
-}
-
-fn main(rt: HostRuntime) -> io::Result<ExitCode> {
+fn main(rt: HostRuntime) -> io::Result<()> {
     let words: Vec<String> = env::args(&rt)?.collect(rt.alloc())?;
-    let Some(port) = asked(words.as_slice()) else {
-        eprintln!(rt; "bad command line")?;
-        return Ok(ExitCode::from(2));
-    };
-    let Some(mut server) = Server::open(rt, rt.alloc(), port, LIMIT_NS) else {
-        eprintln!(rt; "cannot listen")?;
-        return Ok(ExitCode::from(3));
-    };
-    if port != 0 {
-        return Ok(status_of(server.run().is_ok()));
+    let port = asked(words.as_slice())?;
+    let net = Net::start(rt, rt.alloc())?;
+    let mut listener = Listener::bind(&net, &tcp(port))?;
+    if let (0, Some(addr)) = (port, listener.local_addr()) {
+        let client = thread::spawn(&rt, move || asks(&rt, rt.alloc(), addr))?;
+        serve_page(rt, rt.alloc(), listener.accept()?)?;
+        for line in client.join(&rt)?.as_str().lines() {
+            println!(rt; "{line}")?;
+        }
+        return Ok(());
     }
-    let shared = Arc::try_clone(&server.shared)?;
-    let port = server.port;
-    let asking = thread::spawn(&rt, move || {
-        let came = page_at(&rt, rt.alloc(), port);
-        shared.stopped.store(true, Ordering::SeqCst);
-        let _ = shared.waker.wake();
-        came
-    })?;
-    let served = server.run();
-    for line in asking.join(&rt)?.as_str().lines() {
-        println!(rt; "{line}")?;
+    for _ in rt.forever() {
+        let conn = listener.accept()?;
+        thread::spawn(&rt, move || serve_page(rt, rt.alloc(), conn))?;
     }
-    Ok(status_of(served.is_ok()))
-}
-
-fn status_of(served: bool) -> ExitCode {
-    if served {
-        ExitCode::SUCCESS
-    } else {
-        ExitCode::from(3)
-    }
+    unreachable!()
 }

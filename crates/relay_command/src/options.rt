@@ -58,7 +58,10 @@ pub(crate) fn pairs_asked(given: Option<&str>) -> Option<Option<PairLimit>>
 }
 
 // The path of the log that an option asks for, if it is there; none where the path has no byte.
-pub(crate) fn log_asked(alloc: Global, given: Option<&str>) -> Result<Option<Option<String>>, OutOfMemory>
+pub(crate) fn log_asked(
+    alloc: Global,
+    given: Option<&str>,
+) -> Result<Option<Option<String>>, OutOfMemory>
     ensures { IfOk result (λ log. option_map (option_map string_bytes) log
         ≡ log_given (option_map (λ text. text.now) given.entry)) }
 {

@@ -5,49 +5,42 @@ use std::alloc::Global;
 use std::io::{Cursor, ErrorKind, Read, Result, Write};
 use std::prelude::HostRuntime;
 
-/// A reply, and the status that it comes to.
-struct Row {
-    reply: &'static str,
-    status: u8,
-}
-
-const fn row(reply: &'static str, status: u8) -> Row {
-    Row { reply, status }
-}
-
-const ROWS: [Row; 17] = [
-    row("ok\n", 0),
-    row("ids\n", 0),
-    row("ids 1 2\n", 0),
-    row("totals up 1 down 0\n", 0),
-    row("rules 2\n", 0),
-    row("show 1 rule error side client peer unix: up 0 down 0 age 1 quiet 1\n", 0),
-    row("errors\n", 0),
-    row("cannot\n", 0),
-    row("error 400 bad command\n", 1),
-    row("error 404 no such connection\n", 1),
-    row("error 409 closed\n", 1),
-    row("error 409 draining\n", 1),
-    row("error 409 busy\n", 1),
-    row("error 507 out of memory\n", 1),
-    row("bad rules: line 3\n", 1),
-    row("cannot read rules\n", 1),
-    row("cannot listen web\n", 1),
+/// Replies, and the status that each comes to.
+const ROWS: [(&str, u8); 17] = [
+    ("ok\n", 0),
+    ("ids\n", 0),
+    ("ids 1 2\n", 0),
+    ("totals up 1 down 0\n", 0),
+    ("rules 2\n", 0),
+    (
+        "show 1 rule error side client peer unix: up 0 down 0 age 1 quiet 1\n",
+        0,
+    ),
+    ("errors\n", 0),
+    ("cannot\n", 0),
+    ("error 400 bad command\n", 1),
+    ("error 404 no such connection\n", 1),
+    ("error 409 closed\n", 1),
+    ("error 409 draining\n", 1),
+    ("error 409 busy\n", 1),
+    ("error 507 out of memory\n", 1),
+    ("bad rules: line 3\n", 1),
+    ("cannot read rules\n", 1),
+    ("cannot listen web\n", 1),
 ];
 
 /// Whether a reply has this status, and is printed as it is.
-fn is_told(alloc: Global, row: &Row) -> bool {
-    let mut reader = Cursor::new(row.reply.as_bytes());
+fn is_told(alloc: Global, reply: &str, wanted: u8) -> bool {
+    let mut reader = Cursor::new(reply.as_bytes());
     let mut printed: Vec<u8> = Vec::new(alloc);
     let status = reply_status(alloc, &mut reader, &mut printed);
-    status == Ok(row.status) && printed.as_slice() == row.reply.as_bytes()
+    status == Ok(wanted) && printed.as_slice() == reply.as_bytes()
 }
 
 #[test]
 fn each_reply_is_printed_and_has_its_status(rt: HostRuntime) {
-    for row in &ROWS {
-        let reply = row.reply;
-        assert!(&rt; is_told(rt.alloc(), row), "{reply}");
+    for (reply, status) in ROWS {
+        assert!(&rt; is_told(rt.alloc(), reply, status), "{reply}");
     }
 }
 

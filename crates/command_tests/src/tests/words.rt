@@ -138,7 +138,10 @@ fn ctl_takes_one_to_three_words_as_a_line(rt: HostRuntime) {
         (&["ctl", "--admin", "/a b", "list"], "list"),
         (&["ctl", "list", "--admin=/a b"], "list"),
         (&["ctl", "--admin", "/a b", "close", "9"], "close 9"),
-        (&["ctl", "deadline", "--admin", "/a b", "3", "never"], "deadline 3 never"),
+        (
+            &["ctl", "deadline", "--admin", "/a b", "3", "never"],
+            "deadline 3 never",
+        ),
         (&["ctl", "--admin", "/a b", "deadline 3 0"], "deadline 3 0"),
         (&["ctl", "--admin", "/a b", "frob", ""], "frob "),
     ];

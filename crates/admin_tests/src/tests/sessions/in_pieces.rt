@@ -4,6 +4,9 @@ use crate::tests::fake_desk::FakeDesk;
 use relay_admin::{AdminEnd, AdminSession};
 use std::alloc::Global;
 
+/// More lines than a piece has.
+const MOST_LINES: u32 = 100;
+
 /// Adds the replies to all whole lines, and says how the session ended, if it did; none where
 /// memory was refused.
 fn answered(
@@ -12,13 +15,16 @@ fn answered(
     desk: &mut FakeDesk,
     replies: &mut Vec<u8>,
 ) -> Option<Option<AdminEnd>> {
-    while let Some((reply, end)) = session.next_reply(alloc, alloc, desk) {
+    for _ in 0..MOST_LINES {
+        let Some((reply, end)) = session.next_reply(alloc, alloc, desk) else {
+            return Some(None);
+        };
         replies.extend_from_slice(reply.as_slice()).ok()?;
         if end.is_some() {
             return Some(end);
         }
     }
-    Some(None)
+    None
 }
 
 /// The end of a session whose bytes come in pieces of this length.
@@ -30,7 +36,7 @@ fn played(
     replies: &mut Vec<u8>,
 ) -> Option<AdminEnd> {
     let mut session = AdminSession::new();
-    for bytes in text.as_bytes().chunks(piece) {
+    for bytes in text.as_bytes().chunks(piece.max(1)) {
         session.take(bytes);
         if let Some(end) = answered(alloc, &mut session, desk, replies)? {
             return Some(end);
@@ -83,8 +89,8 @@ const TAKEN: &[(usize, usize, usize)] = &[
 fn taken(before: usize, count: usize) -> usize {
     let bytes = [b'x'; 5000];
     let mut session = AdminSession::new();
-    session.take(&bytes[..before]);
-    session.take(&bytes[..count])
+    session.take(&bytes[..before.min(5000)]);
+    session.take(&bytes[..count.min(5000)])
 }
 
 #[test]

@@ -1,0 +1,4 @@
+pub mod Address
+pub mod Conn
+pub mod Errors
+pub mod Limits

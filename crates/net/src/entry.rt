@@ -1,0 +1,59 @@
+//! What the table has of a descriptor: its cell, which the poller tells, and a handle, by which who
+//! takes the entry out closes it.
+
+ghost use Rattle.std.specs.Prelude.{◌≡◌};
+
+use crate::runs::Runs;
+use arrayvec::ArrayString;
+use fd_descriptor::{Fault, FdHandle, PollCell};
+use readiness::{HasCell, MAX_PATH_BYTES, NotedListenRes, SockRes};
+use std::sync::Arc;
+
+/// How an entry closes its descriptor.
+#[derive(Drop)]
+pub(crate) enum Closer {
+    Conn(FdHandle<SockRes>),
+    /// With the path that a Unix listener made.
+    Listener(FdHandle<NotedListenRes>, Option<ArrayString<MAX_PATH_BYTES>>),
+}
+
+/// A descriptor in the table.
+#[derive(Drop)]
+pub(crate) struct Entry {
+    pub(crate) cell: Arc<PollCell>,
+    pub(crate) closer: Closer,
+}
+
+impl HasCell for Entry {
+    ghost use Rattle.std.specs.Arc.{arc_value};
+
+    ghost cell_in = { λ entry. arc_value entry.cell };
+
+    fn cell(&self) -> &PollCell {
+        &*self.cell
+    }
+}
+
+impl Entry {
+    /// Removes the path of a Unix listener, so that who comes later isn't refused it.
+    pub(crate) fn unlink<R: Runs>(&self, rt: &R) {
+        if let Closer::Listener(_, Some(path)) = &self.closer {
+            rt.unlink(path.as_str());
+        }
+    }
+
+    /// Closes the descriptor for all its handles. The table's lock must not be held.
+    pub(crate) fn close<R: Runs>(self, rt: &R) -> Result<(), Fault> {
+        let Entry { cell: _, closer } = self;
+        match closer {
+            Closer::Conn(handle) => {
+                let mut handle = handle;
+                handle.close(rt)
+            }
+            Closer::Listener(handle, _) => {
+                let mut handle = handle;
+                handle.close(rt)
+            }
+        }
+    }
+}

@@ -1,0 +1,28 @@
+//! Sockets as a program wants them: a net that runs by itself, listeners, and connections that read
+//! and write as those of the standard library, which many threads may share, time and close.
+//!
+//! `running` has the net with its thread, `stream` connections, `accepting` listeners, `limits` the
+//! moments at which calls give up, and `guard` what closes with the last of those that share it.
+#![tactic(auto)]
+
+mod accepting;
+mod address;
+mod entry;
+mod errors;
+mod guard;
+pub mod laws;
+mod limits;
+mod running;
+mod runs;
+mod shared;
+mod stream;
+mod timing;
+
+pub use accepting::Listener;
+pub use address::{UNIX, address_of, tcp};
+pub use errors::error_with;
+pub use limits::{Limits, Times};
+pub use readiness::Addr;
+pub use running::Net;
+pub use runs::{Runs, Unlinks};
+pub use stream::Conn;

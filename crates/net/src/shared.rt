@@ -1,0 +1,175 @@
+//! What the threads of a net share: the table, the timers and the clock. Locks are taken in the
+//! order limits, cell, timers, and the table's before a cell's; nobody outside this crate sees one.
+
+use crate::entry::{Closer, Entry};
+use crate::errors::told;
+use crate::runs::Runs;
+use arrayvec::ArrayString;
+use fd_descriptor::{Alarms, Dirs, Fault, FdHandle, PollCell};
+use readiness::{
+    ConnTable, LastCodes, Listen, MAX_PATH_BYTES, NoWrites, NotedListen, NotedListenRes, Registrar,
+    Sock, SockRes, TableRefusal, TimerAlarms, Timers, Waker,
+};
+use std::alloc::Global;
+use std::io;
+use std::sync::atomic::{AtomicBool, Ordering};
+use std::sync::{Arc, Mutex};
+use std::time::Instant;
+
+#[derive(Drop)]
+pub(crate) struct Shared<R: Runs> {
+    pub(crate) rt: R,
+    pub(crate) alloc: Global,
+    pub(crate) start: Instant,
+    pub(crate) table: Mutex<ConnTable<Entry>>,
+    pub(crate) timers: Arc<Mutex<Timers>>,
+    pub(crate) alarms: TimerAlarms<R>,
+    pub(crate) registrar: Registrar,
+    pub(crate) waker: Arc<Waker>,
+    pub(crate) stopped: AtomicBool,
+}
+
+// A descriptor of a connection, with its cell and another handle.
+fn open_conn(
+    alloc: Global,
+    sock: Sock,
+    codes: &Arc<LastCodes>,
+    id: u64,
+) -> io::Result<(Arc<PollCell>, FdHandle<SockRes>, FdHandle<SockRes>)> {
+    let (read, write) = sock.split_noting(alloc, codes)?;
+    let mut handle = FdHandle::open(alloc, read, write, id)?;
+    let cell = handle.cell()?;
+    let other = told(handle.share(), None)?;
+    Ok((cell, handle, other))
+}
+
+// The same of a listener.
+fn open_listener(
+    alloc: Global,
+    listen: Listen,
+    codes: &Arc<LastCodes>,
+    id: u64,
+) -> io::Result<
+    (
+        Arc<PollCell>,
+        FdHandle<NotedListenRes>,
+        FdHandle<NotedListenRes>,
+    ),
+> {
+    let listen = NotedListen::new(listen, Arc::try_clone(codes)?);
+    let mut handle = FdHandle::open(alloc, listen, NoWrites, id)?;
+    let cell = handle.cell()?;
+    let other = told(handle.share(), None)?;
+    Ok((cell, handle, other))
+}
+
+// Puts a descriptor's entry into the table, whose lock has been held since `vacant`.
+fn enter(table: &mut ConnTable<Entry>, cell: Arc<PollCell>, closer: Closer) -> Result<u64, Fault> {
+    match table.insert(Entry { cell, closer }) {
+        Ok((id, _)) => Ok(id),
+        Err((_, refusal)) => Err(match refusal {
+            TableRefusal::OutOfMemory => Fault::OutOfMemory,
+            _ => Fault::TooMany,
+        }),
+    }
+}
+
+impl<R: Runs> Shared<R> {
+    /// The nanoseconds since the start, which are the moments of all deadlines.
+    pub(crate) fn now(&self) -> u64 {
+        match self.start.elapsed(&self.rt) {
+            Ok(passed) => u64::try_from(passed.as_nanos()).unwrap_or(u64::MAX),
+            Err(_) => u64::MAX,
+        }
+    }
+
+    // The id and the token of the next entry, of a net that takes one more.
+    fn vacant(&self, table: &ConnTable<Entry>) -> Result<(u64, u64), Fault> {
+        if self.stopped.load(Ordering::SeqCst) {
+            return Err(Fault::Closed);
+        }
+        match table.vacant() {
+            Ok(next) => Ok(next),
+            Err(_) => Err(Fault::TooMany),
+        }
+    }
+
+    /// Makes a descriptor of a connection. Where anything is refused the socket is dropped, which
+    /// closes it.
+    pub(crate) fn hold(
+        &self,
+        sock: Sock,
+        codes: &Arc<LastCodes>,
+    ) -> io::Result<(u64, FdHandle<SockRes>)> {
+        let rt = self.rt;
+        let mut table = self.table.lock(&rt);
+        let (id, token) = told(self.vacant(&table), None)?;
+        let mut sock = sock;
+        self.registrar.register(&mut sock, token)?;
+        let (cell, handle, other) = open_conn(self.alloc, sock, codes, id)?;
+        let id = told(enter(&mut *table, cell, Closer::Conn(handle)), None)?;
+        Ok((id, other))
+    }
+
+    /// The same of a listener, with the path that goes when it closes.
+    pub(crate) fn hold_listener(
+        &self,
+        listen: Listen,
+        codes: &Arc<LastCodes>,
+        path: Option<ArrayString<MAX_PATH_BYTES>>,
+    ) -> io::Result<(u64, FdHandle<NotedListenRes>)> {
+        let rt = self.rt;
+        let mut table = self.table.lock(&rt);
+        let (id, token) = told(self.vacant(&table), None)?;
+        let mut listen = listen;
+        self.registrar.register_listener(&mut listen, token)?;
+        let (cell, handle, other) = open_listener(self.alloc, listen, codes, id)?;
+        let closer = Closer::Listener(handle, path);
+        let id = told(enter(&mut *table, cell, closer), None)?;
+        Ok((id, other))
+    }
+
+    /// Takes an entry out, so that turns tell it nothing more, and gives it where it was there. The
+    /// path of a Unix listener goes with it.
+    pub(crate) fn take(&self, id: u64) -> Option<Entry> {
+        let removed = self.table.lock(&self.rt).remove(id);
+        match removed {
+            Ok(entry) => {
+                self.alarms.disarm(id, Dirs::Both);
+                entry.unlink(&self.rt);
+                Some(entry)
+            }
+            Err(_) => None,
+        }
+    }
+
+    /// Takes an entry out, for who closes its descriptor then.
+    pub(crate) fn forget(&self, id: u64) {
+        let _ = self.take(id);
+    }
+
+    /// Takes an entry out and closes its descriptor, for all that share it.
+    pub(crate) fn end(&self, id: u64) {
+        if let Some(entry) = self.take(id) {
+            let _ = entry.close(&self.rt);
+        }
+    }
+
+    // From now on nothing more is taken on. Who takes something on just now has the table's lock.
+    fn stop(&self) {
+        let _table = self.table.lock(&self.rt);
+        self.stopped.store(true, Ordering::SeqCst);
+    }
+
+    /// Closes all there is, and takes nothing more on.
+    pub(crate) fn end_all(&self) {
+        self.stop();
+        for _ in self.rt.forever() {
+            let first = self.table.lock(&self.rt).first_id();
+            match first {
+                Some(id) => self.end(id),
+                None => return,
+            }
+        }
+    }
+}

@@ -1,0 +1,265 @@
+//! A connection: a reader and a writer of the standard library, with times, and a close that all
+//! who share it hear.
+
+ghost use Rattle.std.specs.Prelude.{◌≡◌, ◌≤◌, ◌<◌, ℕ, true, None, IfOk, IfErr, IfSome, OnOk, Ok};
+ghost use Rattle.std.specs.Prelude.{Result, length};
+ghost use Rattle.std.specs.Io.{ReadsAtMost, WritesAtMost};
+ghost use Rattle.std.specs.Io.KnownBytes.{ReadConsumes, WriteAppends};
+ghost use Rattle.fd_descriptor.specs.FdHandle.{KeepsHandle, descriptor_of, marks_of};
+ghost use Rattle.rwloops.specs.declared.fault.Fault.{Fault};
+ghost use Rattle.rwloops.specs.declared.fault.WriteFault.{WriteFault};
+ghost use Rattle.net.specs.Conn.{IsNotConnected, FailsBy, IsReadAnswer, IsWriteAnswer};
+ghost use Rattle.net.specs.Conn.{HasEnded, handle_of, is_closed, untold_of};
+
+use crate::errors::{error_with, told};
+use crate::guard::Guard;
+use crate::limits::Limits;
+use crate::running::Net;
+use crate::runs::Runs;
+use crate::shared::Shared;
+use crate::timing::{DirTimes, arm, arm_both};
+use fd_descriptor::{Dir, Fault, FdHandle};
+use readiness::{Addr, LastCodes, Sock, SockRes, connect_io};
+use std::io;
+use std::io::{Read, Write};
+use std::net::Net as Sockets;
+use std::sync::{Arc, Mutex};
+use std::thread::Threads;
+use std::time::Duration;
+
+/// A connection. Any number of threads may share one, each by a clone of its own; when the last
+/// clone is let go, the connection is closed.
+#[derive(Drop)]
+pub struct Conn<R: Runs> {
+    pub(crate) handle: FdHandle<SockRes>,
+    // The fault of a write that was cut off after some bytes, which the next one tells.
+    untold: Option<Fault>,
+    guard: Arc<Guard<R>>,
+}
+
+impl<R: Runs + Threads + Sockets> Conn<R> {
+    /// Connects to an address, and waits until the connection is made, for so long at most.
+    pub fn connect(net: &Net<R>, addr: &Addr, timeout: Option<Duration>) -> io::Result<Conn<R>> {
+        let sock = connect_io(&net.shared.rt, addr)?;
+        let mut conn = Conn::hold(&net.shared, sock, Some(*addr))?;
+        conn.set_deadline(timeout)?;
+        conn.wait_connected()?;
+        conn.set_deadline(None)?;
+        Ok(conn)
+    }
+}
+
+impl<R: Runs> Conn<R> {
+    /// A connection of a socket, with the address that it is connected to.
+    pub(crate) fn hold(
+        shared: &Arc<Shared<R>>,
+        sock: Sock,
+        peer: Option<Addr>,
+    ) -> io::Result<Conn<R>>
+        ensures untold { IfOk result (λ conn. untold_of conn ≡ None) }
+    {
+        let local = sock.local();
+        let shared = Arc::try_clone(shared)?;
+        let alloc = shared.alloc;
+        let codes = Arc::new(alloc, LastCodes::new())?;
+        let (id, handle) = shared.hold(sock, &codes)?;
+        let guard = Guard {
+            shared,
+            id,
+            limits: Mutex::new(Limits::none()),
+            codes,
+            local,
+            peer,
+        };
+        let guard = Arc::new(alloc, guard)?;
+        Ok(Conn {
+            handle,
+            untold: None,
+            guard,
+        })
+    }
+
+    fn wait_connected(&mut self) -> io::Result<()> {
+        let guard = &*self.guard;
+        let connected = self.handle.connected(&guard.shared.rt);
+        told(connected, guard.code(Dir::Write))
+    }
+
+    /// Another owner of this connection, for another thread.
+    pub fn try_clone(&mut self) -> io::Result<Conn<R>>
+        ensures kept { marks_of (handle_of self.new) ≡ marks_of (handle_of self.old) }
+        ensures same { IfOk result (λ other.
+            descriptor_of (handle_of other) ≡ descriptor_of (handle_of self.old)) }
+        ensures seen { IfOk result (λ other. is_closed other ≡ is_closed self.old) }
+        ensures untold { IfOk result (λ other. untold_of other ≡ None) }
+    {
+        let handle = told(self.handle.share(), None)?;
+        let guard = Arc::try_clone(&self.guard)?;
+        Ok(Conn {
+            handle,
+            untold: None,
+            guard,
+        })
+    }
+
+    /// Has all calls give up after so long from now, those that wait now too, for all who share the
+    /// connection; with `None` none does.
+    pub fn set_deadline(&mut self, time: Option<Duration>) -> io::Result<()>
+        ensures keeps { KeepsHandle (handle_of self.old) (handle_of self.new) }
+        ensures closed { is_closed self.old ≡ true → IsNotConnected result }
+        ensures untold { untold_of self.new ≡ untold_of self.old }
+    {
+        let shared = &*self.guard.shared;
+        let mut limits = self.guard.limits.lock(&shared.rt);
+        let now = shared.now();
+        let before = *limits;
+        let next = before.with_until(time, now);
+        *limits = next;
+        told(arm_both(shared, &mut self.handle, next, now), None)
+    }
+
+    // Has each call of a direction give up after so long.
+    fn set_time(&mut self, dir: Dir, time: Option<Duration>) -> io::Result<()>
+        ensures keeps { KeepsHandle (handle_of self.old) (handle_of self.new) }
+        ensures closed { is_closed self.old ≡ true → IsNotConnected result }
+        ensures untold { untold_of self.new ≡ untold_of self.old }
+    {
+        let shared = &*self.guard.shared;
+        let mut limits = self.guard.limits.lock(&shared.rt);
+        let now = shared.now();
+        let before = *limits;
+        let next = before.with_time(dir, time, now);
+        *limits = next;
+        told(
+            arm(shared, &mut self.handle, dir, next.until(dir), now),
+            None,
+        )
+    }
+
+    /// Has each read give up after so long, for all who share the connection. One that waits now
+    /// has so long from now.
+    pub fn set_read_timeout(&mut self, time: Option<Duration>) -> io::Result<()>
+        ensures keeps { KeepsHandle (handle_of self.old) (handle_of self.new) }
+        ensures closed { is_closed self.old ≡ true → IsNotConnected result }
+        ensures untold { untold_of self.new ≡ untold_of self.old }
+    {
+        self.set_time(Dir::Read, time)
+    }
+
+    /// Has each write give up after so long, as `set_read_timeout` each read.
+    pub fn set_write_timeout(&mut self, time: Option<Duration>) -> io::Result<()>
+        ensures keeps { KeepsHandle (handle_of self.old) (handle_of self.new) }
+        ensures closed { is_closed self.old ≡ true → IsNotConnected result }
+        ensures untold { untold_of self.new ≡ untold_of self.old }
+    {
+        self.set_time(Dir::Write, time)
+    }
+
+    /// Says that nothing more is written: the peer reads to the end.
+    pub fn close_write(&mut self) -> io::Result<()>
+        ensures keeps { KeepsHandle (handle_of self.old) (handle_of self.new) }
+        ensures closed { is_closed self.old ≡ true → IsNotConnected result }
+        ensures untold { untold_of self.new ≡ untold_of self.old }
+    {
+        let guard = &*self.guard;
+        let shut = self.handle.close_write(&guard.shared.rt);
+        told(shut, guard.code(Dir::Write))
+    }
+
+    /// Closes the connection for all who share it: their calls that wait end, and each further one
+    /// is `NotConnected`.
+    pub fn close(&mut self) -> io::Result<()>
+        ensures keeps { KeepsHandle (handle_of self.old) (handle_of self.new) }
+        ensures closed { is_closed self.old ≡ true → IsNotConnected result }
+        ensures ended { OnOk result (HasEnded self.new) }
+        ensures untold { untold_of self.new ≡ untold_of self.old }
+    {
+        let shared = &*self.guard.shared;
+        shared.forget(self.guard.id);
+        told(self.handle.close(&shared.rt), None)
+    }
+
+    /// Who is at the other end: where it connected to, or whom the listener's accept told.
+    pub fn peer_addr(&self) -> Option<Addr> {
+        self.guard.peer
+    }
+
+    /// This end's address. A Unix connection that was not accepted has none.
+    pub fn local_addr(&self) -> Option<Addr> {
+        self.guard.local
+    }
+}
+
+// What a read answers, by what its handle was answered.
+fn read_answer(told: Result<usize, Fault>, code: Option<i32>) -> io::Result<usize>
+    ensures answer { IsReadAnswer told result }
+{
+    match told {
+        Ok(count) => Ok(count),
+        Err(Fault::EndOfFile) => Ok(0),
+        Err(fault) => Err(error_with(fault, code)),
+    }
+}
+
+impl<R: Runs> Read for Conn<R> {
+    /// Waits for at least one byte, for the end, or for what ends the wait: a close, its time, or a
+    /// fault of the device.
+    fn read(&mut self, buf: &mut [u8]) -> io::Result<usize>
+        ensures bound { ReadsAtMost result buf.new }
+        ensures bytes { ReadConsumes None None result buf.new }
+        ensures keeps { KeepsHandle (handle_of self.old) (handle_of self.new) }
+        ensures some { 0 < length buf.old → (told : Result ℕ Fault) × IsReadAnswer told result
+            × IfOk told (λ count. 0 < count) }
+        ensures closed { is_closed self.old ≡ true → IsNotConnected result }
+        ensures untold { untold_of self.new ≡ untold_of self.old }
+    {
+        let guard = &*self.guard;
+        let dir = Dir::Read;
+        let read = self
+            .handle
+            .read_timed(&guard.shared.rt, buf, &DirTimes { guard, dir });
+        read_answer(read, guard.code(dir))
+    }
+}
+
+impl<R: Runs> Write for Conn<R> {
+    /// Waits until all bytes are taken, or until what ends the wait. Bytes that were taken before
+    /// that count, and the next write tells it, which then writes nothing.
+    fn write(&mut self, buf: &[u8]) -> io::Result<usize>
+        ensures bound { WritesAtMost result buf.now }
+        ensures bytes { WriteAppends None None result buf.now }
+        ensures keeps { KeepsHandle (handle_of self.old) (handle_of self.new) }
+        ensures told { IfSome (untold_of self.old) (λ fault. FailsBy fault result
+            × (untold_of self.new ≡ None) × (handle_of self.new ≡ handle_of self.old)) }
+        ensures answer { untold_of self.old ≡ None → (told : Result ℕ WriteFault)
+            × IfOk told (λ count. count ≡ length buf.now)
+            × IsWriteAnswer told result (untold_of self.new) }
+        ensures closed { untold_of self.old ≡ None → is_closed self.old ≡ true
+            → IsNotConnected result }
+    {
+        let guard = &*self.guard;
+        let dir = Dir::Write;
+        if let Some(fault) = self.untold.take() {
+            return Err(error_with(fault, guard.code(dir)));
+        }
+        let times = DirTimes { guard, dir };
+        match self.handle.write_timed(&guard.shared.rt, buf, &times) {
+            Ok(count) => Ok(count),
+            Err(failed) => {
+                if failed.count == 0 {
+                    return Err(error_with(failed.fault, guard.code(dir)));
+                }
+                self.untold = Some(failed.fault);
+                Ok(failed.count)
+            }
+        }
+    }
+
+    /// Nothing is held back, so there is nothing to do.
+    fn flush(&mut self) -> io::Result<()>
+        ensures done { result ≡ Ok tt }
+        ensures same { self.new ≡ self.old }
+    {
+        Ok(())
+    }
+}
