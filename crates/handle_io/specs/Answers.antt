@@ -34,24 +34,39 @@ pub record IsWriteOf {X A R W : Type 0} (before after : FdHandle X A R W) (offer
   pub whole : IfOk told (λ count. count ≡ offered)
   pub part : IfErr told (λ failed. failed.count ≤ offered)
 
+-- an error has the kind of this fault
+abbrev pub HasItsKind : Fault → Error → Type 0
+HasItsKind told e = error_kind e ≡ kind_told told
+
 -- the call failed by an error that tells this fault
 abbrev pub TellsFault : Fault → Result ℕ Error → Type 0
-TellsFault told result = IsErrAnd result (λ e. error_kind e ≡ kind_told told)
+TellsFault told result = IsErrAnd result (HasItsKind told)
 
 -- the call failed as one of which nobody is at the other end, since this end is closed or draining
 abbrev pub IsNotConnected : Result ℕ Error → Type 0
 IsNotConnected result = IsErrAnd result (λ e. error_kind e ≡ NotConnected)
 
--- a read's answer: the handle's count, 0 at the stream's end, and each other fault by its kind
-abbrev pub IsReadAnswer : Result ℕ Fault → Result ℕ Error → Type 0
-IsReadAnswer (Ok count) result = result ≡ Ok count
-IsReadAnswer (Err fault.EndOfFile) result = result ≡ Ok 0
-IsReadAnswer (Err told) result = TellsFault told result
+-- a read's answer, where errors tell faults so: the handle's count, 0 at the stream's end, and each
+-- other fault
+abbrev pub IsReadAnswerBy : (Fault → Error → Type 0) → Result ℕ Fault → Result ℕ Error → Type 0
+IsReadAnswerBy Tells (Ok count) result = result ≡ Ok count
+IsReadAnswerBy Tells (Err fault.EndOfFile) result = result ≡ Ok 0
+IsReadAnswerBy Tells (Err told) result = IsErrAnd result (Tells told)
 
--- a write's answer, and the fault that is left for the next one to tell: the handle's count, a fault
--- by its kind where no byte was taken, and else the bytes that were taken, with the fault left
-abbrev pub IsWriteAnswer : Result ℕ WriteFault → Result ℕ Error → Option Fault → Type 0
-IsWriteAnswer (Ok count) result untold = (result ≡ Ok count) × (untold ≡ None)
-IsWriteAnswer (Err failed) result untold =
-    (failed.count ≡ 0 → TellsFault failed.fault result × (untold ≡ None))
+-- the same, each fault by its kind
+abbrev pub IsReadAnswer : Result ℕ Fault → Result ℕ Error → Type 0
+IsReadAnswer told result = IsReadAnswerBy HasItsKind told result
+
+-- a write's answer, where errors tell faults so, and the fault that is left for the next one to tell:
+-- the handle's count, a fault where no byte was taken, and else the bytes that were taken, with the
+-- fault left
+abbrev pub IsWriteAnswerBy : (Fault → Error → Type 0) → Result ℕ WriteFault → Result ℕ Error
+    → Option Fault → Type 0
+IsWriteAnswerBy Tells (Ok count) result untold = (result ≡ Ok count) × (untold ≡ None)
+IsWriteAnswerBy Tells (Err failed) result untold =
+    (failed.count ≡ 0 → IsErrAnd result (Tells failed.fault) × (untold ≡ None))
     × (0 < failed.count → (result ≡ Ok failed.count) × (untold ≡ Some failed.fault))
+
+-- the same, each fault by its kind
+abbrev pub IsWriteAnswer : Result ℕ WriteFault → Result ℕ Error → Option Fault → Type 0
+IsWriteAnswer told result untold = IsWriteAnswerBy HasItsKind told result untold

@@ -1,57 +1,77 @@
-//! `loop_echo_server`: gives back what it is sent, to many clients in one thread, by an event loop.
-//!
-//! It serves any port of loopback that is free. So many clients as it is asked for, 64 with no
-//! word, say something to it at once, each its own words, and wait until it has closed the idle
-//! connections. Then it ends.
+//! `loop_echo_server PORT LOOPS IDLE_MS` gives back what it is sent, to many clients on each of its
+//! threads. With other words it is its own clients, as `own_clients` has it.
 #![tactic(auto)]
 
-mod clients;
-mod server;
-mod task;
+ghost use Rattle.std.specs.Prelude.{◌≡◌, ◌≤◌};
 
-use crate::clients::{Echoes, play};
-use crate::server::Server;
-use std::process::ExitCode;
-use std::sync::Arc;
-use std::sync::atomic::Ordering;
-use std::{env, io, thread};
+mod own_clients;
 
-/// How long a connection may be idle, in nanoseconds.
-const IDLE: u64 = 500_000_000;
+use crate::own_clients::{asked, plays};
+use net::{Cause, Conn, Listener, Net, Next, Runs, Task, tcp};
+use std::alloc::Global;
+use std::time::Duration;
+use std::{env, io};
 
-/// How many clients the words ask for.
-fn asked(words: &[String]) -> Option<u32> {
-    match words {
-        [_] => Some(64),
-        [_, clients] => clients.parse().ok(),
-        _ => None,
+/// What a client said and isn't given back yet: from here to there in the buffer.
+#[derive(Drop)]
+struct Echo {
+    idle: Duration,
+    buf: [u8; 4096],
+    from: usize,
+    to: usize,
+    ghost kept: { (from ≤ to) × (to ≤ 4096) },
+}
+
+impl Echo {
+    fn new(idle: Duration) -> Echo
+        ensures { result.from ≡ result.to }
+    {
+        Echo {
+            idle,
+            buf: [0; 4096],
+            from: 0,
+            to: 0,
+        }
     }
 }
 
-fn main(rt: HostRuntime) -> io::Result<ExitCode> {
-    let words: Vec<String> = env::args(&rt)?.collect(rt.alloc())?;
-    let Some(clients) = asked(words.as_slice()) else {
-        eprintln!(rt; "bad command line")?;
-        return Ok(ExitCode::from(2));
-    };
-    let Some(mut server) = Server::open(rt, rt.alloc(), IDLE) else {
-        eprintln!(rt; "cannot listen")?;
-        return Ok(ExitCode::from(3));
-    };
-    let stopped = Arc::try_clone(&server.stopped)?;
-    let remote = server.remote()?;
-    let (alloc, port) = (rt.alloc(), server.port);
-    let playing = thread::spawn(&rt, move || {
-        let heard = play(&rt, alloc, port, clients);
-        stopped.store(true, Ordering::SeqCst);
-        remote.wake();
-        heard
-    })?;
-    let served = server.run();
-    let Echoes { own, end } = playing.join(&rt);
-    println!(rt; "{own} of {clients} clients heard their own words, and {end} the end after them")?;
-    Ok(match served {
-        Ok(()) => ExitCode::SUCCESS,
-        Err(_) => ExitCode::from(3),
-    })
+impl<R: Runs> Task<R> for Echo {
+    fn begin(&self, _alloc: Global) -> io::Result<Echo> {
+        Ok(Echo::new(self.idle))
+    }
+
+    fn step(&mut self, conn: &mut Conn<R>, cause: Cause) -> Next {
+        if cause == Cause::TimeOver {
+            return Next::Over;
+        }
+        for _ in 0..16u8 {
+            if self.from < self.to {
+                match conn.poll_write(&self.buf[self.from..self.to]) {
+                    Some(Ok(count)) => self.from += count,
+                    Some(Err(_)) => return Next::Over,
+                    None => return Next::Write(Some(self.idle)),
+                }
+                continue;
+            }
+            match conn.poll_read(&mut self.buf) {
+                Some(Ok(0)) | Some(Err(_)) => return Next::Over,
+                Some(Ok(count)) => (self.from, self.to) = (0, count),
+                None => return Next::Read(Some(self.idle)),
+            }
+        }
+        Next::Again
+    }
+}
+
+fn main(rt: HostRuntime) -> io::Result<()> {
+    let asked = asked(env::args(&rt)?.collect(rt.alloc())?)?;
+    let net = Net::start(rt, rt.alloc())?;
+    let listener = Listener::bind(&net, &tcp(asked.port))?;
+    let addr = listener.local_addr();
+    let service = net.serve(listener, asked.loops, Echo::new(asked.idle))?;
+    if let Some(clients) = asked.clients {
+        return println!(rt; "{}", plays(&rt, rt.alloc(), addr, clients));
+    }
+    service.wait();
+    Ok(())
 }

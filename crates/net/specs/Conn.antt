@@ -1,12 +1,11 @@
 -- A connection and a listener, as their callers see them.
-use Rattle.std.specs.Prelude.{◌≡◌, ◌<◌, ℕ, Bool, Option, None, Some, Result, Ok, Err}
+use Rattle.std.specs.Prelude.{◌≡◌, ℕ, Bool, Option, Result}
 use Rattle.std.specs.Prelude.{IsErrAnd}
 use Rattle.std.specs.Global.{Global}
 use Rattle.std.specs.IoError.{error_kind}
 use Rattle.std.specs.declared.io.Error.{Error}
 use Rattle.std.specs.declared.io.ErrorKind.TheVariants.{NotConnected}
 use Rattle.rwloops.specs.declared.fault.Fault.{Fault}
-use Rattle.rwloops.specs.declared.fault.Fault.TheVariants as fault
 use Rattle.rwloops.specs.declared.fault.WriteFault.{WriteFault}
 use Rattle.fd_descriptor.specs.declared.descriptor.FdHandle.{FdHandle}
 use Rattle.fd_descriptor.specs.FdHandle.{marks_of, saw_closed}
@@ -14,6 +13,9 @@ use Rattle.fd_descriptor.specs.Marks.{SawTheEnd}
 use Rattle.readiness.specs.declared.resources.SockRes.{SockRes}
 use Rattle.readiness.specs.declared.resources.ReadHalf.{ReadHalf}
 use Rattle.readiness.specs.declared.resources.WriteHalf.{WriteHalf}
+use Rattle.handle_io.specs.Answers.{IsReadAnswerBy, IsWriteAnswerBy}
+use Rattle.std.specs.Arc.{arc_value}
+use Rattle.net.specs.declared.guard.Guard.{Guard}
 use Rattle.net.specs.declared.stream.Conn.{Conn}
 use Rattle.net.specs.Errors.{Tells}
 
@@ -25,19 +27,13 @@ IsNotConnected result = IsErrAnd result (λ error. error_kind error ≡ NotConne
 abbrev pub FailsBy : {T : Type 0} → Fault → Result T Error → Type 0
 FailsBy told result = IsErrAnd result (Tells told)
 
--- a read's answer, by what the handle was answered: its count, 0 at the stream's end, and each other fault
+-- a read's answer, by what the handle was answered, with errors that may have the system's number
 abbrev pub IsReadAnswer : Result ℕ Fault → Result ℕ Error → Type 0
-IsReadAnswer (Ok count) result = result ≡ Ok count
-IsReadAnswer (Err fault.EndOfFile) result = result ≡ Ok 0
-IsReadAnswer (Err told) result = FailsBy told result
+IsReadAnswer told result = IsReadAnswerBy Tells told result
 
--- a write's answer, and the fault that is left for the next one to tell: the handle's count, a fault where
--- no byte was taken, and else the bytes that were taken, with the fault left
+-- a write's answer likewise, and the fault that is left for the next one to tell
 abbrev pub IsWriteAnswer : Result ℕ WriteFault → Result ℕ Error → Option Fault → Type 0
-IsWriteAnswer (Ok count) result untold = (result ≡ Ok count) × (untold ≡ None)
-IsWriteAnswer (Err failed) result untold =
-    (failed.count ≡ 0 → FailsBy failed.fault result × (untold ≡ None))
-    × (0 < failed.count → (result ≡ Ok failed.count) × (untold ≡ Some failed.fault))
+IsWriteAnswer told result untold = IsWriteAnswerBy Tells told result untold
 
 module _ {R : Type 0} where
   -- the handle by which this clone reads, writes and closes
@@ -51,6 +47,10 @@ module _ {R : Type 0} where
   -- the fault of a write that was cut off, which the next write tells
   abbrev pub untold_of : Conn R → Option Fault
   untold_of conn = conn.untold
+
+  -- what all clones of a connection have in common
+  abbrev pub guard_of : Conn R → Guard R
+  guard_of conn = arc_value conn.guard
 
   -- this clone has seen that both directions are ended, and that the socket is given back
   abbrev pub HasEnded : Conn R → Type 0

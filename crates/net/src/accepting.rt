@@ -1,23 +1,23 @@
 //! A listener, which gives connections.
 
-ghost use Rattle.std.specs.Prelude.{◌≡◌, true, IfOk, OnOk};
+ghost use Rattle.std.specs.Prelude.{◌≡◌, true, None, IfOk, OnOk};
 ghost use Rattle.fd_descriptor.specs.FdHandle.{KeepsHandle, descriptor_of, marks_of, saw_closed};
 ghost use Rattle.fd_descriptor.specs.Marks.{SawTheEnd};
-ghost use Rattle.net.specs.Conn.{IsNotConnected};
+ghost use Rattle.net.specs.Conn.{IsNotConnected, untold_of};
 
 use crate::errors::told;
 use crate::guard::Guard;
-use crate::limits::Limits;
+use crate::home::Home;
 use crate::running::Net;
 use crate::runs::Runs;
 use crate::shared::Shared;
 use crate::stream::Conn;
 use fd_descriptor::{Dir, FdHandle};
-use readiness::{Addr, LastCodes, Listen, NotedListenRes, listen_io};
+use readiness::{Addr, LastCodes, Listen, NotedListenRes, Sock, listen_io};
 use std::fs::Files;
 use std::io;
 use std::net::Net as Sockets;
-use std::sync::{Arc, Mutex};
+use std::sync::Arc;
 use std::thread::Threads;
 
 /// A listener. Any number of threads may accept, each by a clone of its own; when the last clone is
@@ -60,28 +60,30 @@ impl<R: Runs> Listener<R> {
         let alloc = shared.alloc;
         let codes = Arc::new(alloc, LastCodes::new())?;
         let (id, handle) = shared.hold_listener(listen, &codes, path)?;
-        let guard = Guard {
-            shared,
-            id,
-            limits: Mutex::new(Limits::none()),
-            codes,
-            local,
-            peer: None,
-        };
-        let guard = Arc::new(alloc, guard)?;
+        let guard = Arc::new(alloc, Guard::new(shared, id, codes, local, None, None))?;
         Ok(Listener { handle, guard })
+    }
+
+    /// Waits for a connection, as a socket that no poller knows yet.
+    pub(crate) fn accept_sock(&mut self) -> io::Result<Sock>
+        ensures keeps { KeepsHandle self.old.handle self.new.handle }
+        ensures closed { saw_closed self.old.handle ≡ true → IsNotConnected result }
+        ensures guard { self.new.guard ≡ self.old.guard }
+    {
+        let guard = &*self.guard;
+        let accepted = self.handle.accept(&guard.shared.rt);
+        told(accepted, guard.code(Dir::Read))
     }
 
     /// Waits for a connection.
     pub fn accept(&mut self) -> io::Result<Conn<R>>
+        ensures untold { IfOk result (λ conn. untold_of conn ≡ None) }
         ensures keeps { KeepsHandle self.old.handle self.new.handle }
         ensures closed { saw_closed self.old.handle ≡ true → IsNotConnected result }
     {
-        let guard = &*self.guard;
-        let accepted = self.handle.accept(&guard.shared.rt);
-        let sock = told(accepted, guard.code(Dir::Read))?;
+        let sock = self.accept_sock()?;
         let peer = sock.peer();
-        Conn::hold(&guard.shared, sock, peer)
+        Conn::hold(&self.guard.shared, sock, peer, &Home::Net)
     }
 
     /// Another owner of this listener, for another thread.
@@ -103,7 +105,7 @@ impl<R: Runs> Listener<R> {
         ensures ended { OnOk result (SawTheEnd (marks_of self.new.handle)) }
     {
         let shared = &*self.guard.shared;
-        shared.forget(self.guard.id);
+        let _ = shared.take(self.guard.id);
         told(self.handle.close(&shared.rt), None)
     }
 

@@ -1,6 +1,8 @@
 //! Addresses as a program writes them.
 
-ghost use Rattle.std.specs.Prelude.{◌≡◌, ◌∷◌, ◌++◌, [], IfOk, IfSome};
+ghost use Rattle.std.specs.Prelude.{◌≡◌, ◌∷◌, ◌++◌, [], IfOk, IfErr, IfSome};
+ghost use Rattle.std.specs.IoError.{error_kind};
+ghost use Rattle.std.specs.declared.io.ErrorKind.{ErrorKind};
 ghost use Rattle.net.specs.Address.{Names};
 
 use arrayvec::ArrayString;
@@ -35,6 +37,7 @@ fn ipv4(text: &str) -> Option<Addr>
 /// names are looked up. Any other text is `InvalidInput`.
 pub fn address_of(text: &str) -> io::Result<Addr>
     ensures names { IfOk result (Names text.now) }
+    ensures refused { IfErr result (λ error. error_kind error ≡ ErrorKind.InvalidInput) }
 {
     let named = match text.strip_prefix(UNIX) {
         Some(path) => unix(path),

@@ -3,6 +3,7 @@
 
 ghost use Rattle.std.specs.Prelude.{◌≡◌};
 
+use crate::home::TaskSeat;
 use crate::runs::Runs;
 use arrayvec::ArrayString;
 use fd_descriptor::{Fault, FdHandle, PollCell};
@@ -22,6 +23,8 @@ pub(crate) enum Closer {
 pub(crate) struct Entry {
     pub(crate) cell: Arc<PollCell>,
     pub(crate) closer: Closer,
+    // Where its task is, if a loop has one.
+    pub(crate) seat: Option<TaskSeat>,
 }
 
 impl HasCell for Entry {
@@ -42,10 +45,21 @@ impl Entry {
         }
     }
 
+    /// Has the task of its loop hear that the descriptor was closed, for who closed it.
+    pub(crate) fn tell_task<R: Runs>(&self, rt: &R) {
+        if let Some(seat) = &self.seat {
+            seat.tell(rt);
+        }
+    }
+
     /// Closes the descriptor for all its handles. The table's lock must not be held.
     pub(crate) fn close<R: Runs>(self, rt: &R) -> Result<(), Fault> {
-        let Entry { cell: _, closer } = self;
-        match closer {
+        let Entry {
+            cell: _,
+            closer,
+            seat,
+        } = self;
+        let closed = match closer {
             Closer::Conn(handle) => {
                 let mut handle = handle;
                 handle.close(rt)
@@ -54,6 +68,10 @@ impl Entry {
                 let mut handle = handle;
                 handle.close(rt)
             }
+        };
+        if let Some(seat) = seat {
+            seat.tell(rt);
         }
+        closed
     }
 }

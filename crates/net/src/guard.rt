@@ -1,10 +1,12 @@
 //! What all that share a descriptor have in common. With the last of them it goes, and closes.
 
+ghost use Rattle.std.specs.Prelude.{◌≡◌};
+
 use crate::limits::Limits;
 use crate::runs::Runs;
 use crate::shared::Shared;
-use fd_descriptor::Dir;
-use readiness::{Addr, LastCodes};
+use fd_descriptor::{Alarms, Dir, Dirs, OutOfMemory};
+use readiness::{Addr, LastCodes, RemoteAlarms};
 use std::sync::{Arc, Mutex};
 
 pub(crate) struct Guard<R: Runs> {
@@ -14,12 +16,54 @@ pub(crate) struct Guard<R: Runs> {
     pub(crate) codes: Arc<LastCodes>,
     pub(crate) local: Option<Addr>,
     pub(crate) peer: Option<Addr>,
+    // Those of the loop that has its task, if one has.
+    loop_alarms: Option<RemoteAlarms<R>>,
 }
 
 impl<R: Runs> Guard<R> {
+    /// What the first that has the descriptor shares: without limits, under its table's id.
+    pub(crate) fn new(
+        shared: Arc<Shared<R>>,
+        id: u64,
+        codes: Arc<LastCodes>,
+        local: Option<Addr>,
+        peer: Option<Addr>,
+        loop_alarms: Option<RemoteAlarms<R>>,
+    ) -> Guard<R>
+        ensures local { result.local ≡ local }
+        ensures peer { result.peer ≡ peer }
+    {
+        Guard {
+            shared,
+            id,
+            limits: Mutex::new(Limits::none()),
+            codes,
+            local,
+            peer,
+            loop_alarms,
+        }
+    }
+
     /// The system's number of the fault that a call of this direction met last.
     pub(crate) fn code(&self, dir: Dir) -> Option<i32> {
         self.codes.last(dir)
+    }
+}
+
+// Deadlines wake who tells the descriptor that it is ready: the net's poller, or the loop of its task.
+impl<R: Runs> Alarms for Guard<R> {
+    fn arm(&self, key: u64, dirs: Dirs, at: u64) -> Result<(), OutOfMemory> {
+        match &self.loop_alarms {
+            Some(alarms) => alarms.arm(key, dirs, at),
+            None => self.shared.alarms.arm(key, dirs, at),
+        }
+    }
+
+    fn disarm(&self, key: u64, dirs: Dirs) {
+        match &self.loop_alarms {
+            Some(alarms) => alarms.disarm(key, dirs),
+            None => self.shared.alarms.disarm(key, dirs),
+        }
     }
 }
 
@@ -32,6 +76,7 @@ impl<R: Runs> Drop for Guard<R> {
             codes: _,
             local: _,
             peer: _,
+            loop_alarms: _,
         } = self;
         shared.end(id);
     }

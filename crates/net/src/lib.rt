@@ -7,15 +7,22 @@
 
 mod accepting;
 mod address;
+mod door;
 mod entry;
 mod errors;
 mod guard;
+mod home;
 pub mod laws;
 mod limits;
+mod polling;
 mod running;
 mod runs;
+mod serve_loop;
+mod served;
+mod service;
 mod shared;
 mod stream;
+mod task;
 mod timing;
 
 pub use accepting::Listener;
@@ -25,4 +32,6 @@ pub use limits::{Limits, Times};
 pub use readiness::Addr;
 pub use running::Net;
 pub use runs::{Runs, Unlinks};
+pub use service::Service;
 pub use stream::Conn;
+pub use task::{Cause, Next, Task};

@@ -28,7 +28,7 @@ pub struct Limits {
 }
 
 /// The moment that is so long after `now`, or the last there is; with no time it never comes.
-fn moment_in(now: u64, time: Option<Duration>) -> Deadline
+pub(crate) fn moment_in(now: u64, time: Option<Duration>) -> Deadline
     ensures { result ≡ moment_of now time }
 {
     match time {

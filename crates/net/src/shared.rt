@@ -3,9 +3,10 @@
 
 use crate::entry::{Closer, Entry};
 use crate::errors::told;
+use crate::home::Home;
 use crate::runs::Runs;
 use arrayvec::ArrayString;
-use fd_descriptor::{Alarms, Dirs, Fault, FdHandle, PollCell};
+use fd_descriptor::{Alarms, DevKind, Dirs, Fault, FdHandle, PollCell};
 use readiness::{
     ConnTable, LastCodes, Listen, MAX_PATH_BYTES, NoWrites, NotedListen, NotedListenRes, Registrar,
     Sock, SockRes, TableRefusal, TimerAlarms, Timers, Waker,
@@ -64,13 +65,21 @@ fn open_listener(
 }
 
 // Puts a descriptor's entry into the table, whose lock has been held since `vacant`.
-fn enter(table: &mut ConnTable<Entry>, cell: Arc<PollCell>, closer: Closer) -> Result<u64, Fault> {
-    match table.insert(Entry { cell, closer }) {
+fn enter(table: &mut ConnTable<Entry>, entry: Entry) -> Result<u64, Fault> {
+    match table.insert(entry) {
         Ok((id, _)) => Ok(id),
         Err((_, refusal)) => Err(match refusal {
             TableRefusal::OutOfMemory => Fault::OutOfMemory,
             _ => Fault::TooMany,
         }),
+    }
+}
+
+// The fault of a socket that isn't registered.
+fn registered(done: Result<(), DevKind>) -> Result<(), Fault> {
+    match done {
+        Ok(()) => Ok(()),
+        Err(kind) => Err(Fault::Device(kind)),
     }
 }
 
@@ -94,20 +103,39 @@ impl<R: Runs> Shared<R> {
         }
     }
 
+    // Registers a socket with who tells it, and gives the key of its deadlines: in the net the id
+    // and the token are those of its entry, in a loop both are its task's token.
+    fn register(&self, sock: &mut Sock, home: &Home<'_>, next: (u64, u64)) -> io::Result<u64> {
+        let (id, token) = next;
+        match home {
+            Home::Net => {
+                self.registrar.register(sock, token)?;
+                Ok(id)
+            }
+            Home::Loop(place) => {
+                told(registered(place.poller.register(sock, place.token)), None)?;
+                Ok(place.token)
+            }
+        }
+    }
+
     /// Makes a descriptor of a connection. Where anything is refused the socket is dropped, which
     /// closes it.
     pub(crate) fn hold(
         &self,
         sock: Sock,
         codes: &Arc<LastCodes>,
+        home: &Home<'_>,
     ) -> io::Result<(u64, FdHandle<SockRes>)> {
         let rt = self.rt;
+        let seat = home.seat()?;
         let mut table = self.table.lock(&rt);
-        let (id, token) = told(self.vacant(&table), None)?;
+        let next = told(self.vacant(&table), None)?;
         let mut sock = sock;
-        self.registrar.register(&mut sock, token)?;
-        let (cell, handle, other) = open_conn(self.alloc, sock, codes, id)?;
-        let id = told(enter(&mut *table, cell, Closer::Conn(handle)), None)?;
+        let key = self.register(&mut sock, home, next)?;
+        let (cell, handle, other) = open_conn(self.alloc, sock, codes, key)?;
+        let closer = Closer::Conn(handle);
+        let id = told(enter(&mut *table, Entry { cell, closer, seat }), None)?;
         Ok((id, other))
     }
 
@@ -125,7 +153,8 @@ impl<R: Runs> Shared<R> {
         self.registrar.register_listener(&mut listen, token)?;
         let (cell, handle, other) = open_listener(self.alloc, listen, codes, id)?;
         let closer = Closer::Listener(handle, path);
-        let id = told(enter(&mut *table, cell, closer), None)?;
+        let seat = None;
+        let id = told(enter(&mut *table, Entry { cell, closer, seat }), None)?;
         Ok((id, other))
     }
 
@@ -141,11 +170,6 @@ impl<R: Runs> Shared<R> {
             }
             Err(_) => None,
         }
-    }
-
-    /// Takes an entry out, for who closes its descriptor then.
-    pub(crate) fn forget(&self, id: u64) {
-        let _ = self.take(id);
     }
 
     /// Takes an entry out and closes its descriptor, for all that share it.

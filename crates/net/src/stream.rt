@@ -1,7 +1,7 @@
 //! A connection: a reader and a writer of the standard library, with times, and a close that all
 //! who share it hear.
 
-ghost use Rattle.std.specs.Prelude.{◌≡◌, ◌≤◌, ◌<◌, ℕ, true, None, IfOk, IfErr, IfSome, OnOk, Ok};
+ghost use Rattle.std.specs.Prelude.{◌≡◌, ◌≤◌, ◌<◌, ℕ, true, None, Some, IfOk, IfErr, IfSome, OnOk, Ok, Err};
 ghost use Rattle.std.specs.Prelude.{Result, length};
 ghost use Rattle.std.specs.Io.{ReadsAtMost, WritesAtMost};
 ghost use Rattle.std.specs.Io.KnownBytes.{ReadConsumes, WriteAppends};
@@ -9,21 +9,22 @@ ghost use Rattle.fd_descriptor.specs.FdHandle.{KeepsHandle, descriptor_of, marks
 ghost use Rattle.rwloops.specs.declared.fault.Fault.{Fault};
 ghost use Rattle.rwloops.specs.declared.fault.WriteFault.{WriteFault};
 ghost use Rattle.net.specs.Conn.{IsNotConnected, FailsBy, IsReadAnswer, IsWriteAnswer};
-ghost use Rattle.net.specs.Conn.{HasEnded, handle_of, is_closed, untold_of};
+ghost use Rattle.net.specs.Conn.{HasEnded, guard_of, handle_of, is_closed, untold_of};
 
 use crate::errors::{error_with, told};
 use crate::guard::Guard;
-use crate::limits::Limits;
+use crate::home::Home;
 use crate::running::Net;
 use crate::runs::Runs;
 use crate::shared::Shared;
+use crate::task::Blocked;
 use crate::timing::{DirTimes, arm, arm_both};
-use fd_descriptor::{Dir, Fault, FdHandle};
+use fd_descriptor::{Dir, Fault, FdHandle, WriteFault};
 use readiness::{Addr, LastCodes, Sock, SockRes, connect_io};
 use std::io;
 use std::io::{Read, Write};
 use std::net::Net as Sockets;
-use std::sync::{Arc, Mutex};
+use std::sync::Arc;
 use std::thread::Threads;
 use std::time::Duration;
 
@@ -33,15 +34,20 @@ use std::time::Duration;
 pub struct Conn<R: Runs> {
     pub(crate) handle: FdHandle<SockRes>,
     // The fault of a write that was cut off after some bytes, which the next one tells.
-    untold: Option<Fault>,
-    guard: Arc<Guard<R>>,
+    pub(crate) untold: Option<Fault>,
+    // Of this clone's calls that don't wait.
+    pub(crate) blocked: Blocked,
+    pub(crate) guard: Arc<Guard<R>>,
 }
 
 impl<R: Runs + Threads + Sockets> Conn<R> {
     /// Connects to an address, and waits until the connection is made, for so long at most.
-    pub fn connect(net: &Net<R>, addr: &Addr, timeout: Option<Duration>) -> io::Result<Conn<R>> {
+    pub fn connect(net: &Net<R>, addr: &Addr, timeout: Option<Duration>) -> io::Result<Conn<R>>
+        ensures untold { IfOk result (λ conn. untold_of conn ≡ None) }
+        ensures peer { IfOk result (λ conn. (guard_of conn).peer ≡ Some addr.now) }
+    {
         let sock = connect_io(&net.shared.rt, addr)?;
-        let mut conn = Conn::hold(&net.shared, sock, Some(*addr))?;
+        let mut conn = Conn::hold(&net.shared, sock, Some(*addr), &Home::Net)?;
         conn.set_deadline(timeout)?;
         conn.wait_connected()?;
         conn.set_deadline(None)?;
@@ -55,31 +61,31 @@ impl<R: Runs> Conn<R> {
         shared: &Arc<Shared<R>>,
         sock: Sock,
         peer: Option<Addr>,
+        home: &Home<'_>,
     ) -> io::Result<Conn<R>>
         ensures untold { IfOk result (λ conn. untold_of conn ≡ None) }
+        ensures peer { IfOk result (λ conn. (guard_of conn).peer ≡ peer) }
     {
         let local = sock.local();
         let shared = Arc::try_clone(shared)?;
         let alloc = shared.alloc;
         let codes = Arc::new(alloc, LastCodes::new())?;
-        let (id, handle) = shared.hold(sock, &codes)?;
-        let guard = Guard {
-            shared,
-            id,
-            limits: Mutex::new(Limits::none()),
-            codes,
-            local,
-            peer,
-        };
+        let alarms = home.alarms(shared.rt)?;
+        let (id, handle) = shared.hold(sock, &codes, home)?;
+        let guard = Guard::new(shared, id, codes, local, peer, alarms);
         let guard = Arc::new(alloc, guard)?;
         Ok(Conn {
             handle,
             untold: None,
+            blocked: Blocked::none(),
             guard,
         })
     }
 
-    fn wait_connected(&mut self) -> io::Result<()> {
+    fn wait_connected(&mut self) -> io::Result<()>
+        ensures untold { untold_of self.new ≡ untold_of self.old }
+        ensures guard { guard_of self.new ≡ guard_of self.old }
+    {
         let guard = &*self.guard;
         let connected = self.handle.connected(&guard.shared.rt);
         told(connected, guard.code(Dir::Write))
@@ -92,19 +98,23 @@ impl<R: Runs> Conn<R> {
             descriptor_of (handle_of other) ≡ descriptor_of (handle_of self.old)) }
         ensures seen { IfOk result (λ other. is_closed other ≡ is_closed self.old) }
         ensures untold { IfOk result (λ other. untold_of other ≡ None) }
+        ensures guard { IfOk result (λ other. guard_of other ≡ guard_of self.old) }
     {
         let handle = told(self.handle.share(), None)?;
         let guard = Arc::try_clone(&self.guard)?;
         Ok(Conn {
             handle,
             untold: None,
+            blocked: Blocked::none(),
             guard,
         })
     }
 
     /// Has all calls give up after so long from now, those that wait now too, for all who share the
-    /// connection; with `None` none does.
+    /// connection; with `None` none does. Reads come first: where an alarm is refused memory, reads
+    /// may have the new deadline, and writes the one of before.
     pub fn set_deadline(&mut self, time: Option<Duration>) -> io::Result<()>
+        ensures guard { guard_of self.new ≡ guard_of self.old }
         ensures keeps { KeepsHandle (handle_of self.old) (handle_of self.new) }
         ensures closed { is_closed self.old ≡ true → IsNotConnected result }
         ensures untold { untold_of self.new ≡ untold_of self.old }
@@ -115,7 +125,7 @@ impl<R: Runs> Conn<R> {
         let before = *limits;
         let next = before.with_until(time, now);
         *limits = next;
-        told(arm_both(shared, &mut self.handle, next, now), None)
+        told(arm_both(&self.guard, &mut self.handle, next, now), None)
     }
 
     // Has each call of a direction give up after so long.
@@ -131,7 +141,7 @@ impl<R: Runs> Conn<R> {
         let next = before.with_time(dir, time, now);
         *limits = next;
         told(
-            arm(shared, &mut self.handle, dir, next.until(dir), now),
+            arm(&self.guard, &mut self.handle, dir, next.until(dir), now),
             None,
         )
     }
@@ -173,25 +183,34 @@ impl<R: Runs> Conn<R> {
         ensures closed { is_closed self.old ≡ true → IsNotConnected result }
         ensures ended { OnOk result (HasEnded self.new) }
         ensures untold { untold_of self.new ≡ untold_of self.old }
+        ensures guard { guard_of self.new ≡ guard_of self.old }
     {
         let shared = &*self.guard.shared;
-        shared.forget(self.guard.id);
-        told(self.handle.close(&shared.rt), None)
+        let entry = shared.take(self.guard.id);
+        let closed = told(self.handle.close(&shared.rt), None);
+        if let Some(entry) = entry {
+            entry.tell_task(&shared.rt);
+        }
+        closed
     }
 
     /// Who is at the other end: where it connected to, or whom the listener's accept told.
-    pub fn peer_addr(&self) -> Option<Addr> {
+    pub fn peer_addr(&self) -> Option<Addr>
+        ensures { result ≡ (guard_of self.now).peer }
+    {
         self.guard.peer
     }
 
     /// This end's address. A Unix connection that was not accepted has none.
-    pub fn local_addr(&self) -> Option<Addr> {
+    pub fn local_addr(&self) -> Option<Addr>
+        ensures { result ≡ (guard_of self.now).local }
+    {
         self.guard.local
     }
 }
 
-// What a read answers, by what its handle was answered.
-fn read_answer(told: Result<usize, Fault>, code: Option<i32>) -> io::Result<usize>
+/// What a read answers, by what its handle was answered.
+pub(crate) fn read_answer(told: Result<usize, Fault>, code: Option<i32>) -> io::Result<usize>
     ensures answer { IsReadAnswer told result }
 {
     match told {
@@ -199,6 +218,21 @@ fn read_answer(told: Result<usize, Fault>, code: Option<i32>) -> io::Result<usiz
         Err(Fault::EndOfFile) => Ok(0),
         Err(fault) => Err(error_with(fault, code)),
     }
+}
+
+/// What a write answers that failed, with what is left for the next one to tell.
+pub(crate) fn failed_write(
+    untold: &mut Option<Fault>,
+    failed: WriteFault,
+    code: Option<i32>,
+) -> io::Result<usize>
+    ensures answer { untold.old ≡ None → IsWriteAnswer (Err failed) result untold.new }
+{
+    if failed.count == 0 {
+        return Err(error_with(failed.fault, code));
+    }
+    *untold = Some(failed.fault);
+    Ok(failed.count)
 }
 
 impl<R: Runs> Read for Conn<R> {
@@ -225,6 +259,7 @@ impl<R: Runs> Read for Conn<R> {
 impl<R: Runs> Write for Conn<R> {
     /// Waits until all bytes are taken, or until what ends the wait. Bytes that were taken before
     /// that count, and the next write tells it, which then writes nothing.
+    // (`handle_io`'s writer does the same over a handle of its own, without times and numbers)
     fn write(&mut self, buf: &[u8]) -> io::Result<usize>
         ensures bound { WritesAtMost result buf.now }
         ensures bytes { WriteAppends None None result buf.now }
@@ -245,13 +280,7 @@ impl<R: Runs> Write for Conn<R> {
         let times = DirTimes { guard, dir };
         match self.handle.write_timed(&guard.shared.rt, buf, &times) {
             Ok(count) => Ok(count),
-            Err(failed) => {
-                if failed.count == 0 {
-                    return Err(error_with(failed.fault, guard.code(dir)));
-                }
-                self.untold = Some(failed.fault);
-                Ok(failed.count)
-            }
+            Err(failed) => failed_write(&mut self.untold, failed, guard.code(dir)),
         }
     }
 

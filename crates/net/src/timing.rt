@@ -8,7 +8,6 @@ ghost use Rattle.rwloops.specs.declared.fault.Fault.{Fault};
 use crate::guard::Guard;
 use crate::limits::Limits;
 use crate::runs::Runs;
-use crate::shared::Shared;
 use fd_descriptor::{BegunCall, CallTimes, Deadline, Dir, Fault, FdHandle};
 use readiness::SockRes;
 
@@ -35,13 +34,13 @@ impl<'a, R: Runs> CallTimes for DirTimes<'a, R> {
         let now = shared.now();
         let next = before.with_time(self.dir, time, now);
         *limits = next;
-        call.set_deadline(&shared.rt, next.until(self.dir), now, &shared.alarms)
+        call.set_deadline(&shared.rt, next.until(self.dir), now, self.guard)
     }
 }
 
 /// Sets the deadline of one direction, for the call under way and for later ones.
 pub(crate) fn arm<R: Runs>(
-    shared: &Shared<R>,
+    guard: &Guard<R>,
     handle: &mut FdHandle<SockRes>,
     dir: Dir,
     until: Deadline,
@@ -51,15 +50,15 @@ pub(crate) fn arm<R: Runs>(
     ensures closed { saw_closed handle.old ≡ true → result ≡ Err Fault.Closed }
 {
     match dir {
-        Dir::Read => handle.set_read_deadline(&shared.rt, until, now, &shared.alarms),
-        Dir::Write => handle.set_write_deadline(&shared.rt, until, now, &shared.alarms),
+        Dir::Read => handle.set_read_deadline(&guard.shared.rt, until, now, guard),
+        Dir::Write => handle.set_write_deadline(&guard.shared.rt, until, now, guard),
     }
 }
 
 /// Sets the deadline of both directions, each the earlier of its call's own time and the moment for
 /// all calls.
 pub(crate) fn arm_both<R: Runs>(
-    shared: &Shared<R>,
+    guard: &Guard<R>,
     handle: &mut FdHandle<SockRes>,
     limits: Limits,
     now: u64,
@@ -67,6 +66,6 @@ pub(crate) fn arm_both<R: Runs>(
     ensures keeps { KeepsHandle handle.old handle.new }
     ensures closed { saw_closed handle.old ≡ true → result ≡ Err Fault.Closed }
 {
-    arm(shared, handle, Dir::Read, limits.until(Dir::Read), now)?;
-    arm(shared, handle, Dir::Write, limits.until(Dir::Write), now)
+    arm(guard, handle, Dir::Read, limits.until(Dir::Read), now)?;
+    arm(guard, handle, Dir::Write, limits.until(Dir::Write), now)
 }

@@ -18,8 +18,11 @@ mod clients;
 mod connecting;
 mod ends;
 mod listening;
+mod many;
 mod memory;
 mod scenes;
+mod serving;
+mod tasks;
 mod times;
 mod waiting;
 

@@ -1,5 +1,5 @@
-//! A hundred clients at once, of which a third end by a reset, and one server with a thread for
-//! each.
+//! A hundred clients at once, of which a third end by a reset and a third by a half-close, and one
+//! server with a thread for each.
 
 use super::{millis, open_files, pause};
 use net::{Addr, Conn, Listener, Net, Runs, tcp};
@@ -60,6 +60,14 @@ fn trips<R: Runs>(conn: Conn<R>, number: u8) -> io::Result<()> {
         conn.write_all(&[number; 16])?;
         conn.read_exact(&mut heard[..1])?;
     }
+    if number % 3 == 1 {
+        conn.write_all(&[number; 16])?;
+        conn.close_write()?;
+        conn.read_exact(&mut heard)?;
+        if heard != [number; 16] || conn.read(&mut heard)? != 0 {
+            return Err(ErrorKind::InvalidData.into());
+        }
+    }
     conn.close()
 }
 
@@ -71,7 +79,7 @@ where
     thread::spawn(&rt, move || trips(conn, number)).expect(&rt, "thread")
 }
 
-fn all_trips<R>(rt: R, alloc: Global, net: &Net<R>, addr: &Addr)
+pub fn all_trips<R>(rt: R, alloc: Global, net: &Net<R>, addr: &Addr)
 where
     R: Runs + Threads + Sockets + Abort + Send + Sync + 'static,
 {

@@ -3,7 +3,7 @@
 
 ghost use Rattle.std.specs.Prelude.{◌≡◌, ◌≤◌};
 ghost use Rattle.std.specs.Io.KnownBytes.{Consumes, IsAtEnd};
-ghost use Rattle.loop_echo_server.specs.declared.clients.Seen.{Seen};
+ghost use Rattle.loop_echo_server.specs.declared.own_clients.clients.Seen.{Seen};
 
 use std::alloc::Global;
 use std::io::{Read, Write};

@@ -1,0 +1,65 @@
+//! Who tells a connection that it is ready: the poller of its net, for threads that wait, or the one
+//! of a loop, which has a task for it.
+
+ghost use Rattle.std.specs.Prelude.{◌≡◌};
+
+use crate::runs::Runs;
+use readiness::{LoopRemote, Poller, RemoteAlarms};
+use std::io;
+use std::sync::Arc;
+
+/// A loop's place for a task, with what its connection needs of the loop.
+#[derive(Drop)]
+pub(crate) struct TaskPlace<'a> {
+    pub(crate) poller: &'a Poller,
+    pub(crate) remote: &'a Arc<LoopRemote>,
+    /// The token under which its socket is told, which is the key of its deadlines.
+    pub(crate) token: u64,
+}
+
+/// Where a connection is told of what may go on.
+#[derive(Drop)]
+pub(crate) enum Home<'a> {
+    /// By its net's poller.
+    Net,
+    /// By a loop's, under the token of its task.
+    Loop(TaskPlace<'a>),
+}
+
+impl<'a> Home<'a> {
+    /// The alarms of its deadlines, where they aren't the net's.
+    pub(crate) fn alarms<R: Runs>(&self, rt: R) -> io::Result<Option<RemoteAlarms<R>>> {
+        match self {
+            Home::Net => Ok(None),
+            Home::Loop(place) => {
+                let remote = Arc::try_clone(place.remote)?;
+                Ok(Some(RemoteAlarms::new(rt, remote)))
+            }
+        }
+    }
+
+    /// Who hears that the connection was closed, where a loop has a task for it.
+    pub(crate) fn seat(&self) -> io::Result<Option<TaskSeat>> {
+        match self {
+            Home::Net => Ok(None),
+            Home::Loop(place) => Ok(Some(TaskSeat {
+                remote: Arc::try_clone(place.remote)?,
+                token: place.token,
+            })),
+        }
+    }
+}
+
+/// A task of a loop, for who tells it something from another thread.
+#[derive(Drop)]
+pub(crate) struct TaskSeat {
+    remote: Arc<LoopRemote>,
+    token: u64,
+}
+
+impl TaskSeat {
+    /// Has the task go on, if it is there.
+    pub(crate) fn tell<R: Runs>(&self, rt: &R) {
+        self.remote.tell(rt, self.token);
+    }
+}
