@@ -1,1 +1,4 @@
+pub mod Answer
+pub mod Client
+pub mod Desk
 pub mod Server

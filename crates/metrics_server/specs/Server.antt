@@ -1,52 +1,46 @@
 -- A server of figures, as its callers see it.
-use Rattle.std.specs.Prelude.{◌≡◌, ◌⊎◌, ℕ, Bool}
+use Rattle.std.specs.Prelude.{◌≡◌, ◌⊎◌, ℕ, true, Option, IfSome}
 use Rattle.std.specs.Arc.{arc_value}
-use Rattle.readiness.specs.Alarms.{timers_of, woken_by}
-use Rattle.readiness.specs.Poller.{waker_of}
-use Rattle.readiness.specs.Sockets.{is_tcp_listener}
-use Rattle.readiness.specs.declared.poller.Poller.{Poller}
+use Rattle.std.specs.Global.{Global}
+use Rattle.readiness.specs.EventLoop.{remote_in, remote_of}
+use Rattle.readiness.specs.Sockets.{is_tcp_addr}
+use Rattle.readiness.specs.declared.addr.Addr.{Addr}
+use Rattle.readiness.specs.declared.loop_remote.LoopRemote.{LoopRemote}
 use Rattle.rwloops.specs.declared.fault.Fault.{Fault}
 use Rattle.rwloops.specs.declared.fault.Fault.TheVariants.{Device, OutOfMemory}
 use Rattle.rwloops.specs.declared.outcome.DevKind.TheVariants.{Other}
-use Rattle.mio.specs.declared.waker.Waker.{Waker}
+use Rattle.metrics_server.specs.Desk.{metered_at}
 use Rattle.metrics_server.specs.declared.running.Running.{Running}
 use Rattle.metrics_server.specs.declared.server.MetricsServer.{MetricsServer}
-use Rattle.metrics_server.specs.declared.shared.Shared.{Shared}
 
 module _ {R M : Type 0} where
-  -- what the threads of a server share
-  abbrev pub shared_of : MetricsServer R M → Shared R M
-  shared_of server = arc_value server.shared
-
   -- the nanoseconds that it gives each client
   abbrev pub limit_of : MetricsServer R M → ℕ
-  limit_of server = (shared_of server).limit_ns
+  limit_of server = server.desk.limit_ns
 
   -- whose figures it tells
   abbrev pub metered_of : MetricsServer R M → M
-  metered_of server = (shared_of server).metered
+  metered_of server = metered_at server.desk
 
-  -- whether it listens by TCP
-  abbrev pub is_tcp_server : MetricsServer R M → Bool
-  is_tcp_server server = is_tcp_listener server.listener
+  -- the port at which it listens, if it does so by TCP
+  abbrev pub port_of : MetricsServer R M → Option ℕ
+  port_of server = server.port
 
-  -- what ends the turns of its poller early
-  abbrev pub waker_in : MetricsServer R M → Waker
-  waker_in server = waker_of server.poller
+  -- what wakes its loop
+  abbrev pub remote_behind : MetricsServer R M → LoopRemote Global
+  remote_behind server = remote_in server.tasks
+
+  -- the deadlines of its clients wake its own loop
+  abbrev pub HasOwnAlarms : MetricsServer R M → Type 0
+  HasOwnAlarms server = remote_of server.desk.alarms ≡ remote_behind server
 
 -- what a stop wakes
-abbrev pub woken_by_stop : Running → Waker
-woken_by_stop running = arc_value running.waker
+abbrev pub woken_by_stop : Running → LoopRemote Global
+woken_by_stop running = arc_value running.remote
 
--- deadlines wake this poller, and arm timers with the value of those that turns take: two mutexes
--- that guard the same have one value, so that `timers` doesn't tell them apart
-pub record ArmFor {R M A : Type 0} (poller : Poller A) (shared : Shared R M) : Type 0 where
-  pub timers : timers_of shared.alarms ≡ arc_value shared.timers
-  pub waker : woken_by shared.alarms ≡ waker_of poller
-
--- deadlines wake the server's own poller
-abbrev pub HasOwnAlarms : {R M : Type 0} → MetricsServer R M → Type 0
-HasOwnAlarms server = ArmFor server.poller (shared_of server)
+-- only a TCP address has a port
+abbrev pub IsPortOf : Addr → Option ℕ → Type 0
+IsPortOf addr port = IfSome port (λ _. is_tcp_addr addr ≡ true)
 
 -- memory was refused, or the system refused the address, a poller or the time
 abbrev pub IsOpenFault : Fault → Type 0

@@ -2,12 +2,12 @@
 
 ghost use Rattle.std.specs.Prelude.{◌≡◌, IfOk, IfErr};
 ghost use Rattle.rwloops.specs.declared.fault.Fault.{Fault};
-ghost use Rattle.metrics_server.specs.Server.{waker_in, woken_by_stop};
+ghost use Rattle.metrics_server.specs.Server.{remote_behind, woken_by_stop};
 
 use crate::STACK_BYTES;
 use crate::server::MetricsServer;
 use fd_descriptor::Fault;
-use readiness::Waker;
+use readiness::LoopRemote;
 use relay_metrics::Metered;
 use std::random::RandomSource;
 use std::sync::atomic::{AtomicBool, Ordering};
@@ -19,7 +19,7 @@ use std::time::Clock;
 #[derive(Drop)]
 pub struct Running {
     stopped: Arc<AtomicBool>,
-    waker: Arc<Waker>,
+    remote: Arc<LoopRemote>,
     thread: JoinHandle<()>,
 }
 
@@ -31,23 +31,23 @@ where
     /// Serves from now on, on a thread of its own. Where memory or a thread is refused the listener
     /// is closed.
     pub fn start(self) -> Result<Running, Fault>
-        ensures wakes { IfOk result (λ running. woken_by_stop running ≡ waker_in self) }
+        ensures wakes { IfOk result (λ running. woken_by_stop running ≡ remote_behind self) }
         ensures faults { IfErr result (λ fault. fault ≡ Fault.OutOfMemory) }
     {
         let stopped = Arc::new(self.alloc, AtomicBool::new(false));
-        let (Ok(stopped), Ok(waker)) = (stopped, self.poller.waker()) else {
+        let (Ok(stopped), Ok(remote)) = (stopped, self.tasks.remote()) else {
             return Err(Fault::OutOfMemory);
         };
         let Ok(watched) = Arc::try_clone(&stopped) else {
             return Err(Fault::OutOfMemory);
         };
-        let rt = self.shared.rt;
+        let rt = self.desk.rt();
         let mut server = self;
         let job = move || server.run(&watched);
         match Builder::new().stack_size(STACK_BYTES).spawn(&rt, job) {
             Ok(thread) => Ok(Running {
                 stopped,
-                waker,
+                remote,
                 thread,
             }),
             Err(_) => Err(Fault::OutOfMemory),
@@ -56,12 +56,12 @@ where
 }
 
 impl Running {
-    /// Has the server close its listener and all clients, and waits until their threads have ended.
-    /// A client whose figures are being read is waited for.
+    /// Has the server close its listener and all clients, and waits until its thread has ended.
+    /// Figures that are being read are waited for.
     pub fn stop<R: Threads>(self, rt: &R) {
         self.stopped.store(true, Ordering::SeqCst);
-        // A poller that can't be woken turns by itself within a second.
-        let _ = self.waker.wake();
+        // (a loop that can't be woken turns by itself within a second)
+        self.remote.wake();
         self.thread.join(rt)
     }
 }

@@ -1,35 +1,31 @@
-//! A server of figures: one thread turns the poller and accepts, and each client has a thread of
-//! its own, and an entry in the table, by which turns find it.
+//! A server of figures: one thread with an event loop, whose tasks are the listener and the clients.
 //!
 //! A fault of the poller and want of memory end no more than the client that they hit: the relay
 //! goes on without its figures, and they come back with the next turn.
 
-ghost use Rattle.std.specs.Prelude.{◌≡◌, true, IfOk, IfErr, IfSome};
+ghost use Rattle.std.specs.Prelude.{◌≡◌, IfOk, IfErr};
 ghost use Rattle.readiness.specs.Sockets.{is_tcp_addr, is_tcp_listener};
 ghost use Rattle.rwloops.specs.declared.fault.Fault.{Fault};
 ghost use Rattle.rwloops.specs.declared.outcome.DevKind.{DevKind};
-ghost use Rattle.metrics_server.specs.Server.{ArmFor, HasOwnAlarms, IsOpenFault};
-ghost use Rattle.metrics_server.specs.Server.{is_tcp_server, limit_of, metered_of};
+ghost use Rattle.metrics_server.specs.Server.{HasOwnAlarms, IsOpenFault, IsPortOf};
+ghost use Rattle.metrics_server.specs.Server.{limit_of, metered_of, port_of};
 
-use crate::clients::{Client, end_all, join_ended, take_in};
-use crate::shared::Shared;
-use fd_descriptor::{AcceptOutcome, DevKind, Fault, TryAccept};
-use readiness::{Addr, ConnTable, Listen, Poller, TimerAlarms, Timers, listen};
+use crate::client::Client;
+use crate::desk::{Desk, Task};
+use crate::service::MetricsService;
+use fd_descriptor::{DevKind, Fault, TaskReader};
+use readiness::{Addr, EventLoop, Host, Listen, Poller, RemoteAlarms, Sock, listen};
 use relay_metrics::Metered;
 use std::alloc::Global;
 use std::fs::{self, Files};
+use std::hash::RandomState;
+use std::mem;
 use std::net::Net;
 use std::random::RandomSource;
+use std::sync::Wait;
 use std::sync::atomic::{AtomicBool, Ordering};
-use std::sync::{Arc, Mutex, Wait};
 use std::thread::{Threads, sleep};
 use std::time::{Clock, Duration, Instant};
-
-/// The token of the listener. Those of entries are 4,096 and more, so it names none of them.
-const LISTENER: u64 = 0;
-
-/// The most connections that are accepted between two turns.
-const MOST_ACCEPTED: u32 = 64;
 
 /// How long the thread rests where its poller fails, so that it doesn't take a processor from the
 /// relay: a tenth of a second.
@@ -39,11 +35,11 @@ const DEVICE: Fault = Fault::Device(DevKind::Other);
 
 /// A server that listens. Nobody is served before it is started.
 #[derive(Drop)]
-pub struct MetricsServer<R: Wait + Clock + Copy, M: Drop> {
-    pub(crate) shared: Arc<Shared<R, M>>,
+pub struct MetricsServer<R: Wait + Clock + Copy + Drop, M: Metered + Drop> {
     pub(crate) alloc: Global,
-    pub(crate) poller: Poller,
-    listener: Listen,
+    pub(crate) tasks: EventLoop<Task<R>>,
+    pub(crate) desk: Desk<R, M>,
+    port: Option<u16>,
 }
 
 // Removes the path that a listener at this address has bound just now.
@@ -53,66 +49,47 @@ fn unlink<R: Files>(rt: &R, addr: &Addr) {
     }
 }
 
-// A listener at this address, of which the poller's turns tell.
-fn listening<R: Net + Files>(rt: &R, poller: &Poller, addr: &Addr) -> Result<Listen, Fault>
+// A listener at this address.
+fn bound<R: Net + Files>(rt: &R, addr: &Addr) -> Result<Listen, Fault>
     ensures family { IfOk result (λ listener. is_tcp_listener listener ≡ is_tcp_addr addr.now) }
     ensures faults { IfErr result (λ fault. fault ≡ Fault.Device DevKind.Other) }
 {
-    let Ok(mut listener) = listen(rt, addr) else {
-        return Err(DEVICE);
-    };
-    match poller.register_listener(&mut listener, LISTENER) {
-        Ok(()) => Ok(listener),
+    match listen(rt, addr) {
+        Ok(listener) => Ok(listener),
+        Err(_) => Err(DEVICE),
+    }
+}
+
+// The task of a listener at this address, of which turns tell under this token, and its port. One
+// that is refused leaves no path.
+fn listening<R: Wait + Net + Files + Copy + Drop>(
+    rt: R,
+    alloc: Global,
+    poller: &Poller,
+    addr: &Addr,
+    token: u64,
+) -> Result<(Task<R>, Option<u16>), Fault>
+    ensures port { IfOk result (λ made. IsPortOf addr.now made.1) }
+    ensures faults { IfErr result (λ fault. fault ≡ Fault.Device DevKind.Other) }
+{
+    let listener = bound(&rt, addr)?;
+    let port = listener.port();
+    match poller.open_listener(alloc, listener, token) {
+        Ok(handle) => Ok((Task::Listener(TaskReader::new(rt, handle)), port)),
         Err(_) => {
-            unlink(rt, addr);
+            unlink(&rt, addr);
             Err(DEVICE)
         }
     }
 }
 
-// What the threads share, with no client yet.
-fn sharing<R: Wait + Clock + Copy, M: Drop>(
-    rt: R,
-    alloc: Global,
-    poller: &Poller,
-    limit_ns: u64,
-    metered: M,
-) -> Result<Shared<R, M>, Fault>
-    ensures limit { IfOk result (λ shared. shared.limit_ns ≡ limit_ns) }
-    ensures metered { IfOk result (λ shared. shared.metered ≡ metered) }
-    ensures alarms { IfOk result (ArmFor poller.now) }
-    ensures faults { IfErr result IsOpenFault }
-{
-    let Ok(start) = Instant::now(&rt) else {
-        return Err(DEVICE);
-    };
-    let timers = Arc::new(alloc, Mutex::new(Timers::new(alloc)));
-    let Ok(timers) = timers else {
-        return Err(Fault::OutOfMemory);
-    };
-    let (Ok(armed), Ok(waker)) = (Arc::try_clone(&timers), poller.waker()) else {
-        return Err(Fault::OutOfMemory);
-    };
-    Ok(Shared {
-        rt,
-        alloc,
-        start,
-        limit_ns,
-        clients: Mutex::new(ConnTable::new(alloc)),
-        timers,
-        alarms: TimerAlarms::new(rt, armed, waker),
-        metered,
-    })
-}
-
 impl<R, M> MetricsServer<R, M>
 where
-    R: Wait + Clock + Copy,
+    R: Wait + Clock + Copy + Drop,
     M: Metered + Drop,
 {
     /// Listens at this address, and gives each client so many nanoseconds. The path of a Unix
-    /// address stays when the server ends: who opens it removes it. A refused one leaves no path,
-    /// since it binds last.
+    /// address stays when the server ends: who opens it removes it. A refused one leaves no path.
     pub fn open(
         rt: R,
         alloc: Global,
@@ -122,76 +99,93 @@ where
     ) -> Result<MetricsServer<R, M>, Fault>
     where
         R: Net + Files,
-        ensures family { IfOk result (λ server. is_tcp_server server ≡ is_tcp_addr addr.now) }
+        ensures port { IfOk result (λ server. IsPortOf addr.now (port_of server)) }
         ensures limit { IfOk result (λ server. limit_of server ≡ limit_ns) }
         ensures metered { IfOk result (λ server. metered_of server ≡ metered) }
         ensures alarms { IfOk result HasOwnAlarms }
         ensures faults { IfErr result IsOpenFault }
     {
-        let poller = Poller::new(&rt, alloc)?;
-        let shared = sharing(rt, alloc, &poller, limit_ns, metered)?;
-        let Ok(shared) = Arc::new(alloc, shared) else {
+        let mut tasks = EventLoop::new(&rt, alloc)?;
+        let Ok(start) = Instant::now(&rt) else {
+            return Err(DEVICE);
+        };
+        let Ok(place) = tasks.vacant() else {
             return Err(Fault::OutOfMemory);
         };
-        let listener = listening(&rt, &poller, addr)?;
+        let (task, port) = listening(rt, alloc, tasks.poller(), addr, place.first)?;
+        let (Ok(_), Ok(remote)) = (tasks.put(task), tasks.remote()) else {
+            unlink(&rt, addr);
+            return Err(Fault::OutOfMemory);
+        };
+        let alarms = RemoteAlarms::new(rt, remote);
+        let service = MetricsService::new(alloc, metered);
+        let desk = Desk::new(rt, alloc, start, alarms, place.first, limit_ns, service);
         Ok(MetricsServer {
-            shared,
             alloc,
-            poller,
-            listener,
+            tasks,
+            desk,
+            port,
         })
     }
 
     /// The port of a TCP address, as where it was opened at port 0. A Unix one has none.
     pub fn port(&self) -> Option<u16>
-        ensures { IfSome result (λ port. is_tcp_server self.now ≡ true) }
+        ensures { result ≡ port_of self.now }
     {
-        self.listener.port()
+        self.port
+    }
+
+    // Ends the client that came first, where as many stand as may.
+    fn make_room(&mut self) {
+        if let Some(first) = self.desk.gives_way() {
+            if let Some(task) = self.tasks.take(first) {
+                self.desk.over(task);
+            }
+        }
     }
 }
 
 impl<R, M> MetricsServer<R, M>
 where
-    R: Wait + Threads + Clock + RandomSource + Copy + Send + Sync + 'static,
-    M: Metered + Drop + Send + Sync + 'static,
+    R: Wait + Threads + Clock + RandomSource + Copy + Drop,
+    M: Metered + Drop,
 {
+    // Takes a connection in. Where anything is refused it is closed.
+    fn take_in(&mut self, sock: Sock) -> Option<()> {
+        self.make_room();
+        let rt = self.desk.rt;
+        let keys = RandomState::new(&rt).ok()?;
+        let token = self.tasks.vacant().ok()?.first;
+        let handle = self.tasks.poller().open(self.alloc, sock, token).ok()?;
+        let mut client = Client::new(rt, self.alloc, keys, handle, token)?;
+        if !self.desk.begin(&mut client) {
+            return None;
+        }
+        if let Err(task) = self.tasks.put(Task::Client(client)) {
+            self.desk.over(task);
+        }
+        Some(())
+    }
+
     fn turn(&mut self) {
-        let shared = &self.shared;
-        let turned = self
-            .poller
-            .turn(&shared.rt, shared.now(), &shared.clients, &*shared.timers);
-        if turned.is_err() {
-            sleep(&shared.rt, Duration::from_millis(REST_MS));
+        let (rt, now) = (self.desk.rt, self.desk.now());
+        if self.tasks.turn(&rt, now, &mut self.desk).is_err() {
+            sleep(&rt, Duration::from_millis(REST_MS));
+        }
+        let accepted = mem::replace(&mut self.desk.accepted, Vec::new(self.alloc));
+        for sock in accepted {
+            let _ = self.take_in(sock);
         }
     }
 
-    // Accepts until nobody waits: only after that a turn is told of the next who comes. The places
-    // of those who have ended are free for whoever comes.
-    fn accept_all(&mut self, places: &mut [Option<Client>]) {
-        for _ in 0..MOST_ACCEPTED {
-            match self.listener.try_accept() {
-                AcceptOutcome::Took(sock) => {
-                    join_ended(&self.shared, places);
-                    take_in(&self.shared, &self.poller, places, sock);
-                }
-                AcceptOutcome::Interrupted | AcceptOutcome::Aborted => {}
-                AcceptOutcome::WouldBlock | AcceptOutcome::Broken(_) => return,
-            }
-        }
-    }
-
-    /// Serves until it is stopped; then it closes all clients, and returns once their threads have
-    /// ended.
+    /// Serves until it is stopped, and then closes all clients.
     pub(crate) fn run(&mut self, stopped: &AtomicBool) {
-        let rt = self.shared.rt;
-        let mut places = [None, None, None, None, None, None, None, None];
+        let rt = self.desk.rt;
         for _ in rt.forever() {
             self.turn();
             if stopped.load(Ordering::SeqCst) {
-                return end_all(&self.shared, &mut places);
+                return self.tasks.end_all(&mut self.desk);
             }
-            join_ended(&self.shared, &mut places);
-            self.accept_all(&mut places);
         }
         unreachable!()
     }

@@ -4,9 +4,12 @@
 
 use base_types::OutOfMemory;
 use log_writer::{LogFile, open_log};
-use relay::{Capacity, Loops, Outlets, PairLimit, serve, text_of};
+use relay::{Capacity, Loops, Outlets, PairLimit, Safeguards, serve, text_of};
 use relay_admin::{Addr, Command, check_status};
-use relay_command::{Fault, HELP, Job, NO_MEMORY, VERSION, job_of, reply_status, trace_status};
+use relay_command::{
+    Fault, HELP, Job, NO_MEMORY, VERSION, descriptors_allowed, descriptors_needed, job_of,
+    reply_status, trace_status,
+};
 use std::alloc::Global;
 use std::fs::{File, Files};
 use std::io::{ErrorKind, Write};
@@ -17,7 +20,7 @@ use std::random::RandomSource;
 use std::sync::Wait;
 use std::thread::Threads;
 use std::time::{Clock, Duration};
-use std::{env, io};
+use std::{env, fs, io};
 
 /// Tells a fault on standard error. Where that cannot be written either, nobody is left to tell.
 fn told<R: Eprint>(rt: &R, fault: Fault) -> ExitCode {
@@ -63,6 +66,21 @@ where
     }
 }
 
+/// Says on standard error where the process may have fewer descriptors than its relay may need. The
+/// relay starts all the same: it pauses once they run out.
+fn warn_of_descriptors<R: Files + Eprint + AllocGlobal>(rt: &R, capacity: Capacity) {
+    let Ok(limits) = fs::read_to_string(rt, "/proc/self/limits") else {
+        return;
+    };
+    let needed = descriptors_needed(capacity.pairs, capacity.loops);
+    match descriptors_allowed(limits.as_str()) {
+        Some(allowed) if allowed < needed => {
+            let _ = eprintln!(rt; "few descriptors: {allowed}, and {needed} may be needed");
+        }
+        _ => {}
+    }
+}
+
 /// Runs a relay until an admin session says stop.
 // (the bounds are those of `serve`, and of who prints)
 fn run_relay<R>(
@@ -70,6 +88,7 @@ fn run_relay<R>(
     rules: &String,
     admin: &String,
     capacity: Capacity,
+    safeguards: Safeguards,
     log: Option<String>,
     metrics: Option<Addr>,
 ) -> ExitCode
@@ -92,9 +111,10 @@ where
         Ok(log) => log,
         Err(fault) => return told(&rt, fault),
     };
+    warn_of_descriptors(&rt, capacity);
     let outlets = Outlets { log, metrics };
     let mut output = io::writer(&rt);
-    match serve(rt, rules, admin, capacity, outlets, &mut output) {
+    match serve(rt, rules, admin, capacity, safeguards, outlets, &mut output) {
         Ok(()) => ExitCode::from(0),
         Err(fault) => told(&rt, Fault::Relay(fault)),
     }
@@ -172,13 +192,21 @@ fn main(rt: HostRuntime) -> ExitCode {
                 pairs,
                 log,
                 metrics,
+                connect_ms,
+                per_rule,
+                replaces_stale,
             },
         ) => {
+            let safeguards = Safeguards {
+                connect_ms,
+                per_rule,
+                replaces_stale,
+            };
             let capacity = Capacity {
                 loops: loops.unwrap_or_else(|| Loops::by_processors(&rt)),
                 pairs: pairs.unwrap_or_else(|| PairLimit::by_default()),
             };
-            run_relay(rt, &rules, &admin, capacity, log, metrics)
+            run_relay(rt, &rules, &admin, capacity, safeguards, log, metrics)
         }
         Ok(Job::Ctl { admin, line }) => control(&rt, admin.as_str(), line.as_str()),
         Ok(Job::Help) => say(&rt, HELP),

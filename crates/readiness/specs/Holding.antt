@@ -44,15 +44,6 @@ pub record IsHeld {T X R W A : Type 0} (cell_in : T → PollCell) (old new : Tab
   pub unclosed : saw_closed handle ≡ false
   pub added : HoldsNext cell_in old new (cell_of handle)
 
--- a socket is held under this id, and the open handle is on the descriptor of the table's new entry,
--- whose key is a token of a loop
-pub record IsHeldUnder {T X R W A : Type 0} (cell_in : T → PollCell) (old new : Table T) (token id : ℕ)
-    (handle : FdHandle X R W A) : Type 0 where
-  pub next : id ≡ old.next_id
-  pub key : key_of handle ≡ token
-  pub unclosed : saw_closed handle ≡ false
-  pub added : HoldsNext cell_in old new (cell_of handle)
-
 -- no socket is held: the table is as it was, and this is why
 pub record IsNotHeld {T : Type 0} (old new : Table T) (fault : HoldFault) : Type 0 where
   pub kept : new ≡ old

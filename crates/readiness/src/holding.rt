@@ -8,7 +8,7 @@ ghost use Rattle.fd_descriptor.specs.FdHandle.{key_of, cell_of, saw_closed, IsFi
 ghost use Rattle.rwloops.specs.declared.outcome.DevKind.{DevKind};
 ghost use Rattle.readiness.specs.declared.holding.HoldFault.{HoldFault};
 ghost use Rattle.readiness.specs.Holding.{HoldsNext, IsHeld, IsHoldFault, IsNotHeld, entry_cell};
-ghost use Rattle.readiness.specs.Holding.{IsHeldUnder, IsOpenFault};
+ghost use Rattle.readiness.specs.Holding.{IsOpenFault};
 
 use crate::poller::{HasCell, Poller};
 use crate::resources::{ListenRes, NoWrites, ReadHalf, SockRes, WriteHalf};
@@ -203,22 +203,6 @@ impl<A: Allocator> Poller<A> {
         enter(table, self.open_socket(alloc, socket, token, id)?)
     }
 
-    // Holds a socket of either kind under a token of a loop.
-    fn hold_socket_under<X: Resource, S: Socket<X>, T: Holds<X>, B: Allocator + Copy>(
-        &self,
-        alloc: Global,
-        table: &mut ConnTable<T, B>,
-        socket: S,
-        token: u64,
-    ) -> Result<(u64, FdHandle<X>), HoldFault>
-        ensures held { IfOk result (λ held.
-            IsHeldUnder T.cell_in table.old table.new token held.0 held.1) }
-        ensures refused { IfErr result (IsNotHeld table.old table.new) }
-    {
-        let _ = table.vacant()?;
-        enter(table, self.open_socket(alloc, socket, token, token)?)
-    }
-
     /// Holds a connection: turns with this table tell its descriptor from now on, and the
     /// descriptor's key is its id, so that due timers find it. It gives the id and a handle; the
     /// entry has another. Where anything is refused the socket is dropped, which closes it.
@@ -247,36 +231,5 @@ impl<A: Allocator> Poller<A> {
         ensures refused { IfErr result (IsNotHeld table.old table.new) }
     {
         self.hold_socket(alloc, table, listen)
-    }
-
-    /// Holds a connection in a table, as `hold` does, for a loop's task: the poller tells of it
-    /// under this token of the loop, and the token is the descriptor's key. Its id is the table's.
-    pub fn hold_under<T: Holds<SockRes>, B: Allocator + Copy>(
-        &self,
-        alloc: Global,
-        table: &mut ConnTable<T, B>,
-        sock: Sock,
-        token: u64,
-    ) -> Result<(u64, FdHandle<SockRes>), HoldFault>
-        ensures held { IfOk result (λ held.
-            IsHeldUnder T.cell_in table.old table.new token held.0 held.1) }
-        ensures refused { IfErr result (IsNotHeld table.old table.new) }
-    {
-        self.hold_socket_under(alloc, table, sock, token)
-    }
-
-    /// Holds a listener in a table, as `hold_under` does a connection.
-    pub fn hold_listener_under<T: Holds<ListenRes>, B: Allocator + Copy>(
-        &self,
-        alloc: Global,
-        table: &mut ConnTable<T, B>,
-        listen: Listen,
-        token: u64,
-    ) -> Result<(u64, FdHandle<ListenRes>), HoldFault>
-        ensures held { IfOk result (λ held.
-            IsHeldUnder T.cell_in table.old table.new token held.0 held.1) }
-        ensures refused { IfErr result (IsNotHeld table.old table.new) }
-    {
-        self.hold_socket_under(alloc, table, listen, token)
     }
 }

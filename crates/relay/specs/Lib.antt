@@ -1,14 +1,9 @@
-pub mod Addr
-pub mod Books
-pub mod Connection
+pub mod Accepting
 pub mod Deadlines
 pub mod Desk
-pub mod Ending
 pub mod Fault
-pub mod Handle
+pub mod Finishing
 pub mod Output
 pub mod Reload
-pub mod ReloadWish
+pub mod Safeguards
 pub mod Session
-pub mod Subject
-pub mod Worker

@@ -1,23 +1,34 @@
--- What an admin session is told of its reads, and of a write of its replies.
+-- What an admin session does after its reads and writes.
 use Rattle.std.specs.Prelude.{ℕ, Option, Some, None, Result, Ok, Err}
 use Rattle.rwloops.specs.declared.fault.Fault.{Fault}
 use Rattle.rwloops.specs.declared.fault.Fault.TheVariants as fault
-use Rattle.rwloops.specs.declared.fault.WriteFault.{WriteFault}
+use Rattle.relay_admin.specs.declared.admin.end.AdminEnd.{AdminEnd}
+use Rattle.relay_admin.specs.declared.admin.end.AdminEnd.TheVariants as ends
+use Rattle.relay.specs.declared.session.SessionStep.{SessionStep}
+use Rattle.relay.specs.declared.session.SessionStep.TheVariants.{Waits, Again, Over, Stops}
+use Rattle.relay.specs.declared.session.Heard.{Heard}
+use Rattle.relay.specs.declared.session.Heard.TheVariants.{Nothing, Bytes, End, Failed}
 
--- a fault of a write of so many bytes: one of the device is told as a whole write, any other as a
--- fault
-abbrev pub told_of_fault : ℕ → Fault → Option ℕ
-told_of_fault len (fault.Device kind) = Some len
-told_of_fault len other = None
+-- a reply is out by which the session ends so, if it does
+abbrev pub after_reply : Option AdminEnd → SessionStep
+after_reply None = Again
+after_reply (Some ends.Stop) = Stops
+after_reply (Some end) = Over
 
--- how many bytes a session is told were written, of so many; or none, where it is told a fault
-abbrev pub told_to_session : ℕ → Result ℕ WriteFault → Option ℕ
-told_to_session len (Ok count) = Some count
-told_to_session len (Err failed) = told_of_fault len failed.fault
+-- a client hasn't taken such a reply yet: a stop doesn't wait for it
+abbrev pub while_owed : Option AdminEnd → SessionStep
+while_owed (Some ends.Stop) = Stops
+while_owed end = Waits
 
--- how many bytes a session is told were read: none at the end of what its client says, and a fault
--- where a read failed, so that a line which was cut off isn't taken for a whole one
-abbrev pub told_of_read : Result ℕ Fault → Option ℕ
-told_of_read (Ok count) = Some count
-told_of_read (Err fault.EndOfFile) = Some 0
-told_of_read (Err other) = None
+-- such a reply couldn't be written: that of a client that has gone counts as out
+abbrev pub after_fault : Fault → Option AdminEnd → SessionStep
+after_fault (fault.Device kind) end = after_reply end
+after_fault other end = Over
+
+-- what a read came to that didn't wait: a failed one isn't the end, so that a line which was cut off
+-- isn't taken for a whole one
+abbrev pub told_of_read : Option (Result ℕ Fault) → Heard
+told_of_read None = Nothing
+told_of_read (Some (Ok count)) = Bytes count
+told_of_read (Some (Err fault.EndOfFile)) = End
+told_of_read (Some (Err other)) = Failed

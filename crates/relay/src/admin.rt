@@ -1,121 +1,63 @@
-//! The admin thread: sessions one after the other, over a poller of its own. So the admin socket
-//! and its sessions are in no list of connections, and a relay that has stopped for a fault ends
-//! them too.
+//! The admin socket as a task of the main thread's loop: it accepts sessions, which are begun
+//! between two turns.
 
-ghost use Rattle.std.specs.Prelude.{◌≡◌};
-ghost use Rattle.relay_core.specs.AcceptTrace.{IsAccepting};
-ghost use Rattle.relay_core.specs.declared.accepting.AcceptEnded.{AcceptEnded};
+ghost use Rattle.std.specs.Prelude.{⊤};
 
-use crate::admin_session::{SessionReader, SessionWriter};
-use crate::admin_waits::AdminWaits;
-use crate::clock::Moments;
-use crate::desk::RelayDesk;
-use crate::shared::Shared;
-use readiness::{Listen, Poller, Sock};
-use relay_admin::{AdminEnd, serve_admin};
-use relay_core::{AcceptGate, accept_worker};
-use rwloops::Fault;
-use std::alloc::Global;
-use std::sync::{Arc, Mutex, Wait};
-use std::thread::sleep;
-use std::time::{Clock, Duration};
+use readiness::{Listen, Place, Sock};
+use relay_core::{Accepting, PollAcceptGate};
+use rwloops::{Fault, accept_now};
 
-/// The token of a session's socket. Only one stands at once.
-const SESSION_TOKEN: u64 = 2;
-
-/// The admin socket with its poller.
+/// The admin socket. However many accepts in a row fail, it goes on: without it nobody could stop
+/// the relay.
 #[derive(Drop)]
-pub(crate) struct AdminSocket {
-    pub(crate) listener: Listen,
-    pub(crate) poller: Poller,
+pub(crate) struct AdminTask {
+    pub(crate) place: Place,
+    pub(crate) door: AdminDoor,
+    pub(crate) accepting: Accepting,
+    /// The end of its pause, where it pauses.
+    pub(crate) paused_until: Option<u64>,
 }
 
-/// Accepts sessions, and serves each before it accepts the next.
+/// A socket that was accepted for a session.
 #[derive(Drop)]
-pub(crate) struct AdminGate<R: Wait + Clock + Copy, C: Moments + Drop> {
-    pub(crate) rt: R,
-    pub(crate) alloc: Global,
-    pub(crate) listener: Listen,
-    pub(crate) poller: Mutex<Poller>,
-    pub(crate) clock: C,
-    pub(crate) shared: Arc<Shared>,
+pub(crate) struct Caller {
+    pub(crate) sock: Sock,
 }
 
-impl<R: Wait + Clock + Copy, C: Moments + Drop> AdminGate<R, C> {
-    // How a session waits.
-    fn waits(&self) -> AdminWaits<'_, R, C> {
-        AdminWaits {
-            rt: self.rt,
-            poller: &self.poller,
-            stop: &self.shared.stop,
-            clock: &self.clock,
-            until: None,
+/// Where sessions are accepted, and what was accepted since anybody looked.
+#[derive(Drop)]
+pub(crate) struct AdminDoor {
+    pub(crate) listener: Listen,
+    pub(crate) callers: Vec<Caller>,
+    /// How many sockets were dropped, since memory was refused for them.
+    pub(crate) dropped: u64,
+}
+
+impl AdminDoor {
+    // Keeps one that came; none says that it was dropped, since memory was refused.
+    fn keep(&mut self, caller: Caller) -> Option<()> {
+        match self.callers.push(caller) {
+            Ok(()) => Some(()),
+            Err(_) => None,
         }
     }
-
-    // One session; a socket that can't be served is dropped.
-    fn session(&self, sock: Sock) -> Option<AdminEnd> {
-        let mut sock = sock;
-        let registered = self
-            .poller
-            .lock(&self.rt)
-            .register(&mut sock, SESSION_TOKEN);
-        if registered.is_err() {
-            return None;
-        }
-        let (read, write) = sock.split(self.alloc).ok()?;
-        let mut reader = SessionReader {
-            half: read,
-            waits: self.waits(),
-        };
-        let mut writer = SessionWriter {
-            half: write,
-            waits: self.waits(),
-        };
-        let mut desk = RelayDesk::new(self.rt, &self.clock, &self.shared);
-        serve_admin(self.alloc, &mut reader, &mut writer, &mut desk).ok()
-    }
 }
 
-impl<R: Wait + Clock + Copy, C: Moments + Drop> AcceptGate for AdminGate<R, C> {
+impl PollAcceptGate for AdminDoor {
     type T = Sock;
 
+    // What a listener gave can't be told.
     ghost tells = { λ _ _. ⊥ };
 
-    fn accept(&mut self) -> Result<Sock, Fault> {
-        let rt = self.rt;
-        let mut waits = AdminWaits {
-            rt,
-            poller: &self.poller,
-            stop: &self.shared.stop,
-            clock: &self.clock,
-            until: None,
-        };
-        rwloops::accept(&rt, &mut self.listener, &mut waits)
+    ghost blocked = { λ _. ⊤ };
+
+    fn poll_accept(&mut self) -> Option<Result<Sock, Fault>> {
+        accept_now(&mut self.listener)
     }
 
-    // A session that says stop has the main thread stop the relay; the next accept is then refused.
     fn deliver(&mut self, taken: Sock) {
-        self.shared.sessions.add(1);
-        if self.session(taken) == Some(AdminEnd::Stop) {
-            self.shared.stop();
+        if self.keep(Caller { sock: taken }).is_none() {
+            self.dropped = self.dropped.saturating_add(1);
         }
     }
-
-    fn pause(&mut self, ms: u64) {
-        sleep(&self.rt, Duration::from_millis(ms));
-    }
-}
-
-/// Serves sessions until the relay stops. However many accepts in a row fail, it goes on: without
-/// it nobody could stop the relay.
-pub(crate) fn serve_sessions<G: AcceptGate, R: Wait>(rt: &R, gate: &mut G)
-    ensures { (before : G) × IsAccepting (G.tells before) (G.tells gate.new) AcceptEnded.Closed }
-{
-    for _ in rt.forever() {
-        if !accept_worker(rt, gate).lets_it_begin_again() {
-            return;
-        }
-    }
-    unreachable!()
 }

@@ -4,10 +4,11 @@ ghost use Rattle.std.specs.Prelude.{◌≡◌, IfErr};
 ghost use Rattle.relay_admin.specs.declared.serve_fault.ServeFault.{ServeFault};
 
 use crate::rules_file::rules_in;
+use crate::safeguards::Safeguards;
 use log_writer::Log;
 use relay_admin::{Rule, ServeFault};
+use relay_conn::served_rule::ServedRule;
 use relay_core::Capacity;
-use relay_watch::served_rule::ServedRule;
 use std::alloc::Global;
 use std::fs::Files;
 use std::sync::Arc;
@@ -20,6 +21,7 @@ pub(crate) struct Config {
     /// Where their file is.
     pub(crate) rules_path: String,
     pub(crate) capacity: Capacity,
+    pub(crate) safeguards: Safeguards,
     pub(crate) log: Option<Arc<Log>>,
 }
 
@@ -39,12 +41,14 @@ fn served_rules(
 }
 
 impl Config {
-    /// By the rules file at this path, of this size, and with a log or without one.
+    /// By the rules file at this path, of this size, with these safeguards, and with a log or
+    /// without one.
     pub(crate) fn read<R: Files>(
         rt: &R,
         alloc: Global,
         path: &str,
         capacity: Capacity,
+        safeguards: Safeguards,
         has_log: bool,
     ) -> Result<Config, ServeFault> {
         let rules = rules_in(rt, alloc, path)?;
@@ -59,6 +63,7 @@ impl Config {
             rules,
             rules_path,
             capacity,
+            safeguards,
             log,
         })
     }

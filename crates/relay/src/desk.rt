@@ -1,41 +1,37 @@
 //! What an admin session asks, over the relay's table and books.
 
-ghost use Rattle.std.specs.Prelude.{◌≡◌, None, IfSome, IfNone};
+ghost use Rattle.std.specs.Prelude.{◌≡◌, None, IfSome, IfNone, true, false};
+ghost use Rattle.relay_admin.specs.declared.admin.command.Command.TheVariants as commands;
+ghost use Rattle.relay_admin.specs.admin.Reply.{HasAskedId};
+ghost use Rattle.relay_admin.specs.admin.Reply as replies;
 ghost use Rattle.relay_admin.specs.declared.admin.desk.DeskAnswer.{DeskAnswer};
 ghost use Rattle.deadline_core.specs.declared.deadline.Dirs.{Dirs};
 ghost use Rattle.relay.specs.Deadlines.{asked_deadline};
 ghost use Rattle.relay.specs.Desk.{desk_answer};
 
-use crate::clock::Moments;
-use crate::closing::{Closer, close_by_id};
-use crate::entry::{Entry, Handle, Owner};
-use crate::home::{Home, totals_of};
-use crate::reload_wish::ReloadWish;
-use crate::shared::Shared;
-use crate::stopping::StopFlag;
-use conntable::ConnTable;
+use crate::home::totals_of;
+use crate::main_loop::MainLoop;
 use deadline_core::{Deadline, Dirs};
 use fd_descriptor::Setting;
-use readiness::LoopRemote;
 use relay_admin::{Desk, DeskAnswer};
+use relay_conn::clock::Moments;
+use relay_conn::entry::{Handle, Owner};
 use relay_core::idle_deadline;
 use rwloops::Fault;
 use std::alloc::Global;
-use std::sync::{Mutex, Wait};
+use std::fs::Files;
+use std::net::Net;
+use std::sync::Wait;
 use std::time::Clock;
 
-/// A desk for one session.
+/// A desk for one session, on the main thread.
 #[derive(Drop)]
-pub(crate) struct RelayDesk<'a, R: Wait + Copy, C: Moments> {
-    rt: R,
-    clock: &'a C,
-    table: &'a Mutex<ConnTable<Entry>>,
-    homes: &'a [Home],
-    reload: &'a ReloadWish,
-    /// The remote of the main thread's loop, which reloads.
-    main: &'a LoopRemote,
-    /// Whether the relay has stopped.
-    stop: &'a StopFlag,
+pub(crate) struct RelayDesk<'a, R: Wait + Clock + Copy> {
+    main: &'a mut MainLoop<R>,
+    /// The session's place.
+    place: usize,
+    /// The reply to the last question waits for a close.
+    pub(crate) is_held: bool,
 }
 
 // What a close, a drain or a deadline that ended so is to the session. A device's fault while the
@@ -77,30 +73,52 @@ fn asked_setting(now: u64, after_ms: Option<u32>) -> Setting
     Setting::new(Dirs::Both, deadline, now)
 }
 
-impl<'a, R: Wait + Copy, C: Moments> RelayDesk<'a, R, C> {
-    pub(crate) fn new(rt: R, clock: &'a C, shared: &'a Shared) -> RelayDesk<'a, R, C> {
+impl<'a, R: Wait + Clock + Copy> RelayDesk<'a, R> {
+    /// That of the session at this place.
+    pub(crate) fn of(main: &'a mut MainLoop<R>, place: usize) -> RelayDesk<'a, R>
+        ensures free { result.is_held ≡ false }
+        ensures place { result.place ≡ place }
+    {
         RelayDesk {
-            rt,
-            clock,
-            table: &shared.table,
-            homes: shared.homes.as_slice(),
-            reload: &shared.reload,
-            main: &*shared.main,
-            stop: &shared.stop,
+            main,
+            place,
+            is_held: false,
         }
     }
 
     // A handle of its own on the connection or listener with this id, with whose it is, so that the
     // table's lock is given back before a deadline is set or it is drained.
     fn handle(&self, id: u64) -> Result<(Handle, Owner), DeskAnswer> {
-        let table = self.table.lock(&self.rt);
+        let rt = self.main.host.rt;
+        let table = self.main.host.shared.table.lock(&rt);
         let Some(entry) = table.by_id(id) else {
             return Err(DeskAnswer::Unknown);
         };
-        match entry.share(&self.rt) {
+        match entry.share(&rt) {
             Ok(shared) => Ok(shared),
             Err(fault) => Err(answer_of(Err(fault))),
         }
+    }
+
+    fn all_ids(&self, alloc: Global) -> DeskAnswer {
+        let rt = self.main.host.rt;
+        let shared = &self.main.host.shared;
+        match shared.table.lock(&rt).ids(alloc) {
+            Ok(ids) => DeskAnswer::Ids(ids),
+            Err(_) => DeskAnswer::NoMemory,
+        }
+    }
+
+    fn shown(&self, id: u64) -> DeskAnswer
+        ensures { HasAskedId (commands.Show id) (replies.answer_of result) }
+    {
+        let rt = self.main.host.rt;
+        let now = self.main.host.clock.now();
+        let table = self.main.host.shared.table.lock(&rt);
+        let Some(entry) = table.by_id(id) else {
+            return DeskAnswer::Unknown;
+        };
+        DeskAnswer::Shown(entry.shown(&rt, id, now))
     }
 
     // Sets a deadline, and has the task that waits for the descriptor look at it.
@@ -110,42 +128,83 @@ impl<'a, R: Wait + Copy, C: Moments> RelayDesk<'a, R, C> {
         owner: &Owner,
         after_ms: Option<u32>,
     ) -> DeskAnswer {
-        let Some(alarms) = owner.alarms(self.rt) else {
+        let rt = self.main.host.rt;
+        let Some(alarms) = owner.alarms(rt) else {
             return DeskAnswer::NoMemory;
         };
-        let setting = asked_setting(self.clock.now(), after_ms);
-        let answer = answer_of(handle.set(&self.rt, &alarms, setting));
-        owner.tell(&self.rt);
+        let setting = asked_setting(self.main.host.clock.now(), after_ms);
+        let answer = answer_of(handle.set(&rt, &alarms, setting));
+        owner.tell(&rt);
         answer
+    }
+
+    // Has the task that has the connection with this id look at what is wished of it.
+    fn tell_owner(&self, id: u64) -> Result<(), DeskAnswer> {
+        match self.handle(id) {
+            Ok((_, owner)) => {
+                owner.tell(&self.main.host.rt);
+                Ok(())
+            }
+            Err(answer) => Err(answer),
+        }
+    }
+
+    // Takes the wish back. Its loop may have closed the connection by it meanwhile, where it had
+    // another reason to look.
+    fn withdrawn(&self, answer: DeskAnswer) -> DeskAnswer {
+        if self.main.host.shared.closes.take_back(self.place) {
+            return DeskAnswer::Fine;
+        }
+        answer
+    }
+
+    // Asks the loop of the connection with this id on one of its sides to close it. The reply waits
+    // until it has.
+    fn ask_close(&mut self, id: u64) -> DeskAnswer
+        ensures held { self.old.is_held ≡ false → self.new.is_held ≡ true
+            → result ≡ DeskAnswer.Fine }
+    {
+        if self.main.host.shared.closes.is_wished(id) {
+            return DeskAnswer::Unknown;
+        }
+        self.main.host.shared.closes.leave(self.place, id);
+        match self.tell_owner(id) {
+            Ok(()) => {
+                self.is_held = true;
+                DeskAnswer::Fine
+            }
+            Err(answer) => self.withdrawn(answer),
+        }
     }
 }
 
-impl<'a, R, C> Desk for RelayDesk<'a, R, C>
+impl<'a, R> Desk for RelayDesk<'a, R>
 where
-    R: Wait + Clock + Copy,
-    C: Moments,
+    R: Wait + Net + Files + Clock + Copy,
 {
     // What other threads do to the table and the books in between isn't known.
     ghost exchanges = { λ _. None };
 
     fn ids(&mut self, alloc: Global) -> DeskAnswer {
-        match self.table.lock(&self.rt).ids(alloc) {
-            Ok(ids) => DeskAnswer::Ids(ids),
-            Err(_) => DeskAnswer::NoMemory,
-        }
+        self.all_ids(alloc)
     }
 
     fn totals(&mut self) -> DeskAnswer {
-        totals_of(self.homes).answer()
+        totals_of(self.main.host.shared.homes.as_slice()).answer()
     }
 
+    // The main thread closes a listener by itself, whose task it has.
     fn close(&mut self, id: u64) -> DeskAnswer {
-        answer_of_close(close_by_id(&self.rt, self.table, id, Closer::Another))
+        let rt = self.main.host.rt;
+        match self.main.listener_token(&rt, id) {
+            Some(token) => answer_of_close(self.main.close_listener(&rt, id, token)),
+            None => self.ask_close(id),
+        }
     }
 
     fn drain(&mut self, id: u64) -> DeskAnswer {
         match self.handle(id) {
-            Ok((mut handle, _)) => answer_of(handle.drain(&self.rt)),
+            Ok((mut handle, _)) => answer_of(handle.drain(&self.main.host.rt)),
             Err(answer) => answer,
         }
     }
@@ -158,17 +217,17 @@ where
     }
 
     fn show(&mut self, id: u64) -> DeskAnswer {
-        let table = self.table.lock(&self.rt);
-        let Some(entry) = table.by_id(id) else {
-            return DeskAnswer::Unknown;
-        };
-        DeskAnswer::Shown(entry.shown(&self.rt, id, self.clock.now()))
+        self.shown(id)
     }
 
-    // The main thread, whose loop accepts, carries it out.
     fn reload(&mut self, _alloc: Global) -> DeskAnswer {
-        self.reload.ask(&self.rt);
-        self.main.wake();
-        self.reload.wait(&self.rt, self.stop)
+        let rt = self.main.host.rt;
+        let now = self.main.host.clock.now();
+        self.main.reload(&rt, now)
+    }
+
+    fn finish(&mut self, after_ms: u64) -> DeskAnswer {
+        self.main.finish(after_ms);
+        DeskAnswer::Fine
     }
 }

@@ -1,17 +1,17 @@
 //! The relay's figures, for its metrics.
 
-use crate::address::socket_address;
 use crate::bounds::MeteredRuntime;
-use crate::clock::{Moments, RelayClock};
 use crate::fault::of_metrics;
 use crate::home::totals_of;
 use crate::shared::Shared;
 use base_types::OutOfMemory;
 use metrics_server::{LIMIT_NS, MetricsServer, Running};
 use relay_admin::{Addr, ServeFault};
+use relay_conn::address::socket_address;
+use relay_conn::bound_path::{BoundPath, remove_stale};
+use relay_conn::clock::{Moments, RelayClock};
+use relay_conn::rule_figures::rule_figures;
 use relay_metrics::{CarriedBytes, Figures, Metered};
-use relay_watch::bound_path::BoundPath;
-use relay_watch::rule_figures::rule_figures;
 use std::alloc::Global;
 use std::fs::Files;
 use std::sync::{Arc, Wait};
@@ -72,6 +72,9 @@ pub(crate) fn serve_figures<R>(
 where
     R: MeteredRuntime + Files,
 {
+    if shared.safeguards.replaces_stale {
+        let _ = remove_stale(&rt, addr);
+    }
     let figures = RelayFigures { rt, clock, shared };
     match MetricsServer::open(rt, alloc, &socket_address(addr), LIMIT_NS, figures) {
         Ok(server) => match server.start() {

@@ -1,10 +1,14 @@
 //! What others reach a loop by: its remote, and the inbox of the sockets that were accepted for it;
 //! and what they know of it.
 
-use crate::totals::{PublishedTotals, Totals};
+ghost use Rattle.std.specs.Prelude.{◌≡◌, IfSome};
+ghost use Rattle.std.specs.Arc.{arc_value};
+
 use readiness::{LoopRemote, Sock};
-use relay_watch::connection_facts::Acceptance;
-use relay_watch::counts::Counter;
+use relay_conn::connection_facts::Acceptance;
+use relay_conn::counts::Counter;
+use relay_conn::served_rule::ServedRule;
+use relay_conn::totals::{PublishedTotals, Totals};
 use std::alloc::{AllocError, Global};
 use std::mem;
 use std::sync::atomic::{AtomicU64, Ordering};
@@ -14,21 +18,35 @@ use std::sync::{Arc, Mutex, Wait};
 /// comes of it. An accepted socket has one from its delivery, and then its connection.
 pub(crate) struct Counted {
     connections: Arc<AtomicU64>,
+    /// Its rule, which counts it too.
+    served: Arc<ServedRule>,
 }
 
 impl Counted {
     // One connection more. It takes no memory; refused is only a count that is held too often.
-    fn new(connections: &Arc<AtomicU64>) -> Option<Counted> {
+    fn new(connections: &Arc<AtomicU64>, served: &Arc<ServedRule>) -> Option<Counted>
+        ensures own { IfSome result (λ counted. arc_value counted.served
+            ≡ arc_value served.now) }
+    {
         let connections = Arc::try_clone(connections).ok()?;
+        let served = Arc::try_clone(served).ok()?;
         connections.fetch_add(1, Ordering::SeqCst);
-        Some(Counted { connections })
+        served.enter();
+        Some(Counted {
+            connections,
+            served,
+        })
     }
 }
 
 impl Drop for Counted {
     fn drop(self) {
         self.connections.fetch_sub(1, Ordering::SeqCst);
-        let Counted { connections: _ } = self;
+        self.served.leave();
+        let Counted {
+            connections: _,
+            served: _,
+        } = self;
     }
 }
 
@@ -78,7 +96,7 @@ impl Home {
     /// Delivers an accepted socket, and wakes the loop; or says that there is no memory for it,
     /// which is dropped.
     pub(crate) fn deliver<R: Wait>(&self, rt: &R, sock: Sock, acceptance: Acceptance) -> bool {
-        let Some(counted) = Counted::new(&self.connections) else {
+        let Some(counted) = Counted::new(&self.connections, &acceptance.served) else {
             return false;
         };
         let accepted = Accepted {

@@ -3,56 +3,44 @@
 //!
 //! | Thread | What it does |
 //! |---|---|
-//! | main | accepts by all rules, on a loop of its own |
+//! | main | accepts by all rules, and serves the admin sessions, on a loop of its own |
 //! | one for each loop | sets its connections up, and copies each way of each |
-//! | admin | serves sessions, one after the other, over a poller of its own |
 #![tactic(auto)]
 
 mod accepting;
-mod address;
 mod admin;
-mod admin_session;
-mod admin_waits;
-mod books;
 mod bounds;
-mod clock;
-mod closing;
+mod close_wishes;
 mod config;
-mod connection;
+mod connecting;
 mod desk;
 mod ending;
-mod entry;
 mod fault;
-mod fd_gate;
 mod figures;
+mod finishing;
 mod home;
-mod idle_time;
 mod loops;
 mod main_loop;
-mod new_side;
+mod main_task;
 mod opening;
 mod outlets;
 mod output;
-mod pair;
 mod reload;
-mod reload_wish;
 mod rules_file;
+mod safeguards;
 mod server;
 mod serving;
+mod session;
+mod sessions;
 mod set_up;
-mod setting;
 mod shared;
+mod stacks;
 mod stopping;
-mod task_gate;
 mod threads;
-mod totals;
 
-pub use clock::{Moments, RelayClock};
-pub use closing::{Closer, Closes, close_by_id};
-pub use fd_gate::FdGate;
 pub use outlets::Outlets;
-pub use pair::{AtEnd, CopyOf, Done, Worker, start_pair};
 pub use relay_admin::ServeFault;
 pub use relay_core::{Capacity, Loops, MAX_LOOPS, PairLimit};
 pub use rules_file::text_of;
+pub use safeguards::Safeguards;
 pub use serving::serve;

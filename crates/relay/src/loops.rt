@@ -1,20 +1,24 @@
 //! The loops: each a thread that resumes the tasks of its connections, and has books of its own.
 
-ghost use Rattle.std.specs.Prelude.{◌≡◌, ◌↔◌};
+ghost use Rattle.std.specs.Prelude.{◌≡◌, ◌↔◌, true, false};
 ghost use Rattle.readiness.specs.declared.tasks.Turn.{Turn};
+ghost use Rattle.relay_conn.specs.Reach.{tells_target};
+ghost use Rattle.relay_conn.specs.declared.reach.Reach.{Reach};
 ghost use Rattle.relay_core.specs.PairTasks.{HasToClose, MayGoOn};
+ghost use Rattle.relay_core.specs.declared.pair_tasks.PairNext.{PairNext};
 ghost use Rattle.relay_ledger.specs.declared.book.TheConstants.{PARTS};
 
-use crate::books::LoopBooks;
-use crate::clock::{Moments, RelayClock};
-use crate::connection::Connection;
+use crate::connecting::ConnectingList;
 use crate::fault::of_poller;
 use crate::home::{Accepted, Counted};
 use crate::shared::Shared;
-use crate::totals::{PublishedTotals, Totals};
 use fd_descriptor::PollCell;
 use readiness::{EventLoop, Host, LoopDriver, Side, Turn, Why};
 use relay_admin::ServeFault;
+use relay_conn::books::LoopBooks;
+use relay_conn::clock::{Moments, RelayClock};
+use relay_conn::connection::Connection;
+use relay_conn::totals::{PublishedTotals, Totals};
 use relay_core::{LoopMemory, PairNext};
 use relay_ledger::PARTS;
 use std::alloc::Global;
@@ -70,19 +74,21 @@ pub(crate) struct LoopHost<U: Ledger, D: Ledger, R: Wait + Clock + Copy> {
     taken: Vec<Accepted>,
     /// It is lent to each task while that goes on.
     memory: LoopMemory,
+    /// The connections whose targets may not be connected yet.
+    pub(crate) connecting: ConnectingList,
 }
 
 impl<U: Ledger, D: Ledger, R: Wait + Clock + Copy> Host for LoopHost<U, D, R> {
     type Task = ConnTask<U, D, R>;
 
     fn cell<'a>(&self, task: &'a ConnTask<U, D, R>, side: Side) -> Option<&'a PollCell> {
-        match side {
-            Side::First => Some(&*task.connection.client.cell),
-            Side::Second => Some(&*task.connection.target.cell),
-        }
+        Some(task.connection.cell(side))
     }
 
     fn resume(&mut self, task: &mut ConnTask<U, D, R>, why: Why) -> Turn {
+        if why == Why::Named && self.is_to_close(&task.connection) {
+            return Turn::Over;
+        }
         self.go_on_with(&mut task.connection, why)
     }
 
@@ -92,12 +98,23 @@ impl<U: Ledger, D: Ledger, R: Wait + Clock + Copy> Host for LoopHost<U, D, R> {
 }
 
 impl<U: Ledger, D: Ledger, R: Wait + Clock + Copy> LoopHost<U, D, R> {
+    // Has a connection go on, or gives it up.
+    fn next_of(&mut self, task: &mut Connection<U, D, R>, why: Why) -> PairNext
+        ensures closes { result ≡ PairNext.Closes ↔ HasToClose task.new.tasks }
+        ensures again { result ≡ PairNext.Again ↔ MayGoOn task.new.tasks }
+    {
+        if self.is_late(task, why) {
+            return task.give_up();
+        }
+        task.go_on(&mut self.books, why, &mut self.memory)
+    }
+
     // Has a connection go on, and says what follows for its loop.
     fn go_on_with(&mut self, task: &mut Connection<U, D, R>, why: Why) -> Turn
         ensures over { result ≡ Turn.Over ↔ HasToClose task.new.tasks }
         ensures again { result ≡ Turn.Again ↔ MayGoOn task.new.tasks }
     {
-        let next = task.go_on(&mut self.books, why, &mut self.memory);
+        let next = self.next_of(task, why);
         task.tell_bytes(&self.context.clock);
         match next {
             PairNext::Waits => Turn::Waits,
@@ -106,8 +123,29 @@ impl<U: Ledger, D: Ledger, R: Wait + Clock + Copy> LoopHost<U, D, R> {
         }
     }
 
-    /// Ends a connection, which is counted until it has ended.
+    // Whether a connection's target is given up. Those alone that wait for one are shown the clock.
+    fn is_late(&self, task: &Connection<U, D, R>, why: Why) -> bool
+        ensures reached { task.now.reach ≡ Reach.Reached → result ≡ false }
+        ensures told { tells_target why ≡ true → result ≡ false }
+    {
+        task.is_connecting() && task.is_late(why, self.context.clock.now())
+    }
+
+    // Whether a session wants a connection closed.
+    fn is_to_close(&self, connection: &Connection<U, D, R>) -> bool {
+        let (client, target) = connection.ids();
+        let closes = &self.context.shared.closes;
+        closes.is_wished(client) || closes.is_wished(target)
+    }
+
+    /// Ends a connection, which is counted until it has ended; then who waits for that is told.
     pub(crate) fn end(&mut self, task: ConnTask<U, D, R>) {
+        let (client, target) = task.connection.ids();
+        self.close(task);
+        self.context.shared.note_end(client, target);
+    }
+
+    fn close(&mut self, task: ConnTask<U, D, R>) {
         let ConnTask {
             connection,
             counted: _counted,
@@ -148,6 +186,7 @@ impl<U: Ledger, D: Ledger, R: Wait + Net + Clock + Copy> LoopHost<U, D, R> {
                 return Ok(());
             }
             self.empty_inbox(tasks);
+            self.look_for_late(tasks);
         }
         unreachable!()
     }
@@ -201,6 +240,7 @@ where
         books: LoopBooks::<U, D>::new(up, down, published),
         taken: Vec::new(alloc),
         memory,
+        connecting: ConnectingList::new(alloc),
     };
     let turned = host.turn_until_stop(&mut tasks);
     tasks.end_all(&mut host);

@@ -1,17 +1,21 @@
-//! The main thread's loop: it accepts by all rules until the relay stops.
+//! The main thread's loop: it accepts by all rules, and serves the admin sessions, until the relay
+//! stops or has finished.
 
 ghost use Rattle.std.specs.Prelude.{◌≡◌, IfErr};
 ghost use Rattle.relay_admin.specs.ServeFault.{IsRunFault};
 ghost use Rattle.relay_admin.specs.declared.serve_fault.ServeFault.{ServeFault};
 
-use crate::accepting::{AcceptHost, RuleTask};
-use crate::clock::{Moments, RelayClock};
+use crate::accepting::AcceptHost;
 use crate::fault::of_poller;
+use crate::finishing::has_finished;
 use crate::loops::LoopContext;
+use crate::main_task::MainTask;
 use crate::opening::listen_by;
+use crate::sessions::Sessions;
 use crate::shared::Shared;
 use readiness::EventLoop;
 use relay_admin::ServeFault;
+use relay_conn::clock::{Moments, RelayClock};
 use std::alloc::Global;
 use std::fs::Files;
 use std::net::Net;
@@ -22,8 +26,12 @@ use std::time::Clock;
 #[derive(Drop)]
 pub(crate) struct MainLoop<R: Wait + Clock + Copy> {
     pub(crate) alloc: Global,
-    pub(crate) tasks: EventLoop<RuleTask<R>>,
+    pub(crate) tasks: EventLoop<MainTask<R>>,
     pub(crate) host: AcceptHost<R, RelayClock<R>>,
+    /// The token of the admin socket's task; 0 before there is one.
+    pub(crate) admin: u64,
+    /// The moment at which the relay ends at the latest, where it finishes.
+    pub(crate) finish_at: Option<u64>,
 }
 
 /// That no accept is under way any more, for which a close by another thread would wait: the end of
@@ -53,6 +61,8 @@ impl<R: Wait + Clock + Copy> MainLoop<R> {
             alloc: _,
             tasks,
             host,
+            admin: _,
+            finish_at: _,
         } = self;
         let (mut tasks, mut host) = (tasks, host);
         tasks.end_all(&mut host);
@@ -64,23 +74,43 @@ impl<R: Wait + Clock + Copy> MainLoop<R> {
 impl<R: Wait + Net + Files + Clock + Copy> MainLoop<R> {
     /// Listens for all rules, in their order.
     pub(crate) fn listen(&mut self) -> Result<(), ServeFault> {
-        let MainLoop { alloc, tasks, host } = self;
+        let MainLoop {
+            alloc,
+            tasks,
+            host,
+            ..
+        } = self;
         let shared = &host.shared;
         for served in shared.rules.lock(&host.rt).iter() {
-            listen_by(&host.rt, *alloc, tasks, &shared.table, served, 0)?;
+            let replaces_stale = shared.safeguards.replaces_stale;
+            listen_by(
+                &host.rt,
+                *alloc,
+                tasks,
+                &shared.table,
+                served,
+                replaces_stale,
+                0,
+            )?;
         }
         Ok(())
     }
 
-    // Has the accept tasks of all rules go on.
+    /// Whether a Unix socket at which nobody listens any more gives way to a listener.
+    pub(crate) fn replaces_stale(&self) -> bool {
+        self.host.shared.safeguards.replaces_stale
+    }
+
+    // Has all accept tasks go on.
     fn accept_again(&mut self) {
         for served in self.host.shared.rules.lock(&self.host.rt).iter() {
             self.tasks.again(served.token());
         }
+        self.tasks.again(self.admin);
     }
 
-    /// Turns until an admin session says stop, or the poller fails.
-    pub(crate) fn turn_until_stop(&mut self) -> Result<(), ServeFault>
+    /// Turns until an admin session says stop, until the relay has finished, or the poller fails.
+    pub(crate) fn turn_until_stop(&mut self, sessions: &mut Sessions) -> Result<(), ServeFault>
         ensures faults { IfErr result (λ fault. IsRunFault fault) }
     {
         let rt = self.host.rt;
@@ -89,15 +119,21 @@ impl<R: Wait + Net + Files + Clock + Copy> MainLoop<R> {
             if let Err(fault) = self.tasks.turn(&rt, now, &mut self.host) {
                 return Err(of_poller(fault));
             }
-            if self.host.shared.is_stopped() {
+            sessions.serve(self);
+            if self.is_over() {
                 return Ok(());
             }
-            let now = self.host.clock.now();
-            self.reload_if_asked(&rt, now);
             if self.host.takes_unarmed() {
                 self.accept_again();
             }
         }
         unreachable!()
+    }
+
+    // Whether no turn more is wanted.
+    fn is_over(&self) -> bool {
+        let shared = &self.host.shared;
+        shared.is_stopped()
+            || has_finished(self.finish_at, self.host.clock.now(), shared.standing())
     }
 }

@@ -1,27 +1,29 @@
 //! Opening: the pollers, the listeners in the rules' order, and the admin socket.
 
+ghost use Rattle.std.specs.Prelude.{◌≡◌, IfErr};
+ghost use Rattle.relay_admin.specs.declared.serve_fault.ServeFault.{ServeFault};
+
 use crate::accepting::{RuleListener, RuleTask};
-use crate::address::socket_address;
-use crate::admin::AdminSocket;
-use crate::entry::{Entry, Handle, Owner, Subject};
+use crate::admin::{AdminDoor, AdminTask};
 use crate::fault::of_poller;
 use crate::home::Home;
 use crate::loops::LoopParts;
+use crate::main_task::MainTask;
 use arrayvec::ArrayString;
 use conntable::ConnTable;
 use fd_descriptor::{FdHandle, TaskReader};
-use readiness::{Addr, EventLoop, HoldFault, Listen, ListenRes, LoopDriver, Poller, listen};
-use relay_admin::ServeFault;
+use readiness::{EventLoop, HoldFault, Listen, ListenRes, LoopDriver, listen};
+use relay_admin::{Addr, ServeFault};
+use relay_conn::address::socket_address;
+use relay_conn::bound_path::{BoundPath, remove_stale};
+use relay_conn::entry::{Entry, Handle, Owner, Subject};
+use relay_conn::served_rule::ServedRule;
 use relay_core::{Accepting, Loops};
-use relay_watch::bound_path::BoundPath;
-use relay_watch::served_rule::ServedRule;
+use rwloops::DevKind;
 use std::alloc::Global;
 use std::fs::Files;
 use std::net::Net;
 use std::sync::{Arc, Mutex, Wait};
-
-/// The token of the admin socket with its own poller.
-const ADMIN_TOKEN: u64 = 1;
 
 /// The pollers of a relay's threads, before there is a socket, and what others reach the loops by.
 #[derive(Drop)]
@@ -30,12 +32,23 @@ pub(crate) struct Pollers {
     /// The loops', by their places.
     pub(crate) loops: Vec<LoopParts>,
     pub(crate) homes: Vec<Home>,
-    pub(crate) admin: Poller,
+}
+
+// Listens at an address. A Unix socket that was left there gives way first, where it is to.
+fn listen_at<R: Net + Files>(rt: &R, addr: &Addr, replaces_stale: bool) -> Result<Listen, DevKind> {
+    if replaces_stale {
+        let _ = remove_stale(rt, addr);
+    }
+    listen(rt, &socket_address(addr))
 }
 
 // Listens at a rule's address.
-fn bind<R: Wait + Net + Files>(rt: &R, served: &ServedRule) -> Result<Listen, ServeFault> {
-    match listen(rt, &socket_address(&served.listen)) {
+fn bind<R: Wait + Net + Files>(
+    rt: &R,
+    served: &ServedRule,
+    replaces_stale: bool,
+) -> Result<Listen, ServeFault> {
+    match listen_at(rt, &served.listen, replaces_stale) {
         Ok(socket) => {
             served.note_bound(rt);
             Ok(socket)
@@ -70,7 +83,7 @@ fn listener_in<R: Wait + Copy>(
 fn hold_rule<R: Wait + Copy>(
     rt: R,
     alloc: Global,
-    tasks: &mut EventLoop<RuleTask<R>>,
+    tasks: &mut EventLoop<MainTask<R>>,
     table: &mut ConnTable<Entry>,
     socket: Listen,
     served: Arc<ServedRule>,
@@ -100,7 +113,7 @@ fn hold_rule<R: Wait + Copy>(
         accepting: Accepting::new(),
         paused_until: None,
     };
-    match tasks.put(task) {
+    match tasks.put(MainTask::Rule(task)) {
         Ok(_) => {
             tasks.again(place.first);
             Ok(())
@@ -114,37 +127,80 @@ fn hold_rule<R: Wait + Copy>(
 pub(crate) fn listen_by<R: Wait + Net + Files + Copy>(
     rt: &R,
     alloc: Global,
-    tasks: &mut EventLoop<RuleTask<R>>,
+    tasks: &mut EventLoop<MainTask<R>>,
     table: &Mutex<ConnTable<Entry>>,
     served: &Arc<ServedRule>,
+    replaces_stale: bool,
     now: u64,
 ) -> Result<(), ServeFault> {
-    let socket = bind(rt, served)?;
+    let socket = bind(rt, served, replaces_stale)?;
     let served = Arc::try_clone(served)?;
     hold_rule(*rt, alloc, tasks, &mut *table.lock(rt), socket, served, now)
 }
 
-/// Opens the admin socket at this path; `bound` says whether it has bound it. A path of no byte, or
-/// of more than an address holds, can't be listened on.
-pub(crate) fn open_admin<R: Net + Files>(
+// Listens at the admin path; `bound` says whether it has bound it. A path of no byte, or of more
+// than an address holds, can't be listened on.
+fn listen_at_admin<R: Net + Files>(
     rt: &R,
-    poller: Poller,
     path: &str,
+    replaces_stale: bool,
     bound: &mut Option<BoundPath>,
-) -> Result<AdminSocket, ServeFault> {
+) -> Result<Listen, ServeFault>
+    ensures faults { IfErr result (λ fault. fault ≡ ServeFault.Admin) }
+{
     if path.is_empty() {
         return Err(ServeFault::Admin);
     }
     let Ok(path) = ArrayString::from(path) else {
         return Err(ServeFault::Admin);
     };
-    let Ok(mut listener) = listen(rt, &Addr::Unix(path)) else {
-        return Err(ServeFault::Admin);
+    let addr = Addr::Unix(path);
+    match listen_at(rt, &addr, replaces_stale) {
+        Ok(listener) => {
+            *bound = Some(BoundPath::of(&addr));
+            Ok(listener)
+        }
+        Err(_) => Err(ServeFault::Admin),
+    }
+}
+
+/// Opens the admin socket at this path, and has a task accept there from the next turn on, whose
+/// token it gives; `bound` says whether it has bound the path.
+pub(crate) fn open_admin<R: Wait + Net + Files + Copy>(
+    rt: &R,
+    alloc: Global,
+    tasks: &mut EventLoop<MainTask<R>>,
+    path: &str,
+    replaces_stale: bool,
+    bound: &mut Option<BoundPath>,
+) -> Result<u64, ServeFault> {
+    let mut listener = listen_at_admin(rt, path, replaces_stale, bound)?;
+    let Ok(place) = tasks.vacant() else {
+        return Err(ServeFault::Memory);
     };
-    *bound = Some(BoundPath::of(&relay_admin::Addr::Unix(path)));
-    match poller.register_listener(&mut listener, ADMIN_TOKEN) {
-        Ok(()) => Ok(AdminSocket { listener, poller }),
-        Err(_) => Err(ServeFault::Device),
+    if tasks
+        .poller()
+        .register_listener(&mut listener, place.first)
+        .is_err()
+    {
+        return Err(ServeFault::Device);
+    }
+    let task = AdminTask {
+        place,
+        door: AdminDoor {
+            listener,
+            callers: Vec::new(alloc),
+            dropped: 0,
+        },
+        accepting: Accepting::new(),
+        paused_until: None,
+    };
+    match tasks.put(MainTask::Admin(task)) {
+        Ok(_) => {
+            tasks.again(place.first);
+            Ok(place.first)
+        }
+        Err(_) => Err(ServeFault::Memory),
     }
 }
 
@@ -153,7 +209,6 @@ impl Pollers {
     pub(crate) fn open<R: Net>(rt: &R, alloc: Global, loops: Loops) -> Result<Pollers, ServeFault> {
         let mut pollers = Pollers {
             main: LoopDriver::new(rt, alloc).map_err(of_poller)?,
-            admin: Poller::new(rt, alloc).map_err(of_poller)?,
             loops: Vec::new(alloc),
             homes: Vec::new(alloc),
         };
@@ -167,7 +222,7 @@ impl Pollers {
     fn open_loop<R: Net>(&mut self, rt: &R, alloc: Global) -> Result<(), ServeFault> {
         let driver = LoopDriver::new(rt, alloc).map_err(of_poller)?;
         let home = Home::new(alloc, driver.remote()?)?;
-        let Some(published) = home.published.again() else {
+        let Some(published) = home.published.try_clone() else {
             return Err(ServeFault::Memory);
         };
         self.homes.push(home)?;

@@ -9,7 +9,7 @@ use crate::main_loop::MainLoop;
 use log_writer::LogThread;
 use metrics_server::Running;
 use relay_admin::{Addr, ServeFault};
-use relay_watch::bound_path::BoundPath;
+use relay_conn::bound_path::BoundPath;
 use std::fs::Files;
 use std::io::Write;
 use std::sync::{Arc, Wait};

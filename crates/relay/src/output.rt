@@ -5,10 +5,10 @@ ghost use Rattle.std.specs.Io.KnownBytes.{Appends};
 ghost use Rattle.relay.specs.Output.{listening_line, totals_line};
 ghost use Rattle.relay_admin.specs.declared.serve_fault.ServeFault.{ServeFault};
 
-use crate::totals::Totals;
 use arrayvec::ArrayString;
 use itoa::Buffer;
 use relay_admin::ServeFault;
+use relay_conn::totals::Totals;
 use std::io::Write;
 use stream_base::sink::deliver_to;
 use stream_base::writer_sink::WriterSink;

@@ -2,15 +2,17 @@
 //! addresses that are new; then it has the rules that stay say what is new, and closes the
 //! listeners of those that have gone.
 
-ghost use Rattle.std.specs.Prelude.{◌≡◌};
+ghost use Rattle.std.specs.Prelude.{◌≡◌, ◌≢◌, None};
+ghost use Rattle.relay_admin.specs.declared.admin.desk.DeskAnswer.{DeskAnswer};
 ghost use Rattle.relay.specs.Reload.{answer_of_fault};
 
-use crate::closing::Closer;
 use crate::main_loop::MainLoop;
 use crate::opening::listen_by;
 use crate::rules_file::text_of;
 use relay_admin::{Addr, DeskAnswer, Rule, Rules, ServeFault, Verdict};
-use relay_watch::served_rule::ServedRule;
+use relay_conn::closing::Closer;
+use relay_conn::served_rule::ServedRule;
+use rwloops::Fault;
 use std::alloc::Global;
 use std::fs::Files;
 use std::mem;
@@ -99,13 +101,53 @@ impl<R: Wait + Net + Files + Clock + Copy> MainLoop<R> {
         Ok(all)
     }
 
-    // Ends the listener of a rule, if it has one: first its task, so that no accept is under way,
-    // for which the close would wait.
+    // Ends the listener of a rule, if it has one.
     fn end_listener(&mut self, rt: &R, served: &ServedRule) {
-        let task = self.tasks.take(served.token());
-        drop(task);
-        self.host.shared.close(rt, served.id(), Closer::ItsLoop);
+        self.close_listener(rt, served.id(), served.token());
         served.remove_path(rt);
+    }
+
+    /// Closes the listener with this id: first its task ends, which has this token, so that no
+    /// accept is under way, for which the close would wait. `None` says that another did.
+    pub(crate) fn close_listener(
+        &mut self,
+        rt: &R,
+        id: u64,
+        token: u64,
+    ) -> Option<Result<(), Fault>> {
+        let task = self.tasks.take(token);
+        drop(task);
+        self.host.shared.close(rt, id, Closer::ItsLoop)
+    }
+
+    /// The token of the task whose listener stands under this id.
+    pub(crate) fn listener_token(&self, rt: &R, id: u64) -> Option<u64> {
+        for served in self.host.shared.rules.lock(rt).iter() {
+            if served.id() == id {
+                return Some(served.token());
+            }
+        }
+        None
+    }
+
+    // Listens for a rule that is new.
+    fn listen_by(&mut self, rt: &R, served: &Arc<ServedRule>, now: u64) -> Result<(), ServeFault> {
+        let replaces_stale = self.replaces_stale();
+        let MainLoop {
+            alloc,
+            tasks,
+            host,
+            ..
+        } = self;
+        listen_by(
+            rt,
+            *alloc,
+            tasks,
+            &host.shared.table,
+            served,
+            replaces_stale,
+            now,
+        )
     }
 
     // Listens for all rules that are new, or for none.
@@ -113,8 +155,7 @@ impl<R: Wait + Net + Files + Clock + Copy> MainLoop<R> {
         let mut listened = Ok(());
         for one in planned {
             if one.is_new && listened.is_ok() {
-                let table = &self.host.shared.table;
-                listened = listen_by(rt, self.alloc, &mut self.tasks, table, &one.served, now);
+                listened = self.listen_by(rt, &one.served, now);
             }
         }
         if listened.is_err() {
@@ -145,9 +186,15 @@ impl<R: Wait + Net + Files + Clock + Copy> MainLoop<R> {
         Ok(())
     }
 
-    // Reads the rules file again, and serves its rules from now on. Where it can't be read, is bad,
-    // or has a new address that can't be listened on, nothing changes.
-    fn reload(&mut self, rt: &R, now: u64) -> DeskAnswer {
+    /// Reads the rules file again, and serves its rules from now on. Where it can't be read, is bad,
+    /// or has a new address that can't be listened on, nothing changes; nor does it where the relay
+    /// finishes.
+    pub(crate) fn reload(&mut self, rt: &R, now: u64) -> DeskAnswer
+        ensures finishing { self.old.finish_at ≢ None → result ≡ DeskAnswer.Closed }
+    {
+        if self.finish_at.is_some() {
+            return DeskAnswer::Closed;
+        }
         let text = match text_of(rt, self.alloc, self.host.shared.rules_path.as_str()) {
             Ok(text) => text,
             Err(fault) => return answer_of_fault(fault),
@@ -159,14 +206,6 @@ impl<R: Wait + Net + Files + Clock + Copy> MainLoop<R> {
         match self.serve_rules(rt, rules.as_slice(), now) {
             Ok(()) => DeskAnswer::Verdict(Verdict::Rules(rules.as_slice().len() as u32)),
             Err(fault) => answer_of_fault(fault),
-        }
-    }
-
-    /// Reloads where a session has asked for it.
-    pub(crate) fn reload_if_asked(&mut self, rt: &R, now: u64) {
-        if self.host.shared.reload.take(rt) {
-            let answer = self.reload(rt, now);
-            self.host.shared.reload.answer(rt, answer);
         }
     }
 }

@@ -7,6 +7,7 @@ ghost use Rattle.relay_admin.specs.ServeFault.{IsRunFault};
 use crate::config::Config;
 use crate::outlets::Outlets;
 use crate::output::write_totals;
+use crate::safeguards::Safeguards;
 use crate::server::Server;
 use relay_admin::ServeFault;
 use relay_core::Capacity;
@@ -19,7 +20,8 @@ use std::thread::Threads;
 use std::time::Clock;
 
 /// Runs a relay by the rules file at the path `rules`, with its admin socket at the path `admin`,
-/// on so many loops and with so many connections at once, until an admin session says stop. It
+/// on so many loops, with so many connections at once, and with these safeguards, until an admin
+/// session says stop, or finish and that is over. It
 /// writes `listening N` once all sockets are open, and at the end `up U down D`, the bytes copied
 /// to the targets and to the clients. A fault at the start is the first of: the rules file can't be
 /// read, its rules are bad, the poller, the listeners in the rules' order, the admin socket.
@@ -31,6 +33,7 @@ pub fn serve<L, R, W: Write>(
     rules: &String,
     admin: &String,
     capacity: Capacity,
+    safeguards: Safeguards,
     outlets: Outlets<L>,
     writer: &mut W,
 ) -> Result<(), ServeFault>
@@ -55,10 +58,10 @@ where
 {
     let alloc = rt.alloc();
     let has_log = outlets.log.is_some();
-    let config = Config::read(&rt, alloc, rules.as_str(), capacity, has_log)?;
-    let (server, unstarted) = Server::new(rt, alloc, config)?;
+    let config = Config::read(&rt, alloc, rules.as_str(), capacity, safeguards, has_log)?;
+    let (server, loops) = Server::new(rt, alloc, config)?;
     let mut server = server;
-    let ran = server.run(unstarted, admin.as_str(), outlets, writer);
+    let ran = server.run(loops, admin.as_str(), outlets, writer);
     let ended = server.end();
     ran?;
     let totals = ended?;

@@ -3,22 +3,25 @@
 //! Locks are held for a few steps, and taken in this order: the rules', the table's, an entry's, a
 //! rule's or a cell's, a remote's. The inboxes' are held alone.
 
-use crate::closing::{Closer, close_by_id};
-use crate::entry::Entry;
+use crate::close_wishes::CloseWishes;
 use crate::home::Home;
-use crate::reload_wish::ReloadWish;
+use crate::safeguards::Safeguards;
+use crate::session::MAX_SESSIONS;
 use crate::stopping::{StopFlag, Stopped};
 use arrayvec::ArrayVec;
 use conntable::ConnTable;
 use log_writer::Log;
 use readiness::{LoopRemote, Sock};
+use relay_conn::closing::{Closer, close_by_id};
+use relay_conn::connection_facts::Acceptance;
+use relay_conn::counts::Counter;
+use relay_conn::entry::Entry;
+use relay_conn::log_lines::tell_refused;
+use relay_conn::served_rule::ServedRule;
 use relay_core::{MAX_LOOPS, PairLimit, place_of_pair};
 use relay_log::ended::Ended;
-use relay_watch::connection_facts::Acceptance;
-use relay_watch::counts::Counter;
-use relay_watch::log_lines::tell_refused;
-use relay_watch::served_rule::ServedRule;
 use rwloops::Fault;
+use std::sync::atomic::{AtomicBool, Ordering};
 use std::sync::{Arc, Mutex, Wait};
 use std::time::Clock;
 
@@ -34,12 +37,18 @@ pub(crate) struct Shared {
     pub(crate) stop: StopFlag,
     /// How many connections stand at once.
     pub(crate) limit: PairLimit,
+    pub(crate) safeguards: Safeguards,
     /// Where the rules file is.
     pub(crate) rules_path: String,
-    /// By which a session has the main thread reload.
-    pub(crate) reload: ReloadWish,
+    /// What sessions want closed.
+    pub(crate) closes: CloseWishes,
+    /// Whether the main thread is to be told of each connection that ends, since it waits for the
+    /// last. It is never unset.
+    pub(crate) is_finishing: AtomicBool,
     pub(crate) log: Option<Arc<Log>>,
     pub(crate) sessions: Counter,
+    /// Of these, those for which there was no place.
+    pub(crate) dropped_sessions: Counter,
     pub(crate) reloads: Counter,
 }
 
@@ -57,12 +66,17 @@ impl Shared {
     }
 
     /// Delivers a socket that was accepted just now to the loop with the fewest connections. One
-    /// beyond the most pairs is dropped. The main thread alone delivers.
+    /// beyond the most pairs, of its rule or of all, is dropped. The main thread alone delivers.
     pub(crate) fn deliver<R: Wait + Clock>(&self, rt: &R, sock: Sock, acceptance: Acceptance) {
         acceptance.served.note_accept(acceptance.at);
-        let Some(told) = acceptance.again() else {
+        let Some(told) = acceptance.try_clone() else {
             return;
         };
+        if self.safeguards.is_at_limit(told.served.standing()) {
+            told.served.counts.rule_full.add(1);
+            self.tell_refused(rt, &told, told.at, Ended::RuleFull);
+            return;
+        }
         let is_there = match self.place() {
             Some(home) => home.deliver(rt, sock, acceptance),
             None => false,
@@ -94,6 +108,38 @@ impl Shared {
         by: Closer,
     ) -> Option<Result<(), Fault>> {
         close_by_id(rt, &self.table, id, by)
+    }
+
+    /// How many connections stand, those among them that are being set up.
+    pub(crate) fn standing(&self) -> u64 {
+        let mut all = 0u64;
+        for home in self.homes.iter() {
+            all = all.saturating_add(home.connections());
+        }
+        all
+    }
+
+    /// Settles the wishes for entries that are in the table no more: after a set-up that was
+    /// refused, and took back what it had put there.
+    pub(crate) fn settle_gone<R: Wait>(&self, rt: &R) {
+        for place in 0..MAX_SESSIONS {
+            if let Some(id) = self.closes.wished(place) {
+                let is_gone = self.table.lock(rt).by_id(id).is_none();
+                if is_gone && self.closes.settle(id) {
+                    self.main.wake();
+                }
+            }
+        }
+    }
+
+    /// Tells the main thread of a connection that has ended, where anybody there waits for it. Its
+    /// sides had these ids.
+    pub(crate) fn note_end(&self, client: u64, target: u64) {
+        let client = self.closes.settle(client);
+        let target = self.closes.settle(target);
+        if client || target || self.is_finishing.load(Ordering::SeqCst) {
+            self.main.wake();
+        }
     }
 
     /// Tells the main thread and all loops that no more turns are wanted.

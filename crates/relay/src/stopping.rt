@@ -2,7 +2,7 @@
 //! loop that looked before would sleep for a second more.
 
 use crate::home::Home;
-use readiness::{LoopRemote, Waker};
+use readiness::LoopRemote;
 use std::sync::atomic::{AtomicBool, Ordering};
 
 /// Whether a relay has stopped. It is never unset.
@@ -43,10 +43,5 @@ impl Stopped {
         for home in homes {
             home.remote.wake();
         }
-    }
-
-    /// Ends the admin thread's wait. A poller that can't be woken wakes by itself within a second.
-    pub(crate) fn wake_admin(self, waker: &Waker) {
-        let _ = waker.wake();
     }
 }

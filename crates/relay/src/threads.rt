@@ -1,39 +1,24 @@
-//! The loops' threads and the admin thread.
+//! The loops' threads.
 
 ghost use Rattle.std.specs.Prelude.{◌≡◌, false, Err, IfErr};
 ghost use Rattle.relay_admin.specs.ServeFault.{IsRunFault};
 ghost use Rattle.relay_admin.specs.declared.serve_fault.ServeFault.{ServeFault};
 
-use crate::admin::{AdminGate, AdminSocket, serve_sessions};
 use crate::bounds::RelayRuntime;
 use crate::loops::{LoopContext, LoopParts, run_loop};
 use crate::main_loop::{AcceptsEnded, MainLoop};
-use crate::pair::STACK_BYTES;
+use crate::stacks::LOOP_STACK_BYTES;
 use crate::stopping::Stopped;
-use crate::totals::Totals;
-use readiness::Waker;
 use relay_admin::ServeFault;
+use relay_conn::totals::Totals;
 use relay_core::LoopMemory;
 use std::alloc::Global;
-use std::sync::{Arc, Mutex};
 use std::thread::{Builder, JoinHandle, Threads};
-
-/// The stack of a loop's thread, in bytes. Its turns, and a set-up within them, hand on values of
-/// some KiB; a page that nobody touches takes no memory.
-const LOOP_STACK_BYTES: usize = 262_144;
 
 /// The threads beside the main one, as far as they were started. It isn't `Drop`: `join` alone lets
 /// it go, so that no thread is left.
 pub(crate) struct StartedThreads {
     loops: Vec<JoinHandle<Result<Option<Totals>, ServeFault>>>,
-    admin: Option<AdminThread>,
-}
-
-/// The admin thread, and what ends its wait.
-#[derive(Drop)]
-struct AdminThread {
-    join: JoinHandle<()>,
-    waker: Arc<Waker>,
 }
 
 /// That all threads have ended: their join alone makes one. What they may still have used is closed
@@ -82,7 +67,6 @@ impl StartedThreads {
     pub(crate) fn none(alloc: Global) -> StartedThreads {
         StartedThreads {
             loops: Vec::new(alloc),
-            admin: None,
         }
     }
 
@@ -103,47 +87,15 @@ impl StartedThreads {
         Ok(())
     }
 
-    /// Starts the admin thread.
-    pub(crate) fn start_admin<R: RelayRuntime>(
-        &mut self,
-        main: &MainLoop<R>,
-        admin: AdminSocket,
-    ) -> Result<(), ServeFault>
-        ensures faults { IfErr result (λ fault. fault ≡ ServeFault.Memory) }
-    {
-        let waker = admin.poller.waker()?;
-        let shared = Arc::try_clone(&main.host.shared)?;
-        let AdminSocket { listener, poller } = admin;
-        let rt = main.host.rt;
-        let gate = AdminGate {
-            rt,
-            alloc: main.alloc,
-            listener,
-            poller: Mutex::new(poller),
-            clock: main.host.clock,
-            shared,
-        };
-        let job = move || {
-            let mut gate = gate;
-            serve_sessions(&rt, &mut gate)
-        };
-        match Builder::new().stack_size(STACK_BYTES).spawn(&rt, job) {
-            Ok(join) => {
-                self.admin = Some(AdminThread { join, waker });
-                Ok(())
-            }
-            Err(_) => Err(ServeFault::Memory),
-        }
-    }
-
     /// Waits for all of them, once they see that the relay has stopped, and no accept is under way
-    /// for which a session waits. It adds up what the loops' books came to.
-    pub(crate) fn join<R: Threads>(self, rt: &R, stopped: Stopped, _ended: AcceptsEnded) -> Joined {
-        let StartedThreads { loops, admin } = self;
-        if let Some(AdminThread { join, waker }) = admin {
-            stopped.wake_admin(&waker);
-            join.join(rt);
-        }
+    /// for which a loop that closes would wait. It adds up what the loops' books came to.
+    pub(crate) fn join<R: Threads>(
+        self,
+        rt: &R,
+        _stopped: Stopped,
+        _ended: AcceptsEnded,
+    ) -> Joined {
+        let StartedThreads { loops } = self;
         let mut all = Totals::none();
         let (mut turned, mut whole) = (true, true);
         for one in loops {

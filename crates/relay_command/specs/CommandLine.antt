@@ -1,5 +1,6 @@
 -- What the words of the command line ask for.
 use Rattle.std.specs.Prelude.{ℕ, Bool, true, false, List, [], ◌∷◌, Option, Some, None, codes, if◌then◌else◌}
+use Rattle.std.specs.Prelude.{nat_eq, nat_le}
 use Rattle.std.specs.Prelude.{◌-◌, ◌++◌, length, option_map, slice_get, take, unwrap_or}
 use Rattle.std.specs.Option.{option_and_then, option_map_or}
 use Rattle.std.specs.List.{list_any}
@@ -9,7 +10,7 @@ use Rattle.clap.specs.Walk.{Row, Rule, Text, first_of}
 use Rattle.clap.specs.Simple.{App, new_app, new_rule, subcommand_of, with_rule, with_subcommand}
 use Rattle.clap.specs.Faults.{fault_of}
 use Rattle.clap.specs.Kinds.{Kinds}
-use Rattle.clap.specs.declared.builder.action.ArgAction.TheVariants.{Set}
+use Rattle.clap.specs.declared.builder.action.ArgAction.TheVariants.{Set, SetTrue}
 use Rattle.stream_base.specs.Decimal.{number_of}
 use Rattle.relay_core.specs.Loops.{loop_count}
 use Rattle.relay_core.specs.PairLimit.{pair_count}
@@ -19,12 +20,13 @@ use Rattle.relay_admin.specs.rules.Reading.{address_at}
 use Rattle.relay_command.specs.declared.job.Job.{Job}
 use Rattle.relay_command.specs.declared.job.Job.TheVariants as job
 
--- a job with its texts, how many loops and pairs a relay is asked for, and where its metrics are
+-- a job with its texts, how many loops and pairs a relay is asked for, where its metrics are, how
+-- many milliseconds a target has, how many pairs a rule, and whether stale sockets give way
 pub data Asked : Type 0 where
   Trace : Asked
   Check : (rules : Text) → Asked
   Serve : (rules admin : Text) → (loops pairs : Option ℕ) → (log : Option Text) →
-      (metrics : Option Address) → Asked
+      (metrics : Option Address) → (connect_ms per_rule : Option ℕ) → (replaces_stale : Bool) → Asked
   Ctl : (admin line : Text) → Asked
   Help : Asked
   Version : Asked
@@ -32,9 +34,10 @@ pub data Asked : Type 0 where
 abbrev pub asked_of : Job → Asked
 asked_of job.Trace = Trace
 asked_of (job.Check rules) = Check (string_bytes rules)
-asked_of (job.Serve rules admin loops pairs log metrics) =
+asked_of (job.Serve rules admin loops pairs log metrics connect_ms per_rule replaces_stale) =
     Serve (string_bytes rules) (string_bytes admin) (option_map (λ l. l.count) loops)
     (option_map (λ p. p.count) pairs) (option_map string_bytes log) (option_map address_of metrics)
+    connect_ms (option_map (λ p. p.count) per_rule) replaces_stale
 asked_of (job.Ctl admin line) = Ctl (string_bytes admin) (string_bytes line)
 asked_of job.Help = Help
 asked_of job.Version = Version
@@ -48,6 +51,10 @@ required_option name =
 abbrev pub optional_option : Text → Rule
 optional_option name = record (new_rule name) { long = Some name; action = Some Set }
 
+-- an option that stands alone: it is there or not
+abbrev pub flag_option : Text → Rule
+flag_option name = record (new_rule name) { long = Some name; action = Some SetTrue }
+
 abbrev pub check_app : App
 check_app = with_rule (new_app (codes "check")) (required_option (codes "rules"))
 
@@ -57,8 +64,9 @@ serve_needs =
     with_rule (with_rule (new_app (codes "serve")) (required_option (codes "rules")))
     (required_option (codes "admin"))
 
-abbrev pub serve_app : App
-serve_app =
+-- the same with how large it is, and where it tells of itself
+abbrev pub serve_watched : App
+serve_watched =
     with_rule
     (with_rule
     (with_rule
@@ -66,6 +74,15 @@ serve_app =
     (optional_option (codes "connections")))
     (optional_option (codes "log")))
     (optional_option (codes "metrics"))
+
+-- the same with what keeps one target or one rule from harming the others
+abbrev pub serve_app : App
+serve_app =
+    with_rule
+    (with_rule
+    (with_rule serve_watched (optional_option (codes "connect-timeout")))
+    (optional_option (codes "connections-per-rule")))
+    (flag_option (codes "replace-stale"))
 
 -- a word that stands alone, without an option ahead of it
 abbrev pub operand : Text → Bool → Rule
@@ -127,6 +144,22 @@ abbrev pub pairs_given : Option Text → Option (Option ℕ)
 pairs_given None = Some None
 pairs_given (Some text) = option_map Some (pairs_in text)
 
+-- how many milliseconds a target has to be connected, by a text: 0 is as long as the system takes,
+-- and a day is the most
+abbrev pub connect_in : Text → Option (Option ℕ)
+connect_in text = do
+  ms ← number_of text
+  if nat_le ms 86400000 then Some (if nat_eq ms 0 then None else Some ms) else None
+
+-- the same by an option, which may be left out: then it is 5,000
+abbrev pub connect_given : Option Text → Option (Option ℕ)
+connect_given None = Some (Some 5000)
+connect_given (Some text) = connect_in text
+
+-- an option that stands alone is there
+abbrev pub is_set : Text → List Row → Bool
+is_set id rows = option_map_or (λ text. bytes_eq text (codes "true")) (first_of id rows) false
+
 -- the log that an option asks for, which may be left out; none where its path has no byte
 abbrev pub log_given : Option Text → Option (Option Text)
 log_given None = Some None
@@ -145,7 +178,10 @@ served_job rows = do
   pairs ← pairs_given (first_of (codes "connections") rows)
   log ← log_given (first_of (codes "log") rows)
   metrics ← metrics_given (first_of (codes "metrics") rows)
-  Some (Serve (value_of (codes "rules") rows) (value_of (codes "admin") rows) loops pairs log metrics)
+  connect_ms ← connect_given (first_of (codes "connect-timeout") rows)
+  per_rule ← pairs_given (first_of (codes "connections-per-rule") rows)
+  Some (Serve (value_of (codes "rules") rows) (value_of (codes "admin") rows) loops pairs log metrics
+      connect_ms per_rule (is_set (codes "replace-stale") rows))
 
 -- a word behind others, if there is one more
 abbrev pub spaced : Option Text → Text

@@ -6,8 +6,9 @@
 //! | 1 | it was refused |
 //! | 3 | no whole reply came, or it couldn't be printed |
 
-ghost use Rattle.std.specs.Prelude.{◌≡◌, IfErr, IfOk, IfSome, true};
+ghost use Rattle.std.specs.Prelude.{◌≡◌, ◌⊎◌, IfErr, IfOk, IfSome, true};
 ghost use Rattle.std.specs.Io.KnownBytes.{Appends};
+ghost use Rattle.relay_command.specs.declared.fault.Fault.{Fault};
 ghost use Rattle.relay_command.specs.ExitStatus.{IsFaultOfReply, ends_a_line, status_of_reply};
 
 use crate::fault::{Fault, NO_MEMORY};
@@ -27,6 +28,9 @@ pub fn reply_status<R: Read, W: Write>(
         (ends_a_line reply ≡ true) × (status ≡ status_of_reply reply)
         × Appends (W.contents writer.old) (W.contents writer.new) reply)) }
     ensures fault { IfErr result (λ fault. IsFaultOfReply fault) }
+    // Of a reply that isn't whole, or that memory was refused for, nothing is printed.
+    ensures unprinted { IfErr result (λ fault. (fault ≡ Fault.Print)
+        ⊎ (W.contents writer.new ≡ W.contents writer.old)) }
 {
     let mut reply = Vec::new(alloc);
     match reader.read_to_end(&mut reply) {

@@ -4,8 +4,9 @@ ghost use Rattle.std.specs.Prelude.{◌≡◌, IfOk, false};
 ghost use Rattle.clap.specs.Walk.{rule_of};
 ghost use Rattle.clap.specs.Simple.{app_of};
 ghost use Rattle.clap.specs.declared.builder.command.Command.TheViews.{out-Command};
-ghost use Rattle.relay_command.specs.CommandLine.{check_app, ctl_app, operand, optional_option};
-ghost use Rattle.relay_command.specs.CommandLine.{program, required_option, serve_app, serve_needs};
+ghost use Rattle.relay_command.specs.CommandLine.{check_app, ctl_app, flag_option, operand};
+ghost use Rattle.relay_command.specs.CommandLine.{optional_option, program, required_option};
+ghost use Rattle.relay_command.specs.CommandLine.{serve_app, serve_needs, serve_watched};
 ghost use Rattle.relay_command.specs.CommandLine as spec;
 
 use base_types::OutOfMemory;
@@ -31,6 +32,14 @@ fn optional<'a>(alloc: Global, name: &'a str) -> Arg<'a>
     Arg::new(alloc, name).long(name).action(ArgAction::Set)
 }
 
+// An option that stands alone.
+fn flag<'a>(alloc: Global, name: &'a str) -> Arg<'a>
+    ensures rule { rule_of result ≡ flag_option name.now }
+    ensures local { result.global ≡ false }
+{
+    Arg::new(alloc, name).long(name).action(ArgAction::SetTrue)
+}
+
 fn check<'a>(alloc: Global) -> Result<Command<'a>, OutOfMemory>
     ensures app { IfOk result (λ command. app_of command ≡ check_app) }
     ensures local { IfOk result (λ command. (out-Command command).has_globals ≡ false) }
@@ -48,8 +57,9 @@ fn serve_needs<'a>(alloc: Global) -> Result<Command<'a>, OutOfMemory>
         .arg(option(alloc, "admin"))
 }
 
-fn serve<'a>(alloc: Global) -> Result<Command<'a>, OutOfMemory>
-    ensures app { IfOk result (λ command. app_of command ≡ serve_app) }
+// The same with how large it is, and where it tells of itself.
+fn serve_watched<'a>(alloc: Global) -> Result<Command<'a>, OutOfMemory>
+    ensures app { IfOk result (λ command. app_of command ≡ serve_watched) }
     ensures local { IfOk result (λ command. (out-Command command).has_globals ≡ false) }
 {
     serve_needs(alloc)?
@@ -57,6 +67,16 @@ fn serve<'a>(alloc: Global) -> Result<Command<'a>, OutOfMemory>
         .arg(optional(alloc, "connections"))?
         .arg(optional(alloc, "log"))?
         .arg(optional(alloc, "metrics"))
+}
+
+fn serve<'a>(alloc: Global) -> Result<Command<'a>, OutOfMemory>
+    ensures app { IfOk result (λ command. app_of command ≡ serve_app) }
+    ensures local { IfOk result (λ command. (out-Command command).has_globals ≡ false) }
+{
+    serve_watched(alloc)?
+        .arg(optional(alloc, "connect-timeout"))?
+        .arg(optional(alloc, "connections-per-rule"))?
+        .arg(flag(alloc, "replace-stale"))
 }
 
 // A word of an admin command.

@@ -5,12 +5,12 @@ ghost use Rattle.std.specs.String.{string_bytes};
 ghost use Rattle.clap.specs.Walk.{first_of, rows_of};
 ghost use Rattle.clap.specs.Matches.{found_of};
 ghost use Rattle.clap.specs.Simple.{subcommand_rows_of};
-ghost use Rattle.relay_command.specs.CommandLine.{asked_of, found_job, job_asked, line_in};
+ghost use Rattle.relay_command.specs.CommandLine.{asked_of, found_job, is_set, job_asked, line_in};
 ghost use Rattle.relay_command.specs.CommandLine.{named_job, served_job, spaced, value_of};
 ghost use Rattle.relay_command.specs.CommandLine as spec;
 
 use crate::grammar::command;
-use crate::options::{log_asked, loops_asked, metrics_asked, pairs_asked};
+use crate::options::{connect_asked, log_asked, loops_asked, metrics_asked, pairs_asked};
 use base_types::OutOfMemory;
 use clap::ArgMatches;
 use clap::error::ErrorKind;
@@ -30,7 +30,9 @@ pub enum Job {
     /// Run the relay by the rules file at `rules`, with its admin socket at `admin`, on so many
     /// loops, or on as many as suit the machine, with so many connections at once, or with the
     /// default, with its log in the file at `log`, or without one, and with its metrics at the
-    /// address `metrics`, or nowhere.
+    /// address `metrics`, or nowhere. A target has `connect_ms` milliseconds to be connected, or as
+    /// long as the system takes; a rule has so many connections at once, or as many as all; and
+    /// Unix sockets at which nobody listens any more give way, or keep it from starting.
     Serve {
         rules: String,
         admin: String,
@@ -38,6 +40,9 @@ pub enum Job {
         pairs: Option<PairLimit>,
         log: Option<String>,
         metrics: Option<Addr>,
+        connect_ms: Option<u32>,
+        per_rule: Option<PairLimit>,
+        replaces_stale: bool,
     },
     /// Ask the relay whose admin socket is at `admin` this line, which may be no admin command.
     Ctl {
@@ -66,6 +71,16 @@ fn given<'a>(matches: &ArgMatches<'a>, id: &str) -> Option<&'a str>
     matches.get_str(id)
 }
 
+// Whether an option that stands alone is there.
+fn is_set(matches: &ArgMatches<'_>, id: &str) -> bool
+    ensures { result ≡ is_set id.now (rows_of (found_of matches.now)) }
+{
+    match given(matches, id) {
+        Some(text) => text == "true",
+        None => false,
+    }
+}
+
 fn serve_job(alloc: Global, matches: &ArgMatches<'_>) -> Result<Option<Job>, OutOfMemory>
     ensures { IfOk result (λ job. option_map asked_of job
         ≡ served_job (rows_of (found_of matches.now))) }
@@ -84,6 +99,12 @@ fn serve_job(alloc: Global, matches: &ArgMatches<'_>) -> Result<Option<Job>, Out
     let Some(metrics) = metrics_asked(given(matches, "metrics")) else {
         return Ok(None);
     };
+    let Some(connect_ms) = connect_asked(given(matches, "connect-timeout")) else {
+        return Ok(None);
+    };
+    let Some(per_rule) = pairs_asked(given(matches, "connections-per-rule")) else {
+        return Ok(None);
+    };
     Ok(Some(Job::Serve {
         rules,
         admin,
@@ -91,6 +112,9 @@ fn serve_job(alloc: Global, matches: &ArgMatches<'_>) -> Result<Option<Job>, Out
         pairs,
         log,
         metrics,
+        connect_ms,
+        per_rule,
+        replaces_stale: is_set(matches, "replace-stale"),
     }))
 }
 
@@ -167,7 +191,9 @@ fn options_of<'a>(words: &'a [&'a str]) -> &'a [&'a str]
 /// No word and the word `trace` ask for [`Job::Trace`]; `check` with `--rules` and `serve` with
 /// `--rules` and `--admin`, in any order, for the others. `serve` may have `--loops` too, with a
 /// number from 1 to 64 in digits without a zero ahead, `--connections`, with one from 1 to 2,000,
-/// `--log`, with the path of a file, and `--metrics`, with an address as the rules file has it;
+/// `--log`, with the path of a file, `--metrics`, with an address as the rules file has it,
+/// `--connect-timeout`, with a number up to 86,400,000, `--connections-per-rule`, with one from 1 to
+/// 2,000, and `--replace-stale`, alone;
 /// `ctl` with `--admin` and one to three words asks for [`Job::Ctl`]; `help` and `version` stand
 /// alone. A value follows its option as the next word, which begins with no `-`, or behind a `=`. A
 /// `--` ends the options: what follows it is an operand, and no command has one. The only fault is

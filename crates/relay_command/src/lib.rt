@@ -3,6 +3,7 @@
 #![tactic(auto)]
 
 mod ctl;
+mod descriptors;
 mod fault;
 mod grammar;
 mod job;
@@ -11,6 +12,7 @@ mod status;
 mod usage;
 
 pub use ctl::reply_status;
+pub use descriptors::{descriptors_allowed, descriptors_needed};
 pub use fault::{Fault, NO_MEMORY};
 pub use job::{Job, job_of};
 pub use status::trace_status;

@@ -2,6 +2,7 @@
 
 ghost use Rattle.std.specs.Prelude.{◌≡◌, IfOk, option_map};
 ghost use Rattle.std.specs.String.{string_bytes};
+ghost use Rattle.relay_command.specs.CommandLine.{connect_given, connect_in};
 ghost use Rattle.relay_command.specs.CommandLine.{log_given, loops_given, loops_in, metrics_given};
 ghost use Rattle.relay_command.specs.CommandLine.{pairs_given, pairs_in};
 ghost use Rattle.relay_admin.specs.rules.Addr.{address_of};
@@ -54,6 +55,38 @@ pub(crate) fn pairs_asked(given: Option<&str>) -> Option<Option<PairLimit>>
             Some(pairs) => Some(Some(pairs)),
             None => None,
         },
+    }
+}
+
+/// How many milliseconds a target has to be connected where nobody asks for another time. This
+/// project's own rule. The clauses below have the figures themselves, so that others are refused.
+const DEFAULT_CONNECT_MS: u32 = 5_000;
+
+/// The most that may be asked for: a day.
+const MAX_CONNECT_MS: u64 = 86_400_000;
+
+// How many milliseconds a target has by a text, in digits without a zero ahead; 0 is as long as the
+// system takes.
+fn connect_of(text: &str) -> Option<Option<u32>>
+    ensures { result ≡ connect_in text.now }
+{
+    let ms = parse_decimal(text.as_bytes())?;
+    if ms > MAX_CONNECT_MS {
+        return None;
+    }
+    if ms == 0 {
+        return Some(None);
+    }
+    Some(Some(ms as u32))
+}
+
+// How many milliseconds a target has by an option, if it is there; none where it asks for no time.
+pub(crate) fn connect_asked(given: Option<&str>) -> Option<Option<u32>>
+    ensures { result ≡ connect_given (option_map (λ text. text.now) given.entry) }
+{
+    match given {
+        None => Some(Some(DEFAULT_CONNECT_MS)),
+        Some(text) => connect_of(text),
     }
 }
 

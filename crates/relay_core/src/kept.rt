@@ -14,12 +14,12 @@ const OWN_ROOM_BYTES: usize = 256;
 /// Bytes that wait to be written, and room for them. Contracts see the bytes, and how many there is
 /// room for: keeping so many takes no memory.
 #[derive(Drop)]
-pub(crate) struct Kept<A: Allocator = Global> {
+pub(crate) struct PendingBytes<A: Allocator = Global> {
     bytes: Vec<u8, A>,
     written: usize,
 }
 
-impl<A: Allocator> Model for Kept<A> {
+impl<A: Allocator> Model for PendingBytes<A> {
     ghost use Rattle.std.specs.Prelude.{ℕ, ◌≤◌, List, drop, vec_len, vec_capacity};
     ghost use Rattle.relay_core.specs.Lending.{Keeping};
 
@@ -33,14 +33,14 @@ impl<A: Allocator> Model for Kept<A> {
     ghost invariant = { λ k. (k.written ≤ vec_len k.bytes) × (256 ≤ vec_capacity k.bytes) };
 }
 
-impl<A: Allocator> Kept<A> {
+impl<A: Allocator> PendingBytes<A> {
     /// Nothing is kept.
-    pub(crate) fn new(alloc: A) -> Result<Kept<A>, OutOfMemory>
+    pub(crate) fn new(alloc: A) -> Result<PendingBytes<A>, OutOfMemory>
         ensures nothing { IfOk result (λ kept. kept.bytes ≡ []) }
         ensures room { IfOk result (λ kept. kept.room ≡ 256) }
     {
         let bytes = Vec::with_capacity(alloc, OWN_ROOM_BYTES)?;
-        Ok(Kept { bytes, written: 0 })
+        Ok(PendingBytes { bytes, written: 0 })
     }
 
     /// The bytes that are kept.

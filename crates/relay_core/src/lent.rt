@@ -6,7 +6,7 @@ ghost use Rattle.relay_core.specs.Passing.{Bytes, Close, IsPassing, IsPassed, Is
 ghost use Rattle.base_types.specs.declared.direction.Dir.{Dir};
 
 use crate::buffers::LOOP_BUFFER_BYTES;
-use crate::kept::Kept;
+use crate::kept::PendingBytes;
 use crate::passing::{Step, read_once};
 use crate::poll_gate::PollGate;
 use base_types::OutOfMemory;
@@ -23,7 +23,7 @@ use std::mem;
 #[derive(Drop)]
 pub struct LoopMemory<A: Allocator = Global> {
     buffer: Vec<u8, A>,
-    spare: Kept<A>,
+    spare: PendingBytes<A>,
 }
 
 impl<A: Allocator> Model for LoopMemory<A> {
@@ -45,7 +45,7 @@ impl<A: Allocator + Copy> LoopMemory<A> {
     {
         let mut buffer = Vec::with_capacity(alloc, LOOP_BUFFER_BYTES)?;
         buffer.resize(LOOP_BUFFER_BYTES, 0)?;
-        let spare = Kept::new(alloc)?;
+        let spare = PendingBytes::new(alloc)?;
         Ok(LoopMemory { buffer, spare })
     }
 }
@@ -84,7 +84,7 @@ impl<A: Allocator> LoopMemory<A> {
 
     /// A copy that keeps nothing keeps these bytes of the buffer, in room of its own or in the
     /// loop's.
-    pub(crate) fn keep(&mut self, from: usize, to: usize, kept: &mut Kept<A>)
+    pub(crate) fn keep(&mut self, from: usize, to: usize, kept: &mut PendingBytes<A>)
         requires order { from ≤ to }
         requires within { to ≤ length self.old.buffer }
         requires fits { to ≤ self.old.room }

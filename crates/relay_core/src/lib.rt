@@ -37,7 +37,7 @@ pub use gate::CopyGate;
 pub use idle::{has_come, idle_deadline, pause_end, silence_end};
 pub use lent::LoopMemory;
 pub use loops::{Loops, MAX_LOOPS};
-pub use pair::{InsertedSides, end_closes_pair, has_room_for_pair};
+pub use pair::{InsertedSides, has_room_for_pair};
 pub use pair_limit::{DEFAULT_PAIRS, MAX_PAIRS, PairLimit};
 pub use pair_tasks::{PairNext, PairTasks, Standing, Ways};
 pub use passing::Step;

@@ -1,12 +1,9 @@
-//! The decisions about a pair: whether one more fits, what a set-up that fails has to undo, and
-//! whether the end of a worker closes it. A pair is two workers over two entries of the table.
+//! The decisions about a pair: whether one more fits, and what a set-up that fails has to undo. A
+//! pair is a connection by both its sides, each of which has an entry of the table.
 
-ghost use Rattle.std.specs.Prelude.{◌≡◌, ◌+◌, ◌<◌, ◌↔◌, List, [], ◌∷◌, ◌++◌, length, true, Some};
+ghost use Rattle.std.specs.Prelude.{◌≡◌, ◌<◌, ◌↔◌, [], ◌∷◌, ◌++◌, length, true};
 ghost use Rattle.std.specs.Prelude.{IfSome, IfNone};
-ghost use Rattle.relay_core.specs.declared.copying.Ended.{Ended};
-ghost use Rattle.relay_core.specs.Pair.{IsToBeClosed};
 
-use crate::copying::Ended;
 use crate::pair_limit::PairLimit;
 use std::marker::Model;
 
@@ -15,16 +12,6 @@ pub fn has_room_for_pair(pairs: usize, limit: PairLimit) -> bool
     ensures { result ≡ true ↔ pairs < limit.count }
 {
     pairs < limit.count
-}
-
-/// Whether the pair is to be closed now that one of its workers ended so, where so many of its
-/// workers ran until then, this one with them. This project's own rule: a pair is closed when a
-/// worker ended other than by `Eof`, or when both ended. `PairTasks::note` says so of tasks.
-pub fn end_closes_pair(ended: &Ended, running: u64) -> bool
-    ensures { (earlier : List Ended) → length earlier + running ≡ 2
-        → (result ≡ true ↔ IsToBeClosed (ended.now ∷ earlier)) }
-{
-    *ended != Ended::Eof || running < 2
 }
 
 /// The ids of the sides of a pair that a set-up has put into the table and that nobody has taken

@@ -109,8 +109,7 @@ impl PairTasks {
     }
 
     /// Notes how far a turn of a way came, and says what follows: the pair is closed once a way
-    /// ended other than by `Eof`, or both ended, as `end_closes_pair` says of workers, and then
-    /// after each later turn too.
+    /// ended other than by `Eof`, or both ended, and then after each later turn too.
     pub fn note(&mut self, way: Way, step: &Step) -> PairNext
         ensures noted { standing_of self.new way ≡ standing_after step.now }
         ensures kept { standing_of self.new (other_way way) ≡ standing_of self.old (other_way way) }

@@ -5,7 +5,7 @@ ghost use Rattle.relay_core.specs.Passing.{Bytes, IsPassing, IsPassed, IsStop};
 ghost use Rattle.relay_core.specs.Passing.{next_dir, unwritten, IfWaits, IfEnded};
 
 use crate::credits::Credits;
-use crate::kept::Kept;
+use crate::kept::PendingBytes;
 use crate::lent::LoopMemory;
 use crate::passing::{Step, close_once, offer};
 use crate::poll_gate::PollGate;
@@ -24,7 +24,7 @@ pub const TURNS_IN_A_ROW: u32 = 8;
 /// into is lent. Contracts see what it has to do next.
 #[derive(Drop)]
 pub struct Copying<A: Allocator = Global> {
-    kept: Kept<A>,
+    kept: PendingBytes<A>,
     at_end: bool,
 }
 
@@ -41,7 +41,7 @@ impl<A: Allocator> Copying<A> {
     pub fn new(alloc: A) -> Result<Copying<A>, OutOfMemory>
         ensures { IfOk result (λ copying. copying ≡ Bytes []) }
     {
-        let kept = Kept::new(alloc)?;
+        let kept = PendingBytes::new(alloc)?;
         Ok(Copying {
             kept,
             at_end: false,

@@ -1,11 +1,11 @@
 //! How a connection ended, or why it was refused.
 
 ghost use Rattle.std.specs.Prelude.{◌≡◌, ◌++◌, OnOk};
-ghost use Rattle.relay_log.specs.Ended.{ended_text, reason_text};
+ghost use Rattle.relay_log.specs.Ended.{cause_text, ended_text, reason_text};
 
 use crate::words::{
-    ABORTED, BROKEN_PIPE, CLOSED, DRAINED, EOF, FULL, IDLE, NO_TARGET, OTHER, READ, REFUSED, RESET,
-    WRITE,
+    ABORTED, ACCEPT, BROKEN_PIPE, CLOSED, DESCRIPTORS, DRAINED, EOF, FULL, IDLE, NO_TARGET, OTHER,
+    READ, REFUSED, RESET, RULE_FULL, TIMEOUT, UNREACHABLE, WRITE,
 };
 use base_types::OutOfMemory;
 use std::alloc::Allocator;
@@ -41,7 +41,35 @@ impl Reason {
     }
 }
 
-/// How a connection ended. The last two are of connections that were refused.
+/// Why a target wasn't reached.
+#[derive(Clone, Copy, Debug, PartialEq, Eq, Drop)]
+pub enum Cause {
+    /// Nobody listened at its address.
+    Refused,
+    /// There is no way to it, or nothing at its path, or its queue is full.
+    Unreachable,
+    /// It wasn't connected in the time that it has, or before a deadline of its connection.
+    Timeout,
+    /// The relay, or the system, has no descriptor left for it.
+    Descriptors,
+}
+
+impl Cause {
+    /// Its word, in which no space stands.
+    pub fn word(self) -> &'static [u8]
+        ensures { result.now ≡ cause_text self }
+    {
+        match self {
+            Cause::Refused => REFUSED,
+            Cause::Unreachable => UNREACHABLE,
+            Cause::Timeout => TIMEOUT,
+            Cause::Descriptors => DESCRIPTORS,
+        }
+    }
+}
+
+/// How a connection ended, or what else a line tells. `Full` and `RuleFull` are of clients that
+/// were refused, `NoTarget` of those and of connections whose targets weren't reached later.
 #[derive(Clone, Copy, Debug, PartialEq, Eq, Drop)]
 pub enum Ended {
     /// Both ends of file were passed on.
@@ -58,8 +86,12 @@ pub enum Ended {
     Write(Reason),
     /// As many connections stood as may.
     Full,
+    /// As many connections of its rule stood as may.
+    RuleFull,
     /// The target wasn't reached.
-    NoTarget,
+    NoTarget(Cause),
+    /// No connection: an accept failed, the first in a row.
+    Accept(Reason),
 }
 
 impl Ended {
@@ -76,7 +108,9 @@ impl Ended {
             Ended::Read(why) => write_failed(into, READ, why),
             Ended::Write(why) => write_failed(into, WRITE, why),
             Ended::Full => into.extend_from_slice(FULL),
-            Ended::NoTarget => into.extend_from_slice(NO_TARGET),
+            Ended::RuleFull => into.extend_from_slice(RULE_FULL),
+            Ended::NoTarget(cause) => write_both(into, NO_TARGET, cause.word()),
+            Ended::Accept(why) => write_failed(into, ACCEPT, why),
         }
     }
 }
@@ -88,6 +122,16 @@ fn write_failed<A: Allocator>(
 ) -> Result<(), OutOfMemory>
     ensures { OnOk result (into.new.items ≡ into.old.items ++ (call.now ++ reason_text why)) }
 {
-    into.extend_from_slice(call)?;
-    into.extend_from_slice(why.word())
+    write_both(into, call, why.word())
+}
+
+fn write_both<A: Allocator>(
+    into: &mut Vec<u8, A>,
+    first: &[u8],
+    second: &[u8],
+) -> Result<(), OutOfMemory>
+    ensures { OnOk result (into.new.items ≡ into.old.items ++ (first.now ++ second.now)) }
+{
+    into.extend_from_slice(first)?;
+    into.extend_from_slice(second)
 }

@@ -27,8 +27,14 @@ pub const WRITE: &[u8] = b"write ";
 /// It was refused, since as many connections stood as may.
 pub const FULL: &[u8] = b"full";
 
-/// It was refused, since the target wasn't reached.
-pub const NO_TARGET: &[u8] = b"no target";
+/// It was refused, since as many connections of its rule stood as may.
+pub const RULE_FULL: &[u8] = b"rule full";
+
+/// The target wasn't reached; the cause follows.
+pub const NO_TARGET: &[u8] = b"no target ";
+
+/// An accept failed, so that there is no client; the reason follows.
+pub const ACCEPT: &[u8] = b"accept ";
 
 /// The peer reset the connection.
 pub const RESET: &[u8] = b"reset";
@@ -44,3 +50,12 @@ pub const REFUSED: &[u8] = b"refused";
 
 /// Any other error.
 pub const OTHER: &[u8] = b"other";
+
+/// The target can't be reached, and nobody said that he refuses.
+pub const UNREACHABLE: &[u8] = b"unreachable";
+
+/// The target wasn't connected in time.
+pub const TIMEOUT: &[u8] = b"timeout";
+
+/// The relay has no descriptor left.
+pub const DESCRIPTORS: &[u8] = b"descriptors";

@@ -1,5 +1,6 @@
 -- A snapshot of a relay's figures.
-use Rattle.std.specs.Prelude.{◌≡◌, []}
+use Rattle.std.specs.Prelude.{◌≡◌, Bool, []}
+use Rattle.std.specs.List.{list_all}
 use Rattle.relay_metrics.specs.declared.figures.CarriedBytes.{CarriedBytes}
 use Rattle.relay_metrics.specs.declared.figures.Figures.{Figures}
 
@@ -18,3 +19,7 @@ pub record IsBlank (f : Figures) : Type 0 where
   pub log_lines : f.log_lines ≡ 0
   pub log_lost_lines : f.log_lost_lines ≡ 0
   pub rules : f.rules.items ≡ []
+
+-- all rules accept clients
+abbrev pub all_listen : Figures → Bool
+all_listen figures = list_all (λ rule. rule.is_listening) figures.rules.items

@@ -1,4 +1,3 @@
-pub mod Answer
 pub mod Family
 pub mod Figures
 pub mod Sample

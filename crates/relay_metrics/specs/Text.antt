@@ -1,6 +1,6 @@
 -- How a snapshot is spelled: the text format of Prometheus, version 0.0.4. The figures of a family
 -- stand together, behind what is said of the family.
-use Rattle.std.specs.Prelude.{ℕ, ◌+◌, List, [], ◌∷◌, ◌++◌, codes, length}
+use Rattle.std.specs.Prelude.{ℕ, Bool, ◌+◌, List, [], ◌∷◌, ◌++◌, codes, length, if◌then◌else◌}
 use Rattle.std.specs.List.{flat_map}
 use Rattle.std.specs.Fmt.{decimal}
 use Rattle.relay_metrics.specs.declared.family.Family.{Family}
@@ -10,6 +10,7 @@ use Rattle.relay_metrics.specs.declared.figures.Ends.{Ends}
 use Rattle.relay_metrics.specs.declared.figures.Figures.{Figures}
 use Rattle.relay_metrics.specs.declared.figures.Refusals.{Refusals}
 use Rattle.relay_metrics.specs.declared.figures.RuleFigures.{RuleFigures}
+use Rattle.relay_metrics.specs.declared.figures.Unreached.{Unreached}
 use Rattle.relay_metrics.specs.Family.{head_text, name_text}
 use Rattle.relay_metrics.specs.Sample.{rule_sample_text, sample_text, seconds_text}
 use Rattle.relay_metrics.specs.Sample.{single_text, value_text}
@@ -47,7 +48,8 @@ cause_text f rule cause n = rule_sample_text f rule (codes "cause") cause n
 -- a rule's refused connections, for each cause
 unfoldable pub refused_text : List ℕ → Refusals → List ℕ
 refused_text rule refused = cause_text family.RuleRefused rule (codes "full") refused.full
-    ++ cause_text family.RuleRefused rule (codes "no_target") refused.no_target
+    ++ (cause_text family.RuleRefused rule (codes "no_target") refused.no_target
+    ++ cause_text family.RuleRefused rule (codes "rule_full") refused.rule_full)
 
 -- a rule's connections that ended with no fault, for each cause
 unfoldable pub whole_ends_text : List ℕ → Ends → List ℕ
@@ -66,6 +68,18 @@ faults_text rule ends = cause_text family.RuleEnds rule (codes "read") ends.read
 unfoldable pub ends_text : List ℕ → Ends → List ℕ
 ends_text rule ends = whole_ends_text rule ends ++ faults_text rule ends
 
+-- a rule's clients whose target wasn't reached, for each cause
+unfoldable pub no_target_text : List ℕ → Unreached → List ℕ
+no_target_text rule unreached =
+    cause_text family.RuleNoTarget rule (codes "refused") unreached.refused
+    ++ (cause_text family.RuleNoTarget rule (codes "unreachable") unreached.unreachable
+    ++ (cause_text family.RuleNoTarget rule (codes "timeout") unreached.timeout
+    ++ cause_text family.RuleNoTarget rule (codes "descriptors") unreached.descriptors))
+
+-- what holds is 1, what doesn't 0
+abbrev pub flag : Bool → ℕ
+flag holds = if holds then 1 else 0
+
 -- a rule's figures in a family of rules; in other families it has none
 unfoldable pub of_rule : Family → RuleFigures → List ℕ
 of_rule family.RuleConnections r =
@@ -75,6 +89,11 @@ of_rule family.RuleAccepted r =
 of_rule family.RuleBytes r = rule_bytes_text r.name.bytes r.bytes
 of_rule family.RuleRefused r = refused_text r.name.bytes r.refused
 of_rule family.RuleEnds r = ends_text r.name.bytes r.ends
+of_rule family.RuleNoTarget r = no_target_text r.name.bytes r.unreached
+of_rule family.RuleAcceptFaults r =
+    sample_text family.RuleAcceptFaults (codes "rule") r.name.bytes r.accept_faults
+of_rule family.RuleListening r =
+    sample_text family.RuleListening (codes "rule") r.name.bytes (flag r.is_listening)
 of_rule _ r = []
 
 -- a family of rules: the figures of each rule, in their order
@@ -93,13 +112,19 @@ unfoldable pub totals_text : Figures → List ℕ
 totals_text f = bytes_text f.bytes ++ (single_text family.LogLines f.log_lines
     ++ single_text family.LogLostLines f.log_lost_lines)
 
+-- the families of what keeps clients of rules from being served
+unfoldable pub defence_text : List RuleFigures → List ℕ
+defence_text rules = rule_family_text family.RuleNoTarget rules
+    ++ (rule_family_text family.RuleAcceptFaults rules
+    ++ rule_family_text family.RuleListening rules)
+
 -- the families of rules
 unfoldable pub rules_text : List RuleFigures → List ℕ
 rules_text rules = rule_family_text family.RuleConnections rules
     ++ (rule_family_text family.RuleAccepted rules
     ++ (rule_family_text family.RuleBytes rules
     ++ (rule_family_text family.RuleRefused rules
-    ++ rule_family_text family.RuleEnds rules)))
+    ++ (rule_family_text family.RuleEnds rules ++ defence_text rules))))
 
 -- the whole text
 unfoldable pub metrics_text : Figures → List ℕ

@@ -24,6 +24,9 @@ pub(crate) enum Family {
     RuleBytes,
     RuleRefused,
     RuleEnds,
+    RuleNoTarget,
+    RuleAcceptFaults,
+    RuleListening,
 }
 
 impl Family {
@@ -46,6 +49,9 @@ impl Family {
             Family::RuleBytes => b"pollrelay_rule_bytes_total",
             Family::RuleRefused => b"pollrelay_rule_refused_total",
             Family::RuleEnds => b"pollrelay_rule_ends_total",
+            Family::RuleNoTarget => b"pollrelay_rule_no_target_total",
+            Family::RuleAcceptFaults => b"pollrelay_rule_accept_faults_total",
+            Family::RuleListening => b"pollrelay_rule_listening",
         }
     }
 
@@ -68,6 +74,9 @@ impl Family {
             Family::RuleBytes => b"Bytes written to the target (up) and to clients (down).",
             Family::RuleRefused => b"Connections that were refused as they came, by cause.",
             Family::RuleEnds => b"Connections that ended, by cause.",
+            Family::RuleNoTarget => b"Clients whose target wasn't reached, by cause.",
+            Family::RuleAcceptFaults => b"Rows of accepts that failed.",
+            Family::RuleListening => b"Whether clients are accepted: 1, or 0.",
         }
     }
 
@@ -80,6 +89,7 @@ impl Family {
             Family::Loops => b"gauge",
             Family::ConnectionsLimit => b"gauge",
             Family::RuleConnections => b"gauge",
+            Family::RuleListening => b"gauge",
             _ => b"counter",
         }
     }

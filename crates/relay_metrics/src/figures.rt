@@ -1,6 +1,8 @@
 //! A snapshot of a relay's figures.
 
+ghost use Rattle.std.specs.Prelude.{◌≡◌};
 ghost use Rattle.relay_metrics.specs.Figures.{IsBlank};
+ghost use Rattle.relay_metrics.specs.Figures.{all_listen};
 
 use arrayvec::ArrayString;
 use std::alloc::Global;
@@ -19,6 +21,21 @@ pub struct Refusals {
     pub full: u64,
     /// Its target wasn't reached.
     pub no_target: u64,
+    /// As many of the rule stood as may.
+    pub rule_full: u64,
+}
+
+/// The clients of a rule whose target wasn't reached, as they came or later, by causes.
+#[derive(Clone, Copy, Debug, Default, PartialEq, Eq, Drop)]
+pub struct Unreached {
+    /// Nobody listened there.
+    pub refused: u64,
+    /// There was no way to it.
+    pub unreachable: u64,
+    /// It wasn't connected in time.
+    pub timeout: u64,
+    /// The relay had no descriptor left.
+    pub descriptors: u64,
 }
 
 /// The connections of a rule that ended, by how they did.
@@ -36,7 +53,7 @@ pub struct Ends {
     pub read: u64,
     /// A write failed.
     pub write: u64,
-    /// The target refused it after it was let in.
+    /// The target wasn't reached after it was let in.
     pub no_target: u64,
 }
 
@@ -51,6 +68,11 @@ pub struct RuleFigures {
     pub bytes: CarriedBytes,
     pub refused: Refusals,
     pub ends: Ends,
+    pub unreached: Unreached,
+    /// The rows of accepts that failed one after the other.
+    pub accept_faults: u64,
+    /// Whether clients are accepted, as they should be.
+    pub is_listening: bool,
 }
 
 /// What is told of a relay. It is made once, and filled anew for each reader, in the same memory.
@@ -88,5 +110,12 @@ impl Figures {
             log_lost_lines: 0,
             rules: Vec::new(alloc),
         }
+    }
+
+    /// Whether all rules accept clients.
+    pub fn all_listen(&self) -> bool
+        ensures { result ≡ all_listen self.now }
+    {
+        self.rules.iter().all(|rule| rule.is_listening)
     }
 }

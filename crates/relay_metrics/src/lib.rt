@@ -1,17 +1,15 @@
-//! What a relay tells of itself: a snapshot of its figures, the text that Prometheus reads, and the
-//! pages at which it is given by HTTP. No thread, no socket and no clock.
+//! What a relay tells of itself: a snapshot of its figures, and the text that Prometheus reads. No
+//! thread, no socket and no clock.
 //!
-//! `figures` has the snapshot, `family` the names, `sample` and `text` the text; `place` says what a
-//! path names, and `service` answers.
+//! `figures` has the snapshot, `metered` who fills it, `family` the names, `sample` and `text` the text.
 #![tactic(auto)]
 
 mod family;
 mod figures;
-mod place;
+mod metered;
 mod rule_text;
 mod sample;
-mod service;
 mod text;
 
-pub use figures::{CarriedBytes, Ends, Figures, Refusals, RuleFigures};
-pub use service::{Metered, MetricsService};
+pub use figures::{CarriedBytes, Ends, Figures, Refusals, RuleFigures, Unreached};
+pub use metered::Metered;

@@ -1,12 +1,13 @@
 //! What the text says of rules: a family's figures of all of them stand together.
 
 ghost use Rattle.std.specs.Prelude.{◌≡◌, ◌++◌, OnOk};
-ghost use Rattle.relay_metrics.specs.Text.{cause_text, ends_text, faults_text, of_rule};
+ghost use Rattle.relay_metrics.specs.Text.{cause_text, defence_text, ends_text, faults_text, flag};
+ghost use Rattle.relay_metrics.specs.Text.{no_target_text, of_rule};
 ghost use Rattle.relay_metrics.specs.Text.{refused_text, rule_bytes_text, rule_family_text};
 ghost use Rattle.relay_metrics.specs.Text.{rules_text, whole_ends_text};
 
 use crate::family::Family;
-use crate::figures::{CarriedBytes, Ends, Refusals, RuleFigures};
+use crate::figures::{CarriedBytes, Ends, Refusals, RuleFigures, Unreached};
 use crate::sample::{write_rule_sample, write_sample};
 use base_types::OutOfMemory;
 use std::alloc::Allocator;
@@ -23,7 +24,28 @@ pub(crate) fn write_rules<A: Allocator>(
     write_family(into, Family::RuleAccepted, rules)?;
     write_family(into, Family::RuleBytes, rules)?;
     write_family(into, Family::RuleRefused, rules)?;
-    write_family(into, Family::RuleEnds, rules)
+    write_family(into, Family::RuleEnds, rules)?;
+    write_defence(into, rules)
+}
+
+// The families of what keeps clients of rules from being served.
+#[tactic(auto, unfolding(crate::specs::Text::defence_text))]
+fn write_defence<A: Allocator>(
+    into: &mut Vec<u8, A>,
+    rules: &[RuleFigures],
+) -> Result<(), OutOfMemory>
+    ensures { OnOk result (into.new.items ≡ into.old.items ++ defence_text rules.now) }
+{
+    write_family(into, Family::RuleNoTarget, rules)?;
+    write_family(into, Family::RuleAcceptFaults, rules)?;
+    write_family(into, Family::RuleListening, rules)
+}
+
+// 1 for what holds, and 0 for what doesn't.
+fn flag(holds: bool) -> u64
+    ensures { result ≡ flag holds }
+{
+    if holds { 1 } else { 0 }
 }
 
 #[tactic(auto, unfolding(crate::specs::Text::rule_family_text))]
@@ -57,6 +79,11 @@ fn write_rule<A: Allocator>(
         Family::RuleBytes => write_bytes(into, name, rule.bytes),
         Family::RuleRefused => write_refused(into, name, rule.refused),
         Family::RuleEnds => write_ends(into, name, rule.ends),
+        Family::RuleNoTarget => write_no_target(into, name, rule.unreached),
+        Family::RuleAcceptFaults => write_sample(into, family, b"rule", name, rule.accept_faults),
+        Family::RuleListening => {
+            write_sample(into, family, b"rule", name, flag(rule.is_listening))
+        }
         _ => Ok(()),
     }
 }
@@ -102,7 +129,30 @@ fn write_refused<A: Allocator>(
         rule,
         b"no_target",
         refused.no_target,
+    )?;
+    write_cause(
+        into,
+        Family::RuleRefused,
+        rule,
+        b"rule_full",
+        refused.rule_full,
     )
+}
+
+#[tactic(auto, unfolding(crate::specs::Text::no_target_text))]
+fn write_no_target<A: Allocator>(
+    into: &mut Vec<u8, A>,
+    rule: &[u8],
+    unreached: Unreached,
+) -> Result<(), OutOfMemory>
+    ensures { OnOk result
+        (into.new.items ≡ into.old.items ++ no_target_text rule.now unreached) }
+{
+    let family = Family::RuleNoTarget;
+    write_cause(into, family, rule, b"refused", unreached.refused)?;
+    write_cause(into, family, rule, b"unreachable", unreached.unreachable)?;
+    write_cause(into, family, rule, b"timeout", unreached.timeout)?;
+    write_cause(into, family, rule, b"descriptors", unreached.descriptors)
 }
 
 #[tactic(auto, unfolding(crate::specs::Text::ends_text))]

@@ -36,6 +36,7 @@ mod ending;
 mod ends;
 mod failing_files;
 mod figures;
+mod finishing;
 mod leaving;
 mod live_threads;
 mod loops;
@@ -49,6 +50,7 @@ mod places;
 mod quiet;
 mod reloading;
 mod renewing;
+mod sessions;
 mod stalls;
 mod start_faults;
 mod started;
@@ -57,7 +59,7 @@ mod streams;
 mod watch;
 mod watching;
 
-use relay::{Capacity, Loops, Outlets, PairLimit, ServeFault, serve};
+use relay::{Capacity, Loops, Outlets, PairLimit, Safeguards, ServeFault, serve};
 use std::fs::{File, Files};
 use std::io::Write;
 use std::net::{Net, Shutdown, TcpListener, TcpStream};
@@ -130,8 +132,35 @@ where
         + Sync
         + 'static,
 {
+    let safeguards = Safeguards::by_default();
+    served_with(rt, rules, admin, capacity, safeguards, outlets)
+}
+
+/// The same with these safeguards.
+fn served_with<R>(
+    rt: R,
+    rules: &String,
+    admin: &String,
+    capacity: Capacity,
+    safeguards: Safeguards,
+    outlets: Outlets<File>,
+) -> Said
+where
+    R: Wait
+        + Threads
+        + Net<Listener = TcpListener, Stream = TcpStream>
+        + Clock
+        + Files
+        + RandomSource
+        + Abort
+        + AllocGlobal
+        + Copy
+        + Send
+        + Sync
+        + 'static,
+{
     let mut text = Vec::new(rt.alloc());
-    let done = serve(rt, rules, admin, capacity, outlets, &mut text);
+    let done = serve(rt, rules, admin, capacity, safeguards, outlets, &mut text);
     Said { done, text }
 }
 

@@ -2,7 +2,7 @@
 
 use relay_admin::Command;
 use relay_admin::Command::{
-    CloseConn, DeadlineOf, DrainConn, List, Quit, Reload, Show, Stop, Totals,
+    CloseConn, DeadlineOf, DrainConn, Finish, List, Quit, Reload, Show, Stop, Totals,
 };
 
 const LINES: &[(&str, Option<Command>)] = &[
@@ -44,6 +44,13 @@ const LINES: &[(&str, Option<Command>)] = &[
     ("show", None),
     ("show 1 never", None),
     ("shown 1", None),
+    ("finish 0", Some(Finish(0))),
+    ("finish 86400000", Some(Finish(86_400_000))),
+    ("finish 86400001", None),
+    ("finish 00", None),
+    ("finish never", None),
+    ("finish 1 2", None),
+    ("finish", None),
     ("reload", Some(Reload)),
     ("reload 1", None),
     ("reload ", None),

@@ -125,6 +125,11 @@ impl Desk for FakeDesk {
         DeskAnswer::Fine
     }
 
+    fn finish(&mut self, _after_ms: u64) -> DeskAnswer {
+        self.count();
+        DeskAnswer::Fine
+    }
+
     fn show(&mut self, id: u64) -> DeskAnswer {
         self.count();
         match id {

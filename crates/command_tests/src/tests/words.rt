@@ -36,6 +36,9 @@ fn served(
         pairs,
         log: None,
         metrics: None,
+        connect_ms: Some(5_000),
+        per_rule: None,
+        replaces_stale: false,
     })
 }
 
@@ -52,6 +55,9 @@ fn served_with(alloc: Global, log: Option<&str>, metrics: Option<Addr>) -> Optio
         pairs: None,
         log,
         metrics,
+        connect_ms: Some(5_000),
+        per_rule: None,
+        replaces_stale: false,
     })
 }
 

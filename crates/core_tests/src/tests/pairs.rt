@@ -4,15 +4,13 @@ use base_types::Dir;
 use relay_core::Way::{Down, Up};
 use relay_core::{
     Ended, InsertedSides, PairLimit, PairNext, PairTasks, Side, Standing, Step, Way, Ways,
-    end_closes_pair, has_room_for_pair, idle_deadline, loop_of, next_pause_ms,
+    has_room_for_pair, idle_deadline, loop_of, next_pause_ms,
 };
 use rwloops::{DevKind, Fault};
 
 /// A call with its answer.
 #[derive(Clone, Copy)]
 enum Case {
-    /// How a way ended, how many ran by then, and whether that closes the pair.
-    Closes(Ended, u64, bool),
     /// The limit that was asked for, if one was, the pairs that stand, and whether there is room
     /// for one more; none where there can't be such a limit.
     Room(Option<u64>, usize, Option<bool>),
@@ -22,15 +20,9 @@ enum Case {
     Pause(u64, u64),
 }
 
-use Case::{Closes, Idle, Pause, Room};
-
-const RESET: Ended = Ended::ReadFault(Fault::Device(DevKind::Reset));
+use Case::{Idle, Pause, Room};
 
 const CASES: &[(&str, Case)] = &[
-    ("an end of the first way", Closes(Ended::Eof, 2, false)),
-    ("an end of the second way", Closes(Ended::Eof, 1, true)),
-    ("a fault of the first way", Closes(RESET, 2, true)),
-    ("a full book", Closes(Ended::BookFull(0), 1, true)),
     ("the last pair by default", Room(None, 511, Some(true))),
     ("a pair too many by default", Room(None, 512, Some(false))),
     (
@@ -61,7 +53,6 @@ fn has_room(asked: Option<u64>, pairs: usize) -> Option<bool> {
 
 fn holds(case: &Case) -> bool {
     match case {
-        Closes(ended, running, closes) => end_closes_pair(ended, *running) == *closes,
         Room(asked, pairs, room) => has_room(*asked, *pairs) == *room,
         Idle(now, idle_ms, deadline) => idle_deadline(*now, *idle_ms) == *deadline,
         Pause(before, next) => next_pause_ms(*before) == *next,
@@ -113,6 +104,8 @@ const BOTH: Ways = Ways {
 
 const END: Step = Step::Ended(Ended::Eof);
 
+const RESET: Ended = Ended::ReadFault(Fault::Device(DevKind::Reset));
+
 // Up reads from the client, and down writes to it.
 const TURNS: &[Turn] = &[
     Turn::Ready(BOTH),
@@ -137,6 +130,25 @@ fn answers(tasks: &mut PairTasks, turn: &Turn) -> bool {
         Turn::NotOver(want) => tasks.not_over() == *want,
         Turn::Over => !tasks.not_over().any(),
         Turn::Up(want) => tasks.up == *want,
+    }
+}
+
+// A step of the first way, and what follows for its pair while the other goes on.
+const ENDS: &[(&str, Step, PairNext)] = &[
+    ("an end", END, PairNext::Again),
+    ("a fault", Step::Ended(RESET), PairNext::Closes),
+    (
+        "a full book",
+        Step::Ended(Ended::BookFull(0)),
+        PairNext::Closes,
+    ),
+];
+
+#[test]
+fn pair_closes_at_the_first_failure(rt: HostRuntime) {
+    for (row, step, want) in ENDS {
+        let next = PairTasks::new().note(Up, step);
+        assert!(rt; next == *want, "{row}: {next:?}");
     }
 }
 

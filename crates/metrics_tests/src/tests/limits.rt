@@ -1,7 +1,7 @@
 //! The time that a client has, and how many may stand.
 
 use super::served::{LONG_NS, Served, loopback, opened};
-use super::streams::{comes_to_serve, has_ended, is_well, reach, says, standing};
+use super::streams::{comes_to_serve, has_ended, is_well, reach, says, serves, standing};
 use super::watch::Watch;
 use super::{TURNS, pause};
 use metrics_server::MOST_CLIENTS;
@@ -64,8 +64,14 @@ fn an_answer_gives_a_client_no_more_time(rt: HostRuntime) {
     watch.end(&rt);
 }
 
-fn are_well(clients: &mut [TcpStream]) -> bool {
-    for client in clients {
+/// Whether the first so many have ended, and the others are told that all is well.
+fn first_have_gone(clients: &mut [TcpStream], count: usize) -> bool {
+    for client in clients.iter_mut().take(count) {
+        if !has_ended(client) {
+            return false;
+        }
+    }
+    for client in clients.iter_mut().skip(count) {
         if !is_well(client) {
             return false;
         }
@@ -74,23 +80,20 @@ fn are_well(clients: &mut [TcpStream]) -> bool {
 }
 
 #[test]
-fn a_ninth_client_is_closed_as_it_comes_and_has_a_place_that_is_left(rt: HostRuntime) {
+fn one_client_more_than_may_stand_has_the_place_of_the_first(rt: HostRuntime) {
     let watch = Watch::start(rt, rt.alloc());
     let served = Served::start(rt, rt.alloc(), LONG_NS).expect(&rt, "a server");
     let clients = standing(&rt, served.port, MOST_CLIENTS);
-    let mut clients = clients.expect(&rt, "eight clients");
-    let mut ninth = reach(&rt, served.port).expect(&rt, "a ninth client");
-    holds!(rt; has_ended(&mut ninth), "the ninth stays");
-    holds!(rt; are_well(clients.as_mut_slice()), "the eight");
-    holds!(rt; clients.pop().is_some(), "one goes");
-    holds!(rt; comes_to_serve(&rt, served.port), "its place stays taken");
+    let mut clients = clients.expect(&rt, "as many as may stand");
+    let mut more = reach(&rt, served.port).expect(&rt, "one more");
+    holds!(rt; is_well(&mut more), "one more");
+    holds!(rt; first_have_gone(clients.as_mut_slice(), 1), "another went, or none");
     served.running.stop(&rt);
     watch.end(&rt);
 }
 
-/// So many come before the server runs, all at once: more than are let in, one a second, within the
-/// time of a test.
-const AT_ONCE: usize = 30;
+/// Those that come before the server runs, all at once, beyond as many as may stand.
+const TOO_MANY: usize = 22;
 
 /// So many clients, none of which says anything.
 fn reached(rt: &HostRuntime, port: u16, count: usize) -> Option<Vec<TcpStream>> {
@@ -101,26 +104,29 @@ fn reached(rt: &HostRuntime, port: u16, count: usize) -> Option<Vec<TcpStream>> 
     Some(clients)
 }
 
-/// Waits for those that weren't let in, which came after the others.
-fn rest_is_closed(clients: &mut [TcpStream]) -> bool {
-    for client in clients.iter_mut().skip(MOST_CLIENTS) {
-        if !has_ended(client) {
-            return false;
-        }
-    }
-    true
-}
-
 #[test]
-fn clients_that_came_at_once_and_say_nothing_are_all_looked_at(rt: HostRuntime) {
+fn of_clients_that_came_at_once_the_last_stand(rt: HostRuntime) {
     let watch = Watch::start(rt, rt.alloc());
     let server = opened(rt, rt.alloc(), &loopback(0), LONG_NS)
         .ok()
         .expect(&rt, "a server");
     let port = server.port().expect(&rt, "a port");
-    let mut clients = reached(&rt, port, AT_ONCE).expect(&rt, "clients");
+    let mut clients = reached(&rt, port, MOST_CLIENTS + TOO_MANY).expect(&rt, "clients");
     let running = server.start().ok().expect(&rt, "a thread");
-    holds!(rt; rest_is_closed(clients.as_mut_slice()), "one isn't looked at");
+    holds!(rt; first_have_gone(clients.as_mut_slice(), TOO_MANY), "others went, or stay");
     running.stop(&rt);
+    watch.end(&rt);
+}
+
+#[test]
+fn clients_that_say_nothing_keep_nobody_out(rt: HostRuntime) {
+    let watch = Watch::start(rt, rt.alloc());
+    let served = Served::start(rt, rt.alloc(), LONG_NS).expect(&rt, "a server");
+    let silent = reached(&rt, served.port, 3 * MOST_CLIENTS).expect(&rt, "clients");
+    for _ in 0..30 {
+        holds!(rt; serves(&rt, served.port), "one isn't answered");
+    }
+    drop(silent);
+    served.running.stop(&rt);
     watch.end(&rt);
 }

@@ -53,7 +53,7 @@ fn between(text: &str) -> Option<&str> {
 
 #[test]
 fn a_page_that_is_refused_memory_is_a_500_and_the_next_is_whole(rt: HostRuntime) {
-    let text = answered(&rt, &Meter::refusing(1), THREE).expect(&rt, "an answer");
+    let text = answered(&rt, Meter::refusing(1), THREE).expect(&rt, "an answer");
     let second = between(text.as_str()).expect(&rt, "a refusal, and what is well");
     let page = page_of(rt.alloc(), 2).expect(&rt, "a page");
     holds!(rt; is_answer(second, "200 OK", FIGURES, page.as_str()));

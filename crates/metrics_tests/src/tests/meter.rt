@@ -2,7 +2,7 @@
 
 use arrayvec::ArrayString;
 use base_types::OutOfMemory;
-use relay_metrics::{CarriedBytes, Ends, Figures, Metered, Refusals, RuleFigures};
+use relay_metrics::{CarriedBytes, Ends, Figures, Metered, Refusals, RuleFigures, Unreached};
 use std::alloc::Global;
 use std::sync::atomic::{AtomicU64, Ordering};
 
@@ -19,6 +19,7 @@ fn web() -> Option<RuleFigures> {
         refused: Refusals {
             full: 5,
             no_target: 6,
+            rule_full: 7,
         },
         ends: Ends {
             eof: 20,
@@ -29,6 +30,14 @@ fn web() -> Option<RuleFigures> {
             write: 25,
             no_target: 26,
         },
+        unreached: Unreached {
+            refused: 30,
+            unreachable: 31,
+            timeout: 32,
+            descriptors: 33,
+        },
+        accept_faults: 34,
+        is_listening: true,
     })
 }
 
@@ -41,6 +50,9 @@ fn unused() -> Option<RuleFigures> {
         bytes: CarriedBytes::default(),
         refused: Refusals::default(),
         ends: Ends::default(),
+        unreached: Unreached::default(),
+        accept_faults: 0,
+        is_listening: false,
     })
 }
 
@@ -68,6 +80,8 @@ pub(super) struct Meter {
     reads: AtomicU64,
     /// How many reads are refused memory, from the first on.
     refuses: u64,
+    /// Whether it has a rule that takes no clients.
+    is_deaf: bool,
 }
 
 impl Meter {
@@ -80,6 +94,16 @@ impl Meter {
         Meter {
             reads: AtomicU64::new(0),
             refuses,
+            is_deaf: false,
+        }
+    }
+
+    /// One with a rule that takes no clients.
+    pub(super) fn deaf() -> Meter {
+        Meter {
+            reads: AtomicU64::new(0),
+            refuses: 0,
+            is_deaf: true,
         }
     }
 }
@@ -90,6 +114,12 @@ impl Metered for Meter {
         figures.admin_sessions = before.saturating_add(1);
         if before < self.refuses {
             return Err(OutOfMemory);
+        }
+        if self.is_deaf {
+            let Some(rule) = unused() else {
+                return Err(OutOfMemory);
+            };
+            figures.rules.push(rule)?;
         }
         Ok(())
     }

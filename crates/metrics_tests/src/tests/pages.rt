@@ -2,7 +2,8 @@
 
 use super::meter::Meter;
 use http_server::{Config, Connection, serve};
-use relay_metrics::{Figures, MetricsService};
+use metrics_server::MetricsService;
+use relay_metrics::Figures;
 use std::alloc::Global;
 use std::hash::RandomState;
 
@@ -19,7 +20,7 @@ pub(super) fn page_of(alloc: Global, reads: u64) -> Option<String> {
 }
 
 /// What a client is answered that sends this, and then no more.
-pub(super) fn answered(rt: &HostRuntime, meter: &Meter, sent: &str) -> Option<String> {
+pub(super) fn answered(rt: &HostRuntime, meter: Meter, sent: &str) -> Option<String> {
     let keys = RandomState::new(rt).ok()?;
     let mut connection = Connection::new(rt.alloc(), keys, Config::default());
     let mut service = MetricsService::new(rt.alloc(), meter);
@@ -32,7 +33,7 @@ pub(super) fn answered(rt: &HostRuntime, meter: &Meter, sent: &str) -> Option<St
 /// What this request is answered.
 fn answer_to(rt: &HostRuntime, request: &str) -> Option<String> {
     let sent = format!(in rt.alloc(); "{request} HTTP/1.1\r\nHost: x\r\n\r\n").ok()?;
-    answered(rt, &Meter::new(), sent.as_str())
+    answered(rt, Meter::new(), sent.as_str())
 }
 
 /// Whether an answer has this status, a field with this value, and this body.
@@ -101,5 +102,20 @@ const ROWS: [(&str, &str, &str, &str); 15] = [
 fn a_request_is_answered_by_its_path_and_its_method(rt: HostRuntime) {
     for (request, status, field, body) in ROWS {
         holds!(rt; is_answered(&rt, request, status, field, body), request);
+    }
+}
+
+#[test]
+fn a_relay_with_a_rule_that_takes_no_clients_is_not_well(rt: HostRuntime) {
+    for (request, status, body) in [
+        ("GET", "503 Service Unavailable", "not listening\n"),
+        ("HEAD", "503 Service Unavailable", ""),
+        ("POST", REFUSED, ""),
+    ] {
+        let sent = format!(in rt.alloc(); "{request} /healthz HTTP/1.1\r\nHost: x\r\n\r\n");
+        let sent = sent.expect(&rt, "a request");
+        let text = answered(&rt, Meter::deaf(), sent.as_str()).expect(&rt, "an answer");
+        let field = if status == REFUSED { READERS } else { PLAIN };
+        holds!(rt; is_answer(text.as_str(), status, field, body), request);
     }
 }

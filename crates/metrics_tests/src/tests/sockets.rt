@@ -14,6 +14,7 @@ use std::time::Duration;
 const ASKS_FIGURES: &str = "GET /metrics HTTP/1.1\r\nHost: x\r\nConnection: close\r\n\r\n";
 
 /// Whether this connection gives the figures, which with this request were read so often, and ends.
+/// They are read for each answer on health too.
 fn gives_figures<S: Read + Write>(stream: &mut S, alloc: Global, reads: u64) -> bool {
     match (asked(stream, alloc, ASKS_FIGURES), page_of(alloc, reads)) {
         (Some(text), Some(page)) => is_answer(text.as_str(), "200 OK", FIGURES, page.as_str()),
@@ -28,7 +29,7 @@ fn one_connection_is_given_both_pages_until_it_asks_to_end(rt: HostRuntime) {
     let mut client = reach(&rt, served.port).expect(&rt, "a client");
     holds!(rt; is_well(&mut client), "health");
     holds!(rt; is_well(&mut client), "and again");
-    holds!(rt; gives_figures(&mut client, rt.alloc(), 1), "figures");
+    holds!(rt; gives_figures(&mut client, rt.alloc(), 3), "figures");
     served.running.stop(&rt);
     watch.end(&rt);
 }
@@ -64,7 +65,7 @@ fn a_unix_path_gives_both_pages_and_stays_after_the_end(rt: HostRuntime) {
     let running = server.start().ok().expect(&rt, "a thread");
     let mut client = reach_unix(&rt, &path).expect(&rt, "a client");
     holds!(rt; is_well(&mut client), "health");
-    holds!(rt; gives_figures(&mut client, rt.alloc(), 1), "figures");
+    holds!(rt; gives_figures(&mut client, rt.alloc(), 2), "figures");
     running.stop(&rt);
     holds!(rt; reach_unix(&rt, &path).is_none(), "somebody listens");
     holds!(rt; is_removed(&rt, &path), "the path is gone");

@@ -53,8 +53,10 @@ pollrelay_rule_bytes_total{rule=\"db-0123456789abc\",way=\"down\"} 0\n\
 # TYPE pollrelay_rule_refused_total counter\n\
 pollrelay_rule_refused_total{rule=\"web\",cause=\"full\"} 5\n\
 pollrelay_rule_refused_total{rule=\"web\",cause=\"no_target\"} 6\n\
+pollrelay_rule_refused_total{rule=\"web\",cause=\"rule_full\"} 7\n\
 pollrelay_rule_refused_total{rule=\"db-0123456789abc\",cause=\"full\"} 0\n\
 pollrelay_rule_refused_total{rule=\"db-0123456789abc\",cause=\"no_target\"} 0\n\
+pollrelay_rule_refused_total{rule=\"db-0123456789abc\",cause=\"rule_full\"} 0\n\
 # HELP pollrelay_rule_ends_total Connections that ended, by cause.\n\
 # TYPE pollrelay_rule_ends_total counter\n\
 pollrelay_rule_ends_total{rule=\"web\",cause=\"eof\"} 20\n\
@@ -70,7 +72,25 @@ pollrelay_rule_ends_total{rule=\"db-0123456789abc\",cause=\"closed\"} 0\n\
 pollrelay_rule_ends_total{rule=\"db-0123456789abc\",cause=\"drained\"} 0\n\
 pollrelay_rule_ends_total{rule=\"db-0123456789abc\",cause=\"read\"} 0\n\
 pollrelay_rule_ends_total{rule=\"db-0123456789abc\",cause=\"write\"} 0\n\
-pollrelay_rule_ends_total{rule=\"db-0123456789abc\",cause=\"no_target\"} 0\n";
+pollrelay_rule_ends_total{rule=\"db-0123456789abc\",cause=\"no_target\"} 0\n\
+# HELP pollrelay_rule_no_target_total Clients whose target wasn't reached, by cause.\n\
+# TYPE pollrelay_rule_no_target_total counter\n\
+pollrelay_rule_no_target_total{rule=\"web\",cause=\"refused\"} 30\n\
+pollrelay_rule_no_target_total{rule=\"web\",cause=\"unreachable\"} 31\n\
+pollrelay_rule_no_target_total{rule=\"web\",cause=\"timeout\"} 32\n\
+pollrelay_rule_no_target_total{rule=\"web\",cause=\"descriptors\"} 33\n\
+pollrelay_rule_no_target_total{rule=\"db-0123456789abc\",cause=\"refused\"} 0\n\
+pollrelay_rule_no_target_total{rule=\"db-0123456789abc\",cause=\"unreachable\"} 0\n\
+pollrelay_rule_no_target_total{rule=\"db-0123456789abc\",cause=\"timeout\"} 0\n\
+pollrelay_rule_no_target_total{rule=\"db-0123456789abc\",cause=\"descriptors\"} 0\n\
+# HELP pollrelay_rule_accept_faults_total Rows of accepts that failed.\n\
+# TYPE pollrelay_rule_accept_faults_total counter\n\
+pollrelay_rule_accept_faults_total{rule=\"web\"} 34\n\
+pollrelay_rule_accept_faults_total{rule=\"db-0123456789abc\"} 0\n\
+# HELP pollrelay_rule_listening Whether clients are accepted: 1, or 0.\n\
+# TYPE pollrelay_rule_listening gauge\n\
+pollrelay_rule_listening{rule=\"web\"} 1\n\
+pollrelay_rule_listening{rule=\"db-0123456789abc\"} 0\n";
 
 /// What stands in the text of a snapshot without a loop and without a rule: lines that say what the
 /// figures are, and those figures that have neither loop nor rule.

@@ -1,6 +1,6 @@
 -- What is read is a command of the grammar, and each command of the grammar is read from its text.
 use Rattle.std.specs.Prelude.{◌≡◌, ◌≢◌, ◌≤◌, ◌<◌, ◌^◌, ◌∷◌, ◌++◌, ◌⊎◌}
-use Rattle.std.specs.Prelude.{if◌then◌else◌}
+use Rattle.std.specs.Prelude.{if◌then◌else◌, not}
 use Rattle.relay_admin.proofs.Words.{◌∙◌, sym, ap, refl, subst, ℕ, List, Bool, true, false, append-nil}
 use Rattle.relay_admin.proofs.Words.{codes, bytes_eq}
 use Rattle.relay_admin.proofs.Words.{Option, Some, None, IfSome, IfNone, arith, decimal, nat_tests}
@@ -11,7 +11,7 @@ use Rattle.relay_admin.proofs.Words.{time_within, arguments_at, arguments_of_par
 use Rattle.relay_admin.specs.declared.admin.command.Arguments.{Arguments}
 use Rattle.relay_admin.specs.declared.admin.command.Arguments.TheVariants as behind
 use Rattle.relay_admin.specs.declared.admin.command.Command.TheVariants as command
-use Rattle.relay_admin.specs.admin.CommandReading.{command_alone, command_at, command_at_id}
+use Rattle.relay_admin.specs.admin.CommandReading.{behind_word, command_alone, command_at, command_at_id, ms_at}
 use Rattle.relay_admin.specs.declared.admin.command.TheConstants.{MAX_ID, MAX_DEADLINE_MS}
 use Rattle.relay_admin.proofs.TextLemmas.{bind_some, bind_is, split_sound, split_complete, split_lacks}
 use Rattle.relay_admin.proofs.TextLemmas.{word_lacks, Lacks-word, same_bytes}
@@ -58,6 +58,14 @@ id_and_deadline_sound text parts a cut e =
         let spelled : text ≡ decimal n ++ space ∷ time_text after = cc in
         subst (SpellsArguments (space ∷ text)) same (ap (λ t. space ∷ t) spelled, ((low, high), fits))
 
+ms_sound : (text : List ℕ) (a : Arguments) → ms_at text ≡ Some a → SpellsArguments (space ∷ text) a
+ms_sound text a e =
+    let ms = bind_some (number_within 0 MAX_DEADLINE_MS text) _ a e in
+    let is : Some (behind.Ms ms.0) ≡ Some a = ms.2 in
+    let same : behind.Ms ms.0 ≡ a = cc in
+    let spelled = within_sound 0 MAX_DEADLINE_MS text ms.0 ms.1 in
+    subst (SpellsArguments (space ∷ text)) same (ap (λ t. space ∷ t) spelled.0, spelled.2)
+
 arguments_sound : (text : List ℕ) (a : Arguments) → arguments_at text ≡ Some a → SpellsArguments (space ∷ text) a
 unfolding arguments_at
 arguments_sound text a e = by_parts (split_at_first space text) refl e
@@ -66,6 +74,16 @@ arguments_sound text a e = by_parts (split_at_first space text) refl e
         → SpellsArguments (space ∷ text) a
     by_parts None is h = id_sound text a h
     by_parts (Some parts) is h = id_and_deadline_sound text parts a (split_sound space text parts is).0 h
+
+behind_sound : (word text : List ℕ) (a : Arguments) → behind_word word text ≡ Some a
+    → SpellsArguments (space ∷ text) a
+unfolding behind_word
+behind_sound word text a e = by_test (bytes_eq word (codes "finish")) e
+  where
+    by_test : (b : Bool) → (if b then ms_at text else arguments_at text) ≡ Some a
+        → SpellsArguments (space ∷ text) a
+    by_test true h = ms_sound text a h
+    by_test false h = arguments_sound text a h
 
 -- the line is that of this word with these arguments of the grammar
 abbrev SpellsWords : List ℕ → List ℕ × Arguments → Type 0
@@ -82,10 +100,10 @@ words_sound line words e = by_parts (split_at_first space line) refl e
         subst (SpellsWords line) same (sym (append-nil line), tt)
     by_parts (Some parts) is h =
         let cut : line ≡ parts.0 ++ space ∷ parts.1 = (split_sound space line parts is).0 in
-        let a = bind_some (arguments_at parts.1) _ words h in
+        let a = bind_some (behind_word parts.0 parts.1) _ words h in
         let of_pair : Some (parts.0, a.0) ≡ Some words = a.2 in
         let same : (parts.0, a.0) ≡ words = cc in
-        let rest = arguments_sound parts.1 a.0 a.1 in
+        let rest = behind_sound parts.0 parts.1 a.0 a.1 in
         subst (SpellsWords line) same (cut ∙ ap (λ t. parts.0 ++ t) rest.0, rest.1)
 
 -- ---- What is in the grammar
@@ -95,21 +113,37 @@ time_of_deadline : (after : Option ℕ) → IsDeadline after → IfSome after (�
 time_of_deadline None is = tt
 time_of_deadline (Some ms) is = (omega arith, is)
 
-arguments_complete : (text : List ℕ) (a : Arguments) → AreArguments a → space ∷ text ≡ arguments_text a
-    → arguments_at text ≡ Some a
-unfolding arguments_at
-arguments_complete text behind.Nothing is e = absurd (cc)
-arguments_complete text (behind.Id id) is e =
+-- milliseconds stand behind `finish`, and all else behind other words
+abbrev suits : List ℕ → Arguments → Bool
+suits word (behind.Ms ms) = bytes_eq word (codes "finish")
+suits word behind.Nothing = not (bytes_eq word (codes "finish"))
+suits word (behind.Id id) = not (bytes_eq word (codes "finish"))
+suits word (behind.IdAndDeadline id after) = not (bytes_eq word (codes "finish"))
+
+is_other : (b : Bool) → not b ≡ true → b ≡ false
+is_other true e = absurd (cc)
+is_other false e = refl
+
+arguments_complete : (word text : List ℕ) (a : Arguments) → suits word a ≡ true → AreArguments a
+    → space ∷ text ≡ arguments_text a → behind_word word text ≡ Some a
+unfolding behind_word arguments_at
+arguments_complete word text behind.Nothing fits is e = absurd (cc)
+arguments_complete word text (behind.Ms ms) fits is e =
+    let spelled : text ≡ decimal ms = cc in
+    let short : ms < 2 ^ 64 = let high : ms ≤ MAX_DEADLINE_MS = is in omega arith in
+    ap (λ (b : Bool). if b then ms_at text else arguments_at text) fits ∙ ap ms_at spelled
+    ∙ bind_is _ _ _ (within_complete 0 MAX_DEADLINE_MS ms short (omega arith) is)
+arguments_complete word text (behind.Id id) fits is e =
     let spelled : text ≡ decimal id = cc in
     let short : id < 2 ^ 64 = let high = is.1 in omega arith in
-    ap arguments_at spelled
+    ap (λ (b : Bool). if b then ms_at text else arguments_at text) (is_other _ fits) ∙ ap arguments_at spelled
     ∙ ap (arguments_of_parts (decimal id))
     (split_lacks space (decimal id) (Lacks-decimal space id digit_no_space short))
     ∙ bind_is _ _ _ (within_complete 1 MAX_ID id short is.0 is.1)
-arguments_complete text (behind.IdAndDeadline id after) is e =
+arguments_complete word text (behind.IdAndDeadline id after) fits is e =
     let spelled : text ≡ decimal id ++ space ∷ time_text after = cc in
     let short : id < 2 ^ 64 = let high = is.0.1 in omega arith in
-    ap arguments_at spelled
+    ap (λ (b : Bool). if b then ms_at text else arguments_at text) (is_other _ fits) ∙ ap arguments_at spelled
     ∙ ap (arguments_of_parts (decimal id ++ space ∷ time_text after))
     (split_complete space (decimal id) (time_text after) (Lacks-decimal space id digit_no_space short))
     ∙ bind_is _ _ _ (within_complete 1 MAX_ID id short is.0.0 is.0.1)
@@ -120,11 +154,12 @@ arguments_begin : (a : Arguments) → (a ≡ behind.Nothing) ⊎ ((text : List �
 arguments_begin behind.Nothing = inl refl
 arguments_begin (behind.Id id) = inr (decimal id, refl)
 arguments_begin (behind.IdAndDeadline id after) = inr (decimal id ++ space ∷ time_text after, refl)
+arguments_begin (behind.Ms ms) = inr (decimal ms, refl)
 
-words_complete : (word : List ℕ) (a : Arguments) → Lacks space word → AreArguments a
+words_complete : (word : List ℕ) (a : Arguments) → Lacks space word → suits word a ≡ true → AreArguments a
     → words_at (word ++ arguments_text a) ≡ Some (word, a)
 unfolding words_at
-words_complete word a lacks is = by_text (arguments_begin a)
+words_complete word a lacks fits is = by_text (arguments_begin a)
   where
     by_text : (a ≡ behind.Nothing) ⊎ ((text : List ℕ) × (arguments_text a ≡ space ∷ text))
         → words_at (word ++ arguments_text a) ≡ Some (word, a)
@@ -135,7 +170,7 @@ words_complete word a lacks is = by_text (arguments_begin a)
     by_text (inr some) =
         let line : word ++ arguments_text a ≡ word ++ space ∷ some.0 = ap (λ t. word ++ t) some.1 in
         ap words_at line ∙ ap (words_of_parts (word ++ space ∷ some.0)) (split_complete space word some.0 lacks)
-        ∙ bind_is _ _ _ (arguments_complete some.0 a is (sym some.1))
+        ∙ bind_is _ _ _ (arguments_complete word some.0 a fits is (sym some.1))
 
 -- ---- The words of commands
 
@@ -155,6 +190,20 @@ command_of_words (command.DrainConn id) = refl
 command_of_words (command.DeadlineOf id after) = refl
 command_of_words (command.Show id) = refl
 command_of_words command.Reload = refl
+command_of_words (command.Finish ms) = refl
+
+-- each command's arguments suit its word
+words_suit : (c : Command) → suits (words_of c).0 (words_of c).1 ≡ true
+words_suit command.List = refl
+words_suit command.Totals = refl
+words_suit command.Quit = refl
+words_suit command.Stop = refl
+words_suit (command.CloseConn id) = refl
+words_suit (command.DrainConn id) = refl
+words_suit (command.DeadlineOf id after) = refl
+words_suit (command.Show id) = refl
+words_suit command.Reload = refl
+words_suit (command.Finish ms) = refl
 
 -- no two commands have the same words
 words_differ : (one other : Command) → words_of one ≡ words_of other → one ≡ other
@@ -165,7 +214,7 @@ words_differ one other e =
 
 command_words : (c : Command) → IsCommand c → words_at (command_text c) ≡ Some (words_of c)
 command_words c is =
-    words_complete (words_of c).0 (words_of c).1 (Lacks-word space (words_of c).0 (words_lack_space c)) is
+    words_complete (words_of c).0 (words_of c).1 (Lacks-word space (words_of c).0 (words_lack_space c)) (words_suit c) is
 
 pub one_command : (line : List ℕ) (one other : Command) → SpellsCommand line one → SpellsCommand line other
     → one ≡ other
@@ -217,6 +266,8 @@ command_found word (behind.Id id) c e = at_id_found word id c e
 command_found word (behind.IdAndDeadline id after) c e =
     by_word word (codes "deadline") (behind.IdAndDeadline id after) (command.DeadlineOf id after) c None refl
     (no_word word (behind.IdAndDeadline id after) c) e
+command_found word (behind.Ms ms) c e =
+    by_word word (codes "finish") (behind.Ms ms) (command.Finish ms) c None refl (no_word word (behind.Ms ms) c) e
 
 pub command_is : (line word : List ℕ) (a : Arguments) (read : Option Command) → words_at line ≡ Some (word, a)
     → read ≡ command_at word a → IfSome read (λ c. SpellsCommand line c)

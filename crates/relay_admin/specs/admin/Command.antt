@@ -21,6 +21,7 @@ words_of (command.DrainConn id) = (codes "drain", behind.Id id)
 words_of (command.DeadlineOf id after) = (codes "deadline", behind.IdAndDeadline id after)
 words_of (command.Show id) = (codes "show", behind.Id id)
 words_of command.Reload = (codes "reload", behind.Nothing)
+words_of (command.Finish ms) = (codes "finish", behind.Ms ms)
 
 -- how the session ends by a command; where it doesn't, the desk is asked
 abbrev pub end_of : Command → Option AdminEnd
@@ -41,6 +42,7 @@ abbrev pub AreArguments : Arguments → Type 0
 AreArguments behind.Nothing = Unit {0}
 AreArguments (behind.Id id) = IsId id
 AreArguments (behind.IdAndDeadline id after) = IsId id × IsDeadline after
+AreArguments (behind.Ms ms) = ms ≤ MAX_DEADLINE_MS
 
 -- a command of the grammar
 abbrev pub IsCommand : Command → Type 0
@@ -52,6 +54,7 @@ arguments_text behind.Nothing = []
 arguments_text (behind.Id id) = space ∷ decimal id
 arguments_text (behind.IdAndDeadline id after) =
     space ∷ (decimal id ++ space ∷ time_text after)
+arguments_text (behind.Ms ms) = space ∷ decimal ms
 
 -- the text of a command
 abbrev pub command_text : Command → List ℕ

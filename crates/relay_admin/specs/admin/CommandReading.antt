@@ -23,11 +23,21 @@ arguments_of_parts text (Some parts) = do
 unfoldable pub arguments_at : List ℕ → Option Arguments
 arguments_at text = arguments_of_parts text (split_at_first space text)
 
+-- milliseconds at most a day
+abbrev pub ms_at : List ℕ → Option Arguments
+ms_at text = do
+  ms ← number_within 0 MAX_DEADLINE_MS text
+  Some (behind.Ms ms)
+
+-- what stands behind this word and its space
+unfoldable pub behind_word : List ℕ → List ℕ → Option Arguments
+behind_word word text = if bytes_eq word (codes "finish") then ms_at text else arguments_at text
+
 -- a word alone where the line has one part, a word and its arguments where it has two
 abbrev pub words_of_parts : List ℕ → Option (List ℕ × List ℕ) → Option (List ℕ × Arguments)
 words_of_parts text None = Some (text, behind.Nothing)
 words_of_parts text (Some parts) = do
-  arguments ← arguments_at parts.1
+  arguments ← behind_word parts.0 parts.1
   Some (parts.0, arguments)
 
 -- a word, and what stands behind it
@@ -58,3 +68,5 @@ command_at word behind.Nothing = command_alone word
 command_at word (behind.Id id) = command_at_id word id
 command_at word (behind.IdAndDeadline id after) =
     if bytes_eq word (codes "deadline") then Some (command.DeadlineOf id after) else None
+command_at word (behind.Ms ms) =
+    if bytes_eq word (codes "finish") then Some (command.Finish ms) else None

@@ -5,7 +5,7 @@
 ghost use Rattle.std.specs.Prelude.{◌≡◌, ◌≢◌, IfSome, IfNone};
 ghost use Rattle.relay_admin.specs.TextReading.{Views};
 ghost use Rattle.relay_admin.specs.admin.Command.{IsCommand, SpellsCommand, command_text, end_of};
-ghost use Rattle.relay_admin.specs.admin.CommandReading.{arguments_at, words_at};
+ghost use Rattle.relay_admin.specs.admin.CommandReading.{arguments_at, behind_word, words_at};
 ghost use Rattle.relay_admin.specs.admin.CommandReading.{command_alone, command_at, command_at_id};
 
 use crate::admin::end::AdminEnd;
@@ -33,6 +33,9 @@ pub enum Command {
     Show(u64),
     /// Takes the rules from their file anew.
     Reload,
+    /// Takes nobody more, and ends the relay once its connections have ended, or so many
+    /// milliseconds are over, 0 to 86,400,000.
+    Finish(u64),
 }
 
 /// What stands behind the word of a command.
@@ -41,6 +44,7 @@ pub(crate) enum Arguments {
     Nothing,
     Id(u64),
     IdAndDeadline(u64, Option<u32>),
+    Ms(u64),
 }
 
 /// The greatest id of a connection.
@@ -86,7 +90,8 @@ fn command_named(word: &[u8], arguments: Arguments) -> Option<Command>
         Arguments::IdAndDeadline(id, after_ms) if word == b"deadline".as_slice() => {
             Some(Command::DeadlineOf(id, after_ms))
         }
-        Arguments::IdAndDeadline(_, _) => None,
+        Arguments::Ms(ms) if word == b"finish".as_slice() => Some(Command::Finish(ms)),
+        Arguments::IdAndDeadline(_, _) | Arguments::Ms(_) => None,
     }
 }
 
@@ -131,10 +136,22 @@ fn words_in(text: &[u8]) -> Option<(&[u8], Arguments)>
     match split_once(text, b' ') {
         None => Some((text, Arguments::Nothing)),
         Some((word, rest)) => {
-            let arguments = arguments_of(rest)?;
+            let arguments = arguments_behind(word, rest)?;
             Some((word, arguments))
         }
     }
+}
+
+// (a number alone is an id behind all words but `finish`, which may have 0, and a day at most)
+#[tactic(auto, unfolding(crate::specs::admin::CommandReading::behind_word))]
+fn arguments_behind(word: &[u8], text: &[u8]) -> Option<Arguments>
+    ensures { result ≡ behind_word word.now text.now }
+{
+    if word == b"finish".as_slice() {
+        let ms = number_between(0, MAX_DEADLINE_MS, text)?;
+        return Some(Arguments::Ms(ms));
+    }
+    arguments_of(text)
 }
 
 #[tactic(auto, unfolding(crate::specs::admin::CommandReading::arguments_at))]

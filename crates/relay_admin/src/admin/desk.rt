@@ -42,7 +42,7 @@ pub enum DeskAnswer {
 }
 
 /// What a session asks: once for each `List`, `Totals`, `CloseConn`, `DrainConn`, `DeadlineOf`,
-/// `Show` and `Reload`, in the order of the lines, and for nothing else.
+/// `Show`, `Reload` and `Finish`, in the order of the lines, and for nothing else.
 pub trait Desk {
     // The questions so far with their answers, where the desk still tells them.
     ghost exchanges: { Self → Option (List Exchange) };
@@ -86,6 +86,12 @@ pub trait Desk {
     fn reload(&mut self, alloc: Global) -> DeskAnswer
         ensures { Exchanges (exchanges self.old) (exchanges self.new)
             commands.Reload (answer_of result) };
+
+    /// Takes nobody more, and ends the relay once its connections have ended, or so many
+    /// milliseconds are over: `Fine`. Of several such questions the last counts.
+    fn finish(&mut self, after_ms: u64) -> DeskAnswer
+        ensures { Exchanges (exchanges self.old) (exchanges self.new)
+            (commands.Finish after_ms) (answer_of result) };
 }
 
 /// Asks the desk what a command asks.
@@ -103,6 +109,7 @@ pub(crate) fn ask<D: Desk>(alloc: Global, desk: &mut D, command: &Command) -> De
         Command::DeadlineOf(id, after_ms) => desk.deadline(alloc, id, after_ms),
         Command::Show(id) => desk.show(id),
         Command::Reload => desk.reload(alloc),
+        Command::Finish(after_ms) => desk.finish(after_ms),
         Command::Quit | Command::Stop => unreachable!(),
     }
 }

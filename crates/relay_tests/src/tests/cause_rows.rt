@@ -77,7 +77,7 @@ pub(super) const ROWS: [Row; 9] = [
 pub(super) const STOPPED: Said = ["a", "5", "2", "closed"];
 
 /// The figures after all rows, and after two reloads.
-pub(super) const FIGURES: [&str; 26] = [
+pub(super) const FIGURES: [&str; 30] = [
     "\npollrelay_loops 2\n",
     "\npollrelay_admin_sessions_total 7\n",
     "\npollrelay_connections_limit 34\n",
@@ -104,4 +104,8 @@ pub(super) const FIGURES: [&str; 26] = [
     "\npollrelay_rule_ends_total{rule=\"a\",cause=\"write\"} 6\n",
     "\npollrelay_rule_ends_total{rule=\"a\",cause=\"no_target\"} 0\n",
     "\npollrelay_rule_ends_total{rule=\"t\",cause=\"no_target\"} 7\n",
+    "\npollrelay_rule_no_target_total{rule=\"t\",cause=\"refused\"} 7\n",
+    "\npollrelay_rule_no_target_total{rule=\"g\",cause=\"unreachable\"} 9\n",
+    "\npollrelay_rule_accept_faults_total{rule=\"a\"} 0\n",
+    "\npollrelay_rule_listening{rule=\"a\"} 1\n",
 ];

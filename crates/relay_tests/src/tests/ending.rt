@@ -4,7 +4,7 @@ use super::live_threads::live_threads;
 use super::places::{Place, place_to};
 use super::watch::Watch;
 use super::{Running, no_outlets, served_on};
-use relay::{Capacity, Loops, PairLimit, ServeFault, serve};
+use relay::{Capacity, Loops, PairLimit, Safeguards, ServeFault, serve};
 use std::fs::Files;
 use std::io::{ErrorKind, Write};
 use std::net::{Net, TcpListener, TcpStream};
@@ -67,7 +67,15 @@ where
     let capacity = Capacity { loops, pairs };
     let (rules, admin) = (&place.rules, &place.admin);
     let outlets = no_outlets();
-    serve(rt, rules, admin, capacity, outlets, &mut Broken)
+    serve(
+        rt,
+        rules,
+        admin,
+        capacity,
+        Safeguards::by_default(),
+        outlets,
+        &mut Broken,
+    )
 }
 
 #[test]

@@ -19,7 +19,6 @@ struct Row {
     place: usize,
 }
 
-/// The second is the admin thread's.
 const ROWS: [Row; 2] = [
     Row {
         name: "the main thread's",
@@ -27,11 +26,11 @@ const ROWS: [Row; 2] = [
     },
     Row {
         name: "the second loop's",
-        place: 3,
+        place: 2,
     },
 ];
 
-/// Longer than the admin thread waits before it accepts again, in milliseconds.
+/// Longer than the admin socket rests before it is accepted from again, in milliseconds.
 const UNTIL_IT_FAILS_MS: u64 = 1_100;
 
 /// How long it is looked what the process uses, in milliseconds.
@@ -117,7 +116,7 @@ fn an_admin_socket_that_fails_takes_no_processor_time(rt: HostRuntime) {
     holds!(rt; comes_to_listen(&rt, &running.admin));
     holds!(rt; libc::close(last_socket(&rt)) == 0, "the admin socket");
     thread::sleep(&rt, Duration::from_millis(UNTIL_IT_FAILS_MS));
-    holds!(rt; rests(&rt) == Some(true), "the admin thread goes on");
+    holds!(rt; rests(&rt) == Some(true), "the admin socket is accepted from without a rest");
     // Nobody can say stop any more.
     holds!(rt; libc::close(poller(&rt, 0)) == 0, "the main thread's poller");
     holds!(rt; running.thread.join(&rt).done == Err(ServeFault::Device));

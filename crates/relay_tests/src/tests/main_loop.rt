@@ -19,8 +19,9 @@ fn a_listener_that_pauses_goes_on_by_itself(rt: HostRuntime) {
     let capacity = sized_by_default(1).expect(&rt, "a size");
     let running = started!(rt, place, capacity, no_outlets());
     for _ in 0..PAUSES {
-        // The first has an accept fail, and the second is looked at within the pause.
-        holds!(rt; running.answers(&rt, "deadline 1 0\ndeadline 1 never\n", "ok\nok\n"));
+        // The first has an accept fail, and the second comes within the pause.
+        holds!(rt; running.answers(&rt, "deadline 1 0\n", "ok\n"));
+        holds!(rt; running.answers(&rt, "deadline 1 never\n", "ok\n"));
         let ends = Ends::new(&rt, &listener, port);
         holds!(rt; ends.is_some(), "the pause is never over");
     }

@@ -1,10 +1,11 @@
-//! The most pairs that stand at once: the default, which takes some 2,100 descriptors, and fewer.
+//! The most pairs that stand at once: the default, which takes some 2,100 descriptors, and fewer, of
+//! all or of a rule.
 
 use super::places::{Place, place_to};
 use super::streams::{hears, reach, target};
 use super::watch::Watch;
-use super::{Running, TURNS, no_outlets, served_at};
-use relay::{Capacity, Loops, PairLimit};
+use super::{Running, TURNS, no_outlets, served_with};
+use relay::{Capacity, Loops, PairLimit, Safeguards};
 use std::alloc::Global;
 use std::io::Write;
 use std::net::{TcpListener, TcpStream};
@@ -71,12 +72,21 @@ fn the_next_after_the_most_pairs_is_dropped_until_one_ends(rt: HostRuntime) {
     let three = PairLimit::of(3).expect(&rt, "a limit");
     let loops = Loops::of(2).expect(&rt, "loops");
     let rows = [
-        (three, "listening 1\nup 0 down 4\n"),
-        (PairLimit::by_default(), "listening 1\nup 0 down 513\n"),
+        (three, None, "listening 1\nup 0 down 4\n"),
+        (
+            PairLimit::by_default(),
+            None,
+            "listening 1\nup 0 down 513\n",
+        ),
+        (
+            PairLimit::by_default(),
+            Some(three),
+            "listening 1\nup 0 down 4\n",
+        ),
     ];
-    for (pairs, said) in rows {
+    for (pairs, per_rule, said) in rows {
         let watch = Watch::start(rt, rt.alloc());
-        let (alloc, count) = (rt.alloc(), pairs.count);
+        let (alloc, count) = (rt.alloc(), per_rule.unwrap_or(pairs).count);
         let (listener, target) = target(&rt).expect(&rt, "a target");
         let greeter = thread::spawn(&rt, move || greet_all(alloc, &listener, count));
         let greeter = greeter.expect(&rt, "thread");
@@ -87,7 +97,9 @@ fn the_next_after_the_most_pairs_is_dropped_until_one_ends(rt: HostRuntime) {
             socket,
         } = place;
         let capacity = Capacity { loops, pairs };
-        let run = move || served_at(rt, &rules, &socket, capacity, no_outlets());
+        let mut safeguards = Safeguards::by_default();
+        safeguards.per_rule = per_rule;
+        let run = move || served_with(rt, &rules, &socket, capacity, safeguards, no_outlets());
         let thread = thread::spawn(&rt, run);
         let thread = thread.expect(&rt, "thread");
         let running = Running { thread, admin };

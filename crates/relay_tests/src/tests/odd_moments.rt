@@ -1,4 +1,4 @@
-//! A relay whose clock goes fast, so that ten minutes of a session are a moment, or is read slowly,
+//! A relay whose clock goes fast, so that a minute of a session is a moment, or is read slowly,
 //! so that a session comes between two steps of a set-up.
 
 use super::odd_clock::OddClock;
@@ -11,7 +11,7 @@ use std::io::Write;
 use std::net::Shutdown;
 
 /// With this a session may be silent for a fifth of a second.
-const TIMES: u32 = 3_000;
+const TIMES: u32 = 300;
 
 /// How long each look at a slow clock takes, in milliseconds.
 const LOOK_MS: u64 = 2;

@@ -4,9 +4,9 @@ ghost use Rattle.std.specs.Prelude.{◌≡◌};
 
 use super::TURNS;
 use super::watch::Watch;
-use relay::{AtEnd, Done, start_pair};
 use relay_core::{CopyGate, Ended};
 use relay_ledger::{Book, PARTS, give_up_all};
+use relay_workers::{AtEnd, Done, start_pair};
 use rwloops::{Fault, WriteFault};
 use std::marker::Brand;
 use std::process::Abort;

@@ -183,7 +183,13 @@ fn tells_of_all(rt: &HostRuntime, clients: [u16; 3], target: u16) -> Option<bool
     let wanted = [
         row("a 3 4", first, target.as_str(), "5 2", "eof"),
         row("a 5 6", second, target.as_str(), "10 4", "closed"),
-        row("b - -", third, gone.as_str(), "0 0", "no target"),
+        row(
+            "b - -",
+            third,
+            gone.as_str(),
+            "0 0",
+            "no target unreachable",
+        ),
     ];
     let log = own_path(rt, "log")?;
     let log = fs::read_to_string(rt, log.as_str()).ok()?;

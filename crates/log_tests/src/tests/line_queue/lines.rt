@@ -1,6 +1,6 @@
 //! Lines as they are printed.
 
-use relay_log::ended::{Ended, Reason};
+use relay_log::ended::{Cause, Ended, Reason};
 use relay_log::line::LogLine;
 use relay_log::moment::Moment;
 use std::prelude::HostRuntime;
@@ -39,7 +39,12 @@ fn each_end_has_its_words(rt: HostRuntime) -> Result<(), Fail> {
         (Ended::Write(Reason::Refused), "write refused"),
         (Ended::Write(Reason::Other), "write other"),
         (Ended::Full, "full"),
-        (Ended::NoTarget, "no target"),
+        (Ended::RuleFull, "rule full"),
+        (Ended::NoTarget(Cause::Refused), "no target refused"),
+        (Ended::NoTarget(Cause::Unreachable), "no target unreachable"),
+        (Ended::NoTarget(Cause::Timeout), "no target timeout"),
+        (Ended::NoTarget(Cause::Descriptors), "no target descriptors"),
+        (Ended::Accept(Reason::Other), "accept other"),
     ] {
         let mut text = Vec::new(rt.alloc());
         ended(how).write(rt.alloc(), &mut text)?;

@@ -6,7 +6,7 @@ use super::counting::Heard::{Back, Due, Ended, Told};
 use super::loop_steps::Event::{Any, Both, Second};
 use super::loop_steps::Step;
 use super::loop_steps::Step::{
-    Again, Arm, ArmNobody, Comes, EndAll, Hold, Leave, Len, Lift, Open, Put, PutEnding, ReadIsLate,
+    Again, Arm, ArmNobody, Comes, EndAll, Leave, Len, Lift, Open, Put, PutEnding, ReadIsLate,
     Ready, Rests, SamePlace, Set, Sleeps, Take, Tell, TellNobody, Turn, Turns, Wake,
 };
 use super::playing::{AHEAD, LATER};
@@ -62,18 +62,6 @@ pub(super) const ROWS: &[(&str, &[Step])] = &[
     (
         "an event of both directions names its side",
         &[Leave, Open, Comes(Both), Ready(Second)],
-    ),
-    (
-        "a descriptor that a table holds is told under the loop's token",
-        &[
-            Hold,
-            Turn(0, NOTHING),
-            Ready(Second),
-            Set(Dirs::Read, Deadline::At(70)),
-            Again(0),
-            Turn(70, &[DUE_BEHIND, Back(0)]),
-            ReadIsLate,
-        ],
     ),
     (
         "a stale token resumes nobody",

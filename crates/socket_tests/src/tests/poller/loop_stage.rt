@@ -6,9 +6,7 @@ use super::loop_steps::{Event, Step};
 use super::nanos_since;
 use super::playing::LONGEST;
 use fd_descriptor::{Alarms, Deadline, Dirs, Fault, FdHandle};
-use readiness::{
-    ConnTable, EventLoop, HeldSocket, LoopRemote, Place, RemoteAlarms, Side, Sock, SockRes,
-};
+use readiness::{EventLoop, LoopRemote, Place, RemoteAlarms, Side, Sock, SockRes};
 use std::alloc::Global;
 use std::net::Net;
 use std::process::Abort;
@@ -27,7 +25,6 @@ pub(super) struct Stage<R: Wait + Clock + Copy + Drop> {
     ledger: Ledger,
     remote: Arc<LoopRemote>,
     alarms: RemoteAlarms<R>,
-    table: ConnTable<HeldSocket<SockRes>>,
     places: [Place; TASKS],
     count: usize,
     near: Option<Sock>,
@@ -54,7 +51,6 @@ impl<R: Wait + Clock + Copy + Drop> Stage<R> {
             ledger: Ledger::new(),
             remote,
             alarms,
-            table: ConnTable::new(alloc),
             places: [Place {
                 first: 0,
                 second: 0,
@@ -76,8 +72,7 @@ impl<R: Wait + Clock + Copy + Drop> Stage<R> {
         match step {
             Step::Put(yields) => self.puts(yields, false),
             Step::PutEnding => self.puts(0, true),
-            Step::Open => self.opens(false),
-            Step::Hold => self.opens(true),
+            Step::Open => self.opens(),
             Step::Leave => self.far.take().is_some(),
             Step::Again(task) => self.has_come(task),
             Step::Tell(task, side) => self.tells(self.token(task, side)),
@@ -131,22 +126,16 @@ impl<R: Wait + Clock + Copy + Drop> Stage<R> {
     }
 
     // A descriptor on the near end, under this token.
-    fn descriptor(&mut self, token: u64, is_held: bool) -> Option<FdHandle<SockRes>> {
+    fn descriptor(&mut self, token: u64) -> Option<FdHandle<SockRes>> {
         let sock = self.near.take()?;
-        let poller = self.tasks.poller();
-        if !is_held {
-            return poller.open(self.alloc, sock, token).ok();
-        }
-        let held = poller.hold_under(self.alloc, &mut self.table, sock, token);
-        let (_, handle) = held.ok()?;
-        Some(handle)
+        self.tasks.poller().open(self.alloc, sock, token).ok()
     }
 
-    fn opens(&mut self, is_held: bool) -> bool {
+    fn opens(&mut self) -> bool {
         let Ok(place) = self.tasks.vacant() else {
             return false;
         };
-        let Some(handle) = self.descriptor(place.second, is_held) else {
+        let Some(handle) = self.descriptor(place.second) else {
             return false;
         };
         let mut task = plain_task(self.count);

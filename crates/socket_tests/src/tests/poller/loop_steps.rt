@@ -13,8 +13,6 @@ pub(super) enum Step {
     PutEnding,
     /// A task more with the near end of the connection, on its second side.
     Open,
-    /// The same, and a table holds the descriptor.
-    Hold,
     /// The far end is closed.
     Leave,
     Again(usize),

@@ -1,0 +1,34 @@
+//! How many descriptors a relay needs, and how many it may have.
+
+use relay_command::{descriptors_allowed, descriptors_needed};
+use relay_core::{Loops, PairLimit};
+use std::prelude::HostRuntime;
+
+/// What Linux says of a process's limits.
+const LIMITS: &str = "\
+Limit                     Soft Limit           Hard Limit           Units     \n\
+Max processes             63410                63410                processes \n\
+Max open files            1024                 524288               files     \n\
+Max locked memory         8388608              8388608              bytes     \n";
+
+fn needed(pairs: u64, loops: u64) -> Option<u64> {
+    Some(descriptors_needed(PairLimit::of(pairs)?, Loops::of(loops)?))
+}
+
+#[test]
+fn a_limit_is_read_and_a_need_is_counted(rt: HostRuntime) {
+    for (limits, want) in [
+        (LIMITS, Some(1_024)),
+        ("", None),
+        ("Max open files\n", None),
+        (
+            "Max open files            unlimited            unlimited            files\n",
+            None,
+        ),
+    ] {
+        assert!(&rt; descriptors_allowed(limits) == want, "{limits}");
+    }
+    for (pairs, loops, want) in [(1, 1, 108), (512, 8, 1_144), (2_000, 64, 4_232)] {
+        assert!(&rt; needed(pairs, loops) == Some(want), "{pairs} {loops}");
+    }
+}

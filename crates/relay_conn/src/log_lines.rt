@@ -1,0 +1,170 @@
+//! The lines that a connection's end and a refused client bring to the log.
+
+ghost use Rattle.std.specs.Prelude.{◌≡◌, Option, Some, None, option_map};
+ghost use Rattle.relay_admin.specs.rules.Addr.{address_of, address_text};
+ghost use Rattle.relay_admin.specs.admin.Shown.{peer_of, peer_text};
+
+use crate::connection_facts::{Acceptance, ConnectionFacts};
+use crate::served_rule::ServedRule;
+use arrayvec::ArrayString;
+use log_writer::Log;
+use relay_admin::{MAX_ADDR_BYTES, peer_name};
+use relay_log::ended::{Ended, Reason};
+use relay_log::line::LogLine;
+use relay_log::moment::Moment;
+use std::sync::Wait;
+use std::time::Clock;
+
+// The moment by the calendar; where that can't be told, the first of all.
+fn moment_now<R: Clock>(rt: &R) -> Moment {
+    match rt.since_1970() {
+        Ok(passed) => Moment::from_millis(u64::try_from(passed.as_millis()).unwrap_or(u64::MAX)),
+        Err(_) => Moment::from_millis(0),
+    }
+}
+
+// What a line says of how it went, beside who and when.
+#[derive(Drop)]
+struct Outcome {
+    // The ids of the client's side and of the target's; a client that wasn't served has none.
+    ids: Option<(u64, u64)>,
+    up: u64,
+    down: u64,
+    how: Ended,
+}
+
+impl Outcome {
+    // A client that wasn't served: nothing has passed.
+    fn refused(how: Ended) -> Outcome
+        ensures ids { result.ids ≡ None }
+        ensures up { result.up ≡ 0 }
+        ensures down { result.down ≡ 0 }
+        ensures how { result.how ≡ how }
+    {
+        Outcome {
+            ids: None,
+            up: 0,
+            down: 0,
+            how,
+        }
+    }
+
+    // A connection that has ended, with the bytes that it has passed by now.
+    fn ended(facts: &ConnectionFacts, ids: (u64, u64), how: Ended) -> Outcome
+        ensures ids { result.ids ≡ Some ids }
+        ensures how { result.how ≡ how }
+    {
+        Outcome {
+            ids: Some(ids),
+            up: facts.up(),
+            down: facts.down(),
+            how,
+        }
+    }
+
+    // Its line, with the texts of its parties.
+    fn line<'a>(
+        &self,
+        moment: Moment,
+        rule: &'a str,
+        client: &'a str,
+        target: &'a str,
+        milliseconds: u64,
+    ) -> LogLine<'a>
+        ensures moment { result.moment ≡ moment }
+        ensures rule { result.rule.now ≡ rule.now }
+        ensures client_id { result.client_id ≡ option_map (λ ids. ids.0) self.now.ids }
+        ensures target_id { result.target_id ≡ option_map (λ ids. ids.1) self.now.ids }
+        ensures client { result.client.now ≡ client.now }
+        ensures target { result.target.now ≡ target.now }
+        ensures up { result.up ≡ self.now.up }
+        ensures down { result.down ≡ self.now.down }
+        ensures milliseconds { result.milliseconds ≡ milliseconds }
+        ensures ended { result.ended ≡ self.now.how }
+    {
+        LogLine {
+            moment,
+            rule,
+            client_id: self.ids.map(|ids| ids.0),
+            target_id: self.ids.map(|ids| ids.1),
+            client,
+            target,
+            up: self.up,
+            down: self.down,
+            milliseconds,
+            ended: self.how,
+        }
+    }
+}
+
+// The texts of a client and of its target.
+#[derive(Drop)]
+struct Parties {
+    client: ArrayString<MAX_ADDR_BYTES>,
+    target: ArrayString<MAX_ADDR_BYTES>,
+}
+
+impl Parties {
+    // Those of a client that was accepted, by its own address and by what its rule said then.
+    fn of(acceptance: &Acceptance) -> Parties
+        ensures client { result.client.bytes ≡ peer_text (peer_of acceptance.now.client) }
+        ensures target { result.target.bytes
+            ≡ address_text (address_of acceptance.now.rule.target) }
+    {
+        Parties {
+            client: peer_name(&acceptance.client),
+            target: acceptance.rule.target.text(),
+        }
+    }
+}
+
+// Tells of what became of a client that was accepted.
+fn tell<R: Wait + Clock>(rt: &R, log: &Log, acceptance: &Acceptance, now: u64, outcome: &Outcome) {
+    let parties = Parties::of(acceptance);
+    let line = outcome.line(
+        moment_now(rt),
+        acceptance.rule.name.as_str(),
+        parties.client.as_str(),
+        parties.target.as_str(),
+        acceptance.age_ms(now),
+    );
+    log.push(rt, &line);
+}
+
+/// Tells of a client that was accepted and not served.
+pub fn tell_refused<R: Wait + Clock>(
+    rt: &R,
+    log: &Log,
+    acceptance: &Acceptance,
+    now: u64,
+    how: Ended,
+) {
+    tell(rt, log, acceptance, now, &Outcome::refused(how));
+}
+
+/// Tells of a connection that has ended, whose sides had these ids.
+pub fn tell_end<R: Wait + Clock>(
+    rt: &R,
+    log: &Log,
+    facts: &ConnectionFacts,
+    ids: (u64, u64),
+    now: u64,
+    how: Ended,
+) {
+    let outcome = Outcome::ended(facts, ids, how);
+    tell(rt, log, &facts.acceptance, now, &outcome);
+}
+
+/// Tells that an accept of a rule failed: its listening address stands in place of a client's.
+pub fn tell_accept_fault<R: Wait + Clock>(rt: &R, log: &Log, served: &ServedRule, why: Reason) {
+    let rule = served.rule(rt);
+    let (listen, target) = (served.listen.text(), rule.target.text());
+    let line = Outcome::refused(Ended::Accept(why)).line(
+        moment_now(rt),
+        rule.name.as_str(),
+        listen.as_str(),
+        target.as_str(),
+        0,
+    );
+    log.push(rt, &line);
+}

@@ -1,4 +1,0 @@
-pub mod BoundPath
-pub mod Counts
-pub mod HowEnded
-pub mod Shown

@@ -1,0 +1,89 @@
+//! What a worker copies through: two descriptors, of which one is read and the other written.
+
+use fd_descriptor::{Alarms, FdHandle, HalfClose, Resource};
+use relay_conn::clock::Moments;
+use relay_conn::idle_time::IdleTime;
+use relay_core::CopyGate;
+use rwloops::{Fault, TryRead, TryWrite, WriteFault};
+use std::sync::Wait;
+
+/// Reads from `source` and writes to `target`. With an idle time each read and each write first
+/// sets the deadline of its own direction to that long from now; where that is refused it is the
+/// answer, of a write with count 0.
+#[derive(Drop)]
+pub struct FdGate<X: Resource, R, C, A> {
+    rt: R,
+    idle: IdleTime<C>,
+    alarms: A,
+    source: FdHandle<X>,
+    target: FdHandle<X>,
+}
+
+impl<X: Resource, R: Wait, C: Moments, A: Alarms> FdGate<X, R, C, A> {
+    /// A gate with this idle time in milliseconds, or with none.
+    pub fn new(
+        rt: R,
+        clock: C,
+        alarms: A,
+        idle_ms: Option<u32>,
+        source: FdHandle<X>,
+        target: FdHandle<X>,
+    ) -> FdGate<X, R, C, A> {
+        FdGate {
+            rt,
+            idle: IdleTime::new(clock, idle_ms),
+            alarms,
+            source,
+            target,
+        }
+    }
+
+    fn time_the_read(&mut self) -> Result<(), Fault> {
+        match self.idle.next_deadline() {
+            Some((now, deadline)) => {
+                self.source
+                    .set_read_deadline(&self.rt, deadline, now, &self.alarms)
+            }
+            None => Ok(()),
+        }
+    }
+
+    fn time_the_write(&mut self) -> Result<(), Fault> {
+        match self.idle.next_deadline() {
+            Some((now, deadline)) => {
+                self.target
+                    .set_write_deadline(&self.rt, deadline, now, &self.alarms)
+            }
+            None => Ok(()),
+        }
+    }
+}
+
+impl<X, R, C, A> CopyGate for FdGate<X, R, C, A>
+where
+    X: Resource,
+    X::R: TryRead,
+    X::W: TryWrite + HalfClose,
+    R: Wait,
+    C: Moments,
+    A: Alarms,
+{
+    // What a socket carried can't be told.
+    ghost tells = { λ _ _. ⊥ };
+
+    fn read(&mut self, buf: &mut [u8]) -> Result<usize, Fault> {
+        self.time_the_read()?;
+        self.source.read(&self.rt, buf)
+    }
+
+    fn write(&mut self, bytes: &[u8]) -> Result<usize, WriteFault> {
+        match self.time_the_write() {
+            Ok(()) => self.target.write(&self.rt, bytes),
+            Err(fault) => Err(WriteFault { fault, count: 0 }),
+        }
+    }
+
+    fn close_write(&mut self) -> Result<(), Fault> {
+        self.target.close_write(&self.rt)
+    }
+}
