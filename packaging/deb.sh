@@ -40,10 +40,12 @@ put_zipped() {
 
 put 755 "$program" usr/bin/pollrelay
 strip --strip-unneeded --remove-section=.comment "$root/usr/bin/pollrelay"
+put 755 packaging/pollrelay-run usr/bin/pollrelay-run
 put_zipped man/pollrelay.1 usr/share/man/man1/pollrelay.1
+ln -s pollrelay.1.gz "$root/usr/share/man/man1/pollrelay-run.1.gz"
 put 644 packaging/debian/rules.sample etc/pollrelay/rules
 
-# The unit of examples/, with the program where the package has it, and without the words on how to install it.
+# The unit of examples/, with the programs where the package has it, and without the words on how to install it.
 sed '/^$/,$!d; s#/usr/local/bin/#/usr/bin/#' examples/systemd/pollrelay.service | sed 1d >"$scratch/pollrelay.service"
 put 644 "$scratch/pollrelay.service" lib/systemd/system/pollrelay.service
 

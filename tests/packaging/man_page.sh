@@ -1,6 +1,6 @@
 #!/bin/sh
-# Lints man/pollrelay.1 with mandoc, which it installs if it is missing, and compares it with docs/operations.md: the same
-# sections in the same order, and each text that the page's tables and lists set off stands in both.
+# man/pollrelay.1 is what tools/man_page.py makes of docs/operations.md; mandoc, which is installed if it is missing, finds
+# no fault in it; and it has the guide's sections and each text that the guide's tables and lists set off, as mandoc shows it.
 #
 #     sh tests/packaging/man_page.sh
 . "$(dirname "$0")/../lib/shell.sh"
@@ -9,6 +9,7 @@ page=man/pollrelay.1
 guide=docs/operations.md
 words_file=$scratch/words
 
+none "current (python3 tools/man_page.py > $page)" "$(python3 tools/man_page.py | diff $page - | head -n 20)"
 none "mandoc -Tlint" "$(mandoc -Tlint -Wstyle $page 2>&1)"
 
 # Messages are the page's section on diagnostics.
@@ -16,9 +17,9 @@ sed -n 's/^## //p' $guide | tr '[:lower:]' '[:upper:]' | sed 's/^MESSAGES$/DIAGN
 none "sections" "$(sed -n 's/^\.Sh //p' $page | diff "$words_file" -)"
 
 # The page as running text.
-text=$(mandoc -Tascii $page | sed "s/.$(printf '\b')//g" | tr -s ' \n\t' ' ' | sed "s/[\`']//g")
+text=$(mandoc -Tascii $page | sed "s/.$(printf '\b')//g" | tr -s ' \n\t' ' ')
 # The first cell of each row of a table, and each number with a thousand.
-sed -n 's/^| `\([^`]*\)`.*/\1/p' $guide | sed 's/FILE/file/g; s/PATH/path/g; s/LOOPS/loops/g; s/CONNECTIONS/connections/g; s/LOG/log/g; s/ADDRESS/address/g; s/WORD\.\./word .../g' >"$words_file"
+sed -n 's/^| `\([^`]*\)`.*/\1/p' $guide >"$words_file"
 grep -o '[0-9]\{1,3\}\(,[0-9]\{3\}\)\{1,\}' $guide | sort -u >>"$words_file"
 while read -r words; do
     case $text in

@@ -5,7 +5,8 @@
 #
 #     sh tests/packaging/package.sh [--install]
 #
-# With --install, as root, the package is installed too, its program is run, and it is removed and purged: nothing is left.
+# With --install, as root, the package is installed too, its program is run, upgraded while it runs, and it is removed and purged:
+# nothing is left.
 . "$(dirname "$0")/../lib/shell.sh"
 need lintian:lintian dpkg-shlibdeps:dpkg-dev strip:binutils systemd-analyze:systemd
 
@@ -29,20 +30,28 @@ holds lintian lintian --fail-on error --tag-display-limit 0 "$package"
 
 unpacked=$scratch/unpacked
 holds unpacking dpkg-deb -x "$package" "$unpacked"
-for file in usr/bin/pollrelay usr/share/man/man1/pollrelay.1.gz lib/systemd/system/pollrelay.service etc/pollrelay/rules \
+for file in usr/bin/pollrelay usr/bin/pollrelay-run usr/share/man/man1/pollrelay.1.gz usr/share/man/man1/pollrelay-run.1.gz lib/systemd/system/pollrelay.service etc/pollrelay/rules \
     usr/share/doc/pollrelay/copyright usr/share/doc/pollrelay/changelog.Debian.gz usr/share/doc/pollrelay/examples/rules/web.rules; do
     holds "$file" test -s "$unpacked/$file"
 done
 holds "the unpacked program" runs "$unpacked/usr/bin/pollrelay" "$unpacked/etc/pollrelay/rules"
 holds "a connection" without_kit POLLRELAY="$unpacked/usr/bin/pollrelay" sh examples/first_connection.sh
-sed "s#/usr/bin/pollrelay#$unpacked/usr/bin/pollrelay#" "$unpacked/lib/systemd/system/pollrelay.service" >"$scratch/pollrelay.service"
+sed "s#/usr/bin/#$unpacked/usr/bin/#" "$unpacked/lib/systemd/system/pollrelay.service" >"$scratch/pollrelay.service"
 holds "the unit" systemd-analyze verify --man=no "$scratch/pollrelay.service"
 
 if [ "${1:-}" = --install ]; then
     holds "dpkg -i" dpkg -i "$package"
     holds "the installed program" runs /usr/bin/pollrelay /etc/pollrelay/rules
+    env -i PATH=/usr/sbin:/usr/bin:/sbin:/bin pollrelay-run --rules /etc/pollrelay/rules --admin "$scratch/admin.sock" >"$scratch/printed" 2>/dev/null &
+    running=$!
+    until [ -S "$scratch/admin.sock" ]; do sleep 0.01; done
+    holds "an upgrade" dpkg -i "$package"
+    holds "it leaves the relay that runs" without_kit pollrelay ctl --admin "$scratch/admin.sock" list
+    kill -TERM $running
+    wait $running
+    holds "that ends by TERM" test $? = 0
     holds "dpkg -r" dpkg -r pollrelay
-    holds "no program is left" test ! -e /usr/bin/pollrelay
+    holds "no program is left" test ! -e /usr/bin/pollrelay -a ! -e /usr/bin/pollrelay-run
     holds "the rules stay until the purge" test -s /etc/pollrelay/rules
     holds "dpkg -P" dpkg -P pollrelay
     holds "no rules are left" test ! -e /etc/pollrelay

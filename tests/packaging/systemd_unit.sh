@@ -1,6 +1,7 @@
 #!/bin/sh
-# Checks examples/systemd/pollrelay.service: that systemd reads it without a complaint, and that what the program asks the
-# system for in a life of one connection is what the unit's sandbox leaves it. Installs systemd and strace if they are missing.
+# Checks examples/systemd/pollrelay.service: that systemd reads it without a complaint, that its numbers fit each other, and that what
+# the program asks the system for in a life of one connection, and the wrapper in one that is steered by signals, is what the unit's
+# sandbox leaves them. Installs systemd and strace if they are missing.
 #
 #     sh tests/packaging/systemd_unit.sh
 . "$(dirname "$0")/../lib/shell.sh"
@@ -8,10 +9,19 @@ need systemd-analyze:systemd strace:strace
 program=${POLLRELAY:-$PWD/crates/pollrelay/out/pollrelay}
 unit=examples/systemd/pollrelay.service
 
-# The program is where the unit looks for it only once it is installed.
+# The programs are where the unit looks for them only once they are installed.
 ln -s "$program" "$scratch/pollrelay"
-sed "s#/usr/local/bin/pollrelay#$scratch/pollrelay#" $unit >"$scratch/pollrelay.service"
+ln -s "$PWD/packaging/pollrelay-run" "$scratch/pollrelay-run"
+sed "s#/usr/local/bin/#$scratch/#" $unit >"$scratch/pollrelay.service"
 none "systemd-analyze verify" "$(systemd-analyze verify --man=no "$scratch/pollrelay.service" 2>&1)"
+
+# number_of KEY: the number that the unit gives an option or a setting.
+number_of() {
+    sed -n "s/^[A-Z].*--$1 \([0-9]*\).*/\1/p; s/^$1=\([0-9]*\)\$/\1/p" $unit
+}
+holds "a stop has more time than its connections" test "$(number_of TimeoutStopSec)000" -gt "$(number_of finish)"
+holds "descriptors for 2,000 connections, 64 rules and 64 loops" test "$(number_of LimitNOFILE)" -ge 4292
+holds "threads for 64 loops" test "$(number_of TasksMax)" -ge 80
 
 # The names of a set of calls, with those of the sets in it.
 calls_of() {
@@ -31,6 +41,23 @@ exec strace -f -qq -a1 -o "$scratch/log.\$1" "$program" "\$@"
 END
 chmod +x "$scratch/traced"
 holds "a traced connection" env POLLRELAY="$scratch/traced" sh examples/first_connection.sh
+
+# The unit's start, with its paths in a folder of this run: HUP, and TERM once the admin socket is there.
+start=$(sed -n "s#^ExecStart=/usr/local/bin/#$scratch/#p" $unit | sed "s#/run/pollrelay/#$scratch/#; s#/etc/pollrelay/#$scratch/#")
+: >"$scratch/rules"
+# shellcheck disable=SC2086
+strace -D -f -qq -a1 -o "$scratch/log.wrapped" $start >"$scratch/printed" 2>"$scratch/told" &
+wrapped=$!
+for signal in HUP TERM; do
+    tries=0
+    until [ -S "$scratch/admin.sock" ] || [ $tries = 1000 ]; do tries=$((tries + 1)) && sleep 0.01; done
+    kill -$signal $wrapped
+    tries=0
+    until grep -q '^rules 0$' "$scratch/told" || [ $tries = 1000 ]; do tries=$((tries + 1)) && sleep 0.01; done
+done
+wait $wrapped
+holds "a wrapped relay ends by TERM" test $? = 0
+holds "its lines" grep -qx 'up 0 down 0' "$scratch/printed"
 
 sed -n 's/^[0-9]* *\(<\.\.\. \)\{0,1\}\([a-z_0-9]*\)[( ].*/\2/p' "$scratch"/log.* | sort -u >"$scratch/used"
 none "calls outside the unit's filter" "$(comm -13 "$scratch/allowed" "$scratch/used" | grep -v '^execve$')"
