@@ -53,15 +53,18 @@ class Relay:
     """A relay that serves a text of rules until stop() or the end of the with block. `{folder}` in the rules is its own folder.
 
     With an environment of its own its standard error is kept, for errors(). `before` are words ahead of the program's, as of a
-    tracer, and `options` are added to those of `serve`.
+    tracer, and `options` are added to those of `serve`. `wrapper` are words in place of the program's, as of packaging/pollrelay-run,
+    which starts it.
     """
 
-    def __init__(self, rules, program=PROGRAM, descriptors=DESCRIPTORS, env=None, before=(), options=()):
+    def __init__(self, rules, program=PROGRAM, descriptors=DESCRIPTORS, env=None, before=(), options=(), wrapper=()):
         self.folder = tempfile.mkdtemp(prefix="relay-")
         self.admin = f"{self.folder}/admin.sock"
         with open(f"{self.folder}/rules", "w", encoding="ascii") as file:
             file.write(rules.replace("{folder}", self.folder))
-        words = [*before, program, "serve", "--rules", f"{self.folder}/rules", "--admin", self.admin, *options]
+        if wrapper:
+            env = {**(env or {}), "POLLRELAY": program}
+        words = [*before, *(wrapper or (program, "serve")), "--rules", f"{self.folder}/rules", "--admin", self.admin, *options]
         self.kept_errors = None if env is None else open(f"{self.folder}/errors", "ab")
         self.process = subprocess.Popen(
             words, stdin=subprocess.DEVNULL, stdout=subprocess.PIPE, stderr=self.kept_errors,

@@ -65,6 +65,23 @@ def listener(path=None):
     return sock, address
 
 
+class BlackHole:
+    """A TCP address at which a connect is neither made nor refused: its queue is full, and nobody takes from it."""
+
+    def __init__(self):
+        self.sock = socket.create_server(("127.0.0.1", 0), backlog=0)
+        where = self.sock.getsockname()
+        self.address = f"tcp:127.0.0.1:{where[1]}"
+        self.fill = [socket.socket() for _ in range(4)]
+        for it in self.fill:
+            it.setblocking(False)
+            it.connect_ex(where)
+
+    def close(self):
+        for it in (self.sock, *self.fill):
+            it.close()
+
+
 def read_to_end(sock):
     """All that comes until the end."""
     parts = []

@@ -29,15 +29,27 @@ UNKNOWN = b"error 404 no such connection\n"
 DRAINING = b"error 409 draining\n"
 RULE = "relay {} tcp:127.0.0.1:{} tcp:127.0.0.1:9 never\n"
 MOST_LINES = 65_536
+# The most admin sessions at once.
+MOST_SESSIONS = 32
+
+# How a relay with one connection finishes: the lines, the replies, and whether its connection ends by itself.
+FINISHES = (
+    ("by its last connection", b"finish 86400000\nlist\nreload\n", b"ok\nids 2 3\nerror 409 closed\n", True),
+    ("at its moment", b"finish 300\n", b"ok\n", False),
+    ("at a sooner moment", b"finish 86400000\nfinish 300\n", b"ok\nok\n", False),
+    ("by a stop", b"finish 86400000\nstop\n", b"ok\nok\n", False),
+)
+
 # The bytes of a stream, and the processor time that a thread which copied one has taken at least, beside an eighth of all.
 STREAM = 64 << 20
 BUSY_NS = 10_000_000
 
 
 def run(words, stdin=subprocess.DEVNULL, stdout=subprocess.PIPE, before=None):
-    """The status, standard output and standard error of the program, which has to end by itself."""
+    """The status, standard output and standard error of the program, which has to end by itself. It has enough descriptors."""
     ran = subprocess.run(
-        [PROGRAM, *words], stdin=stdin, stdout=stdout, stderr=subprocess.PIPE, timeout=20, preexec_fn=before
+        [PROGRAM, *words], stdin=stdin, stdout=stdout, stderr=subprocess.PIPE, timeout=20,
+        preexec_fn=before or (lambda: allow_descriptors(DESCRIPTORS)),
     )
     return ran.returncode, ran.stdout, ran.stderr
 
@@ -72,6 +84,8 @@ def command_lines(checks, folder):
         *(["serve", "--rules", pipe, "--admin", "/a", *more] for more in (
             ["--log"], ["--log", ""], ["--log="], ["--log=a", "--log=a"], ["--metrics"], ["--metrics", ""], ["--metrics", "x"],
             ["--metrics", "tcp:1.2.3:4"], ["--metrics", "tcp:1.2.3.4:0"], ["--metrics=unix:m"], ["--metrics=unix:/m", "--metrics=unix:/m"],
+            ["--connect-timeout"], ["--connect-timeout", "86400001"], ["--connect-timeout=05"], ["--connections-per-rule", "0"],
+            ["--connections-per-rule=2001"], ["--replace-stale=yes"], ["--replace-stale", "yes"], ["--replace-stale", "--replace-stale"],
         )),
         ["check", "--rules", pipe, "--log=a"], ["check", "--rules", pipe, "--metrics=unix:/m"],
         *(["ctl", "--admin", "/a", *more] for more in ([], ["frob"], ["list", "x"], ["close"], ["close", "01"], ["a", "b", "c", "d"], ["--", "list"], [""])),
@@ -241,7 +255,8 @@ def poller_fault(checks, folder):
         said = process.communicate(timeout=20)[1].decode().strip()
         if serves:
             break
-        seen.append(said)
+        # (the line ahead of it says that they are few)
+        seen.append(said.splitlines()[-1] if said else said)
         checks.expect(f"start with {most} descriptors: status", 3, process.returncode)
     places = [order.index(it) if it in order else -1 for it in seen]
     checks.holds("start: faults by descriptors, in their order", places == sorted(places) and -1 not in places, f"{seen}")
@@ -459,6 +474,11 @@ def sample_sessions(checks, _):
             checks.expect(f"sample {os.path.basename(path)}", wanted.encode(), session(relay.admin, sent.encode()))
 
 
+def reload_with_one_more(relay, rules):
+    write(f"{relay.folder}/rules", rules + RULE.format("three", free_port()))
+    session(relay.admin, b"reload\nquit\n")
+
+
 def sample_metrics(checks, folder):
     """The script for Prometheus counts one connection and its bytes, and a relay that doesn't answer is down."""
     output = f"{folder}/relay.prom"
@@ -469,14 +489,14 @@ def sample_metrics(checks, folder):
     with accepts, Relay(rules) as relay, connect(f"tcp:127.0.0.1:{port}") as client:
         client.sendall(b"twelve bytes")
         wait_until(lambda: relay.totals() == (12, 0), 5)
-        words += ["--admin", relay.admin, "--rules", f"{relay.folder}/rules"]
-        for ends in (False, True):
-            if ends:
-                relay.stop()
+        words += ["--admin", relay.admin]
+        # (a reload gives a listener an id behind those of connections)
+        for step in (lambda: None, lambda: reload_with_one_more(relay, rules), relay.stop):
+            step()
             checks.expect("metrics: status", 0, subprocess.run(words, timeout=20, check=False).returncode)
             values = [line for line in text_of(output).splitlines() if not line.startswith("#")]
-            bytes_total = ['pollrelay_bytes_total{direction="up"} 12', 'pollrelay_bytes_total{direction="down"} 0']
-            wanted = ["pollrelay_up 0"] if ends else ["pollrelay_up 1", *bytes_total, "pollrelay_connections 1"]
+            bytes_total = ['pollrelay_bytes_total{way="up"} 12', 'pollrelay_bytes_total{way="down"} 0']
+            wanted = ["pollrelay_up 0"] if step == relay.stop else ["pollrelay_up 1", *bytes_total, "pollrelay_connections 1"]
             checks.expect("metrics: values", wanted, values)
             checks.expect("metrics: other files", ["relay.prom"], os.listdir(folder))
 
@@ -497,7 +517,7 @@ def metrics_at_a_path(checks, folder):
 
 
 def spread(checks, _):
-    """Each of two loops copies for one of two streams, and for all connections there are two threads beside the loops."""
+    """Each of two loops copies for one of two streams, and for all connections there is one thread beside the loops."""
     accepts, target = listener()
     port = free_port()
     with accepts, Relay(f"relay one tcp:127.0.0.1:{port} {target} never\n", options=("--loops", "2")) as relay:
@@ -508,7 +528,7 @@ def spread(checks, _):
             taken, _ = accepts.accept()
             taken.recv(1)
             pairs.append((client, taken))
-        checks.expect("spread: threads", 4, relay.threads())
+        checks.expect("spread: threads", 3, relay.threads())
         before = sorted(relay.nanoseconds())
         for client, taken in pairs[-2:]:
             sending = threading.Thread(target=client.sendall, args=(bytes(STREAM),))
@@ -533,25 +553,79 @@ def asked_pairs(checks, _):
 
 
 def silent_sessions(checks, folder):
-    """A session that says nothing for ten minutes is ended, and the next one served; until then it keeps it waiting."""
+    """A session that says nothing for a minute is ended; until then it keeps none waiting."""
     shim = library(f"{LIB}/fast_clock.c", f"{folder}/fast_clock.so")
-    for fast, stays_seconds in ((1, 2.5), (200, 2.0)):
+    for fast, stays_seconds in ((1, 2.5), (20, 2.0)):
         with Relay("", env={"LD_PRELOAD": shim, "FAST": str(fast)}) as relay, connect(f"unix:{relay.admin}") as silent:
             began = time.monotonic()
             silent.sendall(b"list\nlist")
             checks.expect(f"silent {fast}: its whole line is answered", b"ids\n", heard(silent, stays_seconds))
-            checks.expect(f"silent {fast}: it stays", None, heard(silent, stays_seconds))
+            checks.expect(f"silent {fast}: it stays", None, heard(silent, stays_seconds / 2))
+            checks.expect(f"silent {fast}: another is served", "ids", relay.ask("list"))
             if fast > 1:
                 checks.expect(f"silent {fast}: its end", b"", heard(silent, REPLY_SECONDS))
                 real = time.monotonic() - began
-                checks.holds(f"silent {fast}: after ten minutes", 600 / fast - 0.1 < real < 600 / fast + 3, f"after {real * fast:.0f} s")
-                checks.expect(f"silent {fast}: the next is served", "ids", relay.ask("list"))
+                checks.holds(f"silent {fast}: after a minute", 60 / fast - 0.1 < real < 60 / fast + 3, f"after {real * fast:.0f} s")
+
+
+def many_sessions(checks, _):
+    """Behind sessions that say nothing, that trickle and that read no reply another is answered at once; one beyond the most takes the place of the most silent."""
+    with Relay("") as relay:
+        held = [connect(f"unix:{relay.admin}") for _ in range(MOST_SESSIONS - 1)]
+        for sock in held[::2]:
+            sock.setblocking(False)
+            try:
+                sock.sendall(b"totals\n" * 100_000)
+            except BlockingIOError:
+                pass
+        began = time.monotonic()
+        for sock in held[1::2]:
+            sock.sendall(b"l")
+            checks.expect("many sessions: another is answered", b"ids\n", session(relay.admin, b"list\n"))
+        took = time.monotonic() - began
+        checks.holds("many sessions: at once", took < 5, f"{len(held[1::2])} in {took:.1f} s")
+        held.append(connect(f"unix:{relay.admin}"))
+        held[-1].sendall(b"list\n")
+        checks.expect("many sessions: the last", b"ids\n", received(held[-1]))
+        checks.expect("many sessions: one more", b"ids\n", session(relay.admin, b"list\n"))
+        for sock in held:
+            sock.close()
+
+
+def finishing(checks, _):
+    """A relay that finishes refuses clients and reloads, passes on what it has, and ends with its last connection or at its moment."""
+    accepts, target = listener()
+    for name, lines, replies, ends_by_itself in FINISHES:
+        port = free_port()
+        with Relay(f"relay one tcp:127.0.0.1:{port} {target} never\n") as relay:
+            client = connect(f"tcp:127.0.0.1:{port}")
+            taken, _ = accepts.accept()
+            client.sendall(b"hello")
+            checks.expect(f"finish, {name}: before", b"hello", received(taken))
+            checks.expect(f"finish, {name}: replies", replies, session(relay.admin, lines))
+            try:
+                connect(f"tcp:127.0.0.1:{port}").close()
+                is_refused = False
+            except ConnectionRefusedError:
+                is_refused = True
+            checks.holds(f"finish, {name}: nobody is let in", is_refused, "a client was let in")
+            if ends_by_itself:
+                client.sendall(b"again")
+                checks.expect(f"finish, {name}: meanwhile", b"again", received(taken))
+                client.close()
+                taken.close()
+            said, _ = relay.process.communicate(timeout=20)
+            total = b"up 10 down 0\n" if ends_by_itself else b"up 5 down 0\n"
+            checks.expect(f"finish, {name}: its end", (total, 0), (said, relay.process.poll()))
+            client.close()
+            taken.close()
+    accepts.close()
 
 
 STAGES = {it.__name__: it for it in (
     command_lines, traces, verdicts, outputs, start_faults, poller_fault, refused_paths, admin_sessions, stopped_and_gone,
     no_rule, sample_rules, sample_sessions, sample_metrics, metrics_at_a_path, spread,
-    asked_pairs, silent_sessions, control, own_texts,
+    asked_pairs, silent_sessions, many_sessions, finishing, control, own_texts,
 )}
 
 

@@ -4,6 +4,7 @@ byte_conservation.py and relay_rows.py fail where they should. Nobody should use
 
     RELAY_FAULT=drops_a_byte POLLRELAY=tests/system/wrong_relay.py python3 tests/system/byte_conservation.py --small
 """
+import contextlib
 import io
 import os
 import select
@@ -132,6 +133,7 @@ class Relay:
         self.total = {"up": 0, "down": 0}
         self.missed = {"up": 0, "down": 0}
         self.stopped = False
+        self.idle_session = None
         self.closes = self.drains = 0
         self.paths = []
         for name, listen, target, idle in rules:
@@ -325,16 +327,18 @@ class Relay:
             if not select.select([self.desk], [], [], 0.05)[0]:
                 continue
             sock, _ = self.desk.accept()
-            if FAULT == "sessions_at_once":
-                self.start(self.session, sock)
-            else:
+            if FAULT == "ends_idle_sessions":
+                self.end_idle_session(sock)
+            if FAULT == "one_session_at_a_time":
                 self.session(sock)
-            if FAULT == "drops_waiting_sessions":
-                self.drop_who_waits()
+            else:
+                self.start(self.session, sock)
 
-    def drop_who_waits(self):
-        while select.select([self.desk], [], [], 0)[0]:
-            self.desk.accept()[0].close()
+    def end_idle_session(self, sock):
+        if self.idle_session:
+            with contextlib.suppress(OSError):
+                self.idle_session.shutdown(socket.SHUT_RDWR)
+        self.idle_session = sock
 
     def session(self, sock):
         with sock, sock.makefile("rw", newline="\n") as lines:
