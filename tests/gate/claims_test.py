@@ -1,10 +1,13 @@
 #!/usr/bin/env python3
-"""Tests of claims.py: names that are there pass, and each kind of name that isn't is told."""
+"""Tests of the claims among the subjects of pages.py: names that are there pass, and each kind of name that isn't is told."""
 import pathlib
+import sys
 import tempfile
 import unittest
 
-import claims
+sys.path.insert(1, f"{sys.path[0]}/..")
+from lib.pages import claims, quotes
+from lib.pages.tree import Tree
 
 SOURCE = """
 /// A list of timers.
@@ -55,14 +58,15 @@ class Claims(unittest.TestCase):
             texts = (("timing/src/lib.rt", SOURCE), ("timing/src/laws.rt", LAWS), ("timing/specs/Facts.antt", FACTS),
                      ("pollrelay/src/main.rt", PROGRAM))
             for name, text in texts:
-                file = pathlib.Path(room) / name
+                file = pathlib.Path(room) / "crates" / name
                 file.parent.mkdir(parents=True, exist_ok=True)
                 file.write_text(text)
-            self.crates = {it: claims.Crate(pathlib.Path(room) / it) for it in ("timing", "pollrelay")}
+            self.tree = Tree(room)
+            self.crates = {it: claims.Crate(self.tree, it) for it in ("timing", "pollrelay")}
 
     def checked(self, cell, promise="it arms"):
         text = f"## Timers (`timing`)\n\n| Promise | Function and clause |\n|---|---|\n| {promise} | {cell} |\n"
-        return claims.check(text, self.crates)
+        return claims.promises(text, self.tree, self.crates)
 
     def missing(self, cell):
         return [name for _, name in self.checked(cell)[0]]
@@ -110,7 +114,7 @@ class Claims(unittest.TestCase):
     def missing_of_model(self, row):
         text = f"| Step of a model | Function | File |\n|---|---|---|\n{row}\n"
         source = {"crates/timing/src/lib.rt": SOURCE}
-        return [name for _, name in claims.check_models(text, {"set_alarm"}, lambda name: source.get(name, ""))[0]]
+        return [name for _, name in claims.models(text, {"set_alarm"}, lambda name: source.get(name, ""))[0]]
 
     def test_steps_of_a_model_and_their_functions_pass(self):
         self.assertEqual(self.missing_of_model("| `set_alarm` | `arm`, `next` | `crates/timing/src/lib.rt` |"), [])
@@ -122,7 +126,7 @@ class Claims(unittest.TestCase):
 
     def test_a_line_of_an_example_that_no_program_has_is_told(self):
         text = "```rust\nfn arm(&self) {\n    self.next();\n    self.gone();\n}\n```\n\nself.gone();\n```text\nself.gone();\n```\n"
-        missing, seen = claims.quoted(text, {"fn arm(&self)", "self.next();", "}"})
+        missing, seen = quotes.missing(text, {"fn arm(&self)", "self.next();", "}"})
         self.assertEqual((missing, seen), ([(4, "self.gone();")], 4))
 
 

@@ -1,4 +1,3 @@
-#!/usr/bin/env python3
 """Checks that each call, clause, fact and file that README.md and docs/guarantees.md name is there, and each step of a
 model, with its functions, that models/README.md names.
 
@@ -11,24 +10,15 @@ What is promised is to be of use: a row names a function that a program's `main`
 `laws`, or else says `library call`, or in its last cell that it is tested. Calls are found by name, so that a name which
 two functions share counts for both.
 
-An example in README.md and docs/sockets.md is a quotation: each of its lines stands in the sources of a program, or of
-`metrics_server`.
-Prints a line for each name that is missing, for each row that names no such function, for each line that nobody wrote, and
-`N passed, M failed`.
 """
-import pathlib
-import re
-import sys
 
-sys.path.insert(1, f"{sys.path[0]}/..")
-from lib import places
+import os
+import re
+
 from lib.clause_texts import HEAD, owner_of
 
-ROOT = pathlib.Path(places.ROOT)
 HEADS = ("Function and clause", "Contract that carries it", "Clause")
 PROGRAMS = ("pollrelay", "echo_server", "page_server", "loop_echo_server")
-# Also the server of the metrics is quoted, which is a library of one of them.
-QUOTED = (*PROGRAMS, "metrics_server")
 WORD = re.compile(r"[A-Za-z_]\w*")
 ITEM = re.compile(r"^\s*(?:pub(?:\([a-z]+\))? )?(?:struct|enum|trait|const|type|mod) (\w+)", re.M)
 # (a definition; an indented line without one of these words is a field of a record)
@@ -38,13 +28,14 @@ FACT = re.compile(r"^(?: *(?:pub )?(?:abbrev|data|record) (?:pub )?|pub |)([A-Za
 class Crate:
     """The functions of a crate, each with the names of its clauses, and its other names."""
 
-    def __init__(self, folder):
+    def __init__(self, tree, name):
         self.functions, self.names, self.laws, self.calls = {}, set(), set(), {}
-        for file in sorted(folder.glob("src/**/*.rt")):
-            if "tests" not in file.relative_to(folder).parts and file.stem != "tests":
-                self.read_source(file.read_text(), file.stem == "laws")
-        for file in folder.glob("specs/**/*.antt"):
-            self.names |= set(FACT.findall(file.read_text()))
+        for path in tree.paths(rf"crates/{name}/src/.*\.rt"):
+            stem = os.path.basename(path)[:-3]
+            if "tests" not in path.split("/")[3:-1] and stem != "tests":
+                self.read_source(tree.text(path), stem == "laws")
+        for path in tree.paths(rf"crates/{name}/specs/.*\.antt"):
+            self.names |= set(FACT.findall(tree.text(path)))
 
     def read_source(self, text, are_laws=False):
         self.names |= set(ITEM.findall(text))
@@ -98,8 +89,8 @@ def called_by_programs(crates):
 class Row:
     """One cell's claims: functions, then the clauses of those functions."""
 
-    def __init__(self, crates, named):
-        self.all, self.crates = crates, [crates[it] for it in named if it in crates] or list(crates.values())
+    def __init__(self, tree, crates, named):
+        self.tree, self.all, self.crates = tree, crates, [crates[it] for it in named if it in crates] or list(crates.values())
         self.missing, self.seen, self.functions = [], 0, set()
 
     def read(self, cell):
@@ -138,7 +129,7 @@ class Row:
     def bodies(self, token):
         """The bodies of that name; none for a name that is no function; None where nothing has the name."""
         if "/" in token or token.endswith((".antt", ".sh")):
-            return [] if any(ROOT.glob(token)) or any(ROOT.glob(f"crates/*/{token}")) else None
+            return [] if self.tree.has(token) or self.tree.paths(rf"crates/\w+/{re.escape(token)}") else None
         parts = token.split("::")
         if parts[0] in self.all:
             self.crates, parts = [self.all[parts[0]]], parts[1:]
@@ -151,12 +142,12 @@ class Row:
         return [same for it in holders for same in [it.functions.get(name)] if same]
 
 
-def check(text, crates):
+def promises(text, tree, crates):
     """The missing names, each with its line, how many names were looked up, and the lines of rows that no program keeps."""
     missing, seen, unused = [], 0, []
     useful = called_by_programs(crates).union(*(it.laws for it in crates.values()), {"laws"})
     for number, named, row_text in rows_of(text):
-        row = Row(crates, named).read(row_text[1])
+        row = Row(tree, crates, named).read(row_text[1])
         seen += row.seen
         missing += [(number, it) for it in row.missing]
         is_tested = row_text[-1].startswith("tested") and row.seen
@@ -165,12 +156,12 @@ def check(text, crates):
     return missing, seen, unused
 
 
-def steps_of(models):
+def steps_of(tree):
     """The steps and threads that models define."""
-    return set(re.findall(r"^(?:inline|proctype) (\w+)", "\n".join(it.read_text() for it in models), re.M))
+    return set(re.findall(r"^(?:inline|proctype) (\w+)", "\n".join(tree.text(it) for it in tree.paths(r"models/.*")), re.M))
 
 
-def check_models(text, steps, source):
+def models(text, steps, source):
     """The names of a table of steps, functions and their file that aren't there, each with its line, and how many are."""
     missing, seen = [], 0
     for number, line in enumerate(text.splitlines(), 1):
@@ -185,54 +176,19 @@ def check_models(text, steps, source):
     return missing, seen
 
 
-def quoted(text, lines):
-    """The lines of examples that aren't among these of sources, each with its number, and how many are quoted."""
-    missing, seen, is_example = [], 0, False
-    for number, line in enumerate(text.splitlines(), 1):
-        if line.startswith("```"):
-            is_example = line == "```rust"
-        elif is_example and line.strip():
-            seen += 1
-            # A head has its contract between it and its brace.
-            if not {line.strip(), line.strip().removesuffix(" {")} & lines:
-                missing.append((number, line.strip()))
-    return missing, seen
-
-
-def lines_of_programs():
-    files = (it for name in QUOTED for it in (ROOT / "crates" / name / "src").glob("**/*.rt"))
-    return {line.strip() for it in files for line in it.read_text().splitlines()}
-
-
-def source_of(name):
-    file = ROOT / name
-    return file.read_text() if file.is_file() else ""
-
-
-def main():
-    crates = {it.name: Crate(it) for it in sorted((ROOT / "crates").iterdir()) if it.is_dir()}
-    failed = passed = 0
-    for name in ("README.md", "docs/guarantees.md"):
-        missing, seen, unused = check((ROOT / name).read_text(), crates)
-        for number, token in missing:
-            print(f"{name}:{number}: nothing is called `{token}`, or no function before it has that clause")
-        for number in unused:
-            print(f"{name}:{number}: names no function that a program calls, and no law, and doesn't say `library call`")
-        failed, passed = failed + len(missing) + len(unused), passed + seen - len(missing)
-    missing, seen = check_models(
-        (ROOT / "models/README.md").read_text(), steps_of((ROOT / "models").iterdir()), source_of)
+def tell(told, page, missing, seen):
+    told.passed += seen - len(missing)
     for number, token in missing:
-        print(f"models/README.md:{number}: nothing is called `{token}`")
-    failed, passed = failed + len(missing) + (not seen), passed + seen - len(missing)
-    lines = lines_of_programs()
-    for name in ("README.md", "docs/sockets.md"):
-        missing, seen = quoted((ROOT / name).read_text(), lines)
-        for number, line in missing:
-            print(f"{name}:{number}: no program has the line `{line}`")
-        failed, passed = failed + len(missing), passed + seen - len(missing)
-    print(f"{passed} passed, {failed} failed")
-    return 1 if failed or not passed else 0
+        told.holds(False, page, f"nothing is called `{token}`, or no function before it has that clause", number)
+    told.holds(seen, page, "names nothing in its tables")
 
 
-if __name__ == "__main__":
-    sys.exit(main())
+def check(tree, told):
+    crates = {it: Crate(tree, it) for it in sorted({path.split("/")[1] for path in tree.paths(r"crates/\w+/src/.*\.rt")})}
+    for page in ("README.md", "docs/guarantees.md"):
+        missing, seen, unused = promises(tree.text(page), tree, crates)
+        tell(told, page, missing, seen)
+        for number in unused:
+            told.holds(False, page, "names no function that a program calls, and no law, and doesn't say `library call`", number)
+    page = "models/README.md"
+    tell(told, page, *models(tree.text(page), steps_of(tree), tree.text))

@@ -1,0 +1,124 @@
+#!/usr/bin/env python3
+"""Gives the built program each of its lines that pages, samples and heads of scripts have, and shows that it takes them.
+
+    python3 tests/gate/page_lines.py
+
+A line of `ctl` goes to a relay with two rules and a connection, one of `serve` starts a relay on rules of this script's own and is
+stopped, and the others are given as they stand; paths and what stands for the reader's own words are put in. A line ends with
+status 0, or with 1 where what it asks for is refused, and never as a bad command line. What a page shows below a line behind `$`
+has to come.
+"""
+import os
+import re
+import subprocess
+import sys
+import tempfile
+
+sys.path.insert(1, f"{sys.path[0]}/..")
+from lib.checks import Checks
+from lib.pages import options, shell_lines
+from lib.pages.markdown import indented
+from lib.pages.tree import Tree
+from lib.places import PROGRAM, ROOT
+from lib.relay import Relay
+from lib.sockets import connect, free_port, listener
+from lib.waiting import wait_until
+
+SECONDS = 20
+# What stands for the reader's own words: the ids are those of a relay with two listeners and a connection.
+PLACES = {"ID": "3", "T": "4", "MS": "60000", "NAME": "web", "LOOPS": "2", "CONNECTIONS": "9", "LOG": "-"}
+
+
+def run(words, stdin=None):
+    ran = subprocess.run(
+        [PROGRAM, *words], cwd=ROOT, stdin=stdin or subprocess.DEVNULL, capture_output=True, text=True, timeout=SECONDS, check=False
+    )
+    return ran.returncode, ran.stdout, ran.stderr
+
+
+def filled(words):
+    """The words with something in place of those that stand for any, but for paths."""
+    return [PLACES.get(it, it) for it in words]
+
+
+def with_paths(words, rules, admin):
+    """The words with these paths of a rules file and an admin socket."""
+    if not words:
+        return []
+    text = "\0".join(words)
+    text = re.sub(r"--rules[=\0](?!examples/)[^\0]*", f"--rules\0{rules}", text)
+    return re.sub(r"--admin[=\0][^\0]*", f"--admin\0{admin}", text).split("\0")
+
+
+def is_taken(checks, line, ran):
+    status, _, said = ran
+    checks.holds(f"{line.page}:{line.line}: {' '.join(line.words)}", status in (0, 1), f"status {status}, {said.strip()}")
+
+
+def asks(checks, line, words):
+    """A line of `ctl`, to a relay of its own."""
+    accepts, target = listener()
+    port = free_port()
+    rules = f"relay web tcp:127.0.0.1:{port} {target} never\nrelay other tcp:127.0.0.1:{free_port()} {target} 9000\n"
+    with accepts, Relay(rules) as relay, connect(f"tcp:127.0.0.1:{port}"):
+        wait_until(lambda: len(relay.ids()) == 4, SECONDS)
+        if words[3:] and re.fullmatch(r"[A-Z]+(?:\.\.)?", words[3]):
+            words = [*words[:3], "list"]
+        is_taken(checks, line, run(with_paths(words if words[3:] else [*words, "list"], "", relay.admin)))
+
+
+def serves(checks, line, words):
+    """A line of `serve`: the options behind its rules and its admin socket, which are this script's own."""
+    given = with_paths(words, "", "")
+    while "--rules" in given:
+        del given[given.index("--rules") : given.index("--rules") + 2]
+    while "--admin" in given:
+        del given[given.index("--admin") : given.index("--admin") + 2]
+    given = [f"tcp:127.0.0.1:{free_port()}" if it == "ADDRESS" else it for it in given[1:]]
+    with Relay(f"relay web tcp:127.0.0.1:{free_port()} tcp:127.0.0.1:9 never\n", options=given) as relay:
+        is_taken(checks, line, (relay.stop()[0], "", ""))
+
+
+def others(checks, line, words, folder):
+    words, files = shell_lines.redirected(words)
+    with open(f"{folder}/rules", "w", encoding="ascii") as file:
+        file.write("relay web unix:/a unix:/b never\n")
+    with open(f"{ROOT}/{files[0]}" if files else os.devnull, "rb") as stdin:
+        is_taken(checks, line, run(with_paths(words, f"{folder}/rules", ""), stdin))
+
+
+def shown(checks, tree, folder):
+    """What pages show below a line behind `$`."""
+    os.symlink(PROGRAM, f"{folder}/{options.PROGRAM}")
+    env = {**os.environ, "PATH": f"{folder}:{os.environ['PATH']}"}
+    for page in tree.pages():
+        found = dict(indented(tree.text(page)))
+        for at, line in found.items():
+            if line.startswith("$ ") and options.PROGRAM in line:
+                ran = subprocess.run(["sh", "-c", line[2:]], cwd=ROOT, env=env, capture_output=True, text=True, timeout=SECONDS, check=False)
+                wanted, below = [], at + 1
+                while below in found and not found[below].startswith("$ "):
+                    wanted, below = [*wanted, found[below]], below + 1
+                checks.expect(f"{page}:{at}: {line}", wanted, ran.stdout.splitlines())
+
+
+def main():
+    checks, tree, seen = Checks(), Tree(), set()
+    with tempfile.TemporaryDirectory(prefix="page-lines-") as folder:
+        for line in shell_lines.lines(tree):
+            words = filled(line.words[1:])
+            is_alone = line.is_name and (not words or words[0] not in ("help", "version") and len(words) == 1)
+            if line.words[0] == options.PROGRAM and not is_alone and tuple(words) not in seen:
+                seen.add(tuple(words))
+                if words[:1] == ["ctl"]:
+                    asks(checks, line, words)
+                elif words[:1] == ["serve"]:
+                    serves(checks, line, words)
+                else:
+                    others(checks, line, words, folder)
+        shown(checks, tree, folder)
+    return checks.end()
+
+
+if __name__ == "__main__":
+    sys.exit(main())

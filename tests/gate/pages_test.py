@@ -1,0 +1,133 @@
+#!/usr/bin/env python3
+"""Tests of pages.py: each row plants a text in a page or in the code, and the check has to tell it where it told nothing before."""
+import re
+import unittest
+
+import pages
+from lib.pages.links import CHANGES
+from lib.pages.tree import GUIDE, HELP, MAN, Tree
+
+COMMAND_LINE, ADMIN = "crates/relay_command/src", "crates/relay_admin/src"
+TEXTFILE = "examples/prometheus/pollrelay_textfile.py"
+UNIT = "examples/systemd/pollrelay.service"
+MEASURED, FORMAT, README = "docs/performance.md", "docs/admin-protocol.md", "README.md"
+TABLE = "\n| Promise | Contract that carries it | How far |\n|---|---|---|\n"
+# The subject, the file, what stands there as a regular expression, what comes in its place, and what has to be told. Where nothing
+# stands there the text is put behind the file's.
+END = None
+ROWS = (
+    # What differs between the code and its pages.
+    ("options", f"{COMMAND_LINE}/grammar.rt", r'optional\(alloc, "log"\)', 'optional(alloc, "log"))?.arg(optional(alloc, "burst")', "the option `--burst`"),
+    ("options", f"{COMMAND_LINE}/grammar.rt", r'"loops"', '"threads"', "lacks or has too much: ['loops', 'threads']"),
+    ("options", GUIDE, END, "\nSay `serve --burst 9`.\n", "an option `--burst`, which the code has not"),
+    ("options", HELP, r"--metrics", "--figures", "the option `--metrics`"),
+    ("admin", f"{ADMIN}/admin/command.rt", r'b"stop"', 'b"halt"', "the admin command `halt`"),
+    ("admin", FORMAT, END, "\n`close ID MS`\n", "the command takes 1 words"),
+    ("replies", f"{ADMIN}/admin/reply_text.rt", r"error 409 busy", "error 410 gone", "the reply `error 410 gone`"),
+    ("replies", f"{ADMIN}/admin/shown.rt", r'" quiet "', '" silent "', "a reply to `show` isn't"),
+    ("replies", "examples/admin/first.session", END, "< error 418 no such thing\n", "`error 418 no such thing` is no reply"),
+    ("faults", f"{COMMAND_LINE}/fault.rt", r"cannot open log", "cannot write log", "the fault `cannot write log`"),
+    ("faults", "crates/pollrelay/src/main.rt", r'eprintln!\(rt; "{fault}"\)', 'eprintln!(rt; "it ends: {fault}")', "the line `it ends: {fault}`"),
+    ("faults", f"{ADMIN}/rules/verdict.rt", r"bad rules: too long", "bad rules: too large", "the fault `bad rules: too large`"),
+    ("faults", GUIDE, END, "\n`cannot find rules`\n", "`cannot find rules` is no line"),
+    ("faults", f"{COMMAND_LINE}/fault.rt", r"BadCommandLine => 2", "BadCommandLine => 4", "`bad command line` is status 4"),
+    ("faults", f"{COMMAND_LINE}/fault.rt", r"BadCommandLine => 2", "BadCommandLine => 4", "exit statuses lacks or has too much: [2, 4]"),
+    ("faults", f"{COMMAND_LINE}/fault.rt", r"Fault::TraceMemory => 3", "Fault::TraceMemory => 5", "`trace fault: memory` has status 5"),
+    ("trace", "crates/lockword_script/src/script.rt", r'b"rwake"', 'b"rawake"', "says nothing of `rawake`"),
+    ("trace", "crates/lockword_script/src/printed_line.rt", r'"woken"', '"awake"', "says nothing of `awake`"),
+    ("limits", "crates/lockword_core/src/word.rt", r"REFERENCES_WIDTH: u32 = 24", "REFERENCES_WIDTH: u32 = 22", "4,194,303, as `MAX_REFERENCES` is"),
+    ("faults", UNIT, r"(RestartPreventExitStatus)=.*", r"\1=1", "RestartPreventExitStatus isn't"),
+    ("metrics", "crates/relay_metrics/src/family.rt", r"pollrelay_loops", "pollrelay_event_loops", "the figure `pollrelay_event_loops`"),
+    ("metrics", "crates/relay_metrics/src/rule_text.rt", r'b"drained"', 'b"emptied"', "`pollrelay_rule_ends_total` has the labels"),
+    ("metrics", "crates/relay_metrics/src/rule_text.rt", r'[^;]*b"no_target", ends[^\n]*\n', "\n", "`pollrelay_rule_ends_total` has the labels"),
+    ("faults", GUIDE, r"\n\| `cannot reach admin` ", "\n| `no such relay` | | |\n\\g<0>", "has a message `no such relay`"),
+    ("metrics", README, END, "\n`pollrelay_turns`\n", "`pollrelay_turns` is no figure"),
+    ("log_words", "crates/relay_log/src/words.rt", r'b"drained"', 'b"emptied"', "log's word `emptied`"),
+    ("log_words", GUIDE, END, "\n    2026-11-24T15:21:47.123Z web 2 3 eof\n", "no line of a log"),
+    ("log_words", "crates/relay_log/src/line.rt", r"    pub up: u64,", "    pub loop_place: u64,\n    pub up: u64,", "a line of the log has 11 fields"),
+    ("version", HELP, r"pollrelay 0\.", "pollrelay 1.", "packaging/debian/changelog: the program says"),
+    ("version", README, END, "\nIt needs `rattle-kit-1`.\n", "asks for rattle-kit-1"),
+    ("admin", CHANGES, END, "- A socket: `list`, `totals`, `show ID`, `close ID`, `drain ID`, `deadline ID MS`.\n", "a list of commands lacks ['"),
+    ("limits", HELP, r"1 to 2000", "1 to 3000", "2,000, as `MAX_PAIRS` is"),
+    ("limits", f"{ADMIN}/rules/file.rt", r"MAX_RULES: usize = 64", "MAX_RULES: usize = 65", "its limit of rules isn't 65"),
+    ("limits", FORMAT, END, "\nA line of more than 80 bytes ends it.\n", "64, as `MAX_LINE_BYTES` is"),
+    ("limits", UNIT, r"(LimitNOFILE)=.*", r"\1=1024", "LimitNOFILE is 1024, below"),
+    ("limits", UNIT, r"TasksMax=.*", "TasksMax=32", "TasksMax is 32, below 76"),
+    ("limits", UNIT, r"(?m)^ExecStart=.*", "ExecStart=/usr/bin/pollrelay-run --finish 3600000 --rules /a --admin /b", "below 3601"),
+    ("shell_lines", README, END, "\n    pollrelay serve --rule FILE --admin PATH\n", "`serve` has no option `--rule`"),
+    ("shell_lines", GUIDE, END, "\n    pollrelay check --rules FILE && pollrelay ctl --admin PATH close\n", "`close` is no admin command"),
+    ("shell_lines", "examples/README.md", END, "\n    pollrelay serve --rules FILE\n", "lacks `--admin`"),
+    ("shell_lines", "examples/rules/web.rules", END, "# Check this file: pollrelay check --rules examples/rules/wep.rules\n", "there is no examples/rules/wep.rules"),
+    ("shell_lines", README, END, "\n    sh tests/run.sh no_such_part\n", "there is no part no_such_part"),
+    ("shell_lines", README, END, "\n    sh examples/first_connection.sh --prove-all\n", "has no option --prove-all"),
+    ("shell_lines", UNIT, END, "ExecStart=/usr/bin/pollrelay-run --end 9 --rules /a --admin /b\n", "has no option `--end`"),
+    ("shell_lines", UNIT, END, "ExecReload=/usr/local/bin/pollrelay ctl --admin /a relaod\n", "`relaod` is no admin command"),
+    ("shell_lines", GUIDE, END, "\n    curl http://127.0.0.1:9464/metrics\n", "no part of the tests tries `curl`"),
+    ("shell_lines", "CONTRIBUTING.md", END, "\n    python3 tests/clauses.py\n", "there is no tests/clauses.py"),
+    ("samples", "packaging/debian/rules.sample", END, "relay web tcp:0.0.0.0:80 never\n", "no rule"),
+    ("quotes", README, END, "\n```rust\nlet conn = listener.take()?;\n```\n", "no crate has the line"),
+    ("claims", README, END, f"{TABLE}| It reads | `relay_admin::Rules::parse` `no_such_clause` | proved |\n", "nothing is called `no_such_clause`"),
+    ("names", "docs/testing.md", END, "\n`a_close_ends_no_read_at_all`\n", "nothing is called `a_close_ends_no_read_at_all`"),
+    ("names", "crates/admin_tests/src/.*", r"fn lines_have_their_replies", "fn lines_have_replies", "nothing is called `lines_have_their_replies`"),
+    ("links", README, END, "\n[here](docs/nowhere.md)\n", "links to docs/nowhere.md"),
+    ("links", README, END, "\n`tests/metrics_storm.py`\n", "names `tests/metrics_storm.py`"),
+    ("links", "docs/nowhere.md", END, "# Nowhere\n", "doesn't list nowhere.md"),
+    ("words", README, END, " word" * 901, "README.md: has "),
+    ("words", "crates/net/README.md", END, " word" * 251, "crates/net/README.md: has "),
+    ("words", "crates/net/README.md", END, " word" * 9_001, "crates/: its pages have "),
+    ("words", "docs/design.md", END, " word" * 30_001, "docs/: its pages have "),
+    # What pages said once that wasn't so.
+    ("stale", "packaging/debian/rules.sample", END, "# It is read at the start alone: systemctl restart pollrelay\n", "rules are read anew by `reload`"),
+    ("stale", "docs/DECISIONS.md", END, "| What are `--` and `-- trace` on the command line? | Refused, though clap takes them |\n", "a `--` at the end is taken"),
+    ("stale", CHANGES, END, "- One call (`Poller::hold`), and an entry for it (`Held`).\n", "the entry of a table is `HeldSocket`"),
+    ("limits", CHANGES, END, "- A read takes up to 16,384 bytes from the first on.\n", "65,536, as `LOOP_BUFFER_BYTES` is"),
+    ("figures", CHANGES, END, "- `--loops` of serve: loops.\n- `--loops` of serve: how many loops.\n", "tells `--loops` twice"),
+    ("admin", GUIDE, END, "\nCommands are `list`, `totals`, `close ID`, `drain ID`, `deadline ID MS`, `quit`, `stop`.\n", "a list of commands lacks"),
+    ("man", MAN, r"\.It \"\\fBshow ID[^\0]*?(?=\.It)", "", "isn't what tools/man_page.py makes of docs/operations.md"),
+    ("man", MAN, r"Take the relay out of the balancer", "Say \\\\fBdeadline 1 0\\\\fP", "isn't what tools/man_page.py makes of docs/operations.md"),
+    ("man", GUIDE, r"\n1\. Take[^\n]*\n", r"\n", "isn't what tools/man_page.py makes of docs/operations.md"),
+    ("admin", "examples/balancer/two_relays.cfg", r"(?s)(#     pollrelay ctl[^\n]*deadline 1 0\n)(#     pollrelay ctl[^\n]*drain 1\n)", r"\2\1", "a rolling restart goes"),
+    ("metrics", TEXTFILE, r"way=", "direction=", "has no label ['direction']"),
+    ("samples", TEXTFILE, r"connections = sum\(.*\)", "connections = (len(shown) + 1) // 2", "2 connections stand"),
+    ("limits", UNIT, END, "# 9,000 pairs take 18,216 at most.\n", "below what a remark in the unit asks for: 18216"),
+    ("figures", MEASURED, END, "| bytes (A) | 10 | nginx 20 | 0.75 |\n", "is 0.50, not 0.75"),
+    ("figures", README, END, "\nIt has 0.33 of the memory of HAProxy.\n", "has the ratio 0.33"),
+    ("figures", README, END, "\n| bytes | 2,267 | nginx 161,752 | 0.97 |\n", "has the figures [0.97, 2267.0, 161752.0]"),
+    ("figures", MEASURED, END, "\n| bytes (Y) | 10 | nginx 10 | 1.00 |\n", "of the run Y, of which nothing is said"),
+    ("figures", MEASURED, END, "\n| Y | lately | `python3 bench/relay/run.py` |\n", "the run Y has no date"),
+    ("figures", "docs/GATE.md", END, "\nIt tries 1,234 wrong bodies of 77 crates.\n", "1,234 wrong bodies: there are"),
+    ("figures", "docs/GATE.md", END, "\nIt tries 1,234 wrong bodies of 77 crates.\n", "77 crates: there are"),
+    ("figures", "examples/first_connection.sh", END, "# Proving takes three quarters of an hour.\n", "proving takes three quarters of an hour here"),
+)
+
+
+class Planted(unittest.TestCase):
+    @classmethod
+    def setUpClass(cls):
+        cls.tree, cls.before = Tree(), {}
+
+    def told_before(self, subject):
+        if subject not in self.before:
+            self.before[subject] = set(pages.told_of(self.tree, [subject]).lines)
+        return self.before[subject]
+
+    def planted(self, path, old, new):
+        """The tree with the text in its place. A row may name its file by an expression, of which one file has what stands there."""
+        if old is END:
+            return self.tree.having(path, self.tree.text(path) + new)
+        holders = [it for it in self.tree.paths(path) if re.search(old, self.tree.text(it))]
+        self.assertEqual(len(holders), 1, f"{path} has {old!r} in {holders}")
+        return self.tree.having(holders[0], re.sub(old, new, self.tree.text(holders[0])))
+
+    def test_each_planted_text_is_told(self):
+        for subject, path, old, new, said in ROWS:
+            with self.subTest(f"{subject}: {said}"):
+                told = set(pages.told_of(self.planted(path, old, new), [subject]).lines) - self.told_before(subject)
+                self.assertTrue(any(said in it for it in told), f"told instead: {sorted(told)}")
+
+    def test_each_subject_has_a_row(self):
+        self.assertEqual({it[0] for it in ROWS}, set(pages.SUBJECTS))
+
+
+if __name__ == "__main__":
+    unittest.main()

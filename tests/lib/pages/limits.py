@@ -1,0 +1,108 @@
+"""The limits, as constants of the code have them: the guide has each among its own, and wherever a page says one by the words
+below it is the code's."""
+
+import re
+
+from lib.pages.limit_words import N, SAID, value_of
+from lib.pages.markdown import bare, rows, section
+from lib.pages.rust import constants, grouped
+from lib.pages.tree import GUIDE, HELP
+
+# Where each constant stands. One whose name another has too has its crate ahead.
+FILES = {
+    "MAX_PAIRS": "crates/relay_core/src/pair_limit.rt",
+    "DEFAULT_PAIRS": "crates/relay_core/src/pair_limit.rt",
+    "MAX_LOOPS": "crates/relay_core/src/loops.rt",
+    "MOST_BY_DEFAULT": "crates/relay_core/src/loops.rt",
+    "DEFAULT_CONNECT_MS": "crates/relay_command/src/options.rt",
+    "MAX_CONNECT_MS": "crates/relay_command/src/options.rt",
+    "LOOP_BUFFER_BYTES": "crates/relay_core/src/buffers.rt",
+    "MAX_RULES": "crates/relay_admin/src/rules/file.rt",
+    "MAX_BYTES": "crates/relay_admin/src/rules/file.rt",
+    "MAX_NAME_BYTES": "crates/relay_admin/src/rules/rule.rt",
+    "MAX_PATH_BYTES": "crates/relay_admin/src/rules/addr.rt",
+    "DAY_MS": "crates/relay_admin/src/text.rt",
+    "MAX_ID": "crates/relay_admin/src/admin/command.rt",
+    "MAX_LINES": "crates/relay_admin/src/admin/dialogue.rt",
+    "MAX_LINE_BYTES": "crates/relay_admin/src/admin/dialogue.rt",
+    "MOST_QUEUED_BYTES": "crates/relay_log/src/queue.rt",
+    "MOST_CLIENTS": "crates/metrics_server/src/lib.rt",
+    "LIMIT_NS": "crates/metrics_server/src/lib.rt",
+    "PATIENCE_SECONDS": "crates/pollrelay/src/main.rt",
+    "MAX_SILENCE_MS": "crates/relay_core/src/idle.rt",
+    "MAX_SESSIONS": "crates/relay/src/session.rt",
+    "MAX_FAULTS_IN_A_ROW": "crates/relay_core/src/accepting.rt",
+    "MAX_INTERRUPTIONS": "crates/stream_base/src/attempt.rt",
+    "lockword_script::MAX_LINE_BYTES": "crates/lockword_script/src/script.rt",
+    "HOLDERS": "crates/lockword_script/src/script.rt",
+    "MAX_REFERENCES": "crates/lockword_core/src/word.rt",
+    "MAX_WAITERS": "crates/lockword_core/src/word.rt",
+    "MAX_SIGNALS": "crates/lockword_core/src/signals.rt",
+}
+# Which of them a row of the limits has, that begins so.
+ROWS = (
+    ("connections at once", ("DEFAULT_PAIRS", "MAX_PAIRS")), ("rules", ("MAX_RULES",)), ("bytes of a rules file", ("MAX_BYTES",)),
+    ("a name, a Unix path", ("MAX_NAME_BYTES", "MAX_PATH_BYTES")), ("idle times and deadlines", ("DAY_MS",)),
+    ("bytes of an admin line, lines of a session", ("MAX_LINE_BYTES", "MAX_LINES")), ("event loops", ("MAX_LOOPS",)),
+)
+UNIT = "examples/systemd/pollrelay.service"
+# The descriptors of a relay beside those of connections, rules and loops.
+ABOUT_A_DOZEN = 12
+
+
+def values(tree):
+    """The number of each constant; of nanoseconds their milliseconds."""
+    own = {path: constants(tree.text(path)) for path in set(FILES.values())}
+    found = {name: own[path].get(name.split("::")[-1]) for name, path in FILES.items()}
+    return {name: it // 1_000_000 if name.endswith("_NS") and it else it for name, it in found.items()}
+
+
+def check(tree, told):
+    known = values(tree)
+    if all([told.reads(isinstance(it, int), FILES[name], __file__) for name, it in known.items()]):
+        in_rows(told, tree.text(GUIDE), known)
+        in_sentences(tree, told, known)
+        of_unit(tree, told, known)
+
+
+def in_rows(told, text, known):
+    """The guide's limits have each number in its row."""
+    table = {bare(it[0]): set(re.findall(N, it[1])) for _, it in rows(section(text, "Limits"))}
+    for label, names in ROWS:
+        said = next((it for row, it in table.items() if row.startswith(label)), None)
+        if told.holds(said is not None, GUIDE, f"has no limit of: {label}"):
+            for name in names:
+                told.holds(grouped(known[name]) in said, GUIDE, f"its limit of {label} isn't {grouped(known[name])}, as `{name}` is")
+
+
+def in_sentences(tree, told, known):
+    """Each number that is said by the words of a limit, and that each constant is said so somewhere."""
+    seen = set()
+    for page in (*tree.pages(), *tree.samples(), HELP):
+        text = tree.text(page)
+        for pattern, *names in SAID:
+            for it in re.finditer(pattern.replace(" ", r"\s+"), text):
+                line = text.count("\n", 0, it.start()) + 1
+                for name, said in zip(names, it.groups()):
+                    seen.add(name)
+                    told.holds(value_of(said) == known[name], page, f"“{' '.join(it[0].split())}”: {grouped(known[name])}, as `{name}` is", line)
+    for name in known:
+        told.holds(name in seen, GUIDE, f"no page says the limit `{name}` by words that tests/lib/pages/limit_words.py has")
+
+
+def of_unit(tree, told, known):
+    """The unit leaves the relay the descriptors and threads that its greatest numbers take, those that its own remarks name, and
+    the time that its connections have to end."""
+    text = tree.text(UNIT)
+    given = {name: int(it) for name, it in re.findall(r"^(LimitNOFILE|TasksMax|TimeoutStopSec)=(\d+)$", text, re.M)}
+    files = 2 * known["MAX_PAIRS"] + known["MAX_RULES"] + 2 * known["MAX_LOOPS"] + ABOUT_A_DOZEN
+    named = [value_of(it) for line in text.splitlines() if line.startswith("#") for it in re.findall(rf"{N}(?= descriptors| at most)", line)]
+    finish = re.search(r"^ExecStart=.*--finish[ =](\d+)", text, re.M)
+    least = {
+        "LimitNOFILE": (files, "two for each connection, one a rule, two a loop and a dozen"),
+        "TasksMax": (known["MAX_LOOPS"] + ABOUT_A_DOZEN, "a loop's each and a dozen"),
+        "TimeoutStopSec": (int(finish[1]) // 1_000 + 1 if finish else 1, "what connections have to end"),
+    }
+    for name, (wanted, why) in least.items():
+        told.holds(given.get(name, 0) >= wanted, UNIT, f"{name} is {given.get(name)}, below {wanted}: {why}")
+    told.holds(given.get("LimitNOFILE", 0) >= max(named, default=0), UNIT, f"LimitNOFILE is below what a remark in the unit asks for: {max(named, default=0)}")

@@ -1,0 +1,78 @@
+"""Files and folders that pages name or link to are there, and the index of docs/ has each page."""
+
+import functools
+import os
+import re
+
+from lib.pages.markdown import FENCE, spans
+
+LINK = re.compile(r"\]\(([^)\s#]+)(?:#[\w-]*)?\)")
+# What a page names as a file: a path of these letters with a folder ahead or an ending that files here have.
+PATH = re.compile(r"(?:\.\./|[\w.-]+/)+[\w.*-]*|[\w-]+\.(?:md|py|sh|rt|antt|pml|svg|cfg|service|rules|session|edit|txt)")
+ROOTS = {"tests", "docs", "crates", "examples", "bench", "models", "tools", "packaging", "man", ".ci"}
+FILE = re.compile(r"^`[\w./-]+`:$", re.M)
+# Words in capitals stand for any name.
+ANY = re.compile(r"(?<![\w.-])[A-Z][A-Z_]*(?=[/_.]|$)")
+# What isn't there before something was built or made, and what stands elsewhere.
+MADE = re.compile(r"(?:^|/)out(?:/|$)|^crates/NAME|bench/target|/run/|^etc/|^usr/|^lib/systemd")
+CHANGES = "CHANGELOG.md"
+# Packages of Go.
+OF_GO = {"internal/poll", "net/http", "net/netip"}
+
+
+@functools.cache
+def tails(files):
+    """What names a file or a folder: some names of its path that follow one another, the last also without its ending."""
+    found = set()
+    for file in files:
+        parts = file.split("/")
+        for names in (parts, [*parts[:-1], parts[-1].split(".")[0]]):
+            found.update("/".join(names[low:high]) for low in range(len(names)) for high in range(low + 1, len(names) + 1))
+    return found
+
+
+class Names:
+    """What names a file or a folder of a tree."""
+
+    def __init__(self, tree):
+        self.tree, self.tails = tree, tails(tuple(tree.files))
+
+    def is_there(self, path):
+        path = re.sub(r"^(?:\.\.?/)+", "", path.rstrip("/."))
+        pattern = ANY.sub("*", path)
+        if "*" in pattern:
+            whole = re.compile(re.escape(pattern).replace(r"\*", r"[\w.-]*"))
+            return any(whole.fullmatch(it) for it in self.tails)
+        return path in self.tails or self.tree.has(path)
+
+
+def is_path(span, page):
+    """Whether a word in code's letters names a file of this repository."""
+    first = span.split("/")[0]
+    is_own = first in ROOTS or first == ".." or "/" not in span or page.startswith("crates/")
+    return bool(PATH.fullmatch(span)) and is_own and span not in OF_GO and not MADE.search(span)
+
+
+def named_files(text):
+    """The paths that a page names, alone or in a line of shell in code's letters, each with its line; but for a file that the page
+    itself gives, below a line with its path alone."""
+    for line, span in spans(FILE.sub("", text)):
+        for word in span.split(" "):
+            yield line, word.strip("'\",:")
+
+
+def check(tree, told):
+    names = Names(tree)
+    for page in tree.pages():
+        text = tree.text(page)
+        for line, path in named_files(text):
+            if is_path(path, page) and page != CHANGES:
+                told.holds(names.is_there(path), page, f"names `{path}`, which isn't there", line)
+        for it in LINK.finditer(FENCE.sub(lambda block: "\n" * block[0].count("\n"), text)):
+            if "://" not in it[1]:
+                path = os.path.normpath(os.path.join(os.path.dirname(page), it[1]))
+                told.holds(tree.has(path), page, f"links to {it[1]}, which isn't there", text.count("\n", 0, it.start()) + 1)
+    index = tree.text("docs/README.md")
+    for page in tree.paths(r"docs/[\w-]+\.md"):
+        name = os.path.basename(page)
+        told.holds(name in index or name == "README.md", "docs/README.md", f"doesn't list {name}")

@@ -1,0 +1,91 @@
+"""The families of figures with their kinds, labels and values of labels, as `relay_metrics` writes them: the guide has
+each, and no page or sample has a figure or a label that the server doesn't give."""
+
+import re
+from collections import namedtuple
+
+from lib.pages.markdown import bare, rows, section, spans
+from lib.pages.rust import functions
+from lib.pages.tree import GUIDE
+
+FAMILIES = "crates/relay_metrics/src/family.rt"
+TEXTS = ("crates/relay_metrics/src/text.rt", "crates/relay_metrics/src/rule_text.rt")
+PLACES = "crates/relay_metrics/src/place.rt"
+# A family, with the values of each label; of a label whose values are names or numbers there are none.
+Family = namedtuple("Family", "name kind labels")
+# Figures of another source than the server: each is of the sample that asks the admin socket.
+OWN = {"examples/prometheus/pollrelay_textfile.py": {"pollrelay_up", "pollrelay_connections", "pollrelay_textfile"}}
+FIGURE = re.compile(r"\bpollrelay_[a-z]\w*(?!\w|\.|[\w.]*\.deb)(?:\{([^}]*)\})?")
+
+
+def families(tree):
+    bodies = functions(tree.text(FAMILIES))
+    names = dict(re.findall(r'Family::(\w+) => b"([^"]+)"', bodies["name"]))
+    kinds = dict(re.findall(r'Family::(\w+) => b"([^"]+)"', bodies["kind"]))
+    usual = re.search(r'_ => b"([^"]+)"', bodies["kind"])
+    found = labels(tree)
+    return {it: Family(name, kinds.get(it) or usual[1], found.get(it, {})) for it, name in names.items()}
+
+
+def labels(tree):
+    """The labels of each family, from the calls that write its figures."""
+    found, bodies = {}, functions("".join(tree.text(it) for it in TEXTS))
+    code = "".join(named(it) for it in bodies.values())
+    # (the key of a cause stands once, in the function through which all causes go)
+    keys = {name: re.search(r'write_rule_sample\(into, family, rule, b"(\w+)"', body) for name, body in bodies.items()}
+    key_of = {name: it[1] for name, it in keys.items() if it}
+    for call, family, rest in re.findall(r"(\w+)\(\s*into,\s*Family::(\w+),([^;?]*?)\)", code):
+        said = re.findall(r'b"(\w+)"', rest)
+        if call in key_of:
+            found.setdefault(family, {}).setdefault(key_of[call], []).extend(said)
+        elif call in ("write_sample", "write_rule_sample") and said:
+            found.setdefault(family, {}).setdefault(said[0], []).extend(said[1:])
+        if call in key_of or call == "write_rule_sample":
+            found[family].setdefault("rule", [])
+    for family, key in re.findall(r'Family::(\w+) => \{?\s*write_sample\(\s*into,\s*family,\s*b"(\w+)"', code):
+        found.setdefault(family, {}).setdefault(key, [])
+    return found
+
+
+def named(body):
+    """A function's text with its family's name where it has that in a variable."""
+    of = re.search(r"let family = (Family::\w+);", body)
+    return re.sub(r"\bfamily,", f"{of[1]},", body) if of else body
+
+
+def check(tree, told):
+    known = {it.name: it for it in families(tree).values()}
+    told.reads(len(known) > 8 and any(it.labels for it in known.values()), FAMILIES, __file__)
+    in_guide(told, known, {bare(it[1][0]): it for it in rows(section(tree.text(GUIDE), "Metrics"))})
+    places = re.findall(r'b"(/\w+)"', tree.text(PLACES))
+    told.has_all(tree, GUIDE, places, "the path")
+    for page in (*tree.pages(), *tree.samples()):
+        figures_in(told, page, tree.text(page), known)
+
+
+def in_guide(told, known, table):
+    """The guide's table has a family with its kind, its labels and their values."""
+    for name, family in known.items():
+        line, cells = table.get(name, (None, ["", "", ""]))
+        if told.holds(line, GUIDE, f"has no row of the figure `{name}`, which the code has"):
+            told.holds(cells[1] == family.kind, GUIDE, f"`{name}` is a {family.kind}", line)
+            given = {it for _, it in spans(cells[2])}
+            values = {it for said in family.labels.values() for it in said}
+            # (the values of a label that another family has just been told to have may be left out)
+            least = set(family.labels) | (set() if {"rule", "way"} <= set(family.labels) else values)
+            told.holds(least <= given <= {*family.labels, *values}, GUIDE, f"`{name}` has the labels {family.labels}", line)
+
+
+def figures_in(told, page, text, known):
+    """Each figure that a page or a sample names is one of the server's, with labels that it has, or the sample's own."""
+    own = {it for of in OWN.values() for it in of}
+    for it in FIGURE.finditer(text):
+        name, line = it[0].split("{")[0], text.count("\n", 0, it.start()) + 1
+        if name in known:
+            given = set(re.findall(r"(\w+)=", it[1] or ""))
+            told.holds(given <= set(known[name].labels), page, f"`{name}` has no label {sorted(given - set(known[name].labels))}", line)
+        else:
+            told.holds(name in own or re.match(r"[.(]", text[it.end() : it.end() + 1]), page, f"`{name}` is no figure of the code", line)
+    for name, given in re.findall(r"^\s*\"(pollrelay_\w+)\".*?\[\('\{(\w+)=", text, re.S | re.M):
+        if name in known:
+            told.holds(given in known[name].labels, page, f"`{name}` has no label ['{given}']")

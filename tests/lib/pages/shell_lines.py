@@ -1,0 +1,171 @@
+"""The lines of shell in pages, samples and heads of scripts: what each calls is there and takes the words that it is given. A line
+that this script can't try itself is tried by the part of the tests that the tables below name, or says there why none can."""
+
+import json
+import re
+import shlex
+from collections import namedtuple
+
+from lib.pages import options, tools
+from lib.pages.admin import shapes
+from lib.pages.markdown import SHELL, fences, indented, spans
+from lib.pages.tree import FOLLOWED
+
+# The page, the line in it, the simple command's words, and whether it stands in running text, where it may be a name alone.
+Line = namedtuple("Line", "page line words is_name")
+PROMPT = re.compile(r"^\$ ")
+REMARK = re.compile(r"\s{2,}\S.*$|\s+# .*$")
+# Remarks of samples and heads of scripts that give a command, and what a unit and a container's recipe start.
+GIVEN = re.compile(r"^# *(?:Check this file|Serve it|Try it|Look at it|Check it): (.*)$|^# {4,5}(\S.*)$")
+UNIT = re.compile(r"^Exec\w+=[-+!]?(.*)$")
+RECIPE = re.compile(r"^(?:ENTRYPOINT|.*CMD) (\[.*\])$")
+HEAD = re.compile(r'(?:#!.*\n)?"""(.*?)"""', re.S)
+SAMPLES = (
+    r"(?:examples|packaging|tools|tests/(?:gate|system|packaging|fuzz))/.*\.(?:sh|py|rules|session|txt|cfg|service|sample)"
+    r"|packaging/(?:pollrelay-run|container/Dockerfile)"
+)
+# What starts the program with a relay's words and some of its own.
+WRAPPER, WRAPPED = "pollrelay-run", "packaging/pollrelay-run"
+# A line that is printed, and one of code that begins as a command does.
+SAID = r"^pollrelay ended with|^rt ?[:,.]"
+CALLS = re.compile(rf"\b(?:{'|'.join((options.PROGRAM, *tools.CALLED, *tools.OTHERS))})\b")
+ENDS = {"&&", "||", ";", "|", "&", ";;"}
+# What stands for a word of the reader's own.
+PLACE = re.compile(r"[A-Z][A-Z_]*(?:\.\.)?|\d+|never|[<$/{].*|.*/.*")
+
+
+def simple_commands(text):
+    """The words of each simple command of a line."""
+    lexer = shlex.shlex(REMARK.sub("", PROMPT.sub("", text)), posix=True, punctuation_chars="();<>|&")
+    lexer.commenters = ""
+    try:
+        words = list(lexer)
+    except ValueError:
+        words = text.split()
+    found = [[]]
+    for word in words:
+        if word.startswith("(") or word.startswith(")"):
+            break
+        if word in ENDS:
+            found.append([])
+        else:
+            found[-1].append(word)
+    return [it for it in found if it]
+
+
+def texts(tree):
+    """Each line that may be one of shell, with its page and whether it stands in running text."""
+    for page in tree.pages():
+        text = tree.text(page)
+        for line, kind, block in fences(text):
+            if kind in SHELL:
+                yield from ((page, line + at, it, False) for at, it in enumerate(re.sub(r"\\\n *", " ", block).splitlines()))
+        yield from ((page, line, it, False) for line, it in indented(text))
+        yield from ((page, line, it, True) for line, it in spans(text))
+    for page in tree.paths(SAMPLES):
+        head = HEAD.match(tree.text(page))
+        yield from ((page, line, it, False) for line, it in indented(head[1] if head else ""))
+        for line, said in enumerate(tree.text(page).splitlines(), 1):
+            given = UNIT.match(said) or GIVEN.match(said)
+            if given:
+                yield page, line, re.sub(r",? (?:with|\(as) .*$", "", next(it for it in given.groups() if it)), False
+            elif RECIPE.match(said):
+                yield page, line, " ".join(json.loads(RECIPE.match(said)[1])), False
+
+
+def lines(tree):
+    """Each simple command of a line of shell; a synopsis is none, nor what a program says of itself."""
+    for page, line, said, is_name in texts(tree):
+        if CALLS.search(said) and "[" not in said and "help | version" not in said and not re.search(SAID, said):
+            # (what a shell is given by `-c` is a line too)
+            inner = re.search(r"\bsh -c '([^']*)'", said)
+            for words in simple_commands(inner[1] if inner else said):
+                # (a container's engine is given a line too)
+                words = words[words.index(options.PROGRAM) :] if words[:2] == ["docker", "exec"] else words
+                first = words[0].rsplit("/", 1)[-1]
+                # (in running text another program's name is but a name)
+                if first in (*tools.CALLED, options.PROGRAM, WRAPPER) or first in tools.OTHERS and not is_name and len(words) > 1:
+                    yield Line(page, line, [first, *words[1:]], is_name)
+
+
+def check(tree, told):
+    """Each line, but for programs of the system in the page that is followed anyway."""
+    found = options.commands(tree)
+    known = {it.word: it.follow for it in shapes(tree)}
+    scripts, count, wrapped = tools.Scripts(tree), 0, with_wrapper(tree, found)
+    for it in lines(tree):
+        count, said = count + 1, None
+        if it.words[0] == options.PROGRAM:
+            said = wrong(tree, it, found, known)
+        elif it.words[0] == WRAPPER:
+            said = wrong(tree, it._replace(words=[WRAPPER, "serve", *it.words[1:]]), wrapped, known)
+        elif it.page != FOLLOWED or it.words[0] not in tools.OTHERS:
+            said = scripts.wrong(it.words, it.page)
+        told.holds(not said, it.page, f"`{' '.join(it.words)}`: {said}", it.line)
+    told.reads(count > 50, "README.md", __file__)
+    scripts.check_tables(told)
+
+
+def with_wrapper(tree, found):
+    """The commands with the options of what starts the program."""
+    own = {it: options.Option(False, True) for it in re.findall(r"^ +--(\w+)\)", tree.text(WRAPPED), re.M)}
+    return {**found, "serve": found["serve"]._replace(options={**own, **found["serve"].options})}
+
+
+def wrong(tree, line, found, known):
+    """What is wrong with a line of the program's, or nothing."""
+    words, files = redirected(line.words[1:])
+    lacking = [it for it in files if it.startswith("examples/") and not tree.has(it)]
+    if lacking or not words:
+        return f"there is no {lacking[0]}" if lacking else None
+    name, *rest = words
+    if name not in found:
+        return None if line.is_name and PLACE.fullmatch(name) else f"there is no command `{name}`"
+    command, given, operands = found[name], {}, []
+    if line.is_name and not rest:
+        return None
+    while rest:
+        word = rest.pop(0)
+        option, has_value, value = word[2:].partition("=")
+        if not word.startswith("--"):
+            operands.append(word)
+        elif option not in command.options:
+            return f"`{name}` has no option `--{option}`"
+        elif command.options[option].has_value:
+            given[option] = value if has_value else rest.pop(0) if rest else ""
+    # (in running text a line may leave out what isn't spoken of)
+    return wrong_values(tree, command, given, line.is_name) or wrong_operands(command, operands, known)
+
+
+def redirected(words):
+    """The words without those of a redirection, and the files of these."""
+    kept, files = [], []
+    while words:
+        word, *words = words
+        if re.fullmatch(r"[<>]+|>&", word):
+            files, words = [*files, *words[:1]], words[1:]
+        elif not re.fullmatch(r"\d?[<>].*", word):
+            kept.append(word)
+    return kept, files
+
+
+def wrong_values(tree, command, given, is_part):
+    """What is wrong with the options of a line, or nothing."""
+    for name, option in command.options.items():
+        if option.is_needed and name not in given and not is_part:
+            return f"lacks `--{name}`"
+    path = given.get("rules", "")
+    return f"there is no {path}" if path.startswith("examples/") and not tree.has(path) else None
+
+
+def wrong_operands(command, operands, known):
+    """What is wrong with the words behind the options, or nothing."""
+    if operands and command.most == 0:
+        return f"`{operands[0]}` is too much"
+    if not command.most or operands and re.fullmatch(r"[A-Z]+(?:\.\.)?", operands[0]):
+        return None
+    # (with no word the line stands for any of them)
+    word, *rest = operands or [""]
+    if word and (word not in known or len(rest) != known[word] or not all(PLACE.fullmatch(it) for it in rest)):
+        return f"`{' '.join(operands)}` is no admin command"
+    return None

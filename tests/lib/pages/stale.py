@@ -1,0 +1,23 @@
+"""What pages said once and the code has made false. A row has what in the code makes it so, and by which words it was said."""
+
+import re
+
+ROWS = (
+    # (an operator who believes it restarts the service for each rule, which cuts every connection)
+    ("crates/relay_admin/src/admin/command.rt", r'b"reload"', r"read at the start alone|systemctl restart pollrelay", "rules are read anew by `reload`"),
+    ("crates/relay_command/src/job.rt", r'== "--" =>', r"`--`[^|.\n]*\| ?Refused|`--` is refused", "a `--` at the end is taken"),
+    ("crates/readiness/src/holding.rt", r"pub struct HeldSocket", r"entry for it \(`Held`\)", "the entry of a table is `HeldSocket`"),
+    # (a listener that came by a reload has a greater id than connections that stand)
+    ("crates/relay_admin/src/admin/command.rt", r'b"reload"', r"whose ids come first", "after a reload a listener may have any id"),
+)
+
+
+def check(tree, told):
+    pages = {it: tree.text(it) for it in (*tree.pages(), *tree.samples())}
+    for file, fact, words, said in ROWS:
+        if not told.reads(re.search(fact, tree.text(file)), file, __file__):
+            continue
+        for page, text in pages.items():
+            told.passed += 1
+            for it in re.finditer(words, text):
+                told.holds(False, page, f"{said}, and it says “{it[0]}”", text.count("\n", 0, it.start()) + 1)
