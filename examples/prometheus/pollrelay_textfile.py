@@ -1,12 +1,13 @@
 #!/usr/bin/env python3
 """Writes a relay's totals and its number of connections for the text-file collector of Prometheus' node exporter. It asks the
-admin socket for `totals` and `list`, in a session of its own, and ends.
+admin socket for `totals`, `list` and `show` of each id, in a session of its own, and ends.
 
-    python3 examples/prometheus/pollrelay_textfile.py --admin /run/pollrelay/admin.sock --rules /etc/pollrelay/rules \\
+    python3 examples/prometheus/pollrelay_textfile.py --admin /run/pollrelay/admin.sock \\
         --output /var/lib/prometheus/node-exporter/pollrelay.prom
 
 Run it every 15 seconds or so, as by a timer, as a user that may use the admin socket. Where the relay doesn't answer within
-5 seconds (it is down, or another admin session is open), pollrelay_up is 0 and the other values are left out.
+5 seconds (it is down, or another admin session is open), pollrelay_up is 0 and the other values are left out. Names and labels
+are those of `--metrics`, which needs no such script.
 """
 import argparse
 import os
@@ -15,41 +16,41 @@ import socket
 SECONDS = 5
 
 
-def ask(path, commands):
-    """The reply to each command."""
+def ask(path):
+    """The words of the reply to `totals`, and those of the replies to `show` of each id."""
     with socket.socket(socket.AF_UNIX) as sock:
         sock.settimeout(SECONDS)
         sock.connect(path)
-        sock.sendall("".join(f"{command}\n" for command in [*commands, "quit"]).encode())
-        replies = sock.makefile("r", encoding="ascii").read().splitlines()
-    if len(replies) != len(commands) + 1:
-        raise OSError(f"{len(replies)} replies")
-    return replies
+        with sock.makefile("rw", encoding="ascii") as lines:
+
+            def reply(command):
+                lines.write(f"{command}\n")
+                lines.flush()
+                return lines.readline().split()
+
+            totals, ids = reply("totals"), reply("list")[1:]
+            shown = [reply(f"show {id}") for id in ids]
+            reply("quit")
+    return totals, shown
 
 
-def listeners_of(rules):
-    """How many listeners the relay has, whose ids come first: each line that is neither empty nor a comment is a rule."""
-    with open(rules, "rb") as file:
-        return sum(1 for line in file if line.strip(b"\n") and not line.startswith(b"#"))
-
-
-def metrics(path, listeners):
+def metrics(path):
     try:
-        totals, ids = (reply.split() for reply in ask(path, ["totals", "list"])[:2])
+        totals, shown = ask(path)
         up, down = int(totals[2]), int(totals[4])
-        sides = sum(int(id) > listeners for id in ids[1:])
     except (OSError, ValueError, IndexError):
         return [("pollrelay_up", "gauge", "Whether the relay answered.", [("", 0)])]
+    # A connection has two sides, its client's and its target's; one that ended since `list` has no `side` in its reply.
+    connections = sum(words[4:6] == ["side", "client"] for words in shown)
     return [
         ("pollrelay_up", "gauge", "Whether the relay answered.", [("", 1)]),
         (
             "pollrelay_bytes_total",
             "counter",
-            "Bytes that were written, to targets (up) and to clients (down).",
-            [('{direction="up"}', up), ('{direction="down"}', down)],
+            "Bytes written to targets (up) and to clients (down).",
+            [('{way="up"}', up), ('{way="down"}', down)],
         ),
-        # A connection has two ids, its client's and its target's; one may be gone already.
-        ("pollrelay_connections", "gauge", "Clients that are connected to their targets.", [("", (sides + 1) // 2)]),
+        ("pollrelay_connections", "gauge", "Clients that are connected to their targets.", [("", connections)]),
     ]
 
 
@@ -63,10 +64,10 @@ def text_of(found):
 
 def main():
     words = argparse.ArgumentParser(description=__doc__, formatter_class=argparse.RawDescriptionHelpFormatter)
-    for word, meaning in (("--admin", "path of the admin socket"), ("--rules", "rules that it serves"), ("--output", "file to write")):
+    for word, meaning in (("--admin", "path of the admin socket"), ("--output", "file to write")):
         words.add_argument(word, required=True, help=meaning)
     given = words.parse_args()
-    text = text_of(metrics(given.admin, listeners_of(given.rules)))
+    text = text_of(metrics(given.admin))
     # The collector never sees a part of the file.
     unfinished = f"{given.output}.{os.getpid()}"
     with open(unfinished, "w", encoding="ascii") as file:

@@ -1,0 +1,153 @@
+#!/usr/bin/env python3
+"""Makes the man page of docs/operations.md, which is the one text of both.
+
+    python3 tools/man_page.py > man/pollrelay.1
+
+It knows the forms that the guide has: headings, paragraphs, indented commands, tables, lists, and words set off by
+backquotes or stars. The first cell of a table's row becomes a tag, and each cell after the second begins with its head. A
+sentence is a line, as mdoc wants it. The page's date is that of the newest entry of packaging/debian/changelog.
+"""
+import email.utils
+import pathlib
+import re
+import sys
+
+ROOT = pathlib.Path(__file__).resolve().parent.parent
+GUIDE, CHANGES = ROOT / "docs/operations.md", ROOT / "packaging/debian/changelog"
+# Sections that a man page calls otherwise.
+NAMES = {"Messages": "DIAGNOSTICS"}
+WIDTH = 78
+INLINE = re.compile(r"`([^`]+)`|\*\*([^*]+)\*\*")
+
+
+def escaped(text):
+    return text.replace("\\", "\\e").replace("-", "\\-")
+
+
+def inline(text):
+    """Words set off, in bold."""
+    parts, at = [], 0
+    for found in INLINE.finditer(text):
+        parts += [text[at : found.start()].replace("\\", "\\e"), f"\\fB{escaped(found[1] or found[2])}\\fP"]
+        at = found.end()
+    return "".join(parts) + text[at:].replace("\\", "\\e")
+
+
+def broken(sentence):
+    """A sentence in lines, none of which begins as a request does."""
+    lines = [""]
+    for word in sentence.split(" "):
+        if lines[-1] and len(lines[-1]) + 1 + len(word) > WIDTH:
+            lines.append("")
+        lines[-1] += f" {word}" if lines[-1] else word
+    return [f"\\&{it}" if it[:1] in (".", "'") else it for it in lines]
+
+
+def running(text):
+    """A paragraph: each sentence on a line of its own."""
+    sentences = re.split(r"(?<=[.?!])\s+(?=[A-Z`*\\])|(?<=[.?!]\*\*)\s+", " ".join(text.split()))
+    return [line for it in sentences for line in broken(inline(it))]
+
+
+def ended(text):
+    """A cell as a sentence."""
+    return text if text.endswith((".", ":")) else f"{text}."
+
+
+def capital(text):
+    return text[:1].upper() + text[1:]
+
+
+def tag(text):
+    # (quoted, so that no word is taken for a macro)
+    return '.It "' + inline(text).replace('"', "\\(dq") + '"'
+
+
+def cells(line):
+    return [it.strip() for it in re.split(r"\s\|\s|\s\|$", re.sub(r"^\|\s|\s?\|$", "", line.strip()))]
+
+
+def table(lines):
+    """A list of tags; what stands behind the second cell is named by its head."""
+    heads, made = cells(lines[0]), [".Bl -tag -width Ds"]
+    for line in lines[2:]:
+        row = cells(line)
+        texts = [ended(capital(row[1]))] if row[1] and len(row) == 2 else []
+        if len(row) > 2:
+            texts = [ended(f"{head}: {text}") for head, text in zip(heads[1:], row[1:]) if text]
+        made += [tag(row[0]), *(line for it in texts for line in running(it))]
+    return [*made, ".El"]
+
+
+def listed(kind, lines):
+    made = [f".Bl -{kind}"]
+    for line in lines:
+        made += [".It", *running(re.sub(r"^(?:-|\d+\.) ", "", line))]
+    return [*made, ".El"]
+
+
+def literal(lines):
+    shown = [it[4:].replace("\\", "\\e") for it in lines]
+    return [".Bd -literal -offset indent", *(f"\\&{it}" if it[:1] in (".", "'") else it for it in shown), ".Ed"]
+
+
+def synopsis(lines):
+    """Each way to call the program, a line each."""
+    made = []
+    for at, line in enumerate(lines):
+        made += [".br"] * (at > 0) + broken(f"\\fBpollrelay\\fP {escaped(line.strip().removeprefix('pollrelay '))}")
+    return made
+
+
+def name(text):
+    called, does = re.fullmatch(r"`(\w+)`: (.*)", text).groups()
+    return [f".Nm {called}", f".Nd {does}"]
+
+
+def block(lines, section):
+    """What one block of the guide becomes."""
+    if section == "Name":
+        return name(lines[0])
+    if section == "Synopsis":
+        return synopsis(lines)
+    if lines[0].startswith("|"):
+        return table(lines)
+    if lines[0].startswith("    "):
+        return literal(lines)
+    if re.match(r"- |\d+\. ", lines[0]):
+        return listed("bullet" if lines[0].startswith("- ") else "enum", lines)
+    return running(" ".join(lines))
+
+
+def is_running(lines):
+    return not lines[0].startswith(("|", "    ", "- ", "1. "))
+
+
+def sections(text):
+    """Each heading with the blocks below it; a block is its lines."""
+    for part in re.split(r"^## ", text, flags=re.M)[1:]:
+        head, _, rest = part.partition("\n")
+        yield head, [it.splitlines() for it in re.split(r"\n{2,}", rest.strip("\n")) if it.strip()]
+
+
+def date():
+    stamp = re.search(r"^ -- .*>  (.*)$", CHANGES.read_text(), re.M)[1]
+    return email.utils.parsedate_to_datetime(stamp).strftime("%B %-d, %Y")
+
+
+def page(text):
+    made = ['.\\" Made of docs/operations.md by tools/man_page.py. Look at it: man man/pollrelay.1']
+    made += [f".Dd {date()}", ".Dt POLLRELAY 1", ".Os"]
+    for head, blocks in sections(text):
+        made.append(f".Sh {NAMES.get(head, head.upper())}")
+        for at, lines in enumerate(blocks):
+            made += [".Pp"] * (at > 0 and is_running(lines)) + block(lines, head)
+    return "\n".join(made) + "\n"
+
+
+def main():
+    sys.stdout.write(page(GUIDE.read_text()))
+
+
+if __name__ == "__main__":
+    main()
