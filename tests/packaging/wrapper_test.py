@@ -20,6 +20,9 @@ from lib.places import ROOT
 from lib.stages import FAULTS, options
 from lib.waiting import wait_until
 
+# A shell can't catch a signal that was ignored as it began, as `nohup` has it.
+signal.signal(signal.SIGHUP, signal.SIG_DFL)
+
 WRAPPER = f"{ROOT}/packaging/pollrelay-run"
 SHELLS = ("dash", "bash")
 # The wait of the house for what comes about at once.

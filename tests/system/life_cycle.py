@@ -38,6 +38,9 @@ from lib.sockets import BlackHole, connect, free_port, is_served
 from lib.stages import options, run_stages
 from lib.waiting import wait_until
 
+# A shell can't catch a signal that was ignored as it began, as `nohup` has it.
+signal.signal(signal.SIGHUP, signal.SIG_DFL)
+
 WRAPPER = f"{ROOT}/packaging/pollrelay-run"
 RATE = 200
 FLOWS = 8
