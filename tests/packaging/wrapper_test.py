@@ -40,7 +40,7 @@ case $1 in
         until [ "$ends_by" = itself ] || grep -q "^$ends_by" said; do sleep 0.02; done
         exit "$status" ;;
     ctl)
-        [ -e open ] || exit 3
+        [ -e open ] || { : >tried; exit 3; }
         shift 3
         echo "$*" >>said
         [ "$refuses" != "$1" ] || { echo "error 400 bad command"; exit 1; }
@@ -49,7 +49,8 @@ esac
 """
 
 # Names of signals, and beside them: `opens`, by which the relay answers from now on, and `heard`, by which the wrapper has told
-# the relay as many commands as there were signals. A `group` ahead sends a signal to every process of the group.
+# the relay as many commands as there were signals, and `tried`, by which it has tried to. A `group` ahead sends a signal to every
+# process of the group.
 Row = namedtuple("Row", "name steps said status options given", defaults=((), {}))
 ROWS = (
     Row("TERM lets connections end", "TERM", ["finish 30000"], 0),
@@ -67,7 +68,7 @@ ROWS = (
     Row("a refused reload is told, and no more", "HUP heard TERM", ["reload", "finish 30000"], 0, (), {"refuses": "reload"}),
     Row("a relay that doesn't answer yet is told later", "TERM opens", ["finish 30000"], 0, (), {"opens": "late"}),
     Row("a reload waits for it as well", "HUP opens heard TERM", ["reload", "finish 30000"], 0, (), {"opens": "late"}),
-    Row("a relay that is never reached is killed", "TERM TERM", [], 137, (), {"opens": "late"}),
+    Row("a relay that is never reached is killed", "TERM tried TERM", [], 137, (), {"opens": "late"}),
     Row("TERM to the whole group ends no relay", "groupTERM", ["finish 30000"], 0),
     Row("HUP to the whole group ends no relay", "groupHUP heard groupTERM", ["reload", "finish 30000"], 0),
     Row("INT to the whole group, twice", "groupINT heard groupINT", ["finish 30000", "stop"], 0, (), {"ends_by": "stop"}),
@@ -121,6 +122,8 @@ class Wrapped:
                 open(f"{self.folder}/open", "w", encoding="ascii").close()
             elif step == "heard":
                 wait_until(lambda count=sent: len(self.said()) >= count, SECONDS)
+            elif step == "tried":
+                wait_until(lambda: os.path.exists(f"{self.folder}/tried"), SECONDS)
             else:
                 number = getattr(signal, f"SIG{step.removeprefix('group')}")
                 (os.killpg if step.startswith("group") else os.kill)(self.pid(), number)
