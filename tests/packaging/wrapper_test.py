@@ -17,11 +17,9 @@ from collections import namedtuple
 sys.path.insert(1, f"{sys.path[0]}/..")
 from lib.checks import Checks
 from lib.places import ROOT
+from lib.signals import hear_all
 from lib.stages import FAULTS, options
 from lib.waiting import wait_until
-
-# A shell can't catch a signal that was ignored as it began, as `nohup` has it.
-signal.signal(signal.SIGHUP, signal.SIG_DFL)
 
 WRAPPER = f"{ROOT}/packaging/pollrelay-run"
 SHELLS = ("dash", "bash")
@@ -36,6 +34,8 @@ case $1 in
         sed -n 's/^SigIgn:[[:space:]]*//p' /proc/$$/status >ignored
         [ "$opens" = late ] || : >open
         (sleep 0.1 &)
+        [ "${LISTEN_PID-}" != $$ ] || LISTEN_PID=own
+        echo "${LISTEN_PID-none} ${LISTEN_FDS-none}" >sockets
         echo "$*" >served.new && mv served.new served
         until [ "$ends_by" = itself ] || grep -q "^$ends_by" said; do sleep 0.02; done
         exit "$status" ;;
@@ -80,6 +80,8 @@ ROWS = (
 # Times that `finish` wouldn't take, and none.
 NO_TIMES = ("", "x", "-1", "1 2", "030", "86400001", "999999999", "18446744073709551616")
 IGNORED = (signal.SIGHUP, signal.SIGINT, signal.SIGQUIT, signal.SIGPIPE, signal.SIGTERM)
+
+hear_all()
 
 
 class Wrapped:
@@ -200,6 +202,17 @@ def bad_times(checks, shell):
     checks.expect(f"{shell}: --finish without a time", (2, b"bad command line\n"), (ran.returncode, ran.stderr))
 
 
+def sockets(checks, shell):
+    """Sockets that are for the wrapper are for its relay, and no others."""
+    own = ("sh", "-c", 'LISTEN_PID=$$ LISTEN_FDS=2; export LISTEN_PID LISTEN_FDS; exec "$@"', "sh")
+    for before, given in (((), "none none"), (own, "own 2"), (("env", "LISTEN_PID=1", "LISTEN_FDS=2"), "1 2")):
+        with Wrapped(shell, Row("", "", [], 0), before) as wrapped:
+            wait_until(lambda it=wrapped: it.text("served"), SECONDS)
+            checks.expect(f"{shell}: sockets", f"{given}\n", wrapped.text("sockets"))
+            wrapped.take("TERM")
+            checks.expect(f"{shell}: its status, with sockets {given}", 0, wrapped.end())
+
+
 def other_ends(checks, shell):
     """A relay that somebody kills, and a program that isn't there."""
     with Wrapped(shell, Row("", "", [], 0)) as wrapped:
@@ -245,6 +258,7 @@ def main():
             for row in ROWS:
                 play(checks, shell, row)
             bad_times(checks, shell)
+            sockets(checks, shell)
             other_ends(checks, shell)
             if before:
                 first_process(checks, shell, before)
