@@ -1,4 +1,4 @@
-//! Tests of sockets, pollers, event loops, connections and handles: both ends in one process, over
+//! Tests of connections, and of handles as readers and writers: both ends in one process, over
 //! loopback and Unix sockets. They stand apart, since a crate with tests is proved twice.
 #![tactic(auto)]
 

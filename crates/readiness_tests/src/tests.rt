@@ -1,11 +1,5 @@
-//! What the tests of sockets have in common. What can't be set up ends the test's process there, so
-//! that a test is one straight line.
-//!
-//! | Folder | What is tested |
-//! |---|---|
-//! | `poller` | a table of descriptors with its poller, its timers and its event loops |
-//! | `conn` | both ends of a connection, by the subjects of Go's conformance suite of `net.Conn` |
-//! | `handles` | handles as readers and writers of the standard library |
+//! What ends a test that doesn't hold, and how it waits. The tests stand in `poller`: a table of
+//! descriptors with its poller, its timers and its event loops.
 
 /// Ends the test's process where this doesn't hold, and says what should. A call costs the proof
 /// of a test less than a branch does. `descriptor_tests` and `relay_tests` have one too: no crate
@@ -19,8 +13,6 @@ macro_rules! holds {
     };
 }
 
-mod conn;
-mod handles;
 mod poller;
 mod watch;
 

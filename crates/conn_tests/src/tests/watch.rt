@@ -1,0 +1,59 @@
+//! A watch over a test that waits for calls or threads: it ends the test as failed where that takes
+//! too long.
+//! `descriptor_tests` and `readiness_tests` have one too: no crate uses another's tests.
+
+use super::{TURNS, pause};
+use std::alloc::Global;
+use std::process::Abort;
+use std::sync::Arc;
+use std::sync::atomic::{AtomicU64, Ordering};
+use std::thread;
+use std::thread::{JoinHandle, Threads};
+use std::time::Clock;
+
+/// A thread that waits for the end of its test, at most `TURNS` turns.
+#[derive(Drop)]
+pub(super) struct Watch {
+    thread: JoinHandle<()>,
+    ended: Arc<AtomicU64>,
+}
+
+fn is_ended<R: Clock>(rt: &R, ended: &AtomicU64) -> bool {
+    for _ in 0..TURNS {
+        if ended.load(Ordering::SeqCst) > 0 {
+            return true;
+        }
+        pause(rt, 1);
+    }
+    false
+}
+
+fn in_time<R: Clock + Abort>(rt: &R, ended: &AtomicU64, part: &str) {
+    assert!(rt; is_ended(rt, ended), "{part}: somebody waits for good");
+}
+
+impl Watch {
+    /// A watch over a part of a test, which says its name where it ends the test.
+    pub(super) fn over<R: Threads + Clock + Abort + Copy + Send + Drop + 'static>(
+        rt: R,
+        alloc: Global,
+        part: &'static str,
+    ) -> Watch {
+        let ended = Arc::new(alloc, AtomicU64::new(0)).expect(&rt, "watch");
+        let seen = Arc::try_clone(&ended).expect(&rt, "watch");
+        let thread = thread::spawn(&rt, move || {
+            in_time(&rt, &seen, part);
+        });
+        Watch {
+            thread: thread.expect(&rt, "watch"),
+            ended,
+        }
+    }
+
+    /// The test has ended.
+    pub(super) fn end<R: Threads>(self, rt: &R) {
+        let Watch { thread, ended } = self;
+        ended.store(1, Ordering::SeqCst);
+        thread.join(rt);
+    }
+}
