@@ -40,23 +40,20 @@ impl<R: Runs> Task<R> for Echo {
         Ok(Echo::new(self.idle))
     }
 
+    // It is over at the end, at a fault, and where its time is over and nothing goes on.
     fn step(&mut self, conn: &mut Conn<R>, cause: Cause) -> Next {
-        if cause == Cause::TimeOver {
-            return Next::Over;
-        }
         for _ in 0..16u8 {
-            if self.from < self.to {
-                match conn.poll_write(&self.buf[self.from..self.to]) {
-                    Some(Ok(count)) => self.from += count,
-                    Some(Err(_)) => return Next::Over,
-                    None => return Next::Write(Some(self.idle)),
+            if self.from == self.to {
+                match conn.poll_read(&mut self.buf) {
+                    Some(Ok(count)) if count > 0 => (self.from, self.to) = (0, count),
+                    None if cause == Cause::Ready => return Next::Read(Some(self.idle)),
+                    _ => return Next::Over,
                 }
-                continue;
             }
-            match conn.poll_read(&mut self.buf) {
-                Some(Ok(0)) | Some(Err(_)) => return Next::Over,
-                Some(Ok(count)) => (self.from, self.to) = (0, count),
-                None => return Next::Read(Some(self.idle)),
+            match conn.poll_write(&self.buf[self.from..self.to]) {
+                Some(Ok(count)) => self.from += count,
+                None if cause == Cause::Ready => return Next::Write(Some(self.idle)),
+                _ => return Next::Over,
             }
         }
         Next::Again
@@ -67,11 +64,9 @@ fn main(rt: HostRuntime) -> io::Result<()> {
     let asked = asked(env::args(&rt)?.collect(rt.alloc())?)?;
     let net = Net::start(rt, rt.alloc())?;
     let listener = Listener::bind(&net, &tcp(asked.port))?;
-    let addr = listener.local_addr();
     let service = net.serve(listener, asked.loops, Echo::new(asked.idle))?;
-    if let Some(clients) = asked.clients {
-        return println!(rt; "{}", plays(&rt, rt.alloc(), addr, clients));
+    match asked.clients {
+        Some(clients) => println!(rt; "{}", plays(&rt, rt.alloc(), service.local_addr(), clients)),
+        None => Ok(service.wait()),
     }
-    service.wait();
-    Ok(())
 }

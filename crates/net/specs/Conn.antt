@@ -1,5 +1,5 @@
 -- A connection and a listener, as their callers see them.
-use Rattle.std.specs.Prelude.{◌≡◌, ℕ, Bool, Option, Result}
+use Rattle.std.specs.Prelude.{◌≡◌, ℕ, Bool, Option, Result, is_some}
 use Rattle.std.specs.Prelude.{IsErrAnd}
 use Rattle.std.specs.Global.{Global}
 use Rattle.std.specs.IoError.{error_kind}
@@ -51,6 +51,10 @@ module _ {R : Type 0} where
   -- what all clones of a connection have in common
   abbrev pub guard_of : Conn R → Guard R
   guard_of conn = arc_value conn.guard
+
+  -- a loop has a task for the connection
+  abbrev pub has_task : Conn R → Bool
+  has_task conn = is_some (guard_of conn).link
 
   -- this clone has seen that both directions are ended, and that the socket is given back
   abbrev pub HasEnded : Conn R → Type 0

@@ -1,6 +1,10 @@
 pub mod Address
 pub mod Conn
 pub mod Errors
+pub mod Failures
+pub mod Home
 pub mod Limits
+pub mod Listener
 pub mod Polled
+pub mod Service
 pub mod Task

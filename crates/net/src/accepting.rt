@@ -1,9 +1,13 @@
 //! A listener, which gives connections.
 
-ghost use Rattle.std.specs.Prelude.{◌≡◌, true, None, IfOk, OnOk};
-ghost use Rattle.fd_descriptor.specs.FdHandle.{KeepsHandle, descriptor_of, marks_of, saw_closed};
-ghost use Rattle.fd_descriptor.specs.Marks.{SawTheEnd};
-ghost use Rattle.net.specs.Conn.{IsNotConnected, untold_of};
+ghost use Rattle.std.specs.Prelude.{◌≡◌, true, false, None, IfOk, OnOk};
+ghost use Rattle.fd_descriptor.specs.FdHandle.{KeepsHandle, descriptor_of, marks_of};
+ghost use Rattle.fd_descriptor.specs.HandleCalls.{Accepts, Closes};
+ghost use Rattle.net.specs.Conn.{IsNotConnected, has_task, is_closed, untold_of};
+ghost use Rattle.net.specs.Failures.{FailsAs, FailsForMemory};
+ghost use Rattle.net.specs.Listener.{HasStopped, IsOfFamily, is_shut, listening_handle};
+ghost use Rattle.net.specs.Listener.{listens_at, common_of};
+ghost use Rattle.readiness.specs.Sockets.{is_tcp_addr, is_tcp_listener};
 
 use crate::errors::told;
 use crate::guard::Guard;
@@ -31,7 +35,10 @@ pub struct Listener<R: Runs> {
 impl<R: Runs + Threads + Sockets + Files> Listener<R> {
     /// Listens at an address; at port 0 the system chooses one, which `local_addr` tells. The file
     /// at the path of a Unix one goes when the listener closes.
-    pub fn bind(net: &Net<R>, addr: &Addr) -> io::Result<Listener<R>> {
+    pub fn bind(net: &Net<R>, addr: &Addr) -> io::Result<Listener<R>>
+        ensures open { IfOk result (λ listener. is_shut listener ≡ false) }
+        ensures family { IfOk result (IsOfFamily addr.now) }
+    {
         let listen = listen_io(&net.shared.rt, addr)?;
         let held = Listener::hold(&net.shared, listen, addr);
         if held.is_err() {
@@ -50,7 +57,11 @@ fn unlink_at<R: Runs>(rt: &R, addr: &Addr) {
 
 impl<R: Runs> Listener<R> {
     // A listener of a socket, with the address that it was given.
-    fn hold(shared: &Arc<Shared<R>>, listen: Listen, addr: &Addr) -> io::Result<Listener<R>> {
+    fn hold(shared: &Arc<Shared<R>>, listen: Listen, addr: &Addr) -> io::Result<Listener<R>>
+        ensures open { IfOk result (λ listener. is_shut listener ≡ false) }
+        ensures family { is_tcp_listener listen ≡ is_tcp_addr addr.now
+            → IfOk result (IsOfFamily addr.now) }
+    {
         let local = listen.local();
         let path = match addr {
             Addr::Unix(path) => Some(*path),
@@ -66,8 +77,9 @@ impl<R: Runs> Listener<R> {
 
     /// Waits for a connection, as a socket that no poller knows yet.
     pub(crate) fn accept_sock(&mut self) -> io::Result<Sock>
-        ensures keeps { KeepsHandle self.old.handle self.new.handle }
-        ensures closed { saw_closed self.old.handle ≡ true → IsNotConnected result }
+        ensures keeps { KeepsHandle (listening_handle self.old) (listening_handle self.new) }
+        ensures closed { is_shut self.old ≡ true → IsNotConnected result }
+        ensures fails { FailsAs Accepts result }
         ensures guard { self.new.guard ≡ self.old.guard }
     {
         let guard = &*self.guard;
@@ -75,11 +87,15 @@ impl<R: Runs> Listener<R> {
         told(accepted, guard.code(Dir::Read))
     }
 
-    /// Waits for a connection.
+    /// Waits for a connection. It fails as a handle's accept does, by want of memory, or with the
+    /// system's error where the poller refuses the socket.
     pub fn accept(&mut self) -> io::Result<Conn<R>>
+        ensures open { IfOk result (λ conn. is_closed conn ≡ false) }
         ensures untold { IfOk result (λ conn. untold_of conn ≡ None) }
-        ensures keeps { KeepsHandle self.old.handle self.new.handle }
-        ensures closed { saw_closed self.old.handle ≡ true → IsNotConnected result }
+        ensures taskless { IfOk result (λ conn. has_task conn ≡ false) }
+        ensures keeps { KeepsHandle (listening_handle self.old) (listening_handle self.new) }
+        ensures closed { is_shut self.old ≡ true → IsNotConnected result }
+        ensures local { listens_at self.new ≡ listens_at self.old }
     {
         let sock = self.accept_sock()?;
         let peer = sock.peer();
@@ -88,10 +104,15 @@ impl<R: Runs> Listener<R> {
 
     /// Another owner of this listener, for another thread.
     pub fn try_clone(&mut self) -> io::Result<Listener<R>>
-        ensures kept { marks_of self.new.handle ≡ marks_of self.old.handle }
-        ensures same { IfOk result (λ other.
-            descriptor_of other.handle ≡ descriptor_of self.old.handle) }
-        ensures seen { IfOk result (λ other. marks_of other.handle ≡ marks_of self.old.handle) }
+        ensures kept { marks_of (listening_handle self.new)
+            ≡ marks_of (listening_handle self.old) }
+        ensures same { IfOk result (λ other. descriptor_of (listening_handle other)
+            ≡ descriptor_of (listening_handle self.old)) }
+        ensures seen { IfOk result (λ other. marks_of (listening_handle other)
+            ≡ marks_of (listening_handle self.old)) }
+        ensures shared { IfOk result (λ other. common_of other ≡ common_of self.old) }
+        ensures local { listens_at self.new ≡ listens_at self.old }
+        ensures fails { FailsForMemory result }
     {
         let handle = told(self.handle.share(), None)?;
         let guard = Arc::try_clone(&self.guard)?;
@@ -100,9 +121,11 @@ impl<R: Runs> Listener<R> {
 
     /// Closes the listener for all who share it: their accepts end as `NotConnected`.
     pub fn close(&mut self) -> io::Result<()>
-        ensures keeps { KeepsHandle self.old.handle self.new.handle }
-        ensures closed { saw_closed self.old.handle ≡ true → IsNotConnected result }
-        ensures ended { OnOk result (SawTheEnd (marks_of self.new.handle)) }
+        ensures keeps { KeepsHandle (listening_handle self.old) (listening_handle self.new) }
+        ensures closed { is_shut self.old ≡ true → IsNotConnected result }
+        ensures ended { OnOk result (HasStopped self.new) }
+        ensures local { listens_at self.new ≡ listens_at self.old }
+        ensures fails { FailsAs Closes result }
     {
         let shared = &*self.guard.shared;
         let _ = shared.take(self.guard.id);
@@ -110,7 +133,9 @@ impl<R: Runs> Listener<R> {
     }
 
     /// Where it listens.
-    pub fn local_addr(&self) -> Option<Addr> {
+    pub fn local_addr(&self) -> Option<Addr>
+        ensures { result ≡ listens_at self.now }
+    {
         self.guard.local
     }
 }

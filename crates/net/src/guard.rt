@@ -2,11 +2,12 @@
 
 ghost use Rattle.std.specs.Prelude.{◌≡◌};
 
+use crate::home::LoopLink;
 use crate::limits::Limits;
 use crate::runs::Runs;
 use crate::shared::Shared;
 use fd_descriptor::{Alarms, Dir, Dirs, OutOfMemory};
-use readiness::{Addr, LastCodes, RemoteAlarms};
+use readiness::{Addr, LastCodes};
 use std::sync::{Arc, Mutex};
 
 pub(crate) struct Guard<R: Runs> {
@@ -16,8 +17,8 @@ pub(crate) struct Guard<R: Runs> {
     pub(crate) codes: Arc<LastCodes>,
     pub(crate) local: Option<Addr>,
     pub(crate) peer: Option<Addr>,
-    // Those of the loop that has its task, if one has.
-    loop_alarms: Option<RemoteAlarms<R>>,
+    /// What there is of the loop that has its task, if one has.
+    pub(crate) link: Option<LoopLink<R>>,
 }
 
 impl<R: Runs> Guard<R> {
@@ -28,10 +29,11 @@ impl<R: Runs> Guard<R> {
         codes: Arc<LastCodes>,
         local: Option<Addr>,
         peer: Option<Addr>,
-        loop_alarms: Option<RemoteAlarms<R>>,
+        link: Option<LoopLink<R>>,
     ) -> Guard<R>
         ensures local { result.local ≡ local }
         ensures peer { result.peer ≡ peer }
+        ensures link { result.link ≡ link }
     {
         Guard {
             shared,
@@ -40,7 +42,7 @@ impl<R: Runs> Guard<R> {
             codes,
             local,
             peer,
-            loop_alarms,
+            link,
         }
     }
 
@@ -53,15 +55,15 @@ impl<R: Runs> Guard<R> {
 // Deadlines wake who tells the descriptor that it is ready: the net's poller, or the loop of its task.
 impl<R: Runs> Alarms for Guard<R> {
     fn arm(&self, key: u64, dirs: Dirs, at: u64) -> Result<(), OutOfMemory> {
-        match &self.loop_alarms {
-            Some(alarms) => alarms.arm(key, dirs, at),
+        match &self.link {
+            Some(link) => link.alarms.arm(key, dirs, at),
             None => self.shared.alarms.arm(key, dirs, at),
         }
     }
 
     fn disarm(&self, key: u64, dirs: Dirs) {
-        match &self.loop_alarms {
-            Some(alarms) => alarms.disarm(key, dirs),
+        match &self.link {
+            Some(link) => link.alarms.disarm(key, dirs),
             None => self.shared.alarms.disarm(key, dirs),
         }
     }
@@ -76,7 +78,7 @@ impl<R: Runs> Drop for Guard<R> {
             codes: _,
             local: _,
             peer: _,
-            loop_alarms: _,
+            link: _,
         } = self;
         shared.end(id);
     }

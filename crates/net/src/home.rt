@@ -1,7 +1,8 @@
 //! Who tells a connection that it is ready: the poller of its net, for threads that wait, or the one
 //! of a loop, which has a task for it.
 
-ghost use Rattle.std.specs.Prelude.{◌≡◌};
+ghost use Rattle.std.specs.Prelude.{◌≡◌, IfOk, is_some};
+ghost use Rattle.net.specs.Home.{is_loop};
 
 use crate::runs::Runs;
 use readiness::{LoopRemote, Poller, RemoteAlarms};
@@ -27,19 +28,22 @@ pub(crate) enum Home<'a> {
 }
 
 impl<'a> Home<'a> {
-    /// The alarms of its deadlines, where they aren't the net's.
-    pub(crate) fn alarms<R: Runs>(&self, rt: R) -> io::Result<Option<RemoteAlarms<R>>> {
-        match self {
-            Home::Net => Ok(None),
-            Home::Loop(place) => {
-                let remote = Arc::try_clone(place.remote)?;
-                Ok(Some(RemoteAlarms::new(rt, remote)))
-            }
-        }
+    /// What a connection has of the loop, where a loop has a task for it.
+    pub(crate) fn link<R: Runs>(&self, rt: R) -> io::Result<Option<LoopLink<R>>>
+        ensures linked { IfOk result (λ link. is_some link ≡ is_loop self.now) }
+    {
+        let Some(seat) = self.seat()? else {
+            return Ok(None);
+        };
+        let remote = Arc::try_clone(&seat.remote)?;
+        let alarms = RemoteAlarms::new(rt, remote);
+        Ok(Some(LoopLink { alarms, seat }))
     }
 
     /// Who hears that the connection was closed, where a loop has a task for it.
-    pub(crate) fn seat(&self) -> io::Result<Option<TaskSeat>> {
+    pub(crate) fn seat(&self) -> io::Result<Option<TaskSeat>>
+        ensures seated { IfOk result (λ seat. is_some seat ≡ is_loop self.now) }
+    {
         match self {
             Home::Net => Ok(None),
             Home::Loop(place) => Ok(Some(TaskSeat {
@@ -48,6 +52,15 @@ impl<'a> Home<'a> {
             })),
         }
     }
+}
+
+/// What all that share a connection have of the loop that has its task.
+#[derive(Drop)]
+pub(crate) struct LoopLink<R: Runs> {
+    /// The alarms of its deadlines.
+    pub(crate) alarms: RemoteAlarms<R>,
+    /// The task, for who has it go on.
+    pub(crate) seat: TaskSeat,
 }
 
 /// A task of a loop, for who tells it something from another thread.

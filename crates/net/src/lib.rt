@@ -7,6 +7,7 @@
 
 mod accepting;
 mod address;
+mod connecting;
 mod door;
 mod entry;
 mod errors;

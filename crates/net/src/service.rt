@@ -1,5 +1,9 @@
 //! A service: a listener whose connections are tasks of loops, many on each thread.
 
+ghost use Rattle.std.specs.Prelude.{◌≡◌, IfOk};
+ghost use Rattle.net.specs.Listener.{listens_at};
+ghost use Rattle.net.specs.Service.{serves_at};
+
 use crate::accepting::Listener;
 use crate::door::Door;
 use crate::errors::told;
@@ -8,7 +12,7 @@ use crate::runs::Runs;
 use crate::serve_loop::{LoopHost, run};
 use crate::shared::Shared;
 use crate::task::Task;
-use readiness::{LoopDriver, RemoteAlarms};
+use readiness::{Addr, LoopDriver, RemoteAlarms};
 use std::alloc::Global;
 use std::io::ErrorKind;
 use std::net::Net as Sockets;
@@ -80,24 +84,33 @@ where
     Ok(ServiceLoop { door, thread })
 }
 
+// Starts so many loops, those that were started among them where one isn't.
+fn start_loops<T, R>(
+    started: &mut Vec<ServiceLoop>,
+    shared: &Arc<Shared<R>>,
+    loops: usize,
+    task: &T,
+) -> io::Result<()>
+where
+    T: Task<R> + Send + 'static,
+    R: Runs + Threads + Sockets + Send + Sync + 'static,
+{
+    started.reserve(loops)?;
+    for _ in 0..loops {
+        let own = task.begin(shared.alloc)?;
+        let one = start_loop(shared, own)?;
+        started.push(one)?;
+    }
+    Ok(())
+}
+
 impl<R> Service<R>
 where
     R: Runs + Threads + Sockets + Send + Sync + 'static,
 {
-    fn start_loops<T>(&mut self, shared: &Arc<Shared<R>>, loops: usize, task: &T) -> io::Result<()>
-    where
-        T: Task<R> + Send + 'static,
+    fn start_accepting(&mut self, alloc: Global) -> io::Result<()>
+        ensures at { serves_at self.new ≡ serves_at self.old }
     {
-        self.loops.reserve(loops)?;
-        for _ in 0..loops {
-            let own = task.begin(shared.alloc)?;
-            let started = start_loop(shared, own)?;
-            self.loops.push(started)?;
-        }
-        Ok(())
-    }
-
-    fn start_accepting(&mut self, alloc: Global) -> io::Result<()> {
         let doors = doors_of(alloc, self.loops.as_slice())?;
         let listener = self.listener.try_clone()?;
         let rt = self.rt;
@@ -116,6 +129,7 @@ where
     pub fn serve<T>(&self, listener: Listener<R>, loops: usize, task: T) -> io::Result<Service<R>>
     where
         T: Task<R> + Send + 'static,
+        ensures at { IfOk result (λ service. serves_at service ≡ listens_at listener) }
     {
         let shared = &self.shared;
         let mut service = Service {
@@ -124,7 +138,7 @@ where
             accepting: None,
             loops: Vec::new(shared.alloc),
         };
-        service.start_loops(shared, loops.max(1), &task)?;
+        start_loops(&mut service.loops, shared, loops.max(1), &task)?;
         service.start_accepting(shared.alloc)?;
         Ok(service)
     }
@@ -151,6 +165,13 @@ fn end_service<R: Runs + Threads>(
 }
 
 impl<R: Runs + Threads> Service<R> {
+    /// Where its listener listens.
+    pub fn local_addr(&self) -> Option<Addr>
+        ensures { result ≡ serves_at self.now }
+    {
+        self.listener.local_addr()
+    }
+
     /// Waits until the listener is closed, by a clone or with its net, and then stops.
     pub fn wait(self) {
         let mut service = self;

@@ -1,6 +1,9 @@
 //! What the threads of a net share: the table, the timers and the clock. Locks are taken in the
 //! order limits, cell, timers, and the table's before a cell's; nobody outside this crate sees one.
 
+ghost use Rattle.std.specs.Prelude.{◌≡◌, false, IfOk};
+ghost use Rattle.fd_descriptor.specs.FdHandle.{saw_closed};
+
 use crate::entry::{Closer, Entry};
 use crate::errors::told;
 use crate::home::Home;
@@ -36,7 +39,9 @@ fn open_conn(
     sock: Sock,
     codes: &Arc<LastCodes>,
     id: u64,
-) -> io::Result<(Arc<PollCell>, FdHandle<SockRes>, FdHandle<SockRes>)> {
+) -> io::Result<(Arc<PollCell>, FdHandle<SockRes>, FdHandle<SockRes>)>
+    ensures open { IfOk result (λ opened. saw_closed opened.2 ≡ false) }
+{
     let (read, write) = sock.split_noting(alloc, codes)?;
     let mut handle = FdHandle::open(alloc, read, write, id)?;
     let cell = handle.cell()?;
@@ -56,7 +61,9 @@ fn open_listener(
         FdHandle<NotedListenRes>,
         FdHandle<NotedListenRes>,
     ),
-> {
+>
+    ensures open { IfOk result (λ opened. saw_closed opened.2 ≡ false) }
+{
     let listen = NotedListen::new(listen, Arc::try_clone(codes)?);
     let mut handle = FdHandle::open(alloc, listen, NoWrites, id)?;
     let cell = handle.cell()?;
@@ -126,7 +133,9 @@ impl<R: Runs> Shared<R> {
         sock: Sock,
         codes: &Arc<LastCodes>,
         home: &Home<'_>,
-    ) -> io::Result<(u64, FdHandle<SockRes>)> {
+    ) -> io::Result<(u64, FdHandle<SockRes>)>
+        ensures open { IfOk result (λ held. saw_closed held.1 ≡ false) }
+    {
         let rt = self.rt;
         let seat = home.seat()?;
         let mut table = self.table.lock(&rt);
@@ -145,7 +154,9 @@ impl<R: Runs> Shared<R> {
         listen: Listen,
         codes: &Arc<LastCodes>,
         path: Option<ArrayString<MAX_PATH_BYTES>>,
-    ) -> io::Result<(u64, FdHandle<NotedListenRes>)> {
+    ) -> io::Result<(u64, FdHandle<NotedListenRes>)>
+        ensures open { IfOk result (λ held. saw_closed held.1 ≡ false) }
+    {
         let rt = self.rt;
         let mut table = self.table.lock(&rt);
         let (id, token) = told(self.vacant(&table), None)?;

@@ -1,31 +1,28 @@
 //! A connection: a reader and a writer of the standard library, with times, and a close that all
 //! who share it hear.
 
-ghost use Rattle.std.specs.Prelude.{◌≡◌, ◌≤◌, ◌<◌, ℕ, true, None, Some, IfOk, IfErr, IfSome, OnOk, Ok, Err};
-ghost use Rattle.std.specs.Prelude.{Result, length};
+ghost use Rattle.std.specs.Prelude.{◌≡◌, ◌≤◌, ◌<◌, ℕ, true, None, Some, IfOk, IfErr, IfSome};
+ghost use Rattle.std.specs.Prelude.{OnOk, Ok, Err, Result, length};
 ghost use Rattle.std.specs.Io.{ReadsAtMost, WritesAtMost};
 ghost use Rattle.std.specs.Io.KnownBytes.{ReadConsumes, WriteAppends};
 ghost use Rattle.fd_descriptor.specs.FdHandle.{KeepsHandle, descriptor_of, marks_of};
+ghost use Rattle.fd_descriptor.specs.HandleCalls.{Closes, SetsDeadline, Shuts, TimedReads, TimedWrites};
 ghost use Rattle.rwloops.specs.declared.fault.Fault.{Fault};
 ghost use Rattle.rwloops.specs.declared.fault.WriteFault.{WriteFault};
 ghost use Rattle.net.specs.Conn.{IsNotConnected, FailsBy, IsReadAnswer, IsWriteAnswer};
-ghost use Rattle.net.specs.Conn.{HasEnded, guard_of, handle_of, is_closed, untold_of};
+ghost use Rattle.net.specs.Conn.{HasEnded, guard_of, handle_of, has_task, is_closed, untold_of};
+ghost use Rattle.net.specs.Failures.{FailsAs, FailsForMemory, IsFaultOf};
 
 use crate::errors::{error_with, told};
 use crate::guard::Guard;
-use crate::home::Home;
-use crate::running::Net;
 use crate::runs::Runs;
-use crate::shared::Shared;
 use crate::task::Blocked;
 use crate::timing::{DirTimes, arm, arm_both};
 use fd_descriptor::{Dir, Fault, FdHandle, WriteFault};
-use readiness::{Addr, LastCodes, Sock, SockRes, connect_io};
+use readiness::{Addr, SockRes};
 use std::io;
 use std::io::{Read, Write};
-use std::net::Net as Sockets;
 use std::sync::Arc;
-use std::thread::Threads;
 use std::time::Duration;
 
 /// A connection. Any number of threads may share one, each by a clone of its own; when the last
@@ -40,57 +37,7 @@ pub struct Conn<R: Runs> {
     pub(crate) guard: Arc<Guard<R>>,
 }
 
-impl<R: Runs + Threads + Sockets> Conn<R> {
-    /// Connects to an address, and waits until the connection is made, for so long at most.
-    pub fn connect(net: &Net<R>, addr: &Addr, timeout: Option<Duration>) -> io::Result<Conn<R>>
-        ensures untold { IfOk result (λ conn. untold_of conn ≡ None) }
-        ensures peer { IfOk result (λ conn. (guard_of conn).peer ≡ Some addr.now) }
-    {
-        let sock = connect_io(&net.shared.rt, addr)?;
-        let mut conn = Conn::hold(&net.shared, sock, Some(*addr), &Home::Net)?;
-        conn.set_deadline(timeout)?;
-        conn.wait_connected()?;
-        conn.set_deadline(None)?;
-        Ok(conn)
-    }
-}
-
 impl<R: Runs> Conn<R> {
-    /// A connection of a socket, with the address that it is connected to.
-    pub(crate) fn hold(
-        shared: &Arc<Shared<R>>,
-        sock: Sock,
-        peer: Option<Addr>,
-        home: &Home<'_>,
-    ) -> io::Result<Conn<R>>
-        ensures untold { IfOk result (λ conn. untold_of conn ≡ None) }
-        ensures peer { IfOk result (λ conn. (guard_of conn).peer ≡ peer) }
-    {
-        let local = sock.local();
-        let shared = Arc::try_clone(shared)?;
-        let alloc = shared.alloc;
-        let codes = Arc::new(alloc, LastCodes::new())?;
-        let alarms = home.alarms(shared.rt)?;
-        let (id, handle) = shared.hold(sock, &codes, home)?;
-        let guard = Guard::new(shared, id, codes, local, peer, alarms);
-        let guard = Arc::new(alloc, guard)?;
-        Ok(Conn {
-            handle,
-            untold: None,
-            blocked: Blocked::none(),
-            guard,
-        })
-    }
-
-    fn wait_connected(&mut self) -> io::Result<()>
-        ensures untold { untold_of self.new ≡ untold_of self.old }
-        ensures guard { guard_of self.new ≡ guard_of self.old }
-    {
-        let guard = &*self.guard;
-        let connected = self.handle.connected(&guard.shared.rt);
-        told(connected, guard.code(Dir::Write))
-    }
-
     /// Another owner of this connection, for another thread.
     pub fn try_clone(&mut self) -> io::Result<Conn<R>>
         ensures kept { marks_of (handle_of self.new) ≡ marks_of (handle_of self.old) }
@@ -99,6 +46,7 @@ impl<R: Runs> Conn<R> {
         ensures seen { IfOk result (λ other. is_closed other ≡ is_closed self.old) }
         ensures untold { IfOk result (λ other. untold_of other ≡ None) }
         ensures guard { IfOk result (λ other. guard_of other ≡ guard_of self.old) }
+        ensures fails { FailsForMemory result }
     {
         let handle = told(self.handle.share(), None)?;
         let guard = Arc::try_clone(&self.guard)?;
@@ -117,6 +65,7 @@ impl<R: Runs> Conn<R> {
         ensures guard { guard_of self.new ≡ guard_of self.old }
         ensures keeps { KeepsHandle (handle_of self.old) (handle_of self.new) }
         ensures closed { is_closed self.old ≡ true → IsNotConnected result }
+        ensures fails { FailsAs SetsDeadline result }
         ensures untold { untold_of self.new ≡ untold_of self.old }
     {
         let shared = &*self.guard.shared;
@@ -132,6 +81,7 @@ impl<R: Runs> Conn<R> {
     fn set_time(&mut self, dir: Dir, time: Option<Duration>) -> io::Result<()>
         ensures keeps { KeepsHandle (handle_of self.old) (handle_of self.new) }
         ensures closed { is_closed self.old ≡ true → IsNotConnected result }
+        ensures fails { FailsAs SetsDeadline result }
         ensures untold { untold_of self.new ≡ untold_of self.old }
     {
         let shared = &*self.guard.shared;
@@ -151,6 +101,7 @@ impl<R: Runs> Conn<R> {
     pub fn set_read_timeout(&mut self, time: Option<Duration>) -> io::Result<()>
         ensures keeps { KeepsHandle (handle_of self.old) (handle_of self.new) }
         ensures closed { is_closed self.old ≡ true → IsNotConnected result }
+        ensures fails { FailsAs SetsDeadline result }
         ensures untold { untold_of self.new ≡ untold_of self.old }
     {
         self.set_time(Dir::Read, time)
@@ -160,6 +111,7 @@ impl<R: Runs> Conn<R> {
     pub fn set_write_timeout(&mut self, time: Option<Duration>) -> io::Result<()>
         ensures keeps { KeepsHandle (handle_of self.old) (handle_of self.new) }
         ensures closed { is_closed self.old ≡ true → IsNotConnected result }
+        ensures fails { FailsAs SetsDeadline result }
         ensures untold { untold_of self.new ≡ untold_of self.old }
     {
         self.set_time(Dir::Write, time)
@@ -169,6 +121,7 @@ impl<R: Runs> Conn<R> {
     pub fn close_write(&mut self) -> io::Result<()>
         ensures keeps { KeepsHandle (handle_of self.old) (handle_of self.new) }
         ensures closed { is_closed self.old ≡ true → IsNotConnected result }
+        ensures fails { FailsAs Shuts result }
         ensures untold { untold_of self.new ≡ untold_of self.old }
     {
         let guard = &*self.guard;
@@ -181,6 +134,7 @@ impl<R: Runs> Conn<R> {
     pub fn close(&mut self) -> io::Result<()>
         ensures keeps { KeepsHandle (handle_of self.old) (handle_of self.new) }
         ensures closed { is_closed self.old ≡ true → IsNotConnected result }
+        ensures fails { FailsAs Closes result }
         ensures ended { OnOk result (HasEnded self.new) }
         ensures untold { untold_of self.new ≡ untold_of self.old }
         ensures guard { guard_of self.new ≡ guard_of self.old }
@@ -192,6 +146,22 @@ impl<R: Runs> Conn<R> {
             entry.tell_task(&shared.rt);
         }
         closed
+    }
+
+    /// Has the connection's task go on, as `Cause::Ready`, and says whether it is of a service, which
+    /// has one for it. Any thread may, by any clone, also a step of another task; what the task is to
+    /// see then has to be there before. One that is over is passed over.
+    pub fn wake(&self) -> bool
+        ensures { result ≡ has_task self.now }
+    {
+        let guard = &*self.guard;
+        match &guard.link {
+            Some(link) => {
+                link.seat.tell(&guard.shared.rt);
+                true
+            }
+            None => false,
+        }
     }
 
     /// Who is at the other end: where it connected to, or whom the listener's accept told.
@@ -242,8 +212,9 @@ impl<R: Runs> Read for Conn<R> {
         ensures bound { ReadsAtMost result buf.new }
         ensures bytes { ReadConsumes None None result buf.new }
         ensures keeps { KeepsHandle (handle_of self.old) (handle_of self.new) }
-        ensures some { 0 < length buf.old → (told : Result ℕ Fault) × IsReadAnswer told result
-            × IfOk told (λ count. 0 < count) }
+        ensures answer { (told : Result ℕ Fault) × IsReadAnswer told result
+            × IfErr told (IsFaultOf TimedReads)
+            × (0 < length buf.old → IfOk told (λ count. 0 < count)) }
         ensures closed { is_closed self.old ≡ true → IsNotConnected result }
         ensures untold { untold_of self.new ≡ untold_of self.old }
     {
@@ -268,6 +239,7 @@ impl<R: Runs> Write for Conn<R> {
             × (untold_of self.new ≡ None) × (handle_of self.new ≡ handle_of self.old)) }
         ensures answer { untold_of self.old ≡ None → (told : Result ℕ WriteFault)
             × IfOk told (λ count. count ≡ length buf.now)
+            × IfErr told (λ failed. IsFaultOf TimedWrites failed.fault)
             × IsWriteAnswer told result (untold_of self.new) }
         ensures closed { untold_of self.old ≡ None → is_closed self.old ≡ true
             → IsNotConnected result }

@@ -3,6 +3,7 @@
 ghost use Rattle.std.specs.Prelude.{◌≡◌, true, Err, IfErr};
 ghost use Rattle.fd_descriptor.specs.FdHandle.{KeepsHandle, saw_closed};
 ghost use Rattle.fd_descriptor.specs.HandleCalls.{SetsDeadline, IsOwnFault};
+ghost use Rattle.net.specs.Failures.{IsFaultOf};
 ghost use Rattle.rwloops.specs.declared.fault.Fault.{Fault};
 
 use crate::guard::Guard;
@@ -48,6 +49,7 @@ pub(crate) fn arm<R: Runs>(
 ) -> Result<(), Fault>
     ensures keeps { KeepsHandle handle.old handle.new }
     ensures closed { saw_closed handle.old ≡ true → result ≡ Err Fault.Closed }
+    ensures faults { IfErr result (IsFaultOf SetsDeadline) }
 {
     match dir {
         Dir::Read => handle.set_read_deadline(&guard.shared.rt, until, now, guard),
@@ -65,6 +67,7 @@ pub(crate) fn arm_both<R: Runs>(
 ) -> Result<(), Fault>
     ensures keeps { KeepsHandle handle.old handle.new }
     ensures closed { saw_closed handle.old ≡ true → result ≡ Err Fault.Closed }
+    ensures faults { IfErr result (IsFaultOf SetsDeadline) }
 {
     arm(guard, handle, Dir::Read, limits.until(Dir::Read), now)?;
     arm(guard, handle, Dir::Write, limits.until(Dir::Write), now)

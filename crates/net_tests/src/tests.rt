@@ -2,7 +2,7 @@
 //! one straight line.
 
 /// Ends the test's process where this doesn't hold, and says what should. A call costs the proof
-/// of a test less than a branch does. `socket_tests` and others have one too: no crate uses
+/// of a test less than a branch does. `readiness_tests` and others have one too: no crate uses
 /// another's tests.
 macro_rules! holds {
     ($rt:expr; $is:expr) => {
@@ -25,6 +25,7 @@ mod serving;
 mod tasks;
 mod times;
 mod waiting;
+mod waking;
 
 use net::{Addr, Conn, Listener, Net, Runs, tcp};
 use std::fs::Files;

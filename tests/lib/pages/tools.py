@@ -41,6 +41,7 @@ UNTRIED = {
     "packaging/deb.sh": "`package`",
     "bench/go_word/build.sh": "makes a bench of Go's word, which measures and shows nothing",
     "bench/relay/tail.py": "measures and shows nothing",
+    "bench/echo/run.py": "measures and shows nothing",
     "bench/echo_turns.py": "measures and shows nothing",
 }
 MADE = re.compile(r"(?:^|/)out/")

@@ -2,15 +2,15 @@
 
 use super::{millis, own_path};
 use libc::net as c;
-use mio::net::TcpListener;
+use mio::net::{TcpListener, UnixListener};
 use net::{Addr, Conn, Listener, Net, Runs, tcp};
 use std::alloc::Global;
-use std::io;
 use std::io::ErrorKind;
 use std::net::{Ipv4Addr, Net as Sockets, SocketAddr};
 use std::os::fd::AsRawFd;
 use std::process::Abort;
 use std::thread::Threads;
+use std::{fs, io};
 
 /// How a connect or a bind failed.
 fn told<T: Drop>(answer: io::Result<T>) -> Option<(ErrorKind, Option<i32>)> {
@@ -36,21 +36,21 @@ fn nobody_listens_there(rt: HostRuntime) {
     net.stop();
 }
 
-/// Connects until one gives up, to a listener whose queue takes few.
-fn gives_up<R: Runs + Threads + Sockets + Abort>(
+/// How the first connect fails, to a listener whose queue takes few.
+fn first_refusal<R: Runs + Threads + Sockets + Abort>(
     rt: &R,
     alloc: Global,
     net: &Net<R>,
     addr: &Addr,
-) -> bool {
+) -> Option<ErrorKind> {
     let mut queued = Vec::new(alloc);
     for _ in 0..8u8 {
         match Conn::connect(net, addr, millis(200)) {
             Ok(conn) => queued.push(conn).expect(rt, "memory"),
-            Err(error) => return error.kind() == ErrorKind::TimedOut,
+            Err(error) => return Some(error.kind()),
         }
     }
-    false
+    None
 }
 
 #[test]
@@ -60,6 +60,22 @@ fn a_connect_gives_up_at_its_time(rt: HostRuntime) {
     let listener = TcpListener::bind(&rt, any).expect(&rt, "bound");
     holds!(rt; c::listen(listener.as_raw_fd(), 0) == 0, "a short queue");
     let addr = tcp(listener.local_addr().expect(&rt, "address").port());
-    holds!(rt; gives_up(&rt, rt.alloc(), &net, &addr));
+    let refused = first_refusal(&rt, rt.alloc(), &net, &addr);
+    holds!(rt; refused == Some(ErrorKind::TimedOut));
     net.stop();
+}
+
+#[test]
+fn a_full_queue_at_a_path_is_told(rt: HostRuntime) {
+    let net = Net::start(rt, rt.alloc()).expect(&rt, "net");
+    let addr = own_path(&rt, "queue").expect(&rt, "a path");
+    let Addr::Unix(path) = addr else {
+        return;
+    };
+    let listener = UnixListener::bind(&rt, path.as_str()).expect(&rt, "bound");
+    holds!(rt; c::listen(listener.as_raw_fd(), 0) == 0, "a short queue");
+    let refused = first_refusal(&rt, rt.alloc(), &net, &addr);
+    holds!(rt; refused == Some(ErrorKind::WouldBlock));
+    net.stop();
+    holds!(rt; fs::remove_file(&rt, path.as_str()).is_ok());
 }
