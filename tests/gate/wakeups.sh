@@ -205,6 +205,21 @@ finish
 # fails | loops | -DSTOP_ONCE_QUIET -DNOTHING_IS_REFUSED -DEVENTS=0 -DMAIN_FAILS -DADMIN_IS_WOKEN_BEFORE_STOP_IS_SET | the admin thread is woken before stop is set
 # fails | loops | -DSTOP_ONCE_QUIET -DNOTHING_IS_REFUSED -DEVENTS=0 -DLOOP_FAILS -DADMIN_LOOKS_NOT_AT_STOP | a woken admin thread doesn't look whether the relay has stopped
 #
+# A close that a session asks for, and the connection's loop carries out.
+# sound | close_wish | | two sessions ask for a close, by the id of either side
+# sound | close_wish | -DSESSIONS=3 | three sessions do
+# fails | close_wish | -DWISH_IS_LEFT_AFTER_THE_LOOK | a session leaves its wish after it has looked for the entry
+# fails | close_wish | -DLOOP_IS_TOLD_BEFORE_THE_WISH_IS_LEFT | a session tells the loop before it leaves its wish
+# fails | close_wish | -DLOOP_ISNT_TOLD | a session leaves its wish and tells nobody
+# fails | close_wish | -DWISHES_ARE_SETTLED_BEFORE_THE_ENTRIES_ARE_OUT | a loop settles wishes before the entries are out of the table
+# fails | close_wish | -DWISH_FOR_A_TARGET_ISNT_SETTLED | a loop settles wishes for a client's side alone
+# fails | close_wish | -DTASK_LOOKS_FOR_ITS_CLIENT_ALONE | a task looks for wishes for its client's side alone
+# fails | close_wish | -DNO_SESSION_IS_WOKEN | a loop settles a wish and wakes no main thread
+# fails | close_wish | -DREFUSED_SET_UP_SETTLES_NOTHING | a set-up that was refused settles no wish
+# fails | close_wish | -DREFUSED_SET_UP_SETTLES_BEFORE_ITS_ENTRIES_ARE_OUT | a set-up that was refused settles wishes before it takes its entries back
+# fails | close_wish | -DWOKEN_IS_SET_AFTER_THE_LOOP_IS_ROUSED | a loop rouses the main thread before it sets its flag
+# fails | close_wish | -DWOKEN_IS_UNSET_AFTER_THE_SESSIONS_LOOK | the main thread unsets its flag after it has looked at the wishes
+#
 # Which reads a task leaves out.
 # sound | short_reads | | bytes, urgent data and an end over TCP
 # sound | short_reads | -DOVER_UNIX | bytes, a descriptor and an end over a Unix socket

@@ -1,9 +1,10 @@
 #!/usr/bin/env python3
-"""Shows that the checks of byte_conservation.py, relay_rows.py and relay_program.py fail where they should.
+"""Shows that the checks of byte_conservation.py, relay_rows.py, relay_program.py and steering_storm.py fail where they should.
 
 The stages of the first two run on wrong_relay.py, right at first and then wrong in one way after the other, and each time the
-check that has to fail is looked for. The third runs on the built program, while what it sees of it is changed in one way after
-the other: each of its checks has to fail at least once. It takes some minutes.
+check that has to fail is looked for. The others run on the built program, while what they see of it is changed in one way after
+the other: each check of the third has to fail at least once, and so does the one that is named for a change of the fourth. It
+takes some minutes.
 
     python3 tests/system/planted_faults.py [FAULT..]
 """
@@ -19,6 +20,7 @@ from unittest import mock
 sys.path.insert(1, f"{sys.path[0]}/..")
 import relay_program
 import relay_rows
+import steering_storm
 from lib.checks import Checks
 from lib.places import TESTS
 from lib.relay import Relay
@@ -173,6 +175,63 @@ def never_failed():
     return sorted(every - failed)
 
 
+def turned_round(send):
+    """A client whose first two lines that differ in their words are answered in the other order."""
+    def wrong(client, rng, count):
+        asked = send(client, rng, count)
+        other = next((at for at, it in enumerate(asked) if it.split()[0] != asked[0].split()[0]), 0)
+        asked[0], asked[other] = asked[other], asked[0]
+        return asked
+    return wrong
+
+
+def mixed_up(begin):
+    """Clients of which every second one and the one before it have each other's replies."""
+    before = []
+
+    def wrong(client, admin):
+        begin(client, admin)
+        if before:
+            other = before.pop()
+            client.replies, other.replies = other.replies, client.replies
+        else:
+            before.append(client)
+    return wrong
+
+
+def listing_with(change):
+    """A client whose listings are changed so."""
+    reply = steering_storm.Client.reply
+    return lambda client, asked: change(reply(client, asked)) if asked == "show" else reply(client, asked)
+
+
+def other_totals(stop):
+    def wrong(relay):
+        status, (up, down), seconds = stop(relay)
+        return status, (up + 1, down), seconds
+    return wrong
+
+
+def storms_not_seen():
+    """The changes of what the storm sees of which no check of it tells."""
+    client, missed = steering_storm.Client, []
+    wrong = [
+        ("two replies turned round", client, "send", turned_round(client.send), "storm: replies"),
+        ("sessions mixed up", client, "__init__", mixed_up(client.__init__), "storm: replies"),
+        ("a line shown twice", client, "reply", listing_with(lambda lines: lines[:1] + lines), "storm: replies"),
+        ("a line left out", client, "reply", listing_with(lambda lines: lines[1:]), "storm: replies"),
+        ("no last line", client, "reply", listing_with(lambda lines: lines[:-1]), "storm: replies"),
+        ("other totals", Relay, "stop", other_totals(Relay.stop), "storm: sums of the log"),
+    ]
+    for name, where, what, change, check in wrong:
+        checks = Checks()
+        with mock.patch.object(where, what, change), contextlib.redirect_stdout(io.StringIO()):
+            steering_storm.run(checks, 4_000, 5)
+        print(f"{name}: {check if check in checks.failed else 'NOT SEEN'}", flush=True)
+        missed += [] if check in checks.failed else [name]
+    return missed
+
+
 def names_of(said, verdict):
     """The checks with that verdict in what the scripts printed."""
     return {line.removeprefix(verdict).strip() for line in re.findall(rf"^{verdict}[^:]*:[^:]*", said, re.M)}
@@ -198,7 +257,7 @@ def main():
             print(said)
     if not chosen:
         print(f"of a relay: {len(every & failed)} of {len(every)} checks were seen to fail, not {sorted(every - failed)}", flush=True)
-        missed += sorted(every - failed) + never_failed()
+        missed += sorted(every - failed) + never_failed() + storms_not_seen()
     print(f"{len(missed)} not seen {missed}")
     return 1 if missed else 0
 
