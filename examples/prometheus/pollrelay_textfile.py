@@ -1,13 +1,13 @@
 #!/usr/bin/env python3
 """Writes a relay's totals and its number of connections for the text-file collector of Prometheus' node exporter. It asks the
-admin socket for `totals`, `list` and `show` of each id, in a session of its own, and ends.
+admin socket for `totals` and `show`, in a session of its own, and ends.
 
     python3 examples/prometheus/pollrelay_textfile.py --admin /run/pollrelay/admin.sock \\
         --output /var/lib/prometheus/node-exporter/pollrelay.prom
 
 Run it every 15 seconds or so, as by a timer, as a user that may use the admin socket. Where the relay doesn't answer within
-5 seconds (it is down, or another admin session is open), pollrelay_up is 0 and the other values are left out. Names and labels
-are those of `--metrics`, which needs no such script.
+5 seconds, pollrelay_up is 0 and the other values are left out. Names and labels are those of `--metrics`, which needs no such
+script.
 """
 import argparse
 import os
@@ -17,7 +17,7 @@ SECONDS = 5
 
 
 def ask(path):
-    """The words of the reply to `totals`, and those of the replies to `show` of each id."""
+    """The words of the reply to `totals`, and those of each line of the reply to `show`."""
     with socket.socket(socket.AF_UNIX) as sock:
         sock.settimeout(SECONDS)
         sock.connect(path)
@@ -28,9 +28,11 @@ def ask(path):
                 lines.flush()
                 return lines.readline().split()
 
-            totals, ids = reply("totals"), reply("list")[1:]
-            shown = [reply(f"show {id}") for id in ids]
-            reply("quit")
+            totals, shown = reply("totals"), [reply("show")]
+            while shown[-1][:1] == ["show"]:
+                shown.append(lines.readline().split())
+    if shown.pop() != ["end"]:
+        raise ValueError("a listing without its end")
     return totals, shown
 
 
@@ -40,7 +42,7 @@ def metrics(path):
         up, down = int(totals[2]), int(totals[4])
     except (OSError, ValueError, IndexError):
         return [("pollrelay_up", "gauge", "Whether the relay answered.", [("", 0)])]
-    # A connection has two sides, its client's and its target's; one that ended since `list` has no `side` in its reply.
+    # A connection has two sides, its client's and its target's.
     connections = sum(words[4:6] == ["side", "client"] for words in shown)
     return [
         ("pollrelay_up", "gauge", "Whether the relay answered.", [("", 1)]),

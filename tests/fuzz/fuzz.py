@@ -44,7 +44,7 @@ TOKENS = {
         "#", "\n", "\r\n", " ", ":", ".", "/", "relay a tcp:1.1.1.1:1 unix:/x never\n", "x" * 16, "x" * 17, "/" + "x" * 100, *NUMBERS,
     ],
     "session": [
-        "list\n", "totals\n", "close ", "drain ", "drain 1\n", "show ", "show 1\n", "reload\n", "deadline ", " never\n", "quit\n", "stop\n", "\n", "\r\n", " ", "x" * 64, "x" * 65, *NUMBERS,
+        "list\n", "totals\n", "close ", "drain ", "drain 1\n", "show ", "show\n", "show 1\n", "reload\n", "deadline ", " never\n", "quit\n", "stop\n", "\n", "\r\n", " ", "x" * 64, "x" * 65, *NUMBERS,
     ],
 }
 SEEDS = {

@@ -51,6 +51,8 @@ ROWS = (
     ("limits", HELP, r"1 to 2000", "1 to 3000", "2,000, as `MAX_PAIRS` is"),
     ("limits", f"{ADMIN}/rules/file.rt", r"MAX_RULES: usize = 64", "MAX_RULES: usize = 65", "its limit of rules isn't 65"),
     ("limits", FORMAT, END, "\nA line of more than 80 bytes ends it.\n", "64, as `MAX_LINE_BYTES` is"),
+    ("limits", f"{COMMAND_LINE}/descriptors.rt", r"SESSIONS: u64 = 32", "SESSIONS: u64 = 31", "`SESSIONS` isn't 32"),
+    ("limits", GUIDE, r"1,216 with", "1,144 with", "8 loops need 1216 descriptors"),
     ("limits", UNIT, r"(LimitNOFILE)=.*", r"\1=1024", "LimitNOFILE is 1024, below"),
     ("limits", UNIT, r"TasksMax=.*", "TasksMax=32", "TasksMax is 32, below 76"),
     ("limits", UNIT, r"(?m)^ExecStart=.*", "ExecStart=/usr/bin/pollrelay-run --finish 3600000 --rules /a --admin /b", "below 3601"),

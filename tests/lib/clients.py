@@ -204,8 +204,8 @@ class Desk:
                 if self.relay.process.poll() is not None:
                     return ""
                 continue
-            if reply == "error 507 out of memory":
-                self.misses.add(f"{line!r} was answered {reply}")
+            if reply.endswith("error 507 out of memory"):
+                self.misses.add(f"{line!r} was answered {reply[-23:]}")
                 continue
             return reply
         return ""

@@ -22,12 +22,22 @@ class Session:
         self.sock = connect(f"unix:{path}")
         self.replies = self.sock.makefile("r", encoding="ascii", newline="\n")
 
+    def line(self, asked):
+        said = self.replies.readline()
+        if not said.endswith("\n"):
+            raise EOFError(f"no whole reply to {asked!r}: {said!r}")
+        return said[:-1]
+
+    def reply(self, asked):
+        """The lines of the next reply, which is one to this line: that to `show` has many."""
+        lines = [self.line(asked)]
+        while asked == "show" and lines[-1].startswith("show "):
+            lines.append(self.line(asked))
+        return lines
+
     def ask(self, line):
         self.sock.sendall(f"{line}\n".encode())
-        reply = self.replies.readline()
-        if not reply.endswith("\n"):
-            raise EOFError(f"no whole reply to {line!r}: {reply!r}")
-        return reply[:-1]
+        return "\n".join(self.reply(line))
 
     def __enter__(self):
         return self

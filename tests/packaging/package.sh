@@ -31,7 +31,8 @@ holds lintian lintian --fail-on error --tag-display-limit 0 "$package"
 unpacked=$scratch/unpacked
 holds unpacking dpkg-deb -x "$package" "$unpacked"
 for file in usr/bin/pollrelay usr/bin/pollrelay-run usr/share/man/man1/pollrelay.1.gz usr/share/man/man1/pollrelay-run.1.gz lib/systemd/system/pollrelay.service etc/pollrelay/rules \
-    usr/share/doc/pollrelay/copyright usr/share/doc/pollrelay/changelog.Debian.gz usr/share/doc/pollrelay/examples/rules/web.rules; do
+    usr/share/doc/pollrelay/copyright usr/share/doc/pollrelay/changelog.Debian.gz usr/share/doc/pollrelay/examples/rules/web.rules \
+    usr/share/doc/pollrelay/examples/systemd/pollrelay.socket; do
     holds "$file" test -s "$unpacked/$file"
 done
 holds "the unpacked program" runs "$unpacked/usr/bin/pollrelay" "$unpacked/etc/pollrelay/rules"

@@ -1,7 +1,8 @@
 #!/bin/sh
 # Checks examples/systemd/pollrelay.service: that systemd reads it without a complaint, that its numbers fit each other, and that what
-# the program asks the system for in a life of one connection, and the wrapper in one that is steered by signals, is what the unit's
-# sandbox leaves them. Installs systemd and strace if they are missing.
+# the program asks the system for in a life of one connection, and the wrapper in one that is steered by signals and in one with
+# sockets of systemd's, is what the unit's sandbox leaves them; and pollrelay.socket beside it. Installs systemd and strace if they
+# are missing.
 #
 #     sh tests/packaging/systemd_unit.sh
 . "$(dirname "$0")/../lib/shell.sh"
@@ -14,13 +15,15 @@ ln -s "$program" "$scratch/pollrelay"
 ln -s "$PWD/packaging/pollrelay-run" "$scratch/pollrelay-run"
 sed "s#/usr/local/bin/#$scratch/#" $unit >"$scratch/pollrelay.service"
 none "systemd-analyze verify" "$(systemd-analyze verify --man=no "$scratch/pollrelay.service" 2>&1)"
+cp examples/systemd/pollrelay.socket "$scratch/pollrelay.socket"
+none "systemd-analyze verify, with sockets" "$(systemd-analyze verify --man=no "$scratch"/pollrelay.s* 2>&1)"
 
 # number_of KEY: the number that the unit gives an option or a setting.
 number_of() {
     sed -n "s/^[A-Z].*--$1 \([0-9]*\).*/\1/p; s/^$1=\([0-9]*\)\$/\1/p" $unit
 }
 holds "a stop has more time than its connections" test "$(number_of TimeoutStopSec)000" -gt "$(number_of finish)"
-holds "descriptors for 2,000 connections, 64 rules and 64 loops" test "$(number_of LimitNOFILE)" -ge 4292
+holds "descriptors for 2,000 connections, 64 rules and 64 loops" test "$(number_of LimitNOFILE)" -ge 4304
 holds "threads for 64 loops" test "$(number_of TasksMax)" -ge 80
 
 # The names of a set of calls, with those of the sets in it.
@@ -58,6 +61,20 @@ done
 wait $wrapped
 holds "a wrapped relay ends by TERM" test $? = 0
 holds "its lines" grep -qx 'up 0 down 0' "$scratch/printed"
+
+# The same with its sockets given: the first question starts it.
+echo "relay one unix:$scratch/one.sock unix:$scratch/none never" >"$scratch/rules"
+systemd-socket-activate -l "$scratch/one.sock" -l "$scratch/given.sock" strace -D -f -qq -a1 -o "$scratch/log.given" \
+    "$scratch/pollrelay-run" --rules "$scratch/rules" --admin "$scratch/given.sock" >"$scratch/printed" 2>"$scratch/told" &
+given=$!
+tries=0
+until [ -S "$scratch/given.sock" ] || [ $tries = 1000 ]; do tries=$((tries + 1)) && sleep 0.01; done
+holds "a relay that is given its sockets" test "$("$program" ctl --admin "$scratch/given.sock" list)" = 'ids 1'
+kill -TERM $given
+wait $given
+holds "it ends by TERM" test $? = 0
+none "what it doesn't use" "$(grep 'unused socket' "$scratch/told")"
+holds "it leaves their paths" test -S "$scratch/one.sock" -a -S "$scratch/given.sock"
 
 sed -n 's/^[0-9]* *\(<\.\.\. \)\{0,1\}\([a-z_0-9]*\)[( ].*/\2/p' "$scratch"/log.* | sort -u >"$scratch/used"
 none "calls outside the unit's filter" "$(comm -13 "$scratch/allowed" "$scratch/used" | grep -v '^execve$')"

@@ -9,6 +9,8 @@
     early_end          TERM before the relay listens
     dead_rule          a rule whose target is a black hole has 20 clients a second; the rule beside it serves 45 clients of 45
     killed             the paths that a killed relay left are no hindrance to the next
+    activation         restarts of a relay whose sockets are held for it, under 400 requests a second: none is refused
+    unused             a relay says which sockets it was started with that it doesn't use, and serves by the others
     faults             accepting faults while there is no descriptor, and goes on once there are
     many_faults        so it does after more than 1,024 faults in a row
     busy_sessions      `ctl stop` is answered behind 300 silent sessions and 100 that don't read
@@ -26,6 +28,7 @@ import threading
 import time
 
 sys.path.insert(1, f"{sys.path[0]}/..")
+from lib.activation import started_with
 from lib.c_code import library
 from lib.checks import Checks
 from lib.echoes import BLOCK, comes_back, ended, flowing, target
@@ -34,12 +37,10 @@ from lib.places import LIB, PROGRAM, ROOT
 from lib.relay import Relay, Session, allow_descriptors, totals_of
 from lib.requests import ANSWERED, REFUSED, RESET, Requests, counts
 from lib.served import heard, seconds_until_end
+from lib.signals import hear_all
 from lib.sockets import BlackHole, connect, free_port, is_served
 from lib.stages import options, run_stages
 from lib.waiting import wait_until
-
-# A shell can't catch a signal that was ignored as it began, as `nohup` has it.
-signal.signal(signal.SIGHUP, signal.SIG_DFL)
 
 WRAPPER = f"{ROOT}/packaging/pollrelay-run"
 RATE = 200
@@ -49,9 +50,11 @@ RULE = "relay {} {} {} never\n"
 # As long as a second is on a clock that is 200 times as fast.
 WAKE_SECONDS = 0.005
 GIVEN = options(
-    __doc__, ("reloads", "ends", "second_end", "early_end", "dead_rule", "killed", "faults", "many_faults", "busy_sessions",
-              "trickled_metrics"), seconds=60, all=False,
+    __doc__, ("reloads", "ends", "second_end", "early_end", "dead_rule", "killed", "activation", "unused", "faults",
+              "many_faults", "busy_sessions", "trickled_metrics"), seconds=60, all=False,
 )
+
+hear_all()
 
 
 def wrapped(rules, *words):
@@ -249,6 +252,85 @@ def killed(checks, _):
         checks.expect("killed: its end", (0, b"up 5 down 5\n", []), (process.returncode, last, relay.sockets()))
 
 
+class Activated:
+    """A relay by these rules in a folder, started by pollrelay-run with these sockets; what it prints and says."""
+
+    def __init__(self, folder, rules, sockets):
+        with open(f"{folder}/rules", "w", encoding="ascii") as file:
+            file.write(rules)
+        before, given = started_with(sockets)
+        words = [*before, WRAPPER, "--rules", f"{folder}/rules", "--admin", f"{folder}/admin.sock"]
+        self.errors = open(f"{folder}/errors", "w+", encoding="ascii")
+        self.process = subprocess.Popen(
+            words, env={**os.environ, "POLLRELAY": PROGRAM}, stdout=subprocess.PIPE, stderr=self.errors, **given,
+        )
+        self.said = self.process.stdout.readline()
+
+    def end(self):
+        """Its status and totals after a TERM, and what it said to standard error."""
+        self.process.send_signal(signal.SIGTERM)
+        told = status_and_totals(self)
+        self.errors.seek(0)
+        with self.errors:
+            return told, self.errors.read()
+
+
+def held_at(*paths):
+    """Listening sockets at a port and at these paths, with the addresses of the rules."""
+    held = [socket.create_server(("127.0.0.1", 0), backlog=1000)]
+    for path in paths:
+        held.append(socket.socket(socket.AF_UNIX))
+        held[-1].bind(path)
+        held[-1].listen(1000)
+    return held, [f"tcp:127.0.0.1:{held[0].getsockname()[1]}", *(f"unix:{it}" for it in paths)]
+
+
+def activation(checks, folder):
+    """Restarts under load of a relay whose sockets are held for it: nobody is refused or cut, and the paths stay."""
+    (_, to) = target()
+    held, (port, path, _) = held_at(f"{folder}/one.sock", f"{folder}/admin.sock")
+    rules = RULE.format("one", port, to) + RULE.format("two", path, to)
+    loads = [Requests(it, RATE) for it in (port, path)]
+    up, restarts, end = 0, 0, time.monotonic() + GIVEN.seconds
+    while restarts < 3 or time.monotonic() < end:
+        relay = Activated(folder, rules, held)
+        checks.expect("activation: it listens", b"listening 2\n", relay.said)
+        time.sleep(1)
+        (status, totals), errors = relay.end()
+        restarts += 1
+        up += totals[0]
+        checks.expect("activation: status and errors", (0, "ok\n"), (status, errors))
+    last = Activated(folder, rules, held)
+    outcomes = [counts(it.end()) for it in loads]
+    print(f"activation: {restarts} restarts, {outcomes}")
+    checks.expect("activation: all requests are answered", [[ANSWERED]] * 2, [list(it) for it in outcomes])
+    (status, totals), _ = last.end()
+    checks.expect("activation: totals", (0, sum(it.bytes for it in loads)), (status, up + totals[0]))
+    left = sorted(it for it in os.listdir(folder) if it.endswith(".sock"))
+    checks.expect("activation: the paths stay", ["admin.sock", "one.sock"], left)
+    for it in held:
+        it.close()
+
+
+def unused(checks, folder):
+    """Sockets that no rule has, and what is no listener, are told and hinder nobody."""
+    (_, to) = target()
+    held, (port, _, path) = held_at(f"{folder}/admin.sock", f"{folder}/other.sock")
+    others = [socket.socket(socket.AF_INET, socket.SOCK_DGRAM), socket.socket(socket.AF_INET6), socket.socket(socket.AF_UNIX)]
+    others[0].bind(("127.0.0.1", 0))
+    with open("/dev/null", "rb") as file:
+        relay = Activated(folder, RULE.format("one", port, to), [others[0], held[0], file, *others[1:], *held[1:]])
+    checks.expect("unused: it listens", b"listening 1\n", relay.said)
+    checks.holds("unused: the rule serves", comes_back(port), "nothing came back")
+    told, errors = relay.end()
+    checks.expect("unused: status and totals", (0, (5, 5)), told)
+    lines = [f"{it}: {why}" for it, why in ((3, "no listener"), (5, "no listener"), (6, "no address of a rule"), (7, "no address of a rule"))]
+    wanted = "".join(f"unused socket {it}\n" for it in (*lines, path)) + "ok\n"
+    checks.expect("unused: what it says", wanted, errors)
+    for it in held + others:
+        it.close()
+
+
 def without_descriptors(checks, name, folder, fast, wakes):
     """A client waits while the relay has no descriptor, and is served within two seconds of there being some.
 
@@ -335,7 +417,7 @@ def trickled_metrics(checks, _):
 
 
 STAGES = {it.__name__: it for it in (
-    reloads, ends, second_end, early_end, dead_rule, killed, faults, many_faults, busy_sessions, trickled_metrics,
+    reloads, ends, second_end, early_end, dead_rule, killed, activation, unused, faults, many_faults, busy_sessions, trickled_metrics,
 )}
 
 

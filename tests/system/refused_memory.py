@@ -85,7 +85,7 @@ class Watched(Run):
 
     def look(self, desk):
         super().look(desk)
-        for line, front in (("show 1", "show 1 rule "), ("reload", "rules 2")):
+        for line, front in (("show 1", "show 1 rule "), ("show", "show 1 rule "), ("reload", "rules 2")):
             reply = desk.ask(line)
             if not reply.startswith(front):
                 self.wrong.append(f"{line!r} was answered {reply!r}")

@@ -14,6 +14,7 @@ import threading
 import time
 
 sys.path.insert(1, f"{sys.path[0]}/..")
+from lib.admin_replies import are_rising, ids_shown
 from lib.c_code import library
 from lib.checks import Checks
 from lib.metrics import scrape
@@ -347,6 +348,9 @@ def control(checks, folder):
             (["drain", "1"], 0, b"ok\n"), (["drain", "1"], 1, DRAINING), (["quit"], 0, b"ok\n"),
         ):
             checks.expect(f"ctl {' '.join(words)}", (status, reply, b""), ctl(path, *words))
+        status, said, errors = ctl(path, "show")
+        lines = said.decode().splitlines()
+        checks.expect("ctl show", (0, [1], ["end"], b""), (status, ids_shown(lines[:-1]), lines[-1:], errors))
         write(f"{relay.folder}/rules", "frob\n")
         checks.expect("ctl reload of bad rules", (1, b"bad rules: line 1\n", b""), ctl(path, "reload"))
         with open("/dev/full", "wb") as full:
@@ -356,10 +360,10 @@ def control(checks, folder):
         checks.expect("ctl where no relay is any more", unreached, ctl(path, "list"))
     checks.expect("ctl where nothing is", unreached, ctl(f"{folder}/none", "list"))
     with listener(f"{folder}/deaf")[0] as deaf:
-        for said in (b"", b"o", b"ok\nids"):
+        for word, said in (("list", b""), ("list", b"o"), ("list", b"ok\nids"), ("show", b"show 1 rule r ..\n")):
             answer = threading.Thread(target=answer_once, args=(deaf, said))
             answer.start()
-            checks.expect(f"ctl where {said!r} is all that is said", unreached, ctl(f"{folder}/deaf", "list"))
+            checks.expect(f"ctl {word} where {said!r} is all that is said", unreached, ctl(f"{folder}/deaf", word))
             answer.join()
 
 
@@ -426,6 +430,38 @@ def gone_without_reading(checks, relay):
         with connect(f"unix:{relay.admin}") as sock:
             sock.sendall(b"list\n" * 1_000)
     checks.expect("session: after clients that went away", b"ids 1 2 3 4\n", session(relay.admin, b"list\n"))
+
+
+# Listings that are more than a socket holds.
+LISTINGS = 500
+
+
+def listings(checks, _):
+    """`show` has a line for each id; others are answered, close and connect while a client doesn't read its listings."""
+    accepts, target = listener()
+    port = free_port()
+    with accepts, Relay(f"relay one tcp:127.0.0.1:{port} {target} never\n") as relay:
+        clients = [connect(f"tcp:127.0.0.1:{port}") for _ in range(20)]
+        wait_until(lambda: len(relay.ids()) == 41, 5)
+        before, first = relay.ids(), relay.ask("show 1")
+        shown = session(relay.admin, b"show\n").decode().splitlines()
+        checks.expect("show: its ids and its last line", (before, ["end"]), (ids_shown(shown[:-1]), shown[-1:]))
+        checks.expect("show: a line is that of its id", [first.split()[:12]], [it.split()[:12] for it in shown[:1]])
+        with connect(f"unix:{relay.admin}") as slow:
+            slow.sendall(b"show\n" * LISTINGS)
+            checks.expect("show: a close meanwhile", "ok", relay.ask("close 2"))
+            clients.append(connect(f"tcp:127.0.0.1:{port}"))
+            wait_until(lambda: len(relay.ids()) == 41 and relay.ids() != before, 5)
+            after = relay.ids()
+            slow.shutdown(socket.SHUT_WR)
+            said = rest_of(slow).decode()
+        found = [ids_shown(it.splitlines()) for it in said.split("end\n")]
+        checks.expect("show: listings", (LISTINGS, []), (len(found) - 1, found[-1]))
+        checks.holds("show: ids rise", all(are_rising(it, before[:1]) for it in found[:-1]), f"{found[:1]}")
+        checks.expect("show: the first and the last listing", [before, after], [found[0], found[-2:][0]])
+        for sock in clients:
+            sock.close()
+        checks.expect("show: its end", 0, relay.stop()[0])
 
 
 def stopped_and_gone(checks, _):
@@ -623,7 +659,7 @@ def finishing(checks, _):
 
 
 STAGES = {it.__name__: it for it in (
-    command_lines, traces, verdicts, outputs, start_faults, poller_fault, refused_paths, admin_sessions, stopped_and_gone,
+    command_lines, traces, verdicts, outputs, start_faults, poller_fault, refused_paths, admin_sessions, listings, stopped_and_gone,
     no_rule, sample_rules, sample_sessions, sample_metrics, metrics_at_a_path, spread,
     asked_pairs, silent_sessions, many_sessions, finishing, control, own_texts,
 )}

@@ -3,14 +3,18 @@
 #![tactic(auto)]
 
 use base_types::OutOfMemory;
+use listen_fds::{GivenSocket, ListenFds, MAX_SOCKETS, Unfit};
 use log_writer::{LogFile, open_log};
-use relay::{Capacity, Loops, Outlets, PairLimit, Safeguards, serve, text_of};
+use relay::{Capacity, GivenListener, Loops, PairLimit, Safeguards, text_of};
 use relay_admin::{Addr, Command, check_status};
 use relay_command::{
     Fault, HELP, Job, NO_MEMORY, VERSION, descriptors_allowed, descriptors_needed, job_of,
     reply_status, trace_status,
 };
+use relay_conn::address::rule_address;
+use relay_serve::{Given, Outlets, serve};
 use std::alloc::Global;
+use std::env::VarError;
 use std::fs::{File, Files};
 use std::io::{ErrorKind, Write};
 use std::net::{Net, Shutdown, TcpListener, TcpStream};
@@ -20,7 +24,7 @@ use std::random::RandomSource;
 use std::sync::Wait;
 use std::thread::Threads;
 use std::time::{Clock, Duration};
-use std::{env, fs, io};
+use std::{env, fs, io, process};
 
 /// Tells a fault on standard error. Where that cannot be written either, nobody is left to tell.
 fn told<R: Eprint>(rt: &R, fault: Fault) -> ExitCode {
@@ -81,6 +85,60 @@ fn warn_of_descriptors<R: Files + Eprint + AllocGlobal>(rt: &R, capacity: Capaci
     }
 }
 
+/// What a variable of the environment says; one that isn't set, or no text, says nothing.
+fn variable(rt: &HostRuntime, name: &str) -> Result<String, Fault> {
+    match env::var(rt, name) {
+        Ok(text) => Ok(text),
+        Err(VarError::OutOfMemory) => Err(NO_MEMORY),
+        Err(_) => Ok(String::new(rt.alloc())),
+    }
+}
+
+/// The sockets that the program was started with, if it was with some. It is asked once, ahead of
+/// all that the program opens.
+fn sockets(rt: &HostRuntime) -> Result<Option<ListenFds>, Fault> {
+    let pid = variable(rt, "LISTEN_PID")?;
+    let count = variable(rt, "LISTEN_FDS")?;
+    let own = process::id(rt.process());
+    Ok(ListenFds::of(own, pid.as_bytes(), count.as_bytes()))
+}
+
+/// Says that the socket with this number is none for a relay.
+fn tell_unfit<R: Eprint>(rt: &R, number: u8, why: Unfit) {
+    let why = match why {
+        Unfit::NoListener => "no listener",
+        Unfit::NoAddress => "no address of a rule",
+    };
+    let _ = eprintln!(rt; "unused socket {number}: {why}");
+}
+
+/// The listeners among these sockets; none where memory is refused.
+fn listeners_among(rt: &HostRuntime, sockets: ListenFds) -> Option<Vec<GivenListener>> {
+    let mut sockets = sockets;
+    let mut all = Vec::new(rt.alloc());
+    for _ in 0..MAX_SOCKETS {
+        let Some(GivenSocket { number, listener }) = sockets.take(rt) else {
+            break;
+        };
+        match listener {
+            Ok((addr, listener)) => {
+                let addr: Addr = rule_address(&addr);
+                all.push(GivenListener { addr, listener }).ok()?;
+            }
+            Err(why) => tell_unfit(rt, number, why),
+        }
+    }
+    Some(all)
+}
+
+/// The listeners that the program was started with.
+fn given_listeners(rt: &HostRuntime) -> Result<Vec<GivenListener>, Fault> {
+    match sockets(rt)? {
+        Some(sockets) => listeners_among(rt, sockets).ok_or(NO_MEMORY),
+        None => Ok(Vec::new(rt.alloc())),
+    }
+}
+
 /// Runs a relay until an admin session says stop.
 // (the bounds are those of `serve`, and of who prints)
 fn run_relay<R>(
@@ -89,6 +147,7 @@ fn run_relay<R>(
     admin: &String,
     capacity: Capacity,
     safeguards: Safeguards,
+    listeners: Vec<GivenListener>,
     log: Option<String>,
     metrics: Option<Addr>,
 ) -> ExitCode
@@ -112,9 +171,21 @@ where
         Err(fault) => return told(&rt, fault),
     };
     warn_of_descriptors(&rt, capacity);
+    let errors = open_log(&rt, "-").ok();
+    let given = Given { listeners, errors };
     let outlets = Outlets { log, metrics };
     let mut output = io::writer(&rt);
-    match serve(rt, rules, admin, capacity, safeguards, outlets, &mut output) {
+    let done = serve(
+        rt,
+        rules,
+        admin,
+        capacity,
+        safeguards,
+        given,
+        outlets,
+        &mut output,
+    );
+    match done {
         Ok(()) => ExitCode::from(0),
         Err(fault) => told(&rt, Fault::Relay(fault)),
     }
@@ -137,13 +208,13 @@ fn asked(rt: &HostRuntime, admin: &str, line: &str) -> io::Result<UnixStream> {
 
 /// Has the relay carry out an admin command, and prints its reply.
 fn control(rt: &HostRuntime, admin: &str, line: &str) -> ExitCode {
-    if Command::parse(line.as_bytes()).is_none() {
+    let Some(command) = Command::parse(line.as_bytes()) else {
         return told(rt, Fault::BadCommandLine);
-    }
+    };
     let Ok(mut stream) = asked(rt, admin, line) else {
         return told(rt, Fault::Reach);
     };
-    match reply_status(rt.alloc(), &mut stream, &mut rt.stdout()) {
+    match reply_status(rt.alloc(), &command, &mut stream, &mut rt.stdout()) {
         Ok(status) => ExitCode::from(status),
         Err(fault) => told(rt, fault),
     }
@@ -206,7 +277,12 @@ fn main(rt: HostRuntime) -> ExitCode {
                 loops: loops.unwrap_or_else(|| Loops::by_processors(&rt)),
                 pairs: pairs.unwrap_or_else(|| PairLimit::by_default()),
             };
-            run_relay(rt, &rules, &admin, capacity, safeguards, log, metrics)
+            match given_listeners(&rt) {
+                Ok(given) => run_relay(
+                    rt, &rules, &admin, capacity, safeguards, given, log, metrics,
+                ),
+                Err(fault) => told(&rt, fault),
+            }
         }
         Ok(Job::Ctl { admin, line }) => control(&rt, admin.as_str(), line.as_str()),
         Ok(Job::Help) => say(&rt, HELP),

@@ -1,1 +1,1 @@
-mod OutputLemmas
+pub mod ListeningLemmas

@@ -3,7 +3,9 @@ pub mod Deadlines
 pub mod Desk
 pub mod Fault
 pub mod Finishing
-pub mod Output
+pub mod Listening
 pub mod Reload
 pub mod Safeguards
+pub mod Server
 pub mod Session
+pub mod Sessions

@@ -1,29 +1,21 @@
 //! Accepting, by tasks of the main thread's loop: each goes on when its listener may be ready. A
 //! rule's delivers to the loops, and that of the admin socket to the main thread.
 
-ghost use Rattle.std.specs.Prelude.{◌≡◌, ◌↔◌, ⊤, true, false, None, IfSome};
-ghost use Rattle.std.specs.Arc.{arc_value};
+ghost use Rattle.std.specs.Prelude.{◌≡◌, ◌↔◌, true};
 ghost use Rattle.relay.specs.Accepting.{turn_of};
 
 use crate::admin::{AdminDoor, AdminTask, Caller};
-use crate::main_task::MainTask;
-use crate::session::MAX_SESSIONS;
-use crate::shared::Shared;
-use deadline_core::Dirs;
-use fd_descriptor::{Alarms, PollCell, TaskReader};
-use readiness::{Host, ListenRes, Place, RemoteAlarms, Side, Sock, Turn, Why};
-use relay_conn::address::rule_address;
+use crate::main_host::MainHost;
+use crate::rule_task::{RuleListener, RuleTask, accept_on};
+use readiness::Turn;
 use relay_conn::clock::Moments;
 use relay_conn::closing::{Closer, Closes};
-use relay_conn::connection_facts::Acceptance;
 use relay_conn::how_ended::reason_of_fault;
 use relay_conn::log_lines::tell_accept_fault;
 use relay_conn::served_rule::ServedRule;
-use relay_core::{
-    AcceptEnded, AcceptStep, Accepting, PollAcceptGate, has_come, next_pause_ms, pause_end,
-};
+use relay_core::{AcceptEnded, AcceptStep, Accepting, next_pause_ms};
 use rwloops::Fault;
-use std::sync::{Arc, Wait};
+use std::sync::Wait;
 use std::time::Clock;
 
 /// How long a task pauses that begins anew after too many faults in a row, in milliseconds.
@@ -32,84 +24,6 @@ const RESTART_MS: u64 = 1_000;
 /// How often a listener that is to be closed is accepted from, 64 clients each time: as many as its
 /// queue may have.
 const LAST_ROUNDS: u32 = 64;
-
-/// A rule's listener, as its task has it.
-#[derive(Drop)]
-pub(crate) struct RuleListener<R: Wait + Copy> {
-    pub(crate) id: u64,
-    pub(crate) cell: Arc<PollCell>,
-    pub(crate) half: TaskReader<ListenRes, R>,
-}
-
-// Accepts from a rule's listener, and delivers to the loops.
-#[derive(Drop)]
-struct RuleGate<'a, R: Wait + Copy, C> {
-    rt: R,
-    clock: &'a C,
-    served: &'a Arc<ServedRule>,
-    listener: &'a mut RuleListener<R>,
-    shared: &'a Shared,
-    // The last fault of an accept.
-    fault: Option<Fault>,
-}
-
-impl<'a, R, C> RuleGate<'a, R, C>
-where
-    R: Wait + Copy,
-    C: Moments,
-{
-    // What is known of a client that this listener gave just now: the listener's own rule serves
-    // it.
-    fn acceptance(&self, client: Option<relay_admin::Addr>) -> Option<Acceptance>
-        ensures own { IfSome result (λ acceptance.
-            arc_value acceptance.served ≡ arc_value self.now.served.now) }
-        ensures client { IfSome result (λ acceptance. acceptance.client ≡ client) }
-    {
-        let served = Arc::try_clone(self.served).ok()?;
-        let rule = served.rule(&self.rt);
-        Some(Acceptance {
-            served,
-            rule,
-            client,
-            at: self.clock.now(),
-        })
-    }
-}
-
-impl<'a, R, C> PollAcceptGate for RuleGate<'a, R, C>
-where
-    R: Wait + Clock + Copy,
-    C: Moments,
-{
-    type T = Sock;
-
-    // What a listener gave can't be told.
-    ghost tells = { λ _ _. ⊥ };
-
-    ghost blocked = { λ _. ⊤ };
-
-    fn poll_accept(&mut self) -> Option<Result<Sock, Fault>> {
-        let accepted = self.listener.half.poll_accept();
-        if let Some(Err(fault)) = &accepted {
-            self.fault = Some(*fault);
-        }
-        accepted
-    }
-
-    fn deliver(&mut self, taken: Sock) {
-        if let Some(acceptance) = self.acceptance(peer_of(&taken)) {
-            self.shared.deliver(&self.rt, taken, acceptance);
-        }
-    }
-}
-
-// The client's address, in the terms of rules.
-fn peer_of(sock: &Sock) -> Option<relay_admin::Addr> {
-    match sock.peer() {
-        Some(addr) => Some(rule_address(&addr)),
-        None => None,
-    }
-}
 
 // What the loop does with an accept task after this step.
 fn turn_after(step: &AcceptStep) -> Turn
@@ -130,145 +44,9 @@ fn begins_row(pause_ms: u64) -> bool
     pause_ms == next_pause_ms(0)
 }
 
-// Has a task accept by its rule, and gives the last fault too.
-fn accept_on<'a, R: Wait + Clock + Copy, C: Moments>(
-    rt: R,
-    clock: &'a C,
-    shared: &'a Shared,
-    task: &'a mut RuleTask<R>,
-) -> (AcceptStep, Option<Fault>) {
-    let RuleTask {
-        served,
-        listener,
-        accepting,
-        ..
-    } = task;
-    let mut gate = RuleGate {
-        rt,
-        clock,
-        served,
-        listener,
-        shared,
-        fault: None,
-    };
-    let step = accepting.resume(&mut gate);
-    (step, gate.fault)
-}
-
-/// Accepts by a rule until its listener is closed or drained.
-#[derive(Drop)]
-pub(crate) struct RuleTask<R: Wait + Copy> {
-    pub(crate) served: Arc<ServedRule>,
-    pub(crate) place: Place,
-    pub(crate) listener: RuleListener<R>,
-    pub(crate) accepting: Accepting,
-    /// The end of its pause, where it pauses.
-    pub(crate) paused_until: Option<u64>,
-}
-
-/// What the main thread has beside its tasks.
-#[derive(Drop)]
-pub(crate) struct AcceptHost<R: Wait + Copy, C: Moments> {
-    pub(crate) rt: R,
-    pub(crate) clock: C,
-    pub(crate) shared: Arc<Shared>,
-    /// A moment to which no alarm could be armed, since memory was refused.
-    pub(crate) unarmed: Option<u64>,
-    /// The sockets that were accepted for sessions, which are begun between two turns.
-    pub(crate) callers: Vec<Caller>,
-    /// Which places have sessions that may go on between two turns.
-    pub(crate) named: [bool; MAX_SESSIONS],
-}
-
-impl<R: Wait + Copy, C: Moments> AcceptHost<R, C> {
-    /// Has the loop resume a task at this moment, by one of its tokens; or says that memory was
-    /// refused for it.
-    pub(crate) fn arm(&self, token: u64, at: u64) -> bool {
-        match Arc::try_clone(&self.shared.main) {
-            Ok(remote) => RemoteAlarms::new(self.rt, remote)
-                .arm(token, Dirs::Read, at)
-                .is_ok(),
-            Err(_) => false,
-        }
-    }
-
-    /// Takes back what was armed by this token.
-    pub(crate) fn disarm(&self, token: u64) {
-        if let Ok(remote) = Arc::try_clone(&self.shared.main) {
-            RemoteAlarms::new(self.rt, remote).disarm(token, Dirs::Read);
-        }
-    }
-
-    // Has a task pause: its timer has the second token of its place, which no descriptor has.
-    fn pause(&mut self, place: Place, paused_until: &mut Option<u64>, ms: u64) {
-        let until = pause_end(self.clock.now(), ms);
-        *paused_until = Some(until);
-        if !self.arm(place.second, until) {
-            self.unarmed = Some(until);
-        }
-    }
-
-    // Whether a task is in its pause still, which ends at this moment, if there is one.
-    fn is_paused(&self, paused_until: &mut Option<u64>) -> bool
-        ensures over { result ≡ false → paused_until.new ≡ None }
-        ensures kept { result ≡ true → paused_until.new ≡ paused_until.old }
-        ensures pauses { paused_until.old ≡ None → result ≡ false }
-    {
-        if paused_until.is_some() && !has_come(*paused_until, self.clock.now()) {
-            return true;
-        }
-        *paused_until = None;
-        false
-    }
-
-    /// Whether a pause is over whose alarm couldn't be armed.
-    pub(crate) fn takes_unarmed(&mut self) -> bool
-        ensures taken { result ≡ true → self.new.unarmed ≡ None }
-        ensures kept { result ≡ false → self.new.unarmed ≡ self.old.unarmed }
-        ensures none { self.old.unarmed ≡ None → result ≡ false }
-    {
-        if !has_come(self.unarmed, self.clock.now()) {
-            return false;
-        }
-        self.unarmed = None;
-        true
-    }
-}
-
-impl<R, C> Host for AcceptHost<R, C>
-where
-    R: Wait + Clock + Copy,
-    C: Moments,
-{
-    type Task = MainTask<R>;
-
-    fn cell<'a>(&self, task: &'a MainTask<R>, side: Side) -> Option<&'a PollCell> {
-        match (task, side) {
-            (MainTask::Rule(task), Side::First) => Some(&*task.listener.cell),
-            _ => None,
-        }
-    }
-
-    fn resume(&mut self, task: &mut MainTask<R>, _why: Why) -> Turn {
-        match task {
-            MainTask::Rule(task) => self.resume_rule(task),
-            MainTask::Admin(task) => self.accept_sessions(task),
-            MainTask::Session(place) => {
-                if *place < MAX_SESSIONS {
-                    self.named[*place] = true;
-                }
-                Turn::Waits
-            }
-        }
-    }
-
-    fn over(&mut self, task: MainTask<R>) {
-        drop(task);
-    }
-}
-
-impl<R: Wait + Clock + Copy, C: Moments> AcceptHost<R, C> {
-    fn resume_rule(&mut self, task: &mut RuleTask<R>) -> Turn {
+impl<R: Wait + Clock + Copy, C: Moments> MainHost<R, C> {
+    /// Has a rule's task go on.
+    pub(crate) fn resume_rule(&mut self, task: &mut RuleTask<R>) -> Turn {
         if self.is_paused(&mut task.paused_until) {
             return Turn::Waits;
         }
@@ -337,8 +115,8 @@ impl<R: Wait + Clock + Copy, C: Moments> AcceptHost<R, C> {
         door.dropped = 0;
     }
 
-    // Accepts sessions. However many faults come in a row, it goes on.
-    fn accept_sessions(&mut self, task: &mut AdminTask) -> Turn {
+    /// Accepts sessions. However many faults come in a row, it goes on.
+    pub(crate) fn accept_sessions(&mut self, task: &mut AdminTask) -> Turn {
         if self.is_paused(&mut task.paused_until) {
             return Turn::Waits;
         }

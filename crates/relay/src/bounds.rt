@@ -1,7 +1,6 @@
 //! What a relay's threads run on.
 
 use std::net::{Net, TcpListener, TcpStream};
-use std::random::RandomSource;
 use std::sync::Wait;
 use std::thread::Threads;
 use std::time::Clock;
@@ -28,9 +27,3 @@ where
         + Sync
         + 'static,
 {}
-
-/// What a relay with metrics runs on: it has random keys too, for the tables of their server. One
-/// bound, since what goes to a thread may rest on none that is assumed of the sender's alone.
-pub trait MeteredRuntime: RelayRuntime + RandomSource {}
-
-impl<R: RelayRuntime + RandomSource> MeteredRuntime for R {}

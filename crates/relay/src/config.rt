@@ -1,6 +1,6 @@
 //! What a relay is asked to be.
 
-ghost use Rattle.std.specs.Prelude.{◌≡◌, IfErr};
+ghost use Rattle.std.specs.Prelude.{◌≡◌, IfOk, IfErr, is_some};
 ghost use Rattle.relay_admin.specs.declared.serve_fault.ServeFault.{ServeFault};
 
 use crate::rules_file::rules_in;
@@ -15,14 +15,15 @@ use std::sync::Arc;
 
 /// What a relay is asked to be, in memory of its own.
 #[derive(Drop)]
-pub(crate) struct Config {
+pub struct Config {
     /// None of them has a listener yet.
-    pub(crate) rules: Vec<Arc<ServedRule>>,
-    /// Where their file is.
-    pub(crate) rules_path: String,
-    pub(crate) capacity: Capacity,
-    pub(crate) safeguards: Safeguards,
-    pub(crate) log: Option<Arc<Log>>,
+    pub rules: Vec<Arc<ServedRule>>,
+    /// Where their file is, which a reload reads again.
+    pub rules_path: String,
+    pub capacity: Capacity,
+    pub safeguards: Safeguards,
+    /// Where its lines go. Who wants them written starts the log's thread.
+    pub log: Option<Arc<Log>>,
 }
 
 // The rules as a relay with so many loops serves them, none of which has a listener yet.
@@ -42,15 +43,20 @@ fn served_rules(
 
 impl Config {
     /// By the rules file at this path, of this size, with these safeguards, and with a log or
-    /// without one.
-    pub(crate) fn read<R: Files>(
+    /// without one. The faults are `RulesFile`, where the file can't be opened or read, `BadRules`
+    /// and `Memory`.
+    pub fn read<R: Files>(
         rt: &R,
         alloc: Global,
         path: &str,
         capacity: Capacity,
         safeguards: Safeguards,
         has_log: bool,
-    ) -> Result<Config, ServeFault> {
+    ) -> Result<Config, ServeFault>
+        ensures capacity { IfOk result (λ config. config.capacity ≡ capacity) }
+        ensures safeguards { IfOk result (λ config. config.safeguards ≡ safeguards) }
+        ensures log { IfOk result (λ config. is_some config.log ≡ has_log) }
+    {
         let rules = rules_in(rt, alloc, path)?;
         let rules = served_rules(alloc, rules.as_slice(), capacity.loops.count)?;
         let rules_path = String::from_str(alloc, path)?;

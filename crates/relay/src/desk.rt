@@ -9,11 +9,11 @@ ghost use Rattle.deadline_core.specs.declared.deadline.Dirs.{Dirs};
 ghost use Rattle.relay.specs.Deadlines.{asked_deadline};
 ghost use Rattle.relay.specs.Desk.{desk_answer};
 
-use crate::home::totals_of;
+use crate::loop_handle::totals_of;
 use crate::main_loop::MainLoop;
 use deadline_core::{Deadline, Dirs};
 use fd_descriptor::Setting;
-use relay_admin::{Desk, DeskAnswer};
+use relay_admin::{Desk, DeskAnswer, Shown};
 use relay_conn::clock::Moments;
 use relay_conn::entry::{Handle, Owner};
 use relay_core::idle_deadline;
@@ -109,16 +109,25 @@ impl<'a, R: Wait + Clock + Copy> RelayDesk<'a, R> {
         }
     }
 
-    fn shown(&self, id: u64) -> DeskAnswer
-        ensures { HasAskedId (commands.Show id) (replies.answer_of result) }
+    fn seen(&self, id: u64) -> Option<Shown>
+        ensures { IfSome result (λ seen. seen.id ≡ id) }
     {
         let rt = self.main.host.rt;
         let now = self.main.host.clock.now();
         let table = self.main.host.shared.table.lock(&rt);
-        let Some(entry) = table.by_id(id) else {
-            return DeskAnswer::Unknown;
-        };
-        DeskAnswer::Shown(entry.shown(&rt, id, now))
+        match table.by_id(id) {
+            Some(entry) => Some(entry.shown(&rt, id, now)),
+            None => None,
+        }
+    }
+
+    fn shown(&self, id: u64) -> DeskAnswer
+        ensures { HasAskedId (commands.Show id) (replies.answer_of result) }
+    {
+        match self.seen(id) {
+            Some(seen) => DeskAnswer::Shown(seen),
+            None => DeskAnswer::Unknown,
+        }
     }
 
     // Sets a deadline, and has the task that waits for the descriptor look at it.
@@ -190,7 +199,7 @@ where
     }
 
     fn totals(&mut self) -> DeskAnswer {
-        totals_of(self.main.host.shared.homes.as_slice()).answer()
+        totals_of(self.main.host.shared.loops.as_slice()).answer()
     }
 
     // The main thread closes a listener by itself, whose task it has.
@@ -218,6 +227,14 @@ where
 
     fn show(&mut self, id: u64) -> DeskAnswer {
         self.shown(id)
+    }
+
+    fn ids_to_show(&mut self, alloc: Global) -> DeskAnswer {
+        self.all_ids(alloc)
+    }
+
+    fn look(&mut self, id: u64) -> Option<Shown> {
+        self.seen(id)
     }
 
     fn reload(&mut self, _alloc: Global) -> DeskAnswer {

@@ -24,7 +24,7 @@ pub(crate) fn close_listeners<R: Wait + Files + Copy>(rt: &R, shared: &Shared, _
 
 /// Drops the sockets that no loop has set up.
 pub(crate) fn empty_inboxes<R: Wait>(rt: &R, alloc: Global, shared: &Shared, _joined: &Joined) {
-    for home in shared.homes.iter() {
-        home.give_all(rt, &mut Vec::new(alloc));
+    for handle in shared.loops.iter() {
+        handle.give_all(rt, &mut Vec::new(alloc));
     }
 }

@@ -1,7 +1,7 @@
 //! What a fault of a call below is to the relay.
 
 ghost use Rattle.std.specs.Prelude.{◌≡◌};
-ghost use Rattle.relay.specs.Fault.{metrics_fault, poller_fault};
+ghost use Rattle.relay.specs.Fault.{poller_fault};
 
 use relay_admin::ServeFault;
 use rwloops::Fault;
@@ -13,15 +13,5 @@ pub(crate) fn of_poller(fault: Fault) -> ServeFault
     match fault {
         Fault::OutOfMemory => ServeFault::Memory,
         _ => ServeFault::Device,
-    }
-}
-
-/// What a refusal of the server of metrics is to the relay.
-pub(crate) fn of_metrics(fault: Fault) -> ServeFault
-    ensures { result ≡ metrics_fault fault }
-{
-    match fault {
-        Fault::OutOfMemory => ServeFault::Memory,
-        _ => ServeFault::Metrics,
     }
 }

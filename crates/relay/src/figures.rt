@@ -1,28 +1,20 @@
 //! The relay's figures, for its metrics.
 
-use crate::bounds::MeteredRuntime;
-use crate::fault::of_metrics;
-use crate::home::totals_of;
+use crate::loop_handle::totals_of;
 use crate::shared::Shared;
 use base_types::OutOfMemory;
-use metrics_server::{LIMIT_NS, MetricsServer, Running};
-use relay_admin::{Addr, ServeFault};
-use relay_conn::address::socket_address;
-use relay_conn::bound_path::{BoundPath, remove_stale};
 use relay_conn::clock::{Moments, RelayClock};
 use relay_conn::rule_figures::rule_figures;
 use relay_metrics::{CarriedBytes, Figures, Metered};
-use std::alloc::Global;
-use std::fs::Files;
 use std::sync::{Arc, Wait};
 use std::time::Clock;
 
-/// What reads a running relay's figures.
+/// What reads a relay's figures, from any thread, as long as the relay stands and after it.
 #[derive(Drop)]
-pub(crate) struct RelayFigures<R: Wait + Clock + Copy> {
-    rt: R,
-    clock: RelayClock<R>,
-    shared: Arc<Shared>,
+pub struct RelayFigures<R: Wait + Clock + Copy> {
+    pub(crate) rt: R,
+    pub(crate) clock: RelayClock<R>,
+    pub(crate) shared: Arc<Shared>,
 }
 
 impl<R: Wait + Clock + Copy> RelayFigures<R> {
@@ -32,7 +24,7 @@ impl<R: Wait + Clock + Copy> RelayFigures<R> {
         figures.admin_sessions = shared.sessions.get();
         figures.connections_limit = shared.limit.count as u64;
         figures.reloads = shared.reloads.get();
-        let totals = totals_of(shared.homes.as_slice());
+        let totals = totals_of(shared.loops.as_slice());
         figures.bytes = CarriedBytes {
             up: totals.up.bytes,
             down: totals.down.bytes,
@@ -49,41 +41,13 @@ impl<R: Wait + Clock + Copy> Metered for RelayFigures<R> {
     fn read(&self, figures: &mut Figures) -> Result<(), OutOfMemory> {
         self.read_whole(figures);
         figures.turns.clear();
-        for home in self.shared.homes.iter() {
-            figures.turns.push(home.turns.get())?;
+        for handle in self.shared.loops.iter() {
+            figures.turns.push(handle.turns.get())?;
         }
         figures.rules.clear();
         for served in self.shared.rules.lock(&self.rt).iter() {
             figures.rules.push(rule_figures(&self.rt, served))?;
         }
         Ok(())
-    }
-}
-
-/// Serves the figures of a relay at this address from now on. Where that is refused, no path of
-/// its listener is left.
-pub(crate) fn serve_figures<R>(
-    rt: R,
-    alloc: Global,
-    addr: &Addr,
-    clock: RelayClock<R>,
-    shared: Arc<Shared>,
-) -> Result<Running, ServeFault>
-where
-    R: MeteredRuntime + Files,
-{
-    if shared.safeguards.replaces_stale {
-        let _ = remove_stale(&rt, addr);
-    }
-    let figures = RelayFigures { rt, clock, shared };
-    match MetricsServer::open(rt, alloc, &socket_address(addr), LIMIT_NS, figures) {
-        Ok(server) => match server.start() {
-            Ok(running) => Ok(running),
-            Err(fault) => {
-                BoundPath::of(addr).remove(&rt);
-                Err(of_metrics(fault))
-            }
-        },
-        Err(fault) => Err(of_metrics(fault)),
     }
 }

@@ -2,15 +2,15 @@
 
 ghost use Rattle.std.specs.Prelude.{◌≡◌, ◌↔◌, true, false};
 ghost use Rattle.readiness.specs.declared.tasks.Turn.{Turn};
+ghost use Rattle.relay_conn.specs.Books.{IsBlankOf};
 ghost use Rattle.relay_conn.specs.Reach.{tells_target};
 ghost use Rattle.relay_conn.specs.declared.reach.Reach.{Reach};
 ghost use Rattle.relay_core.specs.PairTasks.{HasToClose, MayGoOn};
 ghost use Rattle.relay_core.specs.declared.pair_tasks.PairNext.{PairNext};
-ghost use Rattle.relay_ledger.specs.declared.book.TheConstants.{PARTS};
 
 use crate::connecting::ConnectingList;
 use crate::fault::of_poller;
-use crate::home::{Accepted, Counted};
+use crate::loop_handle::{Accepted, Counted};
 use crate::shared::Shared;
 use fd_descriptor::PollCell;
 use readiness::{EventLoop, Host, LoopDriver, Side, Turn, Why};
@@ -45,21 +45,21 @@ pub(crate) struct LoopContext<R: Wait + Clock + Copy> {
     pub(crate) rt: R,
     pub(crate) alloc: Global,
     pub(crate) clock: RelayClock<R>,
-    /// The place of its home.
-    pub(crate) home: usize,
+    /// The place of its loop.
+    pub(crate) place: usize,
     pub(crate) shared: Arc<Shared>,
 }
 
 impl<R: Wait + Clock + Copy> LoopContext<R> {
     fn note_turn(&self) {
-        if let Some(home) = self.shared.homes.get(self.home) {
-            home.turns.add(1);
+        if let Some(handle) = self.shared.loops.get(self.place) {
+            handle.turns.add(1);
         }
     }
 
     fn take_inbox(&self, taken: &mut Vec<Accepted>) {
-        if let Some(home) = self.shared.homes.get(self.home) {
-            home.give_all(&self.rt, taken);
+        if let Some(handle) = self.shared.loops.get(self.place) {
+            handle.give_all(&self.rt, taken);
         }
     }
 }
@@ -225,12 +225,8 @@ where
     U: Ledger,
     D: Ledger,
     R: Wait + Net<Listener = TcpListener, Stream = TcpStream> + Clock + Copy,
-    requires up_name { up.name ≡ U.name }
-    requires up_parts { up.parts ≡ U.parts }
-    requires up_all { up.parts ≡ PARTS }
-    requires down_name { down.name ≡ D.name }
-    requires down_parts { down.parts ≡ D.parts }
-    requires down_all { down.parts ≡ PARTS }
+    requires up { IsBlankOf U.name U.parts up }
+    requires down { IsBlankOf D.name D.parts down }
 {
     let LoopParts { driver, published } = parts;
     let alloc = context.alloc;

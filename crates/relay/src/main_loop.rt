@@ -5,10 +5,11 @@ ghost use Rattle.std.specs.Prelude.{◌≡◌, IfErr};
 ghost use Rattle.relay_admin.specs.ServeFault.{IsRunFault};
 ghost use Rattle.relay_admin.specs.declared.serve_fault.ServeFault.{ServeFault};
 
-use crate::accepting::AcceptHost;
 use crate::fault::of_poller;
 use crate::finishing::has_finished;
+use crate::listening::Listeners;
 use crate::loops::LoopContext;
+use crate::main_host::MainHost;
 use crate::main_task::MainTask;
 use crate::opening::listen_by;
 use crate::sessions::Sessions;
@@ -27,7 +28,8 @@ use std::time::Clock;
 pub(crate) struct MainLoop<R: Wait + Clock + Copy> {
     pub(crate) alloc: Global,
     pub(crate) tasks: EventLoop<MainTask<R>>,
-    pub(crate) host: AcceptHost<R, RelayClock<R>>,
+    pub(crate) host: MainHost<R, RelayClock<R>>,
+    pub(crate) listeners: Listeners,
     /// The token of the admin socket's task; 0 before there is one.
     pub(crate) admin: u64,
     /// The moment at which the relay ends at the latest, where it finishes.
@@ -42,15 +44,15 @@ pub(crate) struct AcceptsEnded {
 }
 
 impl<R: Wait + Clock + Copy> MainLoop<R> {
-    /// What the thread of the loop with this home knows of the relay.
-    pub(crate) fn context(&self, home: usize) -> Result<LoopContext<R>, ServeFault>
+    /// What the thread of the loop at this place knows of the relay.
+    pub(crate) fn context(&self, place: usize) -> Result<LoopContext<R>, ServeFault>
         ensures faults { IfErr result (λ fault. fault ≡ ServeFault.Memory) }
     {
         Ok(LoopContext {
             rt: self.host.rt,
             alloc: self.alloc,
             clock: self.host.clock,
-            home,
+            place,
             shared: Arc::try_clone(&self.host.shared)?,
         })
     }
@@ -61,12 +63,14 @@ impl<R: Wait + Clock + Copy> MainLoop<R> {
             alloc: _,
             tasks,
             host,
+            listeners,
             admin: _,
             finish_at: _,
         } = self;
+        drop(listeners);
         let (mut tasks, mut host) = (tasks, host);
         tasks.end_all(&mut host);
-        let AcceptHost { rt, shared, .. } = host;
+        let MainHost { rt, shared, .. } = host;
         (rt, shared, AcceptsEnded { by_loop: () })
     }
 }
@@ -78,27 +82,14 @@ impl<R: Wait + Net + Files + Clock + Copy> MainLoop<R> {
             alloc,
             tasks,
             host,
+            listeners,
             ..
         } = self;
         let shared = &host.shared;
         for served in shared.rules.lock(&host.rt).iter() {
-            let replaces_stale = shared.safeguards.replaces_stale;
-            listen_by(
-                &host.rt,
-                *alloc,
-                tasks,
-                &shared.table,
-                served,
-                replaces_stale,
-                0,
-            )?;
+            listen_by(&host.rt, *alloc, tasks, &shared.table, served, listeners, 0)?;
         }
         Ok(())
-    }
-
-    /// Whether a Unix socket at which nobody listens any more gives way to a listener.
-    pub(crate) fn replaces_stale(&self) -> bool {
-        self.host.shared.safeguards.replaces_stale
     }
 
     // Has all accept tasks go on.

@@ -1,7 +1,7 @@
 //! What the main thread's loop has for tasks.
 
-use crate::accepting::RuleTask;
 use crate::admin::AdminTask;
+use crate::rule_task::RuleTask;
 use std::sync::Wait;
 
 /// A task of the main thread's loop.

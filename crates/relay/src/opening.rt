@@ -1,25 +1,25 @@
 //! Opening: the pollers, the listeners in the rules' order, and the admin socket.
 
 ghost use Rattle.std.specs.Prelude.{◌≡◌, IfErr};
+ghost use Rattle.relay_admin.specs.ServeFault.{IsRunFault};
 ghost use Rattle.relay_admin.specs.declared.serve_fault.ServeFault.{ServeFault};
 
-use crate::accepting::{RuleListener, RuleTask};
 use crate::admin::{AdminDoor, AdminTask};
 use crate::fault::of_poller;
-use crate::home::Home;
+use crate::listening::{Listeners, Opened};
+use crate::loop_handle::LoopHandle;
 use crate::loops::LoopParts;
 use crate::main_task::MainTask;
+use crate::rule_task::{RuleListener, RuleTask};
 use arrayvec::ArrayString;
 use conntable::ConnTable;
 use fd_descriptor::{FdHandle, TaskReader};
-use readiness::{EventLoop, HoldFault, Listen, ListenRes, LoopDriver, listen};
+use readiness::{EventLoop, HoldFault, Listen, ListenRes, LoopDriver};
 use relay_admin::{Addr, ServeFault};
-use relay_conn::address::socket_address;
-use relay_conn::bound_path::{BoundPath, remove_stale};
+use relay_conn::bound_path::BoundPath;
 use relay_conn::entry::{Entry, Handle, Owner, Subject};
 use relay_conn::served_rule::ServedRule;
 use relay_core::{Accepting, Loops};
-use rwloops::DevKind;
 use std::alloc::Global;
 use std::fs::Files;
 use std::net::Net;
@@ -31,25 +31,18 @@ pub(crate) struct Pollers {
     pub(crate) main: LoopDriver,
     /// The loops', by their places.
     pub(crate) loops: Vec<LoopParts>,
-    pub(crate) homes: Vec<Home>,
-}
-
-// Listens at an address. A Unix socket that was left there gives way first, where it is to.
-fn listen_at<R: Net + Files>(rt: &R, addr: &Addr, replaces_stale: bool) -> Result<Listen, DevKind> {
-    if replaces_stale {
-        let _ = remove_stale(rt, addr);
-    }
-    listen(rt, &socket_address(addr))
+    pub(crate) handles: Vec<LoopHandle>,
 }
 
 // Listens at a rule's address.
 fn bind<R: Wait + Net + Files>(
     rt: &R,
     served: &ServedRule,
-    replaces_stale: bool,
+    listeners: &mut Listeners,
 ) -> Result<Listen, ServeFault> {
-    match listen_at(rt, &served.listen, replaces_stale) {
-        Ok(socket) => {
+    match listeners.open(rt, &served.listen) {
+        Ok(Opened::Given(socket)) => Ok(socket),
+        Ok(Opened::Bound(socket)) => {
             served.note_bound(rt);
             Ok(socket)
         }
@@ -130,10 +123,10 @@ pub(crate) fn listen_by<R: Wait + Net + Files + Copy>(
     tasks: &mut EventLoop<MainTask<R>>,
     table: &Mutex<ConnTable<Entry>>,
     served: &Arc<ServedRule>,
-    replaces_stale: bool,
+    listeners: &mut Listeners,
     now: u64,
 ) -> Result<(), ServeFault> {
-    let socket = bind(rt, served, replaces_stale)?;
+    let socket = bind(rt, served, listeners)?;
     let served = Arc::try_clone(served)?;
     hold_rule(*rt, alloc, tasks, &mut *table.lock(rt), socket, served, now)
 }
@@ -143,7 +136,7 @@ pub(crate) fn listen_by<R: Wait + Net + Files + Copy>(
 fn listen_at_admin<R: Net + Files>(
     rt: &R,
     path: &str,
-    replaces_stale: bool,
+    listeners: &mut Listeners,
     bound: &mut Option<BoundPath>,
 ) -> Result<Listen, ServeFault>
     ensures faults { IfErr result (λ fault. fault ≡ ServeFault.Admin) }
@@ -155,8 +148,9 @@ fn listen_at_admin<R: Net + Files>(
         return Err(ServeFault::Admin);
     };
     let addr = Addr::Unix(path);
-    match listen_at(rt, &addr, replaces_stale) {
-        Ok(listener) => {
+    match listeners.open(rt, &addr) {
+        Ok(Opened::Given(listener)) => Ok(listener),
+        Ok(Opened::Bound(listener)) => {
             *bound = Some(BoundPath::of(&addr));
             Ok(listener)
         }
@@ -171,10 +165,10 @@ pub(crate) fn open_admin<R: Wait + Net + Files + Copy>(
     alloc: Global,
     tasks: &mut EventLoop<MainTask<R>>,
     path: &str,
-    replaces_stale: bool,
+    listeners: &mut Listeners,
     bound: &mut Option<BoundPath>,
 ) -> Result<u64, ServeFault> {
-    let mut listener = listen_at_admin(rt, path, replaces_stale, bound)?;
+    let mut listener = listen_at_admin(rt, path, listeners, bound)?;
     let Ok(place) = tasks.vacant() else {
         return Err(ServeFault::Memory);
     };
@@ -206,11 +200,13 @@ pub(crate) fn open_admin<R: Wait + Net + Files + Copy>(
 
 impl Pollers {
     /// Those of a relay with so many loops.
-    pub(crate) fn open<R: Net>(rt: &R, alloc: Global, loops: Loops) -> Result<Pollers, ServeFault> {
+    pub(crate) fn open<R: Net>(rt: &R, alloc: Global, loops: Loops) -> Result<Pollers, ServeFault>
+        ensures faults { IfErr result (λ fault. IsRunFault fault) }
+    {
         let mut pollers = Pollers {
             main: LoopDriver::new(rt, alloc).map_err(of_poller)?,
             loops: Vec::new(alloc),
-            homes: Vec::new(alloc),
+            handles: Vec::new(alloc),
         };
         for _ in 0..loops.count {
             pollers.open_loop(rt, alloc)?;
@@ -219,13 +215,15 @@ impl Pollers {
     }
 
     // Those of one loop more.
-    fn open_loop<R: Net>(&mut self, rt: &R, alloc: Global) -> Result<(), ServeFault> {
+    fn open_loop<R: Net>(&mut self, rt: &R, alloc: Global) -> Result<(), ServeFault>
+        ensures faults { IfErr result (λ fault. IsRunFault fault) }
+    {
         let driver = LoopDriver::new(rt, alloc).map_err(of_poller)?;
-        let home = Home::new(alloc, driver.remote()?)?;
-        let Some(published) = home.published.try_clone() else {
+        let handle = LoopHandle::new(alloc, driver.remote()?)?;
+        let Some(published) = handle.published.try_clone() else {
             return Err(ServeFault::Memory);
         };
-        self.homes.push(home)?;
+        self.handles.push(handle)?;
         self.loops.push(LoopParts { driver, published })?;
         Ok(())
     }

@@ -87,7 +87,7 @@ impl<R: Wait + Net + Files + Clock + Copy> MainLoop<R> {
         }
         Ok(Planned {
             rule: *rule,
-            served: ServedRule::new(self.alloc, rule, self.host.shared.homes.len())?,
+            served: ServedRule::new(self.alloc, rule, self.host.shared.loops.len())?,
             is_new: true,
         })
     }
@@ -132,11 +132,11 @@ impl<R: Wait + Net + Files + Clock + Copy> MainLoop<R> {
 
     // Listens for a rule that is new.
     fn listen_by(&mut self, rt: &R, served: &Arc<ServedRule>, now: u64) -> Result<(), ServeFault> {
-        let replaces_stale = self.replaces_stale();
         let MainLoop {
             alloc,
             tasks,
             host,
+            listeners,
             ..
         } = self;
         listen_by(
@@ -145,7 +145,7 @@ impl<R: Wait + Net + Files + Clock + Copy> MainLoop<R> {
             tasks,
             &host.shared.table,
             served,
-            replaces_stale,
+            listeners,
             now,
         )
     }

@@ -1,46 +1,52 @@
 //! A relay, from its sockets to its end.
 
-ghost use Rattle.std.specs.Prelude.{◌≡◌, ◌⊎◌, OnOk, IfErr};
-ghost use Rattle.relay.specs.Output.{SaysItListens};
+ghost use Rattle.std.specs.Prelude.{◌≡◌, IfErr};
+ghost use Rattle.relay.specs.Server.{given_in};
 ghost use Rattle.relay_admin.specs.ServeFault.{IsRunFault};
 ghost use Rattle.relay_admin.specs.declared.serve_fault.ServeFault.{ServeFault};
 
-use crate::accepting::AcceptHost;
-use crate::bounds::MeteredRuntime;
 use crate::close_wishes::CloseWishes;
 use crate::config::Config;
 use crate::ending::{close_listeners, empty_inboxes};
-use crate::home::Home;
+use crate::figures::RelayFigures;
+use crate::listening::{GivenListener, Listeners};
+use crate::loop_handle::LoopHandle;
 use crate::loops::LoopParts;
+use crate::main_host::MainHost;
 use crate::main_loop::MainLoop;
 use crate::opening::{Pollers, open_admin};
-use crate::outlets::{Outlets, StartedOutlets};
-use crate::output::write_listening;
 use crate::session::MAX_SESSIONS;
 use crate::sessions::Sessions;
 use crate::shared::Shared;
 use crate::stopping::StopFlag;
 use crate::threads::StartedThreads;
 use conntable::ConnTable;
+use log_writer::Log;
 use readiness::{EventLoop, LoopRemote};
 use relay_admin::ServeFault;
+use relay_conn::bound_path::BoundPath;
 use relay_conn::clock::RelayClock;
 use relay_conn::counts::Counter;
 use relay_conn::totals::Totals;
 use std::alloc::Global;
 use std::fs::Files;
-use std::io::Write;
+use std::mem;
+use std::net::{Net, TcpListener, TcpStream};
 use std::sync::atomic::AtomicBool;
 use std::sync::{Arc, Mutex, Wait};
+use std::thread::Threads;
 use std::time::{Clock, Instant};
 
 /// A relay. It isn't `Drop`: `end` alone lets it go, so that a way out which leaves a thread, a
 /// socket or a bound path doesn't compile.
-pub(crate) struct Server<R: Wait + Clock + Copy> {
+pub struct Server<R: Wait + Clock + Copy> {
     main: MainLoop<R>,
     sessions: Sessions,
+    /// What its loops are started with, by their places, until they are.
+    loops: Vec<LoopParts>,
     threads: StartedThreads,
-    outlets: StartedOutlets,
+    /// The path of the admin socket, once it is bound.
+    admin: Option<BoundPath>,
 }
 
 // What the threads share, where nobody has stopped, and no entry stands.
@@ -48,7 +54,7 @@ fn shared_of(
     alloc: Global,
     config: Config,
     main: Arc<LoopRemote>,
-    homes: Vec<Home>,
+    loops: Vec<LoopHandle>,
 ) -> Result<Arc<Shared>, ServeFault>
     ensures faults { IfErr result (λ fault. fault ≡ ServeFault.Memory) }
 {
@@ -66,7 +72,7 @@ fn shared_of(
         closes: CloseWishes::none(alloc)?,
         is_finishing: AtomicBool::new(false),
         main,
-        homes,
+        loops,
         stop: StopFlag::new(),
         limit: capacity.pairs,
         safeguards,
@@ -78,20 +84,36 @@ fn shared_of(
     Ok(Arc::new(alloc, shared)?)
 }
 
-impl<R: MeteredRuntime + Files> Server<R> {
-    /// A relay with its pollers and with the memory that its threads share, and what its loops are
-    /// started with, by their places: it has no socket and no thread yet, and has bound no path.
-    pub(crate) fn new(
-        rt: R,
-        alloc: Global,
-        config: Config,
-    ) -> Result<(Server<R>, Vec<LoopParts>), ServeFault> {
+// (its bounds are spelt out: a program that calls it over `RelayRuntime` isn't covered by the
+// prover)
+impl<R> Server<R>
+where
+    R: Wait
+        + Threads
+        + Net<Listener = TcpListener, Stream = TcpStream>
+        + Clock
+        + Files
+        + Copy
+        + Send
+        + Sync
+        + 'static,
+{
+    /// A relay with its pollers and with the memory that its threads share: it has no socket and no
+    /// thread yet, and has bound no path.
+    pub fn new(rt: R, alloc: Global, config: Config) -> Result<Server<R>, ServeFault>
+        ensures faults { IfErr result (λ fault. IsRunFault fault) }
+    {
         let Ok(start) = Instant::now(&rt) else {
             return Err(ServeFault::Device);
         };
-        let Pollers { main, loops, homes } = Pollers::open(&rt, alloc, config.capacity.loops)?;
-        let shared = shared_of(alloc, config, main.remote()?, homes)?;
-        let host = AcceptHost {
+        let Pollers {
+            main,
+            loops,
+            handles,
+        } = Pollers::open(&rt, alloc, config.capacity.loops)?;
+        let replaces_stale = config.safeguards.replaces_stale;
+        let shared = shared_of(alloc, config, main.remote()?, handles)?;
+        let host = MainHost {
             rt,
             clock: RelayClock::new(rt, start),
             shared,
@@ -99,91 +121,120 @@ impl<R: MeteredRuntime + Files> Server<R> {
             callers: Vec::new(alloc),
             named: [false; MAX_SESSIONS],
         };
-        let server = Server {
+        Ok(Server {
             main: MainLoop {
                 alloc,
                 tasks: EventLoop::on(main),
                 host,
+                listeners: Listeners {
+                    given: Vec::new(alloc),
+                    replaces_stale,
+                },
                 admin: 0,
                 finish_at: None,
             },
             sessions: Sessions::none(alloc)?,
+            loops,
             threads: StartedThreads::none(alloc),
-            outlets: StartedOutlets::none(),
-        };
-        Ok((server, loops))
+            admin: None,
+        })
     }
 
-    // Opens all sockets, the listeners in the order of the rules.
-    fn open_sockets<L>(&mut self, admin: &str, outlets: Outlets<L>) -> Result<(), ServeFault>
-    where
-        L: Write + Drop + Send + 'static,
+    /// Has it take these listeners, in place of those that it was given before: a rule, also one
+    /// that a reload brings, and the admin socket take the one at their address, and leave its path.
+    pub fn give(&mut self, listeners: Vec<GivenListener>)
+        ensures given { given_in self.new ≡ listeners.items }
     {
-        let Outlets { log, metrics } = outlets;
-        self.outlets.start_log(&self.main, log)?;
+        self.main.listeners.given = listeners;
+    }
+
+    /// The listeners that it was given and that nobody has taken.
+    pub fn unused(&self) -> &[GivenListener]
+        ensures given { result.now ≡ given_in self.now }
+    {
+        self.main.listeners.given.as_slice()
+    }
+
+    /// Opens all sockets: the listeners in the order of the rules, then the admin socket at this
+    /// path. The faults are `Listen`, with the first rule that can't be listened for, `Admin`,
+    /// `Device` and `Memory`; what was opened before stands, for `end`.
+    pub fn open(&mut self, admin: &str) -> Result<(), ServeFault> {
         self.main.listen()?;
-        let rt = self.main.host.rt;
-        let replaces_stale = self.main.replaces_stale();
-        let path = &mut self.outlets.admin;
-        let alloc = self.main.alloc;
-        self.main.admin = open_admin(
+        let Server {
+            main,
+            admin: path,
+            ..
+        } = self;
+        let (rt, alloc) = (main.host.rt, main.alloc);
+        main.admin = open_admin(
             &rt,
             alloc,
-            &mut self.main.tasks,
+            &mut main.tasks,
             admin,
-            replaces_stale,
+            &mut main.listeners,
             path,
         )?;
-        self.outlets.serve_metrics(&self.main, &metrics)
+        Ok(())
     }
 
-    // Opens all sockets, and starts the threads. After a fault what was opened and started stands,
-    // for `end`.
-    fn open<L>(
-        &mut self,
-        loops: Vec<LoopParts>,
-        admin: &str,
-        outlets: Outlets<L>,
-    ) -> Result<(), ServeFault>
-    where
-        L: Write + Drop + Send + 'static,
+    /// Starts the loops' threads. After a fault those that were started run on, for `end`.
+    pub fn start(&mut self) -> Result<(), ServeFault>
+        ensures faults { IfErr result (λ fault. fault ≡ ServeFault.Memory) }
     {
-        self.open_sockets(admin, outlets)?;
+        let loops = mem::replace(&mut self.loops, Vec::new(self.main.alloc));
         self.threads.start_loops(&self.main, loops)
     }
 
-    /// Opens all, says that the relay listens, and turns until an admin session says stop, until it
-    /// has finished, or until something fails. The threads are started before, so that nothing which is refused after the
-    /// line ends it.
-    pub(crate) fn run<L, W: Write>(
-        &mut self,
-        loops: Vec<LoopParts>,
-        admin: &str,
-        outlets: Outlets<L>,
-        writer: &mut W,
-    ) -> Result<(), ServeFault>
-    where
-        L: Write + Drop + Send + 'static,
-        ensures said { OnOk result (SaysItListens (W.contents writer.old) (W.contents writer.new)) }
-        ensures unwritten { IfErr result (λ fault. IsRunFault fault
-            ⊎ (W.contents writer.new ≡ W.contents writer.old)) }
+    /// Turns until an admin session says stop, until the relay has finished, or until something
+    /// fails.
+    pub fn run(&mut self) -> Result<(), ServeFault>
+        ensures faults { IfErr result (λ fault. IsRunFault fault) }
     {
-        self.open(loops, admin, outlets)?;
-        let rules = self.main.host.shared.rules.lock(&self.main.host.rt).len() as u64;
-        write_listening(writer, rules)?;
         self.main.turn_until_stop(&mut self.sessions)
+    }
+
+    /// How many rules it has.
+    pub fn rules(&self) -> u64 {
+        self.main.host.shared.rules.lock(&self.main.host.rt).len() as u64
+    }
+
+    /// Whether a Unix socket at which nobody listens any more gives way to a listener.
+    pub fn replaces_stale(&self) -> bool {
+        self.main.listeners.replaces_stale
+    }
+
+    /// Where its lines go, if it has a log. Refused is only a count that is held too often.
+    pub fn log(&self) -> Result<Option<Arc<Log>>, ServeFault>
+        ensures faults { IfErr result (λ fault. fault ≡ ServeFault.Memory) }
+    {
+        match &self.main.host.shared.log {
+            Some(log) => Ok(Some(Arc::try_clone(log)?)),
+            None => Ok(None),
+        }
+    }
+
+    /// What reads its figures. Refused is only a count that is held too often.
+    pub fn figures(&self) -> Result<RelayFigures<R>, ServeFault>
+        ensures faults { IfErr result (λ fault. fault ≡ ServeFault.Memory) }
+    {
+        Ok(RelayFigures {
+            rt: self.main.host.rt,
+            clock: self.main.host.clock,
+            shared: Arc::try_clone(&self.main.host.shared)?,
+        })
     }
 
     /// Ends all that was opened and started, whatever came before, and gives the totals of the
     /// books.
-    pub(crate) fn end(self) -> Result<Totals, ServeFault>
+    pub fn end(self) -> Result<Totals, ServeFault>
         ensures faults { IfErr result (λ fault. IsRunFault fault) }
     {
         let Server {
             main,
             sessions,
+            loops: _,
             threads,
-            outlets,
+            admin,
         } = self;
         let alloc = main.alloc;
         let stopped = main.host.shared.stop();
@@ -192,7 +243,9 @@ impl<R: MeteredRuntime + Files> Server<R> {
         let joined = threads.join(&rt, stopped, ended);
         close_listeners(&rt, &shared, &joined);
         empty_inboxes(&rt, alloc, &shared, &joined);
-        outlets.end(&rt);
+        if let Some(path) = admin {
+            path.remove(&rt);
+        }
         joined.totals()
     }
 }

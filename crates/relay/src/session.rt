@@ -1,5 +1,5 @@
 //! An admin session: it has the lines of its client answered one at a time, each only once the
-//! reply before is written. No call of it waits.
+//! reply before is written; a listing is a line of it at a time. No call of it waits.
 
 ghost use Rattle.std.specs.Prelude.{◌≡◌, IfSome, drop, false};
 ghost use Rattle.readiness.specs.Sockets.{read_from, written_to};
@@ -7,7 +7,7 @@ ghost use Rattle.relay.specs.Session as spec;
 
 use fd_descriptor::HalfClose;
 use readiness::{ReadHalf, Sock, WriteHalf};
-use relay_admin::{AdminEnd, AdminSession, Desk, Reply};
+use relay_admin::{AdminEnd, AdminSession, Desk, LineReply, Listing, Part, Reply};
 use rwloops::{Fault, Progress, read_now, write_now};
 use std::alloc::Global;
 use std::mem;
@@ -39,6 +39,13 @@ struct Owed {
     end: Option<AdminEnd>,
 }
 
+/// A listing of which more is to be written, and how the session ends by it, if it does.
+#[derive(Drop)]
+struct Showing {
+    listing: Listing,
+    end: Option<AdminEnd>,
+}
+
 /// A session: both halves of its socket, its lines, and the reply that its client hasn't taken yet.
 #[derive(Drop)]
 pub(crate) struct Session {
@@ -46,6 +53,7 @@ pub(crate) struct Session {
     output: WriteHalf,
     lines: AdminSession,
     owed: Option<Owed>,
+    showing: Option<Showing>,
     /// Its client has said all.
     is_at_end: bool,
     /// Bytes went either way since this was looked at.
@@ -128,6 +136,7 @@ impl Session {
             output,
             lines: AdminSession::new(),
             owed: None,
+            showing: None,
             is_at_end: false,
             gets_on: false,
         })
@@ -158,8 +167,12 @@ impl Session {
         }
     }
 
-    // Has the desk answer the next line, if one is whole, or the last.
+    // Has the desk answer the next line, if one is whole, or the last; or goes on with a listing.
     fn answer<D: Desk>(&mut self, alloc: Global, desk: &mut D) -> bool {
+        if let Some(showing) = self.showing.take() {
+            self.show_on(alloc, desk, showing);
+            return true;
+        }
         let mut next = self.lines.next_reply(alloc, alloc, desk);
         if next.is_none() && self.is_at_end {
             next = match self.lines.last_reply(alloc, alloc, desk) {
@@ -169,10 +182,31 @@ impl Session {
         }
         match next {
             Some((reply, end)) => {
-                self.owe(reply, end);
+                self.begin(reply, end);
                 true
             }
             None => false,
+        }
+    }
+
+    // Begins the reply to a line.
+    fn begin(&mut self, reply: LineReply<Global>, end: Option<AdminEnd>) {
+        match reply {
+            LineReply::Whole(reply) => self.owe(reply, end),
+            LineReply::Each(listing) => self.showing = Some(Showing { listing, end }),
+        }
+    }
+
+    // Goes on with a listing: its next part is owed from then on, if there is anything to write.
+    fn show_on<D: Desk>(&mut self, alloc: Global, desk: &mut D, showing: Showing) {
+        let mut showing = showing;
+        match showing.listing.next_part(alloc, desk) {
+            Part::Gone => self.showing = Some(showing),
+            Part::Line(reply) => {
+                self.showing = Some(showing);
+                self.owe(reply, None);
+            }
+            Part::Last(reply) => self.owe(reply, showing.end),
         }
     }
 
@@ -210,8 +244,8 @@ impl Session {
         }
     }
 
-    /// Has the desk answer the next line, whose reply is owed from then on; or reads, where no line
-    /// is whole. No reply is owed before.
+    /// Has the desk answer the next line, or the next look of a listing, and owes what is to be
+    /// written from then on; or reads, where no line is whole. No reply is owed before.
     pub(crate) fn ask<D: Desk>(&mut self, alloc: Global, desk: &mut D) -> SessionStep {
         if self.answer(alloc, desk) {
             return SessionStep::Again;

@@ -2,7 +2,9 @@
 //! command may do what only that thread does, and no session waits for another: each has a few lines
 //! answered in a turn.
 
-ghost use Rattle.std.specs.Prelude.{◌≡◌, Some, None, IfErr, IfSome, slice_get};
+ghost use Rattle.std.specs.Prelude.{◌≡◌, ◌<◌, ◌↔◌, true, Some, None, length, slice_get};
+ghost use Rattle.std.specs.Prelude.{IfErr, IfSome, IfNone};
+ghost use Rattle.relay.specs.Sessions.{IsQuietest, NoneMayLeave, patience};
 ghost use Rattle.relay_admin.specs.declared.serve_fault.ServeFault.{ServeFault};
 
 use crate::close_wishes::CloseWishes;
@@ -21,8 +23,8 @@ use std::net::Net;
 use std::sync::Wait;
 use std::time::Clock;
 
-/// The most lines that a session has answered in a turn, or reads that it makes, so that others have
-/// theirs.
+/// The most lines that a session has answered in a turn, or looks at that a listing takes, or reads
+/// that it makes, so that others have theirs.
 const LINES_A_TURN: u32 = 8;
 
 /// A session in its place.
@@ -85,6 +87,18 @@ impl Seated {
     }
 }
 
+// Whether a session has got nowhere for longer than one that was found, if one was.
+fn is_quieter(session: &Box<Seated>, found: Option<(usize, &Box<Seated>)>) -> bool
+    ensures some { IfSome found.entry (λ before. result ≡ true
+        ↔ patience session.now < patience before.1.now) }
+    ensures none { IfNone found.entry (result ≡ true) }
+{
+    match found {
+        Some((_, before)) => session.until < before.until,
+        None => true,
+    }
+}
+
 impl Sessions {
     /// None, with room for as many as may be.
     pub(crate) fn none(alloc: Global) -> Result<Sessions, ServeFault>
@@ -109,15 +123,19 @@ impl Sessions {
         None
     }
 
-    // The session that has got nowhere for longest, by its place and its token. One whose reply
-    // waits for a close isn't asked.
-    fn quietest(&self) -> Option<(usize, u64)> {
-        let (mut found, mut earliest) = (None, u64::MAX);
+    // The session that has got nowhere for longest, with its place. One whose reply waits for a
+    // close isn't asked.
+    fn quietest(&self) -> Option<(usize, &Box<Seated>)>
+        ensures longest { IfSome result (λ found.
+            IsQuietest self.now.places.items found.0 found.1.now) }
+        ensures none { IfNone result
+            (NoneMayLeave self.now.places.items (length self.now.places.items)) }
+    {
+        let mut found: Option<(usize, &Box<Seated>)> = None;
         for place in 0..self.places.len() {
-            if let Some(seated) = &self.places[place] {
-                if !seated.is_held && seated.until < earliest {
-                    earliest = seated.until;
-                    found = Some((place, seated.token));
+            if let Some(session) = &self.places[place] {
+                if !session.is_held && is_quieter(session, found) {
+                    found = Some((place, session));
                 }
             }
         }
@@ -132,7 +150,8 @@ impl Sessions {
         if let Some(place) = self.vacant() {
             return Some(place);
         }
-        let (place, token) = self.quietest()?;
+        let (place, session) = self.quietest()?;
+        let token = session.token;
         self.end(main, place, token);
         main.host.shared.dropped_sessions.add(1);
         Some(place)

@@ -4,7 +4,7 @@ ghost use Rattle.std.specs.Prelude.{◌≡◌, IfSome};
 ghost use Rattle.std.specs.Arc.{arc_value};
 
 use crate::connecting::Waiting;
-use crate::home::Accepted;
+use crate::loop_handle::Accepted;
 use crate::loops::{ConnLoop, ConnTask, LoopContext, LoopHost};
 use readiness::{Poller, Sock, connect_io};
 use relay_admin::Addr;
@@ -54,7 +54,7 @@ impl<R: Wait + Net + Clock + Copy> LoopContext<R> {
         ensures rule { IfSome result (λ facts.
             (arc_value facts).acceptance.rule ≡ acceptance.now.rule) }
     {
-        let facts = ConnectionFacts::new(acceptance.try_clone()?, self.home);
+        let facts = ConnectionFacts::new(acceptance.try_clone()?, self.place);
         Arc::new(self.alloc, facts).ok()
     }
 
@@ -66,7 +66,7 @@ impl<R: Wait + Net + Clock + Copy> LoopContext<R> {
 
     // A client isn't served, since there is no target, or no room.
     fn refuse(&self, acceptance: &Acceptance, how: How) {
-        if let Some(counts) = acceptance.served.counts.of_loop(self.home) {
+        if let Some(counts) = acceptance.served.counts.of_loop(self.place) {
             counts.note_refused(how);
         }
         let now = self.clock.now();
@@ -75,7 +75,7 @@ impl<R: Wait + Net + Clock + Copy> LoopContext<R> {
 
     // A connection is about to go on.
     fn note_begin(&self, acceptance: &Acceptance) {
-        if let Some(counts) = acceptance.served.counts.of_loop(self.home) {
+        if let Some(counts) = acceptance.served.counts.of_loop(self.place) {
             counts.note_begin();
         }
     }

@@ -4,7 +4,7 @@
 //! rule's or a cell's, a remote's. The inboxes' are held alone.
 
 use crate::close_wishes::CloseWishes;
-use crate::home::Home;
+use crate::loop_handle::LoopHandle;
 use crate::safeguards::Safeguards;
 use crate::session::MAX_SESSIONS;
 use crate::stopping::{StopFlag, Stopped};
@@ -33,7 +33,7 @@ pub(crate) struct Shared {
     /// The remote of the main thread's loop, which accepts.
     pub(crate) main: Arc<LoopRemote>,
     /// The loops', by their places.
-    pub(crate) homes: Vec<Home>,
+    pub(crate) loops: Vec<LoopHandle>,
     pub(crate) stop: StopFlag,
     /// How many connections stand at once.
     pub(crate) limit: PairLimit,
@@ -54,15 +54,15 @@ pub(crate) struct Shared {
 
 impl Shared {
     // The loop with the fewest connections; none where as many stand as may.
-    fn place(&self) -> Option<&Home> {
+    fn place(&self) -> Option<&LoopHandle> {
         let mut counts = ArrayVec::<u64, MAX_LOOPS>::new();
         let mut all = 0u64;
-        for home in self.homes.iter() {
-            let count = home.connections();
+        for handle in self.loops.iter() {
+            let count = handle.connections();
             all = all.saturating_add(count);
             let _ = counts.try_push(count);
         }
-        self.homes.get(place_of_pair(counts.as_slice(), all as usize, self.limit)?)
+        self.loops.get(place_of_pair(counts.as_slice(), all as usize, self.limit)?)
     }
 
     /// Delivers a socket that was accepted just now to the loop with the fewest connections. One
@@ -78,7 +78,7 @@ impl Shared {
             return;
         }
         let is_there = match self.place() {
-            Some(home) => home.deliver(rt, sock, acceptance),
+            Some(handle) => handle.deliver(rt, sock, acceptance),
             None => false,
         };
         if !is_there {
@@ -113,8 +113,8 @@ impl Shared {
     /// How many connections stand, those among them that are being set up.
     pub(crate) fn standing(&self) -> u64 {
         let mut all = 0u64;
-        for home in self.homes.iter() {
-            all = all.saturating_add(home.connections());
+        for handle in self.loops.iter() {
+            all = all.saturating_add(handle.connections());
         }
         all
     }
@@ -145,7 +145,7 @@ impl Shared {
     /// Tells the main thread and all loops that no more turns are wanted.
     pub(crate) fn stop(&self) -> Stopped {
         let stopped = self.stop.set();
-        stopped.wake_loops(&self.main, self.homes.as_slice());
+        stopped.wake_loops(&self.main, self.loops.as_slice());
         stopped
     }
 

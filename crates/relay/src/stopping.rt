@@ -1,7 +1,7 @@
 //! The stop of a relay: its flag is set before anybody is woken, so that whoever wakes sees it. A
 //! loop that looked before would sleep for a second more.
 
-use crate::home::Home;
+use crate::loop_handle::LoopHandle;
 use readiness::LoopRemote;
 use std::sync::atomic::{AtomicBool, Ordering};
 
@@ -38,10 +38,10 @@ impl StopFlag {
 
 impl Stopped {
     /// Ends the wait of the main thread's loop and of each other, or its next one.
-    pub(crate) fn wake_loops(self, main: &LoopRemote, homes: &[Home]) {
+    pub(crate) fn wake_loops(self, main: &LoopRemote, loops: &[LoopHandle]) {
         main.wake();
-        for home in homes {
-            home.remote.wake();
+        for handle in loops {
+            handle.remote.wake();
         }
     }
 }

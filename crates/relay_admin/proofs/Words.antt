@@ -8,9 +8,9 @@ pub use Rattle.relay_admin.specs.admin.CommandReading.{arguments_of_parts, words
 pub use Rattle.relay_admin.specs.admin.Devices.{IsFlushedOrUntouched}
 pub use Rattle.relay_admin.specs.admin.Progress.{Position, start, IsReady, Meanwhile, Advances, progress_of}
 pub use Rattle.relay_admin.specs.admin.Progress.{AnswersLine, Closes}
-pub use Rattle.relay_admin.specs.admin.Reply.{Exchange, bad_command}
+pub use Rattle.relay_admin.specs.admin.Reply.{Exchange, bad_command, questions_of}
 pub use Rattle.relay_admin.specs.admin.Transcript.{LineTranscript, too_long, no_command, finishes, asks, ended}
-pub use Rattle.relay_admin.specs.admin.Transcript.{Transcript, no_line, last_line, line_limit, line_then, questions_of}
+pub use Rattle.relay_admin.specs.admin.Transcript.{Transcript, no_line, last_line, line_limit, line_then}
 pub use Rattle.relay_admin.specs.admin.Transcript.{Ending, IsTranscriptOf, Serves, ServesWholeLines, cut_off, cut_line}
 pub use Rattle.relay_admin.specs.declared.admin.command.Command.{Command}
 pub use Rattle.relay_admin.specs.declared.admin.dialogue.TheConstants.{MAX_LINES, MAX_LINE_BYTES}

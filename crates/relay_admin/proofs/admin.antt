@@ -1,5 +1,6 @@
 pub mod CommandLemmas
 pub mod LineTranscripts
+pub mod Listings
 pub mod OneDialogue
 pub mod Refusals
 pub mod SessionEnds

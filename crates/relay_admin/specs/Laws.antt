@@ -9,9 +9,9 @@ use Rattle.relay_admin.specs.rules.Grammar.{Entry, SpellsRule}
 use Rattle.relay_admin.specs.rules.Fault.{SaysRules, SaysFault}
 use Rattle.relay_admin.specs.rules.Reading.{address_at}
 use Rattle.relay_admin.specs.admin.Command.{SpellsCommand}
-use Rattle.relay_admin.specs.admin.Reply.{Exchange}
+use Rattle.relay_admin.specs.admin.Reply.{Exchange, questions_of}
 use Rattle.relay_admin.specs.admin.Shown.{Particulars, AreParticulars, shown_text}
-use Rattle.relay_admin.specs.admin.Transcript.{IsTranscriptOf, ended, questions_of}
+use Rattle.relay_admin.specs.admin.Transcript.{IsTranscriptOf, ended}
 
 -- addresses of one text are one address, and one address has one text
 abbrev pub OneTextAnAddress : Type 0

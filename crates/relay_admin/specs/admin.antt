@@ -1,6 +1,8 @@
 pub mod Command
 pub mod CommandReading
 pub mod Devices
+pub mod Listing
+pub mod Parts
 pub mod Progress
 pub mod Refusal
 pub mod Reply

@@ -8,12 +8,15 @@
 //! | a reply | `reply_text`: its words; `reply`: which answer has it |
 //! | a reply that refuses | `refusal`: its first word, if it is none of those there |
 //! | a word of what is shown | `shown`: its field, and its place in the line |
+//! | a reply that comes in parts | `listing`: its parts; `line_reply`: which answer has it |
 
 pub mod command;
 pub mod desk;
 pub mod dialogue;
 pub mod end;
 pub mod line_answer;
+pub mod line_reply;
+pub mod listing;
 pub mod refusal;
 pub mod reply;
 pub mod reply_bytes;

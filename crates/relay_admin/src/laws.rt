@@ -8,7 +8,7 @@ ghost use Rattle.relay_admin.specs.declared.admin.reply_text.TheConstants.{CANNO
 ghost use Rattle.relay_admin.specs.declared.admin.reply_text.TheConstants.{CANNOT_READ};
 ghost use Rattle.relay_admin.specs.declared.admin.reply_text.TheConstants.{DONE, DRAINING};
 ghost use Rattle.relay_admin.specs.declared.admin.reply_text.TheConstants.{NO_SUCH_CONNECTION};
-ghost use Rattle.relay_admin.specs.declared.admin.reply_text.TheConstants.{OUT_OF_MEMORY};
+ghost use Rattle.relay_admin.specs.declared.admin.reply_text.TheConstants.{OUT_OF_MEMORY, SHOWN_ALL};
 ghost use Rattle.relay_admin.specs.declared.rules.addr.TheConstants.{MAX_ADDR_BYTES};
 ghost use Rattle.relay_admin.specs.declared.rules.addr.TheConstants.{MAX_PATH_BYTES};
 ghost use Rattle.relay_admin.specs.declared.rules.file.TheConstants.{MAX_BYTES, MAX_RULES};
@@ -80,6 +80,7 @@ pub fn the_limits_of_a_session_in_figures()
 /// which they are.
 pub fn the_fixed_replies_in_words()
     ensures done { DONE.now ≡ codes "ok" ++ 10 ∷ [] }
+    ensures shown_all { SHOWN_ALL.now ≡ codes "end" ++ 10 ∷ [] }
     ensures bad_command { BAD_COMMAND.now ≡ codes "error 400 bad command" ++ 10 ∷ [] }
     ensures unknown { NO_SUCH_CONNECTION.now ≡ codes "error 404 no such connection" ++ 10 ∷ [] }
     ensures closed { CLOSED.now ≡ codes "error 409 closed" ++ 10 ∷ [] }

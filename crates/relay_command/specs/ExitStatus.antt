@@ -1,7 +1,6 @@
 -- The exit statuses of the program.
-use Rattle.std.specs.Prelude.{◌≡◌, ◌==◌, ◌⊎◌, ℕ, Bool, List, [], ◌∷◌, if◌then◌else◌}
-use Rattle.std.specs.List.{ends_with}
-use Rattle.relay_admin.specs.admin.Refusal.{reply_refuses}
+use Rattle.std.specs.Prelude.{◌≡◌, ◌||◌, ◌⊎◌, ℕ, List, if◌then◌else◌}
+use Rattle.relay_admin.specs.admin.Refusal.{reply_breaks_off, reply_refuses}
 use Rattle.lockword_script.specs.declared.outcome.TraceFault.{TraceFault}
 use Rattle.lockword_script.specs.declared.outcome.TraceFault.TheVariants as trace
 use Rattle.relay_admin.specs.declared.serve_fault.ServeFault.TheVariants as relay
@@ -20,13 +19,9 @@ fault_of_trace trace.Read = fault.TraceRead
 fault_of_trace trace.Write = fault.TraceWrite
 fault_of_trace trace.OutOfMemory = fault.TraceMemory
 
--- a text that ends with a line feed
-abbrev pub ends_a_line : List ℕ → Bool
-ends_a_line text = ends_with ◌==◌ text (10 ∷ [])
-
--- 1 for a reply that refuses, 0 for any other
+-- 1 for a reply that refuses or breaks off, 0 for any other
 abbrev pub status_of_reply : List ℕ → ℕ
-status_of_reply reply = if reply_refuses reply then 1 else 0
+status_of_reply reply = if reply_refuses reply || reply_breaks_off reply then 1 else 0
 
 -- no whole reply came, it couldn't be printed, or memory was refused
 abbrev pub IsFaultOfReply : Fault → Type 0

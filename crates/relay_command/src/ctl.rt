@@ -9,23 +9,25 @@
 ghost use Rattle.std.specs.Prelude.{◌≡◌, ◌⊎◌, IfErr, IfOk, IfSome, true};
 ghost use Rattle.std.specs.Io.KnownBytes.{Appends};
 ghost use Rattle.relay_command.specs.declared.fault.Fault.{Fault};
-ghost use Rattle.relay_command.specs.ExitStatus.{IsFaultOfReply, ends_a_line, status_of_reply};
+ghost use Rattle.relay_admin.specs.admin.Refusal as refusal;
+ghost use Rattle.relay_command.specs.ExitStatus.{IsFaultOfReply, status_of_reply};
 
 use crate::fault::{Fault, NO_MEMORY};
-use relay_admin::reply_refuses;
+use relay_admin::{Command, reply_breaks_off, reply_is_whole, reply_refuses};
 use std::alloc::Global;
 use std::io::{ErrorKind, Read, Write};
 
 /// Prints the reply to a command, which is all that a session that ends by it still gives, and says
-/// the exit status. A reply without its line feed at the end isn't whole: the relay went away.
-/// Nothing is printed then.
+/// the exit status. A reply without its line feed at the end isn't whole, nor is a listing without
+/// its last line: the relay went away. Nothing is printed then.
 pub fn reply_status<R: Read, W: Write>(
     alloc: Global,
+    command: &Command,
     reader: &mut R,
     writer: &mut W,
 ) -> Result<u8, Fault>
     ensures told { IfOk result (λ status. IfSome (R.remaining reader.old) (λ reply.
-        (ends_a_line reply ≡ true) × (status ≡ status_of_reply reply)
+        (refusal.reply_is_whole command.now reply ≡ true) × (status ≡ status_of_reply reply)
         × Appends (W.contents writer.old) (W.contents writer.new) reply)) }
     ensures fault { IfErr result (λ fault. IsFaultOfReply fault) }
     // Of a reply that isn't whole, or that memory was refused for, nothing is printed.
@@ -38,7 +40,7 @@ pub fn reply_status<R: Read, W: Write>(
         Err(error) if error.kind() == ErrorKind::OutOfMemory => return Err(NO_MEMORY),
         Err(_) => return Err(Fault::Reach),
     }
-    if !reply.as_slice().ends_with(b"\n".as_slice()) {
+    if !reply_is_whole(command, reply.as_slice()) {
         return Err(Fault::Reach);
     }
     match writer.write_all(reply.as_slice()) {
@@ -50,5 +52,9 @@ pub fn reply_status<R: Read, W: Write>(
 fn status_of(reply: &[u8]) -> u8
     ensures { result ≡ status_of_reply reply.now }
 {
-    if reply_refuses(reply) { 1 } else { 0 }
+    if reply_refuses(reply) || reply_breaks_off(reply) {
+        1
+    } else {
+        0
+    }
 }

@@ -20,8 +20,8 @@ pollrelay check --rules FILE
     says whether a rules file is good
 pollrelay ctl --admin PATH WORD..
     has a relay carry out an admin command, and prints its reply:
-    list, totals, show ID, close ID, drain ID, deadline ID MS, deadline ID never,
-    reload, finish MS, stop
+    list, totals, show, show ID, close ID, drain ID, deadline ID MS,
+    deadline ID never, reload, finish MS, stop
 pollrelay trace
     runs a script of the lock word on standard input; without a word, likewise
 pollrelay help, pollrelay version

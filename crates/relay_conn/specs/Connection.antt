@@ -10,9 +10,9 @@ use Rattle.relay_core.specs.declared.ways.Side.TheVariants.{Client, Target}
 use Rattle.relay_core.specs.declared.ways.Way.{Way}
 use Rattle.relay_core.specs.declared.ways.Way.TheVariants.{Up, Down}
 use Rattle.relay_core.specs.declared.pair_tasks.PairTasks.{PairTasks}
-use Rattle.relay_core.specs.declared.pair_tasks.Standing.TheVariants.{Ready, Over}
+use Rattle.relay_core.specs.declared.pair_tasks.FlowState.TheVariants.{Ready, Over}
 use Rattle.relay_core.specs.declared.source_state.SourceState.{SourceState}
-use Rattle.relay_core.specs.PairTasks.{standing_of, WaitsForEvent}
+use Rattle.relay_core.specs.PairTasks.{flow_state_of, WaitsForEvent}
 use Rattle.relay_core.specs.SourceState.{resumed}
 
 -- the side of a pair whose descriptor is on this side of its place
@@ -24,13 +24,13 @@ side_of_pair Second = Target
 -- direction that it waits for; a name, unless it has ended; its next turn, where it gave way
 abbrev pub GoesOn : PairTasks → Why → Way → Type 0
 GoesOn tasks (why.Ready side read write stop_ahead) way =
-    WaitsForEvent (standing_of tasks way) way (side_of_pair side) read write
+    WaitsForEvent (flow_state_of tasks way) way (side_of_pair side) read write
 GoesOn tasks (why.Due side dir.Read now) way =
-    WaitsForEvent (standing_of tasks way) way (side_of_pair side) true false
+    WaitsForEvent (flow_state_of tasks way) way (side_of_pair side) true false
 GoesOn tasks (why.Due side dir.Write now) way =
-    WaitsForEvent (standing_of tasks way) way (side_of_pair side) false true
-GoesOn tasks why.Named way = standing_of tasks way ≢ Over
-GoesOn tasks why.Again way = standing_of tasks way ≡ Ready
+    WaitsForEvent (flow_state_of tasks way) way (side_of_pair side) false true
+GoesOn tasks why.Named way = flow_state_of tasks way ≢ Over
+GoesOn tasks why.Again way = flow_state_of tasks way ≡ Ready
 
 -- whether a loop heard that reads of a way's source stop somewhere ahead
 abbrev pub stop_told : Why → Way → Bool

@@ -44,4 +44,4 @@ loops_of counts = length counts.by_loop.items
 
 -- what the loop at this place counts; all loops' are alike, so it says whether there is such a loop
 abbrev pub counts_of_loop : ℕ → RuleCounts → Option LoopCounts
-counts_of_loop home counts = slice_get counts.by_loop.items home
+counts_of_loop place counts = slice_get counts.by_loop.items place

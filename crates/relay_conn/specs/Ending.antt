@@ -3,8 +3,8 @@ use Rattle.std.specs.Prelude.{Option, Some, None, option_map}
 use Rattle.relay_core.specs.declared.copying.Ended.{Ended}
 use Rattle.relay_core.specs.declared.copying.Ended.TheVariants.{Eof}
 use Rattle.relay_core.specs.declared.pair_tasks.PairTasks.{PairTasks}
-use Rattle.relay_core.specs.declared.pair_tasks.Standing.{Standing}
-use Rattle.relay_core.specs.declared.pair_tasks.Standing.TheVariants.{Over}
+use Rattle.relay_core.specs.declared.pair_tasks.FlowState.{FlowState}
+use Rattle.relay_core.specs.declared.pair_tasks.FlowState.TheVariants.{Over}
 use Rattle.relay_core.specs.declared.passing.Step.{Step}
 use Rattle.relay_core.specs.declared.passing.Step.TheVariants as step
 use Rattle.relay_core.specs.declared.ways.Way.{Way}
@@ -37,7 +37,7 @@ failure_given_up (Some failure) = Some failure
 failure_given_up None = Some (how.NoTarget Timeout)
 
 -- of a connection of which no way has failed, both came to their end, or the relay ended it
-abbrev pub how_unfailed : (up down : Standing) → How
+abbrev pub how_unfailed : (up down : FlowState) → How
 how_unfailed Over Over = how.Eof
 how_unfailed Over other = how.Closed
 how_unfailed other down = how.Closed

@@ -8,5 +8,6 @@ pub mod Ending
 pub mod Handle
 pub mod HowEnded
 pub mod Reach
+pub mod SetUp
 pub mod Shown
 pub mod Subject

@@ -2,8 +2,7 @@
 
 ghost use Rattle.std.specs.Prelude.{◌≡◌, IfSome, IfNone};
 ghost use Rattle.relay_ledger.specs.Book.{OpensOne};
-ghost use Rattle.relay_ledger.specs.declared.book.TheConstants.{PARTS};
-ghost use Rattle.relay_conn.specs.Books.{TakesBack};
+ghost use Rattle.relay_conn.specs.Books.{IsBlankOf, TakesBack};
 
 use crate::totals::{Published, PublishedTotals, ToClients, ToTargets, Total, Totals};
 use relay_core::Credits;
@@ -77,12 +76,8 @@ pub struct LoopBooks<U: Ledger, D: Ledger> {
 impl<U: Ledger, D: Ledger> LoopBooks<U, D> {
     /// Empty books, whose totals are told there.
     pub fn new(up: Blank, down: Blank, published: PublishedTotals) -> LoopBooks<U, D>
-        requires up_name { up.name ≡ U.name }
-        requires up_parts { up.parts ≡ U.parts }
-        requires up_all { up.parts ≡ PARTS }
-        requires down_name { down.name ≡ D.name }
-        requires down_parts { down.parts ≡ D.parts }
-        requires down_all { down.parts ≡ PARTS }
+        requires up { IsBlankOf U.name U.parts up }
+        requires down { IsBlankOf D.name D.parts down }
         ensures up { result.up.book.total ≡ 0 }
         ensures down { result.down.book.total ≡ 0 }
     {

@@ -6,7 +6,7 @@ ghost use Rattle.readiness.specs.declared.loop_token.Side.{Side};
 ghost use Rattle.relay_core.specs.PairTasks.{HasToClose, MayGoOn};
 ghost use Rattle.relay_core.specs.declared.pair_tasks.PairNext.{PairNext};
 ghost use Rattle.relay_core.specs.declared.ways.Way.{Way};
-ghost use Rattle.relay_core.specs.PairTasks.{standing_of, standing_after, other_way};
+ghost use Rattle.relay_core.specs.PairTasks.{flow_state_of, flow_state_after, other_way};
 ghost use Rattle.relay_conn.specs.Connection.{GoesOn, HasHeard, side_of_pair, stop_told};
 ghost use Rattle.relay_conn.specs.Books.{TakesBack};
 ghost use Rattle.relay_conn.specs.Reach.{reach_after};
@@ -213,9 +213,9 @@ impl<U: Ledger, D: Ledger, R: Wait + Clock + Copy> Connection<U, D, R> {
 
     // Notes how far a way came, and the first end that is a failure.
     fn note(&mut self, way: Way, step: &Step)
-        ensures noted { standing_of self.new.tasks way ≡ standing_after step.now }
-        ensures kept { standing_of self.new.tasks (other_way way)
-            ≡ standing_of self.old.tasks (other_way way) }
+        ensures noted { flow_state_of self.new.tasks way ≡ flow_state_after step.now }
+        ensures kept { flow_state_of self.new.tasks (other_way way)
+            ≡ flow_state_of self.old.tasks (other_way way) }
         ensures failure { self.new.failure
             ≡ spec.failure_after self.old.failure self.old.reach way step.now }
         ensures reach { self.new.reach ≡ self.old.reach }

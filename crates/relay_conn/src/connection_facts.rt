@@ -69,22 +69,22 @@ fn more_than(was: u64, now: u64) -> u64
 pub struct ConnectionFacts {
     pub acceptance: Acceptance,
     /// The place of its loop.
-    pub home: usize,
+    pub loop_place: usize,
     up: AtomicU64,
     down: AtomicU64,
     last: AtomicU64,
 }
 
 impl ConnectionFacts {
-    /// A connection of this client, at the place `home` among the loops, that has passed nothing.
-    pub fn new(acceptance: Acceptance, home: usize) -> ConnectionFacts
+    /// A connection of this client, on the loop at this place, that has passed nothing.
+    pub fn new(acceptance: Acceptance, loop_place: usize) -> ConnectionFacts
         ensures acceptance { result.acceptance ≡ acceptance }
-        ensures home { result.home ≡ home }
+        ensures loop_place { result.loop_place ≡ loop_place }
     {
         let last = AtomicU64::new(acceptance.at);
         ConnectionFacts {
             acceptance,
-            home,
+            loop_place,
             up: AtomicU64::new(0),
             down: AtomicU64::new(0),
             last,
@@ -93,10 +93,10 @@ impl ConnectionFacts {
 
     /// What its loop counts of its rule.
     pub fn counts(&self) -> Option<&LoopCounts>
-        ensures { option_copied result ≡ counts_of_loop self.now.home
+        ensures { option_copied result ≡ counts_of_loop self.now.loop_place
             (arc_value self.now.acceptance.served).counts }
     {
-        self.acceptance.served.counts.of_loop(self.home)
+        self.acceptance.served.counts.of_loop(self.loop_place)
     }
 
     /// By this moment so many bytes in all were written to the target, and so many to the client.

@@ -242,15 +242,15 @@ impl RuleCounts {
         (up, down)
     }
 
-    /// Those of each loop, by the places of their homes.
+    /// Those of each loop, by its place.
     pub(crate) fn loops(&self) -> &[LoopCounts] {
         self.by_loop.as_slice()
     }
 
-    /// Those of one loop, by the place of its home.
-    pub fn of_loop(&self, home: usize) -> Option<&LoopCounts>
-        ensures { option_copied result ≡ spec.counts_of_loop home self.now }
+    /// Those of the loop at this place.
+    pub fn of_loop(&self, place: usize) -> Option<&LoopCounts>
+        ensures { option_copied result ≡ spec.counts_of_loop place self.now }
     {
-        self.by_loop.get(home)
+        self.by_loop.get(place)
     }
 }

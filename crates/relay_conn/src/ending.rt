@@ -6,17 +6,17 @@ ghost use Rattle.relay_conn.specs.Ending as spec;
 
 use crate::how_ended::{how_of, how_unreached};
 use crate::reach::Reach;
-use relay_core::{Ended, Standing, Step, Way};
+use relay_core::{Ended, FlowState, Step, Way};
 use relay_log::ended::{Cause, Ended as How};
 
 // How a connection ended of which no way has failed, and whose ways stand so. Where one goes on
 // still, the relay has ended it.
-pub(crate) fn how_unfailed(up: Standing, down: Standing) -> How
+pub(crate) fn how_unfailed(up: FlowState, down: FlowState) -> How
     ensures { result ≡ spec.how_unfailed up down }
 {
     match up {
-        Standing::Over => match down {
-            Standing::Over => How::Eof,
+        FlowState::Over => match down {
+            FlowState::Over => How::Eof,
             _ => How::Closed,
         },
         _ => How::Closed,

@@ -5,8 +5,9 @@ ghost use Rattle.std.specs.Arc.{arc_value};
 ghost use Rattle.base_types.specs.declared.direction.Dir.{Dir};
 ghost use Rattle.fd_descriptor.specs.CellKey.{key_of_cell};
 ghost use Rattle.fd_descriptor.specs.TaskHalf.{IsHalfOf};
-ghost use Rattle.relay_core.specs.declared.pair_tasks.Standing.{Standing};
+ghost use Rattle.relay_core.specs.declared.pair_tasks.FlowState.{FlowState};
 ghost use Rattle.relay_ledger.specs.Book.{OpensOne};
+ghost use Rattle.relay_conn.specs.SetUp.{IsSetUp};
 
 use crate::books::LoopBooks;
 use crate::clock::RelayClock;
@@ -49,8 +50,8 @@ pub struct SetUp<'a, R: Wait + Clock + Copy> {
 // A pair of which both reads are under way. Its sides were just registered, so that the poller
 // tells of what is there already.
 fn reading_tasks() -> PairTasks
-    ensures up { result.up ≡ Standing.Waits Dir.Read }
-    ensures down { result.down ≡ Standing.Waits Dir.Read }
+    ensures up { result.up ≡ FlowState.Waits Dir.Read }
+    ensures down { result.down ≡ FlowState.Waits Dir.Read }
 {
     let mut tasks = PairTasks::new();
     tasks.note(Way::Up, &Step::Waits(Dir::Read));
@@ -126,14 +127,8 @@ impl<'a, R: Wait + Clock + Copy> SetUp<'a, R> {
         requires none_inserted { inserted.old ≡ [] }
         ensures up { IfSome result (λ c. IsHalfOf target.writer c.up.gate.target) }
         ensures down { IfSome result (λ c. IsHalfOf client.writer c.down.gate.target) }
-        ensures up_idle { IfSome result (λ c. c.up.gate.idle.idle_ms
-            ≡ (arc_value facts).acceptance.rule.idle_ms) }
-        ensures down_idle { IfSome result (λ c. c.down.gate.idle.idle_ms
-            ≡ (arc_value facts).acceptance.rule.idle_ms) }
-        ensures facts { IfSome result (λ c. c.facts ≡ facts) }
-        ensures unfailed { IfSome result (λ c. c.failure ≡ None) }
-        ensures up_reads { IfSome result (λ c. c.tasks.up ≡ Standing.Waits Dir.Read) }
-        ensures down_reads { IfSome result (λ c. c.tasks.down ≡ Standing.Waits Dir.Read) }
+        ensures set_up { IfSome result (IsSetUp facts (key_of_cell (arc_value client.cell))
+            (key_of_cell (arc_value target.cell))) }
         ensures client { IfSome result (λ c. c.client.cell ≡ client.cell) }
         ensures target { IfSome result (λ c. c.target.cell ≡ target.cell) }
     {
@@ -183,18 +178,7 @@ impl<'a, R: Wait + Clock + Copy> SetUp<'a, R> {
         inserted: &mut InsertedSides,
     ) -> Option<Connection<U, D, R>>
         requires none_inserted { inserted.old ≡ [] }
-        ensures up_idle { IfSome result (λ c. c.up.gate.idle.idle_ms
-            ≡ (arc_value facts).acceptance.rule.idle_ms) }
-        ensures down_idle { IfSome result (λ c. c.down.gate.idle.idle_ms
-            ≡ (arc_value facts).acceptance.rule.idle_ms) }
-        ensures facts { IfSome result (λ c. c.facts ≡ facts) }
-        ensures unfailed { IfSome result (λ c. c.failure ≡ None) }
-        ensures up_reads { IfSome result (λ c. c.tasks.up ≡ Standing.Waits Dir.Read) }
-        ensures down_reads { IfSome result (λ c. c.tasks.down ≡ Standing.Waits Dir.Read) }
-        ensures client { IfSome result (λ c.
-            key_of_cell (arc_value c.client.cell) ≡ client.owner.token) }
-        ensures target { IfSome result (λ c.
-            key_of_cell (arc_value c.target.cell) ≡ target.owner.token) }
+        ensures set_up { IfSome result (IsSetUp facts client.owner.token target.owner.token) }
     {
         let (of_client, of_target) = subjects(&facts)?;
         let client = self.side(client, of_client)?;
@@ -221,18 +205,7 @@ impl<'a, R: Wait + Clock + Copy> SetUp<'a, R> {
         inserted: &mut InsertedSides,
     ) -> Option<Connection<U, D, R>>
         requires none_inserted { inserted.old ≡ [] }
-        ensures up_idle { IfSome result (λ c. c.up.gate.idle.idle_ms
-            ≡ (arc_value facts).acceptance.rule.idle_ms) }
-        ensures down_idle { IfSome result (λ c. c.down.gate.idle.idle_ms
-            ≡ (arc_value facts).acceptance.rule.idle_ms) }
-        ensures facts { IfSome result (λ c. c.facts ≡ facts) }
-        ensures unfailed { IfSome result (λ c. c.failure ≡ None) }
-        ensures up_reads { IfSome result (λ c. c.tasks.up ≡ Standing.Waits Dir.Read) }
-        ensures down_reads { IfSome result (λ c. c.tasks.down ≡ Standing.Waits Dir.Read) }
-        ensures client { IfSome result (λ c.
-            key_of_cell (arc_value c.client.cell) ≡ client.owner.token) }
-        ensures target { IfSome result (λ c.
-            key_of_cell (arc_value c.target.cell) ≡ target.owner.token) }
+        ensures set_up { IfSome result (IsSetUp facts client.owner.token target.owner.token) }
         ensures up_share { IfSome result (λ _. OpensOne books.old.up.book books.new.up.book) }
         ensures down_share { IfSome result (λ _.
             OpensOne books.old.down.book books.new.down.book) }
@@ -261,18 +234,7 @@ impl<'a, R: Wait + Clock + Copy> SetUp<'a, R> {
         target: OwnedSock,
         facts: Arc<ConnectionFacts>,
     ) -> Option<Connection<U, D, R>>
-        ensures up_idle { IfSome result (λ c. c.up.gate.idle.idle_ms
-            ≡ (arc_value facts).acceptance.rule.idle_ms) }
-        ensures down_idle { IfSome result (λ c. c.down.gate.idle.idle_ms
-            ≡ (arc_value facts).acceptance.rule.idle_ms) }
-        ensures facts { IfSome result (λ c. c.facts ≡ facts) }
-        ensures unfailed { IfSome result (λ c. c.failure ≡ None) }
-        ensures up_reads { IfSome result (λ c. c.tasks.up ≡ Standing.Waits Dir.Read) }
-        ensures down_reads { IfSome result (λ c. c.tasks.down ≡ Standing.Waits Dir.Read) }
-        ensures client { IfSome result (λ c.
-            key_of_cell (arc_value c.client.cell) ≡ client.owner.token) }
-        ensures target { IfSome result (λ c.
-            key_of_cell (arc_value c.target.cell) ≡ target.owner.token) }
+        ensures set_up { IfSome result (IsSetUp facts client.owner.token target.owner.token) }
         ensures up_share { IfSome result (λ _. OpensOne books.old.up.book books.new.up.book) }
         ensures down_share { IfSome result (λ _.
             OpensOne books.old.down.book books.new.down.book) }

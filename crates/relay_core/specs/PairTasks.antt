@@ -9,8 +9,8 @@ use Rattle.relay_core.specs.declared.ways.Side.{Side}
 use Rattle.relay_core.specs.declared.ways.Side.TheVariants.{Client, Target}
 use Rattle.relay_core.specs.declared.ways.Way.{Way}
 use Rattle.relay_core.specs.declared.ways.Way.TheVariants.{Up, Down}
-use Rattle.relay_core.specs.declared.pair_tasks.Standing.{Standing}
-use Rattle.relay_core.specs.declared.pair_tasks.Standing.TheVariants.{Waits, Ready, Over}
+use Rattle.relay_core.specs.declared.pair_tasks.FlowState.{FlowState}
+use Rattle.relay_core.specs.declared.pair_tasks.FlowState.TheVariants.{Waits, Ready, Over}
 use Rattle.relay_core.specs.declared.pair_tasks.PairTasks.{PairTasks}
 
 -- the side that a way reads from
@@ -28,10 +28,10 @@ abbrev pub called_side : Way → Dir → Side
 called_side way Read = source way
 called_side way Write = sink way
 
--- where a way stands
-abbrev pub standing_of : PairTasks → Way → Standing
-standing_of tasks Up = tasks.up
-standing_of tasks Down = tasks.down
+-- the state of a way
+abbrev pub flow_state_of : PairTasks → Way → FlowState
+flow_state_of tasks Up = tasks.up
+flow_state_of tasks Down = tasks.down
 
 -- the other way
 abbrev pub other_way : Way → Way
@@ -45,15 +45,15 @@ Has read write Write = write ≡ true
 
 -- a way that stands so waits for what an event of a side tells: that a call of this side, in the
 -- direction that it waits for, may be made again
-abbrev pub WaitsForEvent : Standing → Way → Side → (read write : Bool) → Type 0
+abbrev pub WaitsForEvent : FlowState → Way → Side → (read write : Bool) → Type 0
 WaitsForEvent (Waits dir) way side read write = (called_side way dir ≡ side) × Has read write dir
 WaitsForEvent _ way side read write = ⊥
 
--- where a way stands after a step
-abbrev pub standing_after : Step → Standing
-standing_after step.Again = Ready
-standing_after (step.Waits dir) = Waits dir
-standing_after (step.Ended ended) = Over
+-- the state of a way after a step
+abbrev pub flow_state_after : Step → FlowState
+flow_state_after step.Again = Ready
+flow_state_after (step.Waits dir) = Waits dir
+flow_state_after (step.Ended ended) = Over
 
 -- a step ended its way other than at the reader's end
 abbrev pub IsFailure : Step → Type 0

@@ -39,7 +39,7 @@ pub use lent::LoopMemory;
 pub use loops::{Loops, MAX_LOOPS};
 pub use pair::{InsertedSides, has_room_for_pair};
 pub use pair_limit::{DEFAULT_PAIRS, MAX_PAIRS, PairLimit};
-pub use pair_tasks::{PairNext, PairTasks, Standing, Ways};
+pub use pair_tasks::{FlowState, PairNext, PairTasks, Ways};
 pub use passing::Step;
 pub use placing::{loop_of, place_of_pair};
 pub use poll_accept::PollAcceptGate;

@@ -4,7 +4,7 @@
 
 ghost use Rattle.std.specs.Prelude.{◌≡◌, ◌≢◌, ◌⊎◌, ◌↔◌, true, false};
 ghost use Rattle.relay_core.specs.declared.ways.Way.TheVariants.{Up, Down};
-ghost use Rattle.relay_core.specs.PairTasks.{standing_of, standing_after, other_way};
+ghost use Rattle.relay_core.specs.PairTasks.{flow_state_of, flow_state_after, other_way};
 ghost use Rattle.relay_core.specs.PairTasks.{WaitsForEvent, IsFailure, HasToClose, MayGoOn};
 
 use crate::copying::Ended;
@@ -14,7 +14,7 @@ use base_types::Dir;
 
 /// Where a way of a pair stands between two of its turns.
 #[derive(Clone, Copy, Debug, PartialEq, Eq, Drop)]
-pub enum Standing {
+pub enum FlowState {
     /// It can't go on before the side that it calls is ready in this direction.
     Waits(Dir),
     /// It can go on at once.
@@ -53,21 +53,21 @@ pub enum PairNext {
 /// Where both ways of a pair stand, and whether one of them failed, which is never taken back.
 #[derive(Clone, Copy, Debug, PartialEq, Eq, Drop)]
 pub struct PairTasks {
-    pub up: Standing,
-    pub down: Standing,
+    pub up: FlowState,
+    pub down: FlowState,
     pub failed: bool,
 }
 
 impl PairTasks {
     /// A pair before its first turn: both ways may go on.
     pub fn new() -> PairTasks
-        ensures up { result.up ≡ Standing.Ready }
-        ensures down { result.down ≡ Standing.Ready }
+        ensures up { result.up ≡ FlowState.Ready }
+        ensures down { result.down ≡ FlowState.Ready }
         ensures failed { result.failed ≡ false }
     {
         PairTasks {
-            up: Standing::Ready,
-            down: Standing::Ready,
+            up: FlowState::Ready,
+            down: FlowState::Ready,
             failed: false,
         }
     }
@@ -87,48 +87,49 @@ impl PairTasks {
 
     /// The ways that may go on at once.
     pub fn ready(&self) -> Ways
-        ensures up { result.up ≡ true ↔ self.now.up ≡ Standing.Ready }
-        ensures down { result.down ≡ true ↔ self.now.down ≡ Standing.Ready }
+        ensures up { result.up ≡ true ↔ self.now.up ≡ FlowState.Ready }
+        ensures down { result.down ≡ true ↔ self.now.down ≡ FlowState.Ready }
     {
         Ways {
-            up: self.up == Standing::Ready,
-            down: self.down == Standing::Ready,
+            up: self.up == FlowState::Ready,
+            down: self.down == FlowState::Ready,
         }
     }
 
     /// The ways that haven't ended: those that a close, a drain, or a deadline from outside
     /// resumes.
     pub fn not_over(&self) -> Ways
-        ensures up { result.up ≡ true ↔ self.now.up ≢ Standing.Over }
-        ensures down { result.down ≡ true ↔ self.now.down ≢ Standing.Over }
+        ensures up { result.up ≡ true ↔ self.now.up ≢ FlowState.Over }
+        ensures down { result.down ≡ true ↔ self.now.down ≢ FlowState.Over }
     {
         Ways {
-            up: self.up != Standing::Over,
-            down: self.down != Standing::Over,
+            up: self.up != FlowState::Over,
+            down: self.down != FlowState::Over,
         }
     }
 
     /// Notes how far a turn of a way came, and says what follows: the pair is closed once a way
     /// ended other than by `Eof`, or both ended, and then after each later turn too.
     pub fn note(&mut self, way: Way, step: &Step) -> PairNext
-        ensures noted { standing_of self.new way ≡ standing_after step.now }
-        ensures kept { standing_of self.new (other_way way) ≡ standing_of self.old (other_way way) }
+        ensures noted { flow_state_of self.new way ≡ flow_state_after step.now }
+        ensures kept { flow_state_of self.new (other_way way)
+            ≡ flow_state_of self.old (other_way way) }
         ensures failed { self.new.failed ≡ true ↔
             ((self.old.failed ≡ true) ⊎ IsFailure step.now) }
         ensures closes { result ≡ PairNext.Closes ↔ HasToClose self.new }
         ensures again { result ≡ PairNext.Again ↔ MayGoOn self.new }
     {
-        let standing = match step {
-            Step::Again => Standing::Ready,
-            Step::Waits(dir) => Standing::Waits(*dir),
+        let state = match step {
+            Step::Again => FlowState::Ready,
+            Step::Waits(dir) => FlowState::Waits(*dir),
             Step::Ended(ended) => {
                 self.failed = self.failed || *ended != Ended::Eof;
-                Standing::Over
+                FlowState::Over
             }
         };
         match way {
-            Way::Up => self.up = standing,
-            Way::Down => self.down = standing,
+            Way::Up => self.up = state,
+            Way::Down => self.down = state,
         }
         self.next()
     }
@@ -149,11 +150,11 @@ impl PairTasks {
 }
 
 // Whether a way that stands so waits for such an event.
-fn is_woken(standing: Standing, way: Way, side: Side, read: bool, write: bool) -> bool
-    ensures { result ≡ true ↔ WaitsForEvent standing way side read write }
+fn is_woken(state: FlowState, way: Way, side: Side, read: bool, write: bool) -> bool
+    ensures { result ≡ true ↔ WaitsForEvent state way side read write }
 {
-    match standing {
-        Standing::Waits(dir) => {
+    match state {
+        FlowState::Waits(dir) => {
             let ready = match dir {
                 Dir::Read => read,
                 Dir::Write => write,

@@ -2,7 +2,7 @@
 //! be set up ends the test's process there, so that a test is one straight line.
 
 /// Ends the test's process where this doesn't hold, and says what should. A call costs the proof
-/// of a test less than a branch does. `descriptor_tests` and `socket_tests` have one too: no
+/// of a test less than a branch does. `descriptor_tests` and `readiness_tests` have one too: no
 /// crate uses another's tests.
 macro_rules! holds {
     ($rt:expr; $is:expr) => {
@@ -59,7 +59,8 @@ mod streams;
 mod watch;
 mod watching;
 
-use relay::{Capacity, Loops, Outlets, PairLimit, Safeguards, ServeFault, serve};
+use relay::{Capacity, Loops, PairLimit, Safeguards, ServeFault};
+use relay_serve::{Given, Outlets, serve};
 use std::fs::{File, Files};
 use std::io::Write;
 use std::net::{Net, Shutdown, TcpListener, TcpStream};
@@ -160,7 +161,16 @@ where
         + 'static,
 {
     let mut text = Vec::new(rt.alloc());
-    let done = serve(rt, rules, admin, capacity, safeguards, outlets, &mut text);
+    let done = serve(
+        rt,
+        rules,
+        admin,
+        capacity,
+        safeguards,
+        Given::none(rt.alloc()),
+        outlets,
+        &mut text,
+    );
     Said { done, text }
 }
 

@@ -32,13 +32,25 @@ def shapes(tree):
     return found
 
 
+def counts(tree):
+    """How many words follow each command's: of some there are two kinds."""
+    found = {}
+    for it in shapes(tree):
+        found.setdefault(it.word, set()).add(it.follow)
+    return found
+
+
+def some_of(counts_of_one):
+    return " or ".join(str(it) for it in sorted(counts_of_one))
+
+
 def ends(tree):
     """The commands that end a session, so that the desk isn't asked."""
     return {it.lower() for it in re.findall(r"Command::(\w+) => Some\(AdminEnd", functions(tree.text(COMMANDS))["end"])}
 
 
 def check(tree, told):
-    known = {it.word: it.follow for it in shapes(tree)}
+    known = counts(tree)
     told.reads(len(known) > MANY, COMMANDS, __file__)
     for page in (GUIDE, FORMAT, HELP):
         text = tree.text(page)
@@ -66,7 +78,7 @@ def followed(told, page, text, known):
     for line, span in spans(text):
         word, *rest = span.split(" ")
         if word in known and rest and all(re.fullmatch(PLACES, it) for it in rest):
-            told.holds(len(rest) == known[word], page, f"`{span}`: the command takes {known[word]} words behind it", line)
+            told.holds(len(rest) in known[word], page, f"`{span}`: the command takes {some_of(known[word])} words behind it", line)
 
 
 def steps(text):

@@ -46,7 +46,8 @@ ROWS = (
     ("bytes of an admin line, lines of a session", ("MAX_LINE_BYTES", "MAX_LINES")), ("event loops", ("MAX_LOOPS",)),
 )
 UNIT = "examples/systemd/pollrelay.service"
-# The descriptors of a relay beside those of connections, rules and loops.
+NEEDED = "crates/relay_command/src/descriptors.rt"
+# The threads of a relay beside those of loops.
 ABOUT_A_DOZEN = 12
 
 
@@ -62,7 +63,7 @@ def check(tree, told):
     if all([told.reads(isinstance(it, int), FILES[name], __file__) for name, it in known.items()]):
         in_rows(told, tree.text(GUIDE), known)
         in_sentences(tree, told, known)
-        of_unit(tree, told, known)
+        of_unit(tree, told, known, needed(tree, told, known))
 
 
 def in_rows(told, text, known):
@@ -90,16 +91,29 @@ def in_sentences(tree, told, known):
         told.holds(name in seen, GUIDE, f"no page says the limit `{name}` by words that tests/lib/pages/limit_words.py has")
 
 
-def of_unit(tree, told, known):
+def needed(tree, told, known):
+    """The most descriptors of a relay, which counts sessions and clients by the limits that they have, and of which the guide says
+    the same, as of one without options."""
+    own = constants(tree.text(NEEDED))
+    for name, limit in (("SESSIONS", "MAX_SESSIONS"), ("METRICS_CLIENTS", "MOST_CLIENTS")):
+        told.holds(own.get(name) == known[limit], NEEDED, f"`{name}` isn't {known[limit]}, as `{limit}` is")
+    others = known["MAX_RULES"] + sum(own.get(it) or 0 for it in ("SESSIONS", "METRICS_CLIENTS", "OTHERS"))
+    for pairs, loops in (("DEFAULT_PAIRS", "MOST_BY_DEFAULT"), ("MAX_PAIRS", "MAX_LOOPS")):
+        most = 2 * known[pairs] + 2 * known[loops] + others
+        said = rf"{grouped(most)} with {grouped(known[pairs])}( connections)? on {known[loops]}\b"
+        told.holds(re.search(said, tree.text(GUIDE)), GUIDE, f"doesn't say that {known[pairs]} connections on {known[loops]} loops need {most} descriptors")
+    return most
+
+
+def of_unit(tree, told, known, files):
     """The unit leaves the relay the descriptors and threads that its greatest numbers take, those that its own remarks name, and
     the time that its connections have to end."""
     text = tree.text(UNIT)
     given = {name: int(it) for name, it in re.findall(r"^(LimitNOFILE|TasksMax|TimeoutStopSec)=(\d+)$", text, re.M)}
-    files = 2 * known["MAX_PAIRS"] + known["MAX_RULES"] + 2 * known["MAX_LOOPS"] + ABOUT_A_DOZEN
     named = [value_of(it) for line in text.splitlines() if line.startswith("#") for it in re.findall(rf"{N}(?= descriptors| at most)", line)]
     finish = re.search(r"^ExecStart=.*--finish[ =](\d+)", text, re.M)
     least = {
-        "LimitNOFILE": (files, "two for each connection, one a rule, two a loop and a dozen"),
+        "LimitNOFILE": (files, "what the greatest relay needs"),
         "TasksMax": (known["MAX_LOOPS"] + ABOUT_A_DOZEN, "a loop's each and a dozen"),
         "TimeoutStopSec": (int(finish[1]) // 1_000 + 1 if finish else 1, "what connections have to end"),
     }

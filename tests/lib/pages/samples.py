@@ -13,11 +13,13 @@ from lib.pages.tree import HELP
 TEXTFILE = "examples/prometheus/pollrelay_textfile.py"
 RULE = re.compile(r"^\s*(?:#\s+)?relay [\w-]+ (?:tcp|unix):")
 # A relay that read its rules anew: a listener has a greater id than the two connections that stand.
+SHOWN = [f"show {it} rule web side {side} peer unix: up 6 down 17 age 9 quiet 9" for it, side in
+         ((2, "client"), (3, "target"), (4, "client"), (5, "target"), (6, "listener"))]
 REPLIES = {
     "totals": "totals up 12 down 34",
     "list": "ids 2 3 4 5 6",
-    **{f"show {it}": f"show {it} rule web side {side} peer unix: up 6 down 17 age 9 quiet 9" for it, side in
-       ((2, "client"), (3, "target"), (4, "client"), (5, "target"), (6, "listener"))},
+    "show": "\n".join([*SHOWN, "end"]),
+    **{f"show {it.split()[1]}": it for it in SHOWN},
     "quit": "ok",
 }
 SECONDS = 10

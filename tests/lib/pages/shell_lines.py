@@ -7,7 +7,7 @@ import shlex
 from collections import namedtuple
 
 from lib.pages import options, tools
-from lib.pages.admin import shapes
+from lib.pages.admin import counts
 from lib.pages.markdown import SHELL, fences, indented, spans
 from lib.pages.tree import FOLLOWED
 
@@ -91,7 +91,7 @@ def lines(tree):
 def check(tree, told):
     """Each line, but for programs of the system in the page that is followed anyway."""
     found = options.commands(tree)
-    known = {it.word: it.follow for it in shapes(tree)}
+    known = counts(tree)
     scripts, count, wrapped = tools.Scripts(tree), 0, with_wrapper(tree, found)
     for it in lines(tree):
         count, said = count + 1, None
@@ -166,6 +166,6 @@ def wrong_operands(command, operands, known):
         return None
     # (with no word the line stands for any of them)
     word, *rest = operands or [""]
-    if word and (word not in known or len(rest) != known[word] or not all(PLACE.fullmatch(it) for it in rest)):
+    if word and (word not in known or len(rest) not in known[word] or not all(PLACE.fullmatch(it) for it in rest)):
         return f"`{' '.join(operands)}` is no admin command"
     return None

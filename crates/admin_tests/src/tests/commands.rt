@@ -2,7 +2,7 @@
 
 use relay_admin::Command;
 use relay_admin::Command::{
-    CloseConn, DeadlineOf, DrainConn, Finish, List, Quit, Reload, Show, Stop, Totals,
+    CloseConn, DeadlineOf, DrainConn, Finish, List, Quit, Reload, Show, ShowAll, Stop, Totals,
 };
 
 const LINES: &[(&str, Option<Command>)] = &[
@@ -41,7 +41,9 @@ const LINES: &[(&str, Option<Command>)] = &[
     ("show 4503599627370495", None),
     ("show 0", None),
     ("show 01", None),
-    ("show", None),
+    ("show", Some(ShowAll)),
+    ("show ", None),
+    ("show all", None),
     ("show 1 never", None),
     ("shown 1", None),
     ("finish 0", Some(Finish(0))),

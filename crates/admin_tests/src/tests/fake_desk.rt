@@ -44,8 +44,24 @@ fn shown_client(id: u64) -> Shown {
     }
 }
 
+/// A path of as many bytes as may be.
+const LONG_PATH: &str =
+    "/xxxxxxxxxxxxxxxxxxxxxxxxxxxxxxxxxxxxxxxxxxxxxxxxxxxxxxxxxxxxxxxxxxxxxxxxxxxxxxx\
+    xxxxxxxxxxxxxxxxxxxx";
+
+/// A listener of the rule `web` at such a path.
+fn shown_listener(id: u64) -> Shown {
+    Shown {
+        id,
+        side: ShownSide::Listener,
+        peer: Some(Addr::Unix(held(LONG_PATH))),
+        ..shown_client(id)
+    }
+}
+
 /// A desk with these ids and totals, which counts its questions. Its connection 1 can be drained,
-/// its connection 7 is shown, and each of its reloads ends otherwise than the one before.
+/// its connection 7 is shown, its connection 2 has gone when it is looked at, ids from 1,006 on are
+/// listeners, and each of its reloads ends otherwise than the one before.
 #[derive(Drop)]
 pub(super) struct FakeDesk {
     pub(super) ids: &'static [u64],
@@ -142,6 +158,25 @@ impl Desk for FakeDesk {
                 ..shown_client(id)
             }),
             _ => DeskAnswer::Unknown,
+        }
+    }
+
+    fn ids_to_show(&mut self, alloc: Global) -> DeskAnswer {
+        self.ids(alloc)
+    }
+
+    fn look(&mut self, id: u64) -> Option<Shown> {
+        match id {
+            2 => None,
+            // (likewise)
+            1_006.. => Some(Shown {
+                id,
+                ..shown_listener(id)
+            }),
+            _ => Some(Shown {
+                id,
+                ..shown_client(id)
+            }),
         }
     }
 

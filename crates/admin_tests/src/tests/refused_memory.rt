@@ -19,8 +19,8 @@ const NO_IDS: &str = "error 507 out of memory\ntotals up 12 down 0\nok\nok\n";
 const NEITHER: &str = "error 507 out of memory\nerror 507 out of memory\nok\nok\n";
 
 /// What a session of these lines replies where its replies take memory of this heap, if it ends by
-/// `quit` after three questions.
-fn replies_on(alloc: Global, heap: &LocalHeap, lines: &str) -> Option<Vec<u8>> {
+/// `quit` after so many questions.
+fn replies_on(alloc: Global, heap: &LocalHeap, lines: &str, asked: u64) -> Option<Vec<u8>> {
     let mut text = lines.as_bytes();
     let mut source = ReaderSource::new(&mut text);
     let mut replies = Vec::new(alloc);
@@ -28,7 +28,7 @@ fn replies_on(alloc: Global, heap: &LocalHeap, lines: &str) -> Option<Vec<u8>> {
     let mut desk = FakeDesk::new();
     desk.ids = &[1001, 1002, 1003, 1004, 1005, 1006];
     let end = serve_on(alloc, heap, &mut source, &mut sink, &mut desk);
-    if end == Ok(AdminEnd::Quit) && desk.asked == 3 {
+    if end == Ok(AdminEnd::Quit) && desk.asked == asked {
         return Some(replies);
     }
     None
@@ -36,11 +36,11 @@ fn replies_on(alloc: Global, heap: &LocalHeap, lines: &str) -> Option<Vec<u8>> {
 
 /// How often a session of these lines was refused on ever larger heaps until its replies were
 /// whole. None where it replied otherwise, or was always refused.
-fn refusals(alloc: Global, lines: &str, whole: &str, refused: &[&str]) -> Option<u32> {
+fn refusals(alloc: Global, lines: &str, asked: u64, whole: &str, refused: &[&str]) -> Option<u32> {
     let mut count = 0u32;
     for units in 1..100usize {
         let heap = LocalHeap::new(alloc, units * 16).ok()?;
-        let replies = replies_on(alloc, &heap, lines)?;
+        let replies = replies_on(alloc, &heap, lines, asked)?;
         if replies.as_slice() == whole.as_bytes() {
             return Some(count);
         }
@@ -63,7 +63,7 @@ fn is_one_of(replies: &[u8], refused: &[&str]) -> bool {
 
 #[test]
 fn refused_memory_is_replied_and_the_session_goes_on(rt: HostRuntime) {
-    let count = refusals(rt.alloc(), LINES, BOTH, &[NO_TOTALS, NO_IDS, NEITHER]);
+    let count = refusals(rt.alloc(), LINES, 3, BOTH, &[NO_TOTALS, NO_IDS, NEITHER]);
     assert!(rt; count.is_some_and(|count| count > 2), "{count:?} refusals");
 }
 
@@ -77,6 +77,35 @@ const NOT_SHOWN: &str =
 
 #[test]
 fn a_reload_that_was_carried_out_is_told_without_memory(rt: HostRuntime) {
-    let count = refusals(rt.alloc(), SHOW_AND_RELOAD, SHOWN, &[NOT_SHOWN]);
+    let count = refusals(rt.alloc(), SHOW_AND_RELOAD, 3, SHOWN, &[NOT_SHOWN]);
+    assert!(rt; count.is_some_and(|count| count > 2), "{count:?} refusals");
+}
+
+const SHOW_ALL: &str = "show\nquit\n";
+
+const LISTED: &str =
+    "show 1001 rule web side client peer tcp:127.0.0.1:51234 up 12 down 0 age 3500 quiet 1200\n\
+    show 1002 rule web side client peer tcp:127.0.0.1:51234 up 12 down 0 age 3500 quiet 1200\n\
+    show 1003 rule web side client peer tcp:127.0.0.1:51234 up 12 down 0 age 3500 quiet 1200\n\
+    show 1004 rule web side client peer tcp:127.0.0.1:51234 up 12 down 0 age 3500 quiet 1200\n\
+    show 1005 rule web side client peer tcp:127.0.0.1:51234 up 12 down 0 age 3500 quiet 1200\n\
+    show 1006 rule web side listener peer unix:/xxxxxxxxxxxxxxxxxxxxxxxxxxxxxxxxxxxxxxxxxxxxxxxxx\
+    xxxxxxxxxxxxxxxxxxxxxxxxxxxxxxxxxxxxxxxxxxxxxxxxxx up 12 down 0 age 3500 quiet 1200\n\
+    end\nok\n";
+
+// The last line is longer than the others.
+const BROKEN_OFF: &str =
+    "show 1001 rule web side client peer tcp:127.0.0.1:51234 up 12 down 0 age 3500 quiet 1200\n\
+    show 1002 rule web side client peer tcp:127.0.0.1:51234 up 12 down 0 age 3500 quiet 1200\n\
+    show 1003 rule web side client peer tcp:127.0.0.1:51234 up 12 down 0 age 3500 quiet 1200\n\
+    show 1004 rule web side client peer tcp:127.0.0.1:51234 up 12 down 0 age 3500 quiet 1200\n\
+    show 1005 rule web side client peer tcp:127.0.0.1:51234 up 12 down 0 age 3500 quiet 1200\n\
+    error 507 out of memory\nok\n";
+
+const NOT_LISTED: &str = "error 507 out of memory\nok\n";
+
+#[test]
+fn a_listing_without_memory_breaks_off(rt: HostRuntime) {
+    let count = refusals(rt.alloc(), SHOW_ALL, 1, LISTED, &[BROKEN_OFF, NOT_LISTED]);
     assert!(rt; count.is_some_and(|count| count > 2), "{count:?} refusals");
 }

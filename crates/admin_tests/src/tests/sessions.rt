@@ -92,12 +92,14 @@ const SESSIONS: &[(&str, &str, AdminEnd, u64)] = &[
         3,
     ),
     (
-        "show 2\nshow 3\nshow 4\nshow 01\nshow\nshow 7 2\n",
+        "show 2\nshow 3\nshow 4\nshow 01\nshow \nshow 7 2\n",
         "error 409 closed\nerror 409 busy\nerror 507 out of memory\nerror 400 bad command\n\
         error 400 bad command\nerror 400 bad command\n",
         AdminEnd::End,
         3,
     ),
+    // (the second id has gone when it is looked at)
+    ("show\nlist\nshow", LISTED, AdminEnd::End, 3),
     (
         "reload\nreload\nreload\nreload\nreload\nreload\nreload 1\nreload \nstop",
         RELOADED,
@@ -115,6 +117,12 @@ const SESSIONS: &[(&str, &str, AdminEnd, u64)] = &[
 const SHOWN_AND_RELOADED: &str =
     "show 7 rule web side client peer tcp:127.0.0.1:51234 up 12 down 0 age 3500 quiet 1200\n\
     error 404 no such connection\nrules 2\nok\n";
+
+// What the fake desk shows, its ids, and what it shows.
+const LISTED: &str =
+    "show 1 rule web side client peer tcp:127.0.0.1:51234 up 12 down 0 age 3500 quiet 1200\nend\n\
+    ids 1 2\n\
+    show 1 rule web side client peer tcp:127.0.0.1:51234 up 12 down 0 age 3500 quiet 1200\nend\n";
 
 // What the fake desk's reloads have in turn, and lines that are no reload.
 const RELOADED: &str = "rules 2\nbad rules: same name at line 65536\ncannot read rules\n\
@@ -141,6 +149,26 @@ fn plays(alloc: Global, ids: &'static [u64], session: &(&str, &str, AdminEnd, u6
 fn lines_have_their_replies(rt: HostRuntime) {
     for session in SESSIONS {
         assert!(rt; plays(rt.alloc(), &[1, 2], session), "{}", session.0);
+    }
+}
+
+/// Rows of ids, and the reply to `show`.
+const LISTINGS: &[(&[u64], &str)] = &[
+    (&[], "end\n"),
+    (&[2], "end\n"),
+    (
+        &[2, 7, 1001],
+        "show 7 rule web side client peer tcp:127.0.0.1:51234 up 12 down 0 age 3500 quiet 1200\n\
+        show 1001 rule web side client peer tcp:127.0.0.1:51234 up 12 down 0 age 3500 quiet 1200\n\
+        end\n",
+    ),
+];
+
+#[test]
+fn each_id_that_stands_has_its_line(rt: HostRuntime) {
+    for (ids, reply) in LISTINGS {
+        let session = ("show\n", *reply, AdminEnd::End, 1);
+        assert!(rt; plays(rt.alloc(), ids, &session), "{reply}");
     }
 }
 

@@ -3,7 +3,7 @@
 use base_types::Dir;
 use relay_core::Way::{Down, Up};
 use relay_core::{
-    Ended, InsertedSides, PairLimit, PairNext, PairTasks, Side, Standing, Step, Way, Ways,
+    Ended, FlowState, InsertedSides, PairLimit, PairNext, PairTasks, Side, Step, Way, Ways,
     has_room_for_pair, idle_deadline, loop_of, next_pause_ms,
 };
 use rwloops::{DevKind, Fault};
@@ -84,7 +84,7 @@ enum Turn {
     Ready(Ways),
     NotOver(Ways),
     Over,
-    Up(Standing),
+    Up(FlowState),
 }
 
 const NONE: Ways = Ways {
@@ -116,7 +116,7 @@ const TURNS: &[Turn] = &[
     Turn::Woken(Side::Target, true, true, NONE),
     Turn::Woken(Side::Client, true, false, UP),
     Turn::Note(Up, END, PairNext::Waits),
-    Turn::Up(Standing::Over),
+    Turn::Up(FlowState::Over),
     Turn::Note(Down, END, PairNext::Closes),
     Turn::Over,
 ];

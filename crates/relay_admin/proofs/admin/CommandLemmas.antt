@@ -189,6 +189,7 @@ command_of_words (command.CloseConn id) = refl
 command_of_words (command.DrainConn id) = refl
 command_of_words (command.DeadlineOf id after) = refl
 command_of_words (command.Show id) = refl
+command_of_words command.ShowAll = refl
 command_of_words command.Reload = refl
 command_of_words (command.Finish ms) = refl
 
@@ -202,6 +203,7 @@ words_suit (command.CloseConn id) = refl
 words_suit (command.DrainConn id) = refl
 words_suit (command.DeadlineOf id after) = refl
 words_suit (command.Show id) = refl
+words_suit command.ShowAll = refl
 words_suit command.Reload = refl
 words_suit (command.Finish ms) = refl
 
@@ -248,7 +250,8 @@ alone_found word c =
     (by_word word (codes "totals") behind.Nothing command.Totals c _ refl
     (by_word word (codes "quit") behind.Nothing command.Quit c _ refl
     (by_word word (codes "stop") behind.Nothing command.Stop c _ refl
-    (by_word word (codes "reload") behind.Nothing command.Reload c _ refl (no_word word behind.Nothing c)))))
+    (by_word word (codes "reload") behind.Nothing command.Reload c _ refl
+    (by_word word (codes "show") behind.Nothing command.ShowAll c _ refl (no_word word behind.Nothing c))))))
 
 at_id_found : (word : List ℕ) (id : ℕ) (c : Command) → command_at_id word id ≡ Some c
     → (word, behind.Id id) ≡ words_of c

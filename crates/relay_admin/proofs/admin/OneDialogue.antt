@@ -1,12 +1,15 @@
 -- A text has one list of questions and one end.
 use Rattle.std.specs.Prelude.{◌≡◌, ◌≢◌, ◌+◌, ◌≤◌, ◌<◌, ◌∷◌, ◌++◌, ◌⊎◌}
 use Rattle.relay_admin.proofs.Words.{◌∙◌, sym, ap, refl, ℕ, List, [], length}
-use Rattle.relay_admin.proofs.Words.{Option, Some, None, arith, inl, inr, map-append, Command}
+use Rattle.relay_admin.proofs.Words.{Option, Some, None, arith, inl, inr, Command}
 use Rattle.relay_admin.proofs.Words.{MAX_LINE_BYTES, AdminEnd, IsCommand, SpellsCommand, command_text, end_of}
 use Rattle.relay_admin.proofs.Words.{Exchange, LineTranscript, too_long, no_command, finishes, asks}
 use Rattle.relay_admin.proofs.Words.{ended, Transcript, no_line, last_line, line_limit, line_then, questions_of}
 use Rattle.relay_admin.specs.declared.admin.end.AdminEnd.TheVariants as ends
+use Rattle.relay_admin.specs.admin.Listing.{ids_to_show}
+use Rattle.relay_admin.specs.admin.Reply.{asked_for, looked_at}
 use Rattle.relay_admin.proofs.admin.CommandLemmas.{one_command}
+use Rattle.relay_admin.proofs.admin.Listings.{answer_asks_nothing}
 
 -- what a command asks of the desk: itself, but where it ends the session
 abbrev asks_where : Command → Option AdminEnd → List Command
@@ -51,12 +54,13 @@ kind_of _ _ _ _ (finishes line c end short spells is) =
       questions = ap (asks_where c) (sym is);
       ends = sym is;
     }))
-kind_of _ _ _ _ (asks line c answer reply short spells unended same is) =
+kind_of _ _ _ _ (asks line c answer looks reply short spells unended same is) =
     inr (inr (record {
       one = c;
       short = short;
       spells = spells;
-      questions = ap (asks_where c) (sym unended);
+      questions = ap (λ (l : List Command). c ∷ l) (answer_asks_nothing (ids_to_show c answer) answer looks reply is)
+          ∙ ap (asks_where c) (sym unended);
       ends = sym unended;
     }))
 
@@ -87,7 +91,9 @@ one_line : (line : List ℕ) (a a' : List Exchange) (r r' : List ℕ) (o o' : Op
 one_line line a a' r r' o o' h h' = same_kind line a a' o o' (kind_of line a r o h) (kind_of line a' r' o' h')
 
 questions-append : (a b : List Exchange) → questions_of (a ++ b) ≡ questions_of a ++ questions_of b
-questions-append a b = map-append (λ (exchange : Exchange). exchange.question) a b
+questions-append [] b = refl
+questions-append (asked_for question answer ∷ a) b = ap (λ (l : List Command). question ∷ l) (questions-append a b)
+questions-append (looked_at id seen ∷ a) b = questions-append a b
 
 some_not_none : (e : AdminEnd) → Some e ≡ None → ⊥
 some_not_none e h = absurd (cc)

@@ -10,6 +10,8 @@ use Rattle.relay_admin.proofs.Words.{LineTranscript, too_long, Ending, ended, cu
 use Rattle.relay_admin.proofs.Words.{line_limit, line_then, cut_line, Position, IsReady, progress_of, AnswersLine}
 use Rattle.relay_admin.proofs.Words.{Meanwhile, Advances, Closes}
 use Rattle.relay_admin.specs.declared.admin.end.AdminEnd.TheVariants as ends
+use Rattle.relay_admin.specs.admin.Listing.{Said}
+use Rattle.relay_admin.specs.admin.Progress.{Delivers, DeliversFront}
 use Rattle.relay_admin.proofs.admin.LineTranscripts.{adds_none, adds_then, not_end}
 
 -- ---- Positions
@@ -82,7 +84,7 @@ pub closes_long_cut : (number : ℕ) (kept bytes : List ℕ) (k : ℕ) → AreTo
 closes_long_cut number kept bytes k long rest =
     let first = long rest in
     subst (λ (ls : List (List ℕ)). Transcript number ls [] (take k bad_command) cut_off) (sym first.are)
-    (cut_line k (too_long first.line first.long))
+    (cut_line k [] refl (too_long first.line first.long))
 
 -- ---- A last line that lacks its line feed
 
@@ -182,76 +184,59 @@ close_then a b all xs ys zs k0 k1 k2 h0 h1 h2 ending e f g =
 
 -- ---- A whole line, and the writing of its reply
 
-as_kept : (line kept : List ℕ) (exchanges : List Exchange) (reply written : List ℕ) (o o' : Option AdminEnd)
-    → LineTranscript line exchanges reply o → line ≡ kept → written ≡ reply → o ≡ o'
-    → LineTranscript kept exchanges written o'
-as_kept line kept exchanges reply written o o' are a b c =
-    subst (λ (x : Option AdminEnd). LineTranscript kept exchanges written x) c
-    (subst (λ (x : List ℕ). LineTranscript kept exchanges x o) (sym b)
-    (subst (λ (x : List ℕ). LineTranscript x exchanges reply o) a are))
-
 abbrev pub LineMeanwhile : ℕ → List ℕ → Option (List Exchange) → Option (List Exchange) → Option (List ℕ)
     → Option (List ℕ) → Ending → Type 0
 LineMeanwhile number kept k0 k1 h0 h1 ending =
     Meanwhile k0 k1 h0 h1 (λ exchanges replies. (lines : List (List ℕ))
     → Transcript number (kept ∷ lines) exchanges replies ending)
 
-pub line_ends : (number : ℕ) (line kept : List ℕ) (k0 k1 : Option (List Exchange)) (h0 h1 : Option (List ℕ))
-    (reply written : List ℕ) (o : Option AdminEnd) (end : AdminEnd) → AnswersLine k0 k1 line reply o → line ≡ kept
-    → written ≡ reply → Appends h0 h1 written → o ≡ Some end
+-- a reply was written
+pub line_written : (line : List ℕ) (k0 k1 k2 : Option (List Exchange)) (h0 h1 : Option (List ℕ)) (said : Said)
+    (o : Option AdminEnd) → AnswersLine k0 k1 line said o → Delivers said k1 k2 h0 h1
+    → Meanwhile k0 k2 h0 h1 (λ exchanges replies. LineTranscript line exchanges replies o)
+line_written line k0 k1 k2 h0 h1 said o d w = record {
+  exchanges = d.exchanges ++ w.looks;
+  replies = w.text;
+  told = adds_then k0 k1 k2 d.exchanges w.looks d.told w.told;
+  written = w.written;
+  holds = d.are w.looks w.text w.comes;
+}
+
+pub line_ends : (number : ℕ) (kept : List ℕ) (k0 k1 : Option (List Exchange)) (h0 h1 : Option (List ℕ))
+    (end : AdminEnd) → Meanwhile k0 k1 h0 h1 (λ exchanges replies. LineTranscript kept exchanges replies (Some end))
     → (end ≢ ends.End) × LineMeanwhile number kept k0 k1 h0 h1 (ended end)
-line_ends number line kept k0 k1 h0 h1 reply written o end d a b w c =
-    let are = as_kept line kept d.exchanges reply written o (Some end) d.are a b c in (
-      not_end kept d.exchanges written end are,
-      record
-          { exchanges = d.exchanges; replies = written; told = d.told; written = w; holds = λ lines. last_line are },
-    )
+line_ends number kept k0 k1 h0 h1 end h = (
+  not_end kept h.exchanges h.replies end h.holds,
+  meanwhile_is k0 k1 h0 h1 (λ exchanges replies. LineTranscript kept exchanges replies (Some end))
+      (λ exchanges replies. (lines : List (List ℕ)) → Transcript number (kept ∷ lines) exchanges replies (ended end))
+      (λ exchanges replies are lines. last_line are) h,
+)
 
-pub line_is_last : (number : ℕ) (line kept : List ℕ) (k0 k1 : Option (List Exchange)) (h0 h1 : Option (List ℕ))
-    (reply written : List ℕ) (o : Option AdminEnd) → AnswersLine k0 k1 line reply o → line ≡ kept → written ≡ reply
-    → Appends h0 h1 written → o ≡ None → number ≤ MAX_LINES → MAX_LINES ≤ number
+pub line_is_last : (number : ℕ) (kept : List ℕ) (k0 k1 : Option (List Exchange)) (h0 h1 : Option (List ℕ))
+    → Meanwhile k0 k1 h0 h1 (λ exchanges replies. LineTranscript kept exchanges replies None) → number ≡ MAX_LINES
     → (ends.TooManyLines ≢ ends.End) × LineMeanwhile number kept k0 k1 h0 h1 (ended ends.TooManyLines)
-line_is_last number line kept k0 k1 h0 h1 reply written o d a b w c few many =
-    let are = as_kept line kept d.exchanges reply written o None d.are a b c in
-    let at : MAX_LINES ≡ number = omega arith in (
-      λ e. absurd (cc),
-      record {
-        exchanges = d.exchanges;
-        replies = written;
-        told = d.told;
-        written = w;
-        holds =
-            λ lines. subst (λ (n : ℕ). Transcript n (kept ∷ lines) d.exchanges written (ended ends.TooManyLines)) at
-            (line_limit are);
-      },
-    )
+line_is_last number kept k0 k1 h0 h1 h at = (
+  λ e. absurd (cc),
+  meanwhile_is k0 k1 h0 h1 (λ exchanges replies. LineTranscript kept exchanges replies None)
+      (λ exchanges replies. (lines : List (List ℕ))
+      → Transcript number (kept ∷ lines) exchanges replies (ended ends.TooManyLines))
+      (λ exchanges replies are lines. subst (λ (n : ℕ). Transcript n (kept ∷ lines) exchanges replies
+      (ended ends.TooManyLines)) (sym at) (line_limit are)) h,
+)
 
-pub line_goes_on : (line kept : List ℕ) (k0 k1 : Option (List Exchange)) (h0 h1 : Option (List ℕ))
-    (reply written : List ℕ) (o : Option AdminEnd) → AnswersLine k0 k1 line reply o → line ≡ kept → written ≡ reply
-    → Appends h0 h1 written → o ≡ None → Meanwhile k0 k1 h0 h1
-    (λ exchanges replies. LineTranscript kept exchanges replies None)
-line_goes_on line kept k0 k1 h0 h1 reply written o d a b w c =
-    record {
-      exchanges = d.exchanges;
-      replies = written;
-      told = d.told;
-      written = w;
-      holds =
-          as_kept line kept d.exchanges reply written o None d.are a b c;
-    }
-
-pub line_breaks : (number : ℕ) (line kept : List ℕ) (k0 k1 : Option (List Exchange)) (h0 h1 : Option (List ℕ))
-    (reply written : List ℕ) (o : Option AdminEnd) → AnswersLine k0 k1 line reply o → line ≡ kept → written ≡ reply
-    → AppendsFront h0 h1 written → LineMeanwhile number kept k0 k1 h0 h1 cut_off
-line_breaks number line kept k0 k1 h0 h1 reply written o d a b w =
-    record {
-      exchanges = d.exchanges;
-      replies = take w.0 written;
-      told = d.told;
-      written = w.2;
-      holds =
-          λ lines. cut_line w.0 (as_kept line kept d.exchanges reply written o o d.are a b refl);
-    }
+-- a front of a reply was written
+pub line_breaks : (number : ℕ) (kept : List ℕ) (k0 k1 k2 : Option (List Exchange)) (h0 h1 : Option (List ℕ))
+    (said : Said) (o : Option AdminEnd) → AnswersLine k0 k1 kept said o → DeliversFront said k1 k2 h0 h1
+    → LineMeanwhile number kept k0 k2 h0 h1 cut_off
+line_breaks number kept k0 k1 k2 h0 h1 said o d w = record {
+  exchanges = d.exchanges ++ w.looks;
+  replies = take w.count w.text;
+  told = adds_then k0 k1 k2 d.exchanges w.looks d.told w.told;
+  written = w.written;
+  holds = λ lines. cut_line w.count w.missing w.unasked
+      (subst (λ (m : List Exchange). LineTranscript kept m w.text o)
+      (sym (append_assoc d.exchanges w.looks w.missing)) (d.are (w.looks ++ w.missing) w.text w.comes));
+}
 
 -- the line that these bytes end
 pub line_closes : (number : ℕ) (kept line bytes : List ℕ) (k0 k1 : Option (List Exchange)) (h0 h1 : Option (List ℕ))

@@ -20,6 +20,7 @@ words_of (command.CloseConn id) = (codes "close", behind.Id id)
 words_of (command.DrainConn id) = (codes "drain", behind.Id id)
 words_of (command.DeadlineOf id after) = (codes "deadline", behind.IdAndDeadline id after)
 words_of (command.Show id) = (codes "show", behind.Id id)
+words_of command.ShowAll = (codes "show", behind.Nothing)
 words_of command.Reload = (codes "reload", behind.Nothing)
 words_of (command.Finish ms) = (codes "finish", behind.Ms ms)
 

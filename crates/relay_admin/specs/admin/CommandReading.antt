@@ -52,6 +52,7 @@ command_alone word =
     else if bytes_eq word (codes "quit") then Some command.Quit
     else if bytes_eq word (codes "stop") then Some command.Stop
     else if bytes_eq word (codes "reload") then Some command.Reload
+    else if bytes_eq word (codes "show") then Some command.ShowAll
     else None
 
 -- the command of a word with an id behind it

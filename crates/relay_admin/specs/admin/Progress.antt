@@ -1,7 +1,8 @@
 -- How far a session has come, and what bytes do to it.
 use Rattle.std.specs.Prelude.{◌≡◌, ◌≢◌, ◌≤◌, ◌<◌, ◌+◌, ◌*◌, ◌∷◌, ◌++◌, ◌⊎◌}
 use Rattle.relay_admin.specs.Words.{ℕ, Bool, List, []}
-use Rattle.relay_admin.specs.Words.{length, Option, Some, None, Result, Ok, Err, Appends, lines_of}
+use Rattle.relay_admin.specs.Words.{length, take, Option, Some, None, Result, Ok, Err, Appends}
+use Rattle.relay_admin.specs.Words.{lines_of}
 use Rattle.relay_admin.specs.Words.{line_feed, Lacks, EndsLines, WriteStopped}
 use Rattle.relay_admin.specs.declared.admin.end.AdminEnd.{AdminEnd}
 use Rattle.relay_admin.specs.declared.admin.end.AdminEnd.TheVariants as ends
@@ -9,7 +10,8 @@ use Rattle.relay_admin.specs.declared.admin.dialogue.Step.{Step}
 use Rattle.relay_admin.specs.declared.admin.dialogue.Step.TheVariants as step
 use Rattle.relay_admin.specs.declared.admin.dialogue.Dialogue.{Dialogue}
 use Rattle.relay_admin.specs.declared.admin.dialogue.TheConstants.{MAX_LINES, MAX_LINE_BYTES}
-use Rattle.relay_admin.specs.admin.Reply.{Exchange, AddsExchanges}
+use Rattle.relay_admin.specs.admin.Listing.{Said, Comes}
+use Rattle.relay_admin.specs.admin.Reply.{Exchange, AddsExchanges, questions_of}
 use Rattle.relay_admin.specs.admin.Transcript.{LineTranscript, Ending, ended, cut_off, Transcript}
 use Rattle.relay_admin.specs.admin.Devices.{IsFlushedOrUntouched}
 
@@ -36,16 +38,38 @@ pub record IsReady (at : Position) : Type 0 where
   pub short : length at.kept ≤ MAX_LINE_BYTES
   pub unended : Lacks line_feed at.kept
 
+-- a reply was written, after the looks that it comes of
+pub record Delivers (said : Said) (asked asked' : Option (List Exchange))
+    (contents contents' : Option (List ℕ)) : Type 0 where
+  pub looks : List Exchange
+  pub text : List ℕ
+  pub comes : Comes said looks text
+  pub told : AddsExchanges asked asked' looks
+  pub written : Appends contents contents' text
+
+-- a front of a reply was written, after the looks that this comes of; the others are missing
+pub record DeliversFront (said : Said) (asked asked' : Option (List Exchange))
+    (contents contents' : Option (List ℕ)) : Type 0 where
+  pub looks : List Exchange
+  pub missing : List Exchange
+  pub text : List ℕ
+  pub count : ℕ
+  pub unasked : questions_of missing ≡ []
+  pub comes : Comes said (looks ++ missing) text
+  pub told : AddsExchanges asked asked' looks
+  pub written : Appends contents contents' (take count text)
+
 -- rises by one with each byte at least
 abbrev pub progress_of : Position → ℕ
 progress_of at = (MAX_LINE_BYTES + 1) * at.number + length at.kept
 
--- what one line brought
-pub record AnswersLine (asked asked' : Option (List Exchange)) (line reply : List ℕ)
+-- what one line brought, with whatever its reply then comes to
+pub record AnswersLine (asked asked' : Option (List Exchange)) (line : List ℕ) (said : Said)
     (end : Option AdminEnd) : Type 0 where
   pub exchanges : List Exchange
   pub told : AddsExchanges asked asked' exchanges
-  pub are : LineTranscript line exchanges reply end
+  pub are : (looks : List Exchange) (text : List ℕ) → Comes said looks text
+      → LineTranscript line (exchanges ++ looks) text end
 
 -- what was asked and written meanwhile is so
 pub record Meanwhile (asked asked' : Option (List Exchange)) (contents contents' : Option (List ℕ))
@@ -89,14 +113,14 @@ LinesComeTo step.CutOff old new bytes asked asked' contents contents' =
 -- what the reply to a whole line came to: the session goes on, or it ends by the line, or since no
 -- line more may come
 abbrev pub ReplyComesTo : Option AdminEnd → Position → Position
-    → Option (List Exchange) → Option (List Exchange) → List ℕ → Type 0
-ReplyComesTo None old new asked asked' reply =
+    → Option (List Exchange) → Option (List Exchange) → Said → Type 0
+ReplyComesTo None old new asked asked' said =
     (old.number < MAX_LINES) × (new ≡ record { number = old.number + 1; kept = [] })
-    × AnswersLine asked asked' old.kept reply None
-ReplyComesTo (Some end) old new asked asked' reply =
-    (new ≡ old) × (AnswersLine asked asked' old.kept reply (Some end)
+    × AnswersLine asked asked' old.kept said None
+ReplyComesTo (Some end) old new asked asked' said =
+    (new ≡ old) × (AnswersLine asked asked' old.kept said (Some end)
     ⊎ (old.number ≡ MAX_LINES) × (end ≡ ends.TooManyLines)
-    × AnswersLine asked asked' old.kept reply None)
+    × AnswersLine asked asked' old.kept said None)
 
 -- what was asked meanwhile is so
 pub record Asks (asked asked' : Option (List Exchange)) (P : List Exchange → Type 0) : Type 0 where
@@ -105,32 +129,35 @@ pub record Asks (asked asked' : Option (List Exchange)) (P : List Exchange → T
   pub holds : P exchanges
 
 -- a line among the bytes ahead brings this reply, and the session goes on behind it
-pub record GoesOnBy (reply : List ℕ) (old new : Dialogue) (asked asked' : Option (List Exchange))
+pub record GoesOnBy (said : Said) (old new : Dialogue) (asked asked' : Option (List Exchange))
     : Type 0 where
   pub bytes : List ℕ
   pub some : 0 < length bytes
   pub cut : ahead_of old ≡ bytes ++ ahead_of new
-  pub brings : Asks asked asked'
-      (λ exchanges. Advances (position old) (position new) bytes exchanges reply)
+  pub brings : Asks asked asked' (λ exchanges. (looks : List Exchange) (text : List ℕ)
+      → Comes said looks text
+      → Advances (position old) (position new) bytes (exchanges ++ looks) text)
 
 -- what the bytes ahead came to: no line is whole, or one has its reply, and may end the session
-abbrev pub NextComesTo : Option (List ℕ × Option AdminEnd) → Dialogue → Dialogue
+abbrev pub NextComesTo : Option (Said × Option AdminEnd) → Dialogue → Dialogue
     → Option (List Exchange) → Option (List Exchange) → Type 0
 NextComesTo None old new asked asked' =
     (ahead_of new ≡ []) × (asked' ≡ asked)
     × Advances (position old) (position new) (ahead_of old) [] []
-NextComesTo (Some (reply, None)) old new asked asked' = GoesOnBy reply old new asked asked'
-NextComesTo (Some (reply, Some end)) old new asked asked' =
-    (end ≢ ends.End) × Asks asked asked'
-    (λ exchanges. Closes (position old) (ahead_of old) exchanges reply (ended end))
+NextComesTo (Some (said, None)) old new asked asked' = GoesOnBy said old new asked asked'
+NextComesTo (Some (said, Some end)) old new asked asked' =
+    (end ≢ ends.End) × Asks asked asked' (λ exchanges. (looks : List Exchange) (text : List ℕ)
+    → Comes said looks text
+    → Closes (position old) (ahead_of old) (exchanges ++ looks) text (ended end))
 
 -- what the end of the bytes comes to, where a last line has its reply
-abbrev pub LastComesTo : Option (List ℕ × AdminEnd) → Position
+abbrev pub LastComesTo : Option (Said × AdminEnd) → Position
     → Option (List Exchange) → Option (List Exchange) → Type 0
 LastComesTo None old asked asked' = (asked' ≡ asked)
     × Transcript old.number (lines_of old.kept) [] [] (ended ends.End)
 LastComesTo (Some told) old asked asked' = Asks asked asked'
-    (λ exchanges. Transcript old.number (lines_of old.kept) exchanges told.0 (ended told.1))
+    (λ exchanges. (looks : List Exchange) (text : List ℕ) → Comes told.0 looks text
+    → Transcript old.number (lines_of old.kept) (exchanges ++ looks) text (ended told.1))
 
 -- what a whole line came to
 abbrev pub LineComesTo : Step → Position → Position

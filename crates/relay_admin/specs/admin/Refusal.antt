@@ -1,6 +1,9 @@
--- The replies that say that a command wasn't carried out.
-use Rattle.std.specs.Prelude.{◌≡◌, ◌==◌, ◌||◌, ℕ, Bool, true, false, List, codes}
-use Rattle.std.specs.List.{starts_with}
+-- The replies that say that a command wasn't carried out, and those that are whole.
+use Rattle.std.specs.Prelude.{◌≡◌, ◌==◌, ◌||◌, ◌∷◌, ℕ, Bool, true, false, List, [], codes}
+use Rattle.std.specs.List.{ends_with, starts_with}
+use Rattle.relay_admin.specs.declared.admin.command.Command.{Command}
+use Rattle.relay_admin.specs.declared.admin.command.Command.TheVariants as command
+use Rattle.relay_admin.specs.declared.admin.reply_text.TheConstants.{OUT_OF_MEMORY, SHOWN_ALL}
 use Rattle.relay_admin.specs.admin.Reply.{Answer, bad_command, reply_text}
 use Rattle.relay_admin.specs.admin.Reply as answers
 use Rattle.relay_admin.specs.declared.rules.verdict.Verdict.TheVariants.{Rules, Bad}
@@ -12,6 +15,18 @@ begins_with word text = starts_with ◌==◌ text word
 abbrev pub reply_refuses : List ℕ → Bool
 reply_refuses reply = begins_with (codes "error ") reply
     || (begins_with (codes "bad rules") reply || begins_with (codes "cannot ") reply)
+
+abbrev pub ends_by : List ℕ → List ℕ → Bool
+ends_by line text = ends_with ◌==◌ text line
+
+-- the last line says that memory was refused
+abbrev pub reply_breaks_off : List ℕ → Bool
+reply_breaks_off reply = ends_by OUT_OF_MEMORY.now reply
+
+-- the reply ends with a line feed, and one to `show` without an id with its last line, or breaks off
+abbrev pub reply_is_whole : Command → List ℕ → Bool
+reply_is_whole command.ShowAll reply = ends_by SHOWN_ALL.now reply || reply_breaks_off reply
+reply_is_whole other reply = ends_by (10 ∷ []) reply
 
 -- the answer says that what was asked for wasn't done
 abbrev pub refuses : Answer → Bool

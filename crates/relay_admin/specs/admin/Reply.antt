@@ -80,10 +80,17 @@ abbrev pub HasAskedId : Command → Answer → Type 0
 HasAskedId (command.Show id) (shown particulars) = particulars.id ≡ id
 HasAskedId question answer = Unit {0}
 
--- a question to the desk, by the command that asks it, and the answer
-pub record Exchange : Type 0 where
-  pub question : Command
-  pub answer : Answer
+-- a question to the desk, by the command that asks it, and the answer; or a look at what an id stands
+-- for, and what was seen, if it stands for anything
+pub data Exchange : Type 0 where
+  asked_for : Command → Answer → Exchange
+  looked_at : ℕ → Option Particulars → Exchange
+
+-- what was asked, without the answers and the looks
+abbrev pub questions_of : List Exchange → List Command
+questions_of [] = []
+questions_of (asked_for question answer ∷ more) = question ∷ questions_of more
+questions_of (looked_at id seen ∷ more) = questions_of more
 
 -- these exchanges came to those before; a desk may stop telling them, and then never begins again
 abbrev pub AddsExchanges : Option (List Exchange) → Option (List Exchange) → List Exchange → Type 0
@@ -93,5 +100,8 @@ AddsExchanges (Some before) (Some after) added = after ≡ before ++ added
 
 -- one exchange came to those before
 abbrev pub Exchanges : Option (List Exchange) → Option (List Exchange) → Command → Answer → Type 0
-Exchanges before after question answer =
-    AddsExchanges before after (record { question = question; answer = answer } ∷ [])
+Exchanges before after question answer = AddsExchanges before after (asked_for question answer ∷ [])
+
+-- a look came to the exchanges before
+abbrev pub Looks : Option (List Exchange) → Option (List Exchange) → ℕ → Option Particulars → Type 0
+Looks before after id seen = AddsExchanges before after (looked_at id seen ∷ [])

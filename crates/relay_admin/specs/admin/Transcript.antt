@@ -1,6 +1,6 @@
 -- An admin session on whole texts: which lines bring which questions, replies and end.
 use Rattle.std.specs.Prelude.{◌≡◌, ◌≢◌, ◌≤◌, ◌<◌, ◌+◌, ◌∷◌, ◌++◌}
-use Rattle.relay_admin.specs.Words.{ℕ, List, [], length, map}
+use Rattle.relay_admin.specs.Words.{ℕ, List, [], length}
 use Rattle.relay_admin.specs.Words.{take, Option, Some, None, IfSome, Appends, Consumes, lines_of}
 use Rattle.relay_admin.specs.Words.{ended_lines, line_feed, Lacks}
 use Rattle.relay_admin.specs.declared.admin.command.Command.{Command}
@@ -10,8 +10,9 @@ use Rattle.relay_admin.specs.declared.admin.end.AdminEnd.TheVariants as ends
 use Rattle.relay_admin.specs.declared.admin.end.AdminFault.{AdminFault}
 use Rattle.relay_admin.specs.declared.admin.end.AdminFault.TheVariants as faults
 use Rattle.relay_admin.specs.admin.Command.{IsCommand, SpellsCommand, command_text, end_of}
-use Rattle.relay_admin.specs.admin.Reply.{Answer, fine, reply_text, bad_command, IsReplyTo}
-use Rattle.relay_admin.specs.admin.Reply.{Exchange, AddsExchanges, HasAskedId}
+use Rattle.relay_admin.specs.admin.Listing.{AnswerComesTo, ids_to_show}
+use Rattle.relay_admin.specs.admin.Reply.{Answer, fine, reply_text, bad_command}
+use Rattle.relay_admin.specs.admin.Reply.{Exchange, asked_for, AddsExchanges, HasAskedId, questions_of}
 
 -- a line, what is asked for it, the reply, and how the session ends by it, if it does
 pub data LineTranscript : List ℕ → List Exchange → List ℕ → Option AdminEnd → Type 0 where
@@ -23,10 +24,10 @@ pub data LineTranscript : List ℕ → List Exchange → List ℕ → Option Adm
   finishes : (line : List ℕ) (c : Command) (end : AdminEnd)
       → length line ≤ MAX_LINE_BYTES → SpellsCommand line c → end_of c ≡ Some end
       → LineTranscript line [] (reply_text fine) (Some end)
-  asks : (line : List ℕ) (c : Command) (answer : Answer) (reply : List ℕ)
+  asks : (line : List ℕ) (c : Command) (answer : Answer) (looks : List Exchange) (reply : List ℕ)
       → length line ≤ MAX_LINE_BYTES → SpellsCommand line c → end_of c ≡ None
-      → HasAskedId c answer → IsReplyTo answer reply
-      → LineTranscript line (record { question = c; answer = answer } ∷ []) reply None
+      → HasAskedId c answer → AnswerComesTo (ids_to_show c answer) answer looks reply
+      → LineTranscript line (asked_for c answer ∷ looks) reply None
 
 -- how a transcript stops: as the session ended, or because a reply couldn't be written or flushed
 pub data Ending : Type 0 where
@@ -53,10 +54,11 @@ pub data Transcript : ℕ → List (List ℕ) → List Exchange → List ℕ →
       → n < MAX_LINES → LineTranscript line exchanges reply None
       → Transcript (n + 1) lines more replies ending
       → Transcript n (line ∷ lines) (exchanges ++ more) (reply ++ replies) ending
-  -- a line of whose reply a front was written, or the whole and not flushed
+  -- a line of whose reply a front was written, or the whole and not flushed; looks may be missing
   cut_line : {n : ℕ} {line : List ℕ} {lines : List (List ℕ)} {exchanges : List Exchange}
-      {reply : List ℕ} {end : Option AdminEnd} (k : ℕ)
-      → LineTranscript line exchanges reply end
+      {reply : List ℕ} {end : Option AdminEnd} (k : ℕ) (missing : List Exchange)
+      → questions_of missing ≡ []
+      → LineTranscript line (exchanges ++ missing) reply end
       → Transcript n (line ∷ lines) exchanges (take k reply) cut_off
 
 -- the whole text brings these questions and replies, and stops so
@@ -72,10 +74,6 @@ pub record IsTranscriptOfWholeLines (bytes : List ℕ) (exchanges : List Exchang
   pub split : bytes ≡ ended_lines lines ++ more
   pub unended : Lacks line_feed more
   pub are : Transcript 1 lines exchanges replies (ended ends.End)
-
--- what was asked, without the answers
-abbrev pub questions_of : List Exchange → List Command
-questions_of exchanges = map (λ (exchange : Exchange). exchange.question) exchanges
 
 -- what was asked and written meanwhile; where the source tells its text, it is the text's
 pub record Serves (remaining : Option (List ℕ)) (asked asked' : Option (List Exchange))

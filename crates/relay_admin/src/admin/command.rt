@@ -31,6 +31,8 @@ pub enum Command {
     DeadlineOf(u64, Option<u32>),
     /// Asks what is known of the connection or listener with this id.
     Show(u64),
+    /// Asks what is known of each connection and listener.
+    ShowAll,
     /// Takes the rules from their file anew.
     Reload,
     /// Takes nobody more, and ends the relay once its connections have ended, or so many
@@ -109,6 +111,8 @@ fn named_alone(word: &[u8]) -> Option<Command>
         Some(Command::Stop)
     } else if word == b"reload".as_slice() {
         Some(Command::Reload)
+    } else if word == b"show".as_slice() {
+        Some(Command::ShowAll)
     } else {
         None
     }

@@ -1,9 +1,10 @@
 //! The desk that a session asks, and what it answers.
 
-ghost use Rattle.std.specs.Prelude.{◌≡◌, List, Option, None};
+ghost use Rattle.std.specs.Prelude.{◌≡◌, List, Option, None, IfSome, option_map};
 ghost use Rattle.relay_admin.specs.declared.admin.command.Command.TheVariants as commands;
 ghost use Rattle.relay_admin.specs.admin.Command.{end_of};
-ghost use Rattle.relay_admin.specs.admin.Reply.{Exchange, Exchanges, HasAskedId, answer_of};
+ghost use Rattle.relay_admin.specs.admin.Reply.{Exchange, Exchanges, HasAskedId, Looks, answer_of};
+ghost use Rattle.relay_admin.specs.admin.Shown.{particulars_of};
 
 use crate::admin::command::Command;
 use crate::admin::shown::Shown;
@@ -42,7 +43,8 @@ pub enum DeskAnswer {
 }
 
 /// What a session asks: once for each `List`, `Totals`, `CloseConn`, `DrainConn`, `DeadlineOf`,
-/// `Show`, `Reload` and `Finish`, in the order of the lines, and for nothing else.
+/// `Show`, `ShowAll`, `Reload` and `Finish`, in the order of the lines, and for nothing else. After
+/// `ShowAll` it is asked for a look at each of the ids.
 pub trait Desk {
     // The questions so far with their answers, where the desk still tells them.
     ghost exchanges: { Self → Option (List Exchange) };
@@ -80,6 +82,18 @@ pub trait Desk {
             (commands.Show id) (answer_of result) }
         ensures asked { HasAskedId (commands.Show id) (answer_of result) };
 
+    /// The ids of all connections and listeners, rising, each of which is then looked at: `Ids` or
+    /// `NoMemory`.
+    fn ids_to_show(&mut self, alloc: Global) -> DeskAnswer
+        ensures { Exchanges (exchanges self.old) (exchanges self.new)
+            commands.ShowAll (answer_of result) };
+
+    /// What is known of the connection or listener with this id, if there is one by now.
+    fn look(&mut self, id: u64) -> Option<Shown>
+        ensures told { Looks (exchanges self.old) (exchanges self.new)
+            id (option_map (λ seen. particulars_of seen) result) }
+        ensures asked { IfSome result (λ seen. seen.id ≡ id) };
+
     /// Puts the rules in force that their file has now: `Verdict`, `CannotRead`, `CannotListen`,
     /// `NoMemory`, or `Closed` where the relay is stopping. Nothing changes but by
     /// `Verdict::Rules`.
@@ -108,6 +122,7 @@ pub(crate) fn ask<D: Desk>(alloc: Global, desk: &mut D, command: &Command) -> De
         Command::DrainConn(id) => desk.drain(id),
         Command::DeadlineOf(id, after_ms) => desk.deadline(alloc, id, after_ms),
         Command::Show(id) => desk.show(id),
+        Command::ShowAll => desk.ids_to_show(alloc),
         Command::Reload => desk.reload(alloc),
         Command::Finish(after_ms) => desk.finish(after_ms),
         Command::Quit | Command::Stop => unreachable!(),

@@ -1,20 +1,21 @@
 //! A session, line by line. Who has one session has each reply written and flushed when its line is
 //! whole (`answer_lines`, `finish`); who has many takes each reply and writes it (`take`,
-//! `next_reply`, `last_reply`; `stepwise` has these for callers). The desk may take memory of `alloc`; replies take theirs of
-//! `memory`, which a session passes as the same.
+//! `next_reply`, `last_reply`; `stepwise` has these for callers). The desk may take memory of
+//! `alloc`; replies take theirs of `memory`, which a session passes as the same.
 
 ghost use Rattle.std.specs.Prelude.{◌≡◌, ◌≢◌, length, min, option_map, take};
 ghost use Rattle.relay_admin.specs.Words.{[], OnOk, OnErr, WriteStopped};
 ghost use Rattle.relay_admin.specs.admin.Devices.{IsFlushedOrUntouched};
+ghost use Rattle.relay_admin.specs.admin.Parts.{said_of};
 ghost use Rattle.relay_admin.specs.admin.Progress.{EndComesTo, IsReady, LineComesTo, LinesComeTo};
 ghost use Rattle.relay_admin.specs.admin.Progress.{LastComesTo, NextComesTo, ReplyComesTo};
 ghost use Rattle.relay_admin.specs.admin.Progress.{SinkAfter, ahead_of, position, start};
-ghost use Rattle.relay_admin.specs.admin.ReplyBytes.{bytes_of};
 ghost use Rattle.stream_base.specs.declared.line_reader.TheConstants.{CHUNK_BYTES};
 
 use crate::admin::desk::Desk;
 use crate::admin::end::AdminEnd;
 use crate::admin::line_answer::answer_line;
+use crate::admin::line_reply::{LineReply, deliver};
 use crate::admin::reply_bytes::Reply;
 use crate::admin::reply_text::BAD_COMMAND;
 use std::alloc::{Allocator, Global};
@@ -112,7 +113,7 @@ impl Dialogue {
         ensures same { K.stays sink.old sink.new }
     {
         let (reply, end) = self.reply_to_line(alloc, memory, desk);
-        if let Err(_) = deliver_to(sink, reply.as_slice()) {
+        if let Err(_) = deliver(memory, sink, desk, reply) {
             return Step::CutOff;
         }
         match end {
@@ -127,10 +128,10 @@ impl Dialogue {
         alloc: Global,
         memory: A,
         desk: &mut D,
-    ) -> (Reply<A>, Option<AdminEnd>)
+    ) -> (LineReply<A>, Option<AdminEnd>)
         requires ready { IsReady (position self.old) }
         ensures does { ReplyComesTo result.1 (position self.old) (position self.new)
-            (D.exchanges desk.old) (D.exchanges desk.new) (bytes_of result.0) }
+            (D.exchanges desk.old) (D.exchanges desk.new) (said_of result.0) }
         ensures ahead { ahead_of self.new ≡ ahead_of self.old }
     {
         let (reply, end) = answer_line(alloc, memory, desk, self.lines.line());
@@ -173,6 +174,7 @@ impl Dialogue {
             Step::CutOff => Err(SinkFault),
         }
     }
+
     /// Takes bytes that the client sent, as many as there is room for, and says how many.
     pub(crate) fn take(&mut self, bytes: &[u8]) -> usize
         ensures at { position self.new ≡ position self.old }
@@ -191,15 +193,18 @@ impl Dialogue {
         alloc: Global,
         memory: A,
         desk: &mut D,
-    ) -> Option<(Reply<A>, Option<AdminEnd>)>
+    ) -> Option<(LineReply<A>, Option<AdminEnd>)>
         requires ready { IsReady (position self.old) }
         ensures ready { IsReady (position self.new) }
-        ensures does { NextComesTo (option_map (λ told. (bytes_of told.0, told.1)) result)
+        ensures does { NextComesTo (option_map (λ told. (said_of told.0, told.1)) result)
             self.old self.new (D.exchanges desk.old) (D.exchanges desk.new) }
     {
         match self.lines.find_line() {
             Found::Unended => None,
-            Found::TooLong => Some((Reply::Fixed(BAD_COMMAND), Some(AdminEnd::TooLong))),
+            Found::TooLong => {
+                let reply = LineReply::Whole(Reply::Fixed(BAD_COMMAND));
+                Some((reply, Some(AdminEnd::TooLong)))
+            }
             Found::Line => Some(self.reply_to_line(alloc, memory, desk)),
         }
     }
@@ -211,10 +216,10 @@ impl Dialogue {
         alloc: Global,
         memory: A,
         desk: &mut D,
-    ) -> Option<(Reply<A>, AdminEnd)>
+    ) -> Option<(LineReply<A>, AdminEnd)>
         requires ready { IsReady (position self.old) }
         ensures ready { IsReady (position self.new) }
-        ensures does { LastComesTo (option_map (λ told. (bytes_of told.0, told.1)) result)
+        ensures does { LastComesTo (option_map (λ told. (said_of told.0, told.1)) result)
             (position self.old) (D.exchanges desk.old) (D.exchanges desk.new) }
     {
         if self.lines.line().is_empty() {

@@ -3,13 +3,13 @@
 ghost use Rattle.std.specs.Prelude.{◌≤◌};
 ghost use Rattle.relay_admin.specs.Words.{length};
 ghost use Rattle.relay_admin.specs.declared.admin.dialogue.TheConstants.{MAX_LINE_BYTES};
-ghost use Rattle.relay_admin.specs.admin.ReplyBytes.{bytes_of};
+ghost use Rattle.relay_admin.specs.admin.Parts.{said_of};
 ghost use Rattle.relay_admin.specs.admin.Progress.{AnswersLine};
 
 use crate::admin::command::Command;
 use crate::admin::desk::{Desk, ask};
 use crate::admin::end::AdminEnd;
-use crate::admin::reply::reply_to;
+use crate::admin::line_reply::{LineReply, line_reply_to};
 use crate::admin::reply_bytes::Reply;
 use crate::admin::reply_text::{BAD_COMMAND, DONE};
 use std::alloc::{Allocator, Global};
@@ -21,19 +21,19 @@ pub(crate) fn answer_line<A: Allocator + Copy, D: Desk>(
     memory: A,
     desk: &mut D,
     line: &[u8],
-) -> (Reply<A>, Option<AdminEnd>)
+) -> (LineReply<A>, Option<AdminEnd>)
     requires { length line.now ≤ MAX_LINE_BYTES }
     ensures { AnswersLine (D.exchanges desk.old) (D.exchanges desk.new)
-        line.now (bytes_of result.0) result.1 }
+        line.now (said_of result.0) result.1 }
 {
     let Some(command) = Command::parse(line) else {
-        return (Reply::Fixed(BAD_COMMAND), None);
+        return (LineReply::Whole(Reply::Fixed(BAD_COMMAND)), None);
     };
     match command.end() {
-        Some(end) => (Reply::Fixed(DONE), Some(end)),
+        Some(end) => (LineReply::Whole(Reply::Fixed(DONE)), Some(end)),
         None => {
             let answer = ask(alloc, desk, &command);
-            (reply_to(memory, &answer), None)
+            (line_reply_to(memory, &command, answer), None)
         }
     }
 }

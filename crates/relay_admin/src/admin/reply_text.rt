@@ -4,6 +4,9 @@
 /// What was asked is done.
 pub const DONE: &[u8] = b"ok\n";
 
+/// The last line of a reply that has a line for each connection and listener.
+pub const SHOWN_ALL: &[u8] = b"end\n";
+
 /// The line is no command, or is too long to be one.
 pub const BAD_COMMAND: &[u8] = b"error 400 bad command\n";
 

@@ -2,15 +2,15 @@
 //! writes itself, and waits for none.
 
 ghost use Rattle.std.specs.Prelude.{◌≡◌, ◌≢◌, [], length, min, option_map, take};
+ghost use Rattle.relay_admin.specs.admin.Parts.{said_of};
 ghost use Rattle.relay_admin.specs.admin.Progress.{LastComesTo, NextComesTo, ahead_of, position};
 ghost use Rattle.relay_admin.specs.admin.Progress.{start};
-ghost use Rattle.relay_admin.specs.admin.ReplyBytes.{bytes_of};
 ghost use Rattle.stream_base.specs.declared.line_reader.TheConstants.{CHUNK_BYTES};
 
 use crate::admin::desk::Desk;
 use crate::admin::dialogue::Dialogue;
 use crate::admin::end::AdminEnd;
-use crate::admin::reply_bytes::Reply;
+use crate::admin::line_reply::LineReply;
 use std::alloc::{Allocator, Global};
 use std::marker::Model;
 
@@ -55,16 +55,17 @@ impl AdminSession {
     }
 
     /// The reply to the next line, and how the session ends by it, if it does; `None` where no line
-    /// is whole. A line of more than 64 bytes ends it, and so does line 65,536. Only a reply to
-    /// `Ids`, `Totals` or `Shown` takes memory, of `memory`; where that is refused it is
-    /// `error 507 out of memory`. The desk may take memory of `alloc`.
+    /// is whole. Where the reply is a listing, the next line is asked for once its last part is out.
+    /// A line of more than 64 bytes ends it, and so does line 65,536. Only a reply to `Ids`, `Totals`
+    /// or `Shown` takes memory, of `memory`; where that is refused it is `error 507 out of memory`.
+    /// The desk may take memory of `alloc`.
     pub fn next_reply<A: Allocator + Copy, D: Desk>(
         &mut self,
         alloc: Global,
         memory: A,
         desk: &mut D,
-    ) -> Option<(Reply<A>, Option<AdminEnd>)>
-        ensures { NextComesTo (option_map (λ told. (bytes_of told.0, told.1)) result)
+    ) -> Option<(LineReply<A>, Option<AdminEnd>)>
+        ensures { NextComesTo (option_map (λ told. (said_of told.0, told.1)) result)
             self.old self.new (D.exchanges desk.old) (D.exchanges desk.new) }
     {
         self.dialogue.next_reply(alloc, memory, desk)
@@ -78,8 +79,8 @@ impl AdminSession {
         alloc: Global,
         memory: A,
         desk: &mut D,
-    ) -> Option<(Reply<A>, AdminEnd)>
-        ensures { LastComesTo (option_map (λ told. (bytes_of told.0, told.1)) result)
+    ) -> Option<(LineReply<A>, AdminEnd)>
+        ensures { LastComesTo (option_map (λ told. (said_of told.0, told.1)) result)
             (position self.old) (D.exchanges desk.old) (D.exchanges desk.new) }
     {
         self.dialogue.last_reply(alloc, memory, desk)

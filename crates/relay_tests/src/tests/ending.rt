@@ -4,7 +4,8 @@ use super::live_threads::live_threads;
 use super::places::{Place, place_to};
 use super::watch::Watch;
 use super::{Running, no_outlets, served_on};
-use relay::{Capacity, Loops, PairLimit, Safeguards, ServeFault, serve};
+use relay::{Capacity, Loops, PairLimit, Safeguards, ServeFault};
+use relay_serve::{Given, serve};
 use std::fs::Files;
 use std::io::{ErrorKind, Write};
 use std::net::{Net, TcpListener, TcpStream};
@@ -73,6 +74,7 @@ where
         admin,
         capacity,
         Safeguards::by_default(),
+        Given::none(rt.alloc()),
         outlets,
         &mut Broken,
     )

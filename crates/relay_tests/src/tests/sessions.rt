@@ -23,7 +23,7 @@ struct Row {
     times: usize,
 }
 
-const ROWS: [Row; 4] = [
+const ROWS: [Row; 5] = [
     Row {
         name: "it says nothing",
         line: "",
@@ -37,6 +37,11 @@ const ROWS: [Row; 4] = [
     Row {
         name: "it reads no reply",
         line: "show 1\n",
+        times: UNREAD,
+    },
+    Row {
+        name: "it reads no listing",
+        line: "show\n",
         times: UNREAD,
     },
     Row {

@@ -2,8 +2,9 @@
 
 use super::places::own_path;
 use super::streams::free_port;
-use relay::{Capacity, Loops, Outlets, PairLimit};
+use relay::{Capacity, Loops, PairLimit};
 use relay_admin::addr_of;
+use relay_serve::Outlets;
 use std::fs::File;
 
 /// So many loops, and so many connections at most.

@@ -1,11 +1,45 @@
 //! Sessions that are answered a line at a time, with their bytes in pieces.
 use super::SESSIONS;
 use crate::tests::fake_desk::FakeDesk;
-use relay_admin::{AdminEnd, AdminSession};
+use relay_admin::{AdminEnd, AdminSession, LineReply, Listing, Part};
 use std::alloc::Global;
 
 /// More lines than a piece has.
 const MOST_LINES: u32 = 100;
+
+/// More parts than a listing has.
+const MOST_PARTS: u32 = 100;
+
+/// Adds all parts of a listing; none where memory was refused, or there is no end of it.
+fn add_listing(
+    alloc: Global,
+    listing: Listing,
+    desk: &mut FakeDesk,
+    replies: &mut Vec<u8>,
+) -> Option<()> {
+    let mut listing = listing;
+    for _ in 0..MOST_PARTS {
+        match listing.next_part(alloc, desk) {
+            Part::Gone => {}
+            Part::Line(reply) => replies.extend_from_slice(reply.as_slice()).ok()?,
+            Part::Last(reply) => return replies.extend_from_slice(reply.as_slice()).ok(),
+        }
+    }
+    None
+}
+
+/// Adds a reply.
+fn add(
+    alloc: Global,
+    reply: LineReply<Global>,
+    desk: &mut FakeDesk,
+    replies: &mut Vec<u8>,
+) -> Option<()> {
+    match reply {
+        LineReply::Whole(reply) => replies.extend_from_slice(reply.as_slice()).ok(),
+        LineReply::Each(listing) => add_listing(alloc, listing, desk, replies),
+    }
+}
 
 /// Adds the replies to all whole lines, and says how the session ended, if it did; none where
 /// memory was refused.
@@ -19,7 +53,7 @@ fn answered(
         let Some((reply, end)) = session.next_reply(alloc, alloc, desk) else {
             return Some(None);
         };
-        replies.extend_from_slice(reply.as_slice()).ok()?;
+        add(alloc, reply, desk, replies)?;
         if end.is_some() {
             return Some(end);
         }
@@ -45,7 +79,7 @@ fn played(
     match session.last_reply(alloc, alloc, desk) {
         None => Some(AdminEnd::End),
         Some((reply, end)) => {
-            replies.extend_from_slice(reply.as_slice()).ok()?;
+            add(alloc, reply, desk, replies)?;
             Some(end)
         }
     }

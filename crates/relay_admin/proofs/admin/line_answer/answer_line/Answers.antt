@@ -1,6 +1,6 @@
 use Rattle.std.proofs.Common.{◌∙◌, None, sym}
 use Rattle.relay_admin.specs.admin.Reply.{bad_command}
-use Rattle.relay_admin.specs.admin.ReplyBytes.{bytes_of}
+use Rattle.relay_admin.specs.admin.Parts.{said_of}
 use Rattle.relay_admin.specs.admin.Transcript.{no_command}
 use Rattle.relay_admin.proofs.admin.LineTranscripts.{unasked, last_line_of, asked_line}
 use Rattle.relay_admin.proofs.admin.line_answer.answer_line.Goals as goal
@@ -16,5 +16,5 @@ returns-in-Some-end g c =
 
 pub returns-in-None : goal.returns-in-None
 returns-in-None g c =
-    asked_line _ _ c.args.line.now c.in-Some.command _ (bytes_of c.reply_to.result) c.requires c.in-Some.ensures.command
-    (sym c.end.ensures ∙ c.in-None.is) c.ask-answer.ensures.told c.ask-answer.ensures.asked c.reply_to.ensures
+    asked_line _ _ c.args.line.now c.in-Some.command _ (said_of c.line_reply_to.result) c.requires c.in-Some.ensures.command
+    (sym c.end.ensures ∙ c.in-None.is) c.ask-answer.ensures.told c.ask-answer.ensures.asked c.line_reply_to.ensures

@@ -1,18 +1,28 @@
 use Rattle.relay_admin.proofs.Words.{subst}
+use Rattle.relay_admin.specs.admin.Parts.{said_of}
 use Rattle.relay_admin.specs.admin.Progress.{ReplyComesTo, position}
-use Rattle.relay_admin.specs.admin.ReplyBytes.{bytes_of}
-use Rattle.relay_admin.proofs.admin.StepLemmas.{reply_breaks, reply_ends}
+use Rattle.relay_admin.proofs.admin.StepLemmas.{reply_breaks, reply_ends, reply_goes_on}
 use Rattle.relay_admin.proofs.admin.dialogue.Dialogue.end_line.Goals as goal
 
 pub returns-in-Err-clause-does : goal.returns-in-Err-clause-does
 returns-in-Err-clause-does g c =
-    reply_breaks c.reply_to_line-reply.result.1 c.args.self.now.number c.args.self.now.lines.held _ _ _ _ _ _
-    c.as_slice.result.now c.reply_to_line-reply.ensures.does c.as_slice.ensures c.in-Err.ensures.front
+    reply_breaks c.reply_to_line-reply.result.1 c.args.self.now.number c.args.self.now.lines.held _ _ _ _ _ _ _
+    c.reply_to_line-reply.ensures.does c.in-Err.ensures.front
 
 pub returns-in-Some-clause-does : goal.returns-in-Some-clause-does
 returns-in-Some-clause-does g c =
-    reply_ends c.in-Some.end c.args.self.now.number c.args.self.now.lines.held _ _ _ _ _ _ c.as_slice.result.now
+    reply_ends c.in-Some.end c.args.self.now.number c.args.self.now.lines.held _ _ _ _ _ _
+    (said_of c.reply_to_line-reply.result.0)
     (subst (λ end. ReplyComesTo end (position c.args.self.now) (position c.reply_to_line-reply.new.self)
     (g.D.Desk.exchanges c.args.desk.now) (g.D.Desk.exchanges c.reply_to_line-reply.new.desk)
-    (bytes_of c.reply_to_line-reply.result.0)) c.in-Some.is c.reply_to_line-reply.ensures.does)
-    c.as_slice.ensures c.in_default.ensures.ok
+    (said_of c.reply_to_line-reply.result.0)) c.in-Some.is c.reply_to_line-reply.ensures.does)
+    c.in_default.ensures.ok
+
+pub returns-in-None-clause-does : goal.returns-in-None-clause-does
+returns-in-None-clause-does g c =
+    reply_goes_on (position c.args.self.now) (position c.reply_to_line-reply.new.self) _ _ _ _ _
+    (said_of c.reply_to_line-reply.result.0)
+    (subst (λ end. ReplyComesTo end (position c.args.self.now) (position c.reply_to_line-reply.new.self)
+    (g.D.Desk.exchanges c.args.desk.now) (g.D.Desk.exchanges c.reply_to_line-reply.new.desk)
+    (said_of c.reply_to_line-reply.result.0)) c.in-None.is c.reply_to_line-reply.ensures.does)
+    c.in_default.ensures.ok

@@ -1,6 +1,6 @@
 use Rattle.std.proofs.Common.{◌≡◌, ◌<◌, sym, subst, refl, ap, arith, ◌∙◌, length}
 use Rattle.relay_admin.specs.admin.Progress.{LastComesTo, position}
-use Rattle.relay_admin.specs.admin.ReplyBytes.{bytes_of}
+use Rattle.relay_admin.specs.admin.Parts.{said_of}
 use Rattle.relay_admin.proofs.Words.{Some}
 use Rattle.relay_admin.proofs.TextLemmas.{number_same, number_positive}
 use Rattle.relay_admin.proofs.admin.SessionLemmas.{no_last_line}
@@ -17,9 +17,9 @@ pub returns-clause-does : goal.returns-clause-does
 returns-clause-does g c =
     let self = c.args.self.now in
     let some : 0 < length c.line.result.now = number_positive _ (sym c.is_empty.ensures ∙ c.if-is_empty.false) in
-    subst (λ end. LastComesTo (Some (bytes_of c.reply_to_line-reply.result.0, end)) (position self)
+    subst (λ end. LastComesTo (Some (said_of c.reply_to_line-reply.result.0, end)) (position self)
     (g.D.Desk.exchanges c.args.desk.now) (g.D.Desk.exchanges c.reply_to_line-reply.new.desk)) (sym c.unwrap_or.ensures)
     (last_comes c.reply_to_line-reply.result.1 self.number self.lines.held (position c.reply_to_line-reply.new.self)
     (g.D.Desk.exchanges c.args.desk.now) (g.D.Desk.exchanges c.reply_to_line-reply.new.desk)
-    (bytes_of c.reply_to_line-reply.result.0) c.requires.ready.unended
+    (said_of c.reply_to_line-reply.result.0) c.requires.ready.unended
     (omega (arith, ap length c.line.ensures.bytes, some)) c.reply_to_line-reply.ensures.does)

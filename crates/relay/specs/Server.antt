@@ -1,0 +1,9 @@
+-- A relay, as its callers see it.
+use Rattle.std.specs.Prelude.{List}
+use Rattle.relay.specs.declared.listening.GivenListener.{GivenListener}
+use Rattle.relay.specs.declared.server.Server.{Server}
+
+module _ {R : Type 0} where
+  -- the listeners that it was given and that nobody has taken
+  abbrev pub given_in : Server R → List GivenListener
+  given_in server = server.main.listeners.given.items

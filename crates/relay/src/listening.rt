@@ -1,0 +1,113 @@
+//! How a relay comes to its listeners: it was started with some, as systemd does it, and binds the
+//! others.
+
+ghost use Rattle.std.specs.Prelude.{◌≡◌, IfSome, IfNone, IfOk, Ok};
+ghost use Rattle.std.specs.List.{position_or_len};
+ghost use Rattle.relay_admin.specs.rules.Addr.{address_of};
+ghost use Rattle.relay_admin.specs.rules.Reading.{same_address};
+ghost use Rattle.relay_conn.specs.Addr as addresses;
+ghost use Rattle.relay.specs.Listening.{IsBound, given_at, is_at, left_by};
+ghost use Rattle.relay.specs.declared.listening.Opened.{Opened};
+
+use readiness::{Listen, listen};
+use relay_admin::Addr;
+use relay_conn::address::{rule_address, socket_address};
+use relay_conn::bound_path::remove_stale;
+use rwloops::DevKind;
+use std::fs::Files;
+use std::net::Net;
+
+/// A listener that the program was started with. Who started it has it too, and its path.
+#[derive(Drop)]
+pub struct GivenListener {
+    pub addr: Addr,
+    pub listener: Listen,
+}
+
+impl GivenListener {
+    /// One that listens at this address.
+    pub fn new(addr: &readiness::Addr, listener: Listen) -> GivenListener
+        ensures addr { result.addr ≡ addresses.rule_address addr.now }
+        ensures listener { result.listener ≡ listener }
+    {
+        let addr = rule_address(addr);
+        GivenListener { addr, listener }
+    }
+}
+
+/// A listener, and whose its path is.
+#[derive(Drop)]
+pub(crate) enum Opened {
+    /// It was given, and its path stays.
+    Given(Listen),
+    /// It was bound just now, and its path is the relay's to remove.
+    Bound(Listen),
+}
+
+/// The listeners that were given and that nobody has taken, and whether a Unix socket at which
+/// nobody listens any more gives way to one that is bound.
+#[derive(Drop)]
+pub(crate) struct Listeners {
+    pub(crate) given: Vec<GivenListener>,
+    pub(crate) replaces_stale: bool,
+}
+
+// Whether both are one address.
+fn is_same_addr(one: &Addr, other: &Addr) -> bool
+    ensures { result ≡ same_address (address_of one.now) (address_of other.now) }
+{
+    match (one, other) {
+        (Addr::Tcp(a, port), Addr::Tcp(b, other_port)) => {
+            a[0] == b[0] && a[1] == b[1] && a[2] == b[2] && a[3] == b[3] && *port == *other_port
+        }
+        (Addr::Unix(path), Addr::Unix(other_path)) => path.as_str() == other_path.as_str(),
+        _ => false,
+    }
+}
+
+// The place of the first that is given at this address; how many there are, where none is.
+fn place_at(given: &[GivenListener], addr: &Addr) -> usize
+    ensures { result ≡ position_or_len (is_at addr.now) given.now }
+{
+    for place in 0..given.len() {
+        if is_same_addr(&given[place].addr, addr) {
+            return place;
+        }
+    }
+    given.len()
+}
+
+impl Listeners {
+    // Takes the one that is given at this address.
+    fn take(&mut self, addr: &Addr) -> Option<Listen>
+        ensures taken { result ≡ given_at addr.now self.old.given.items }
+        ensures left { self.new.given.items ≡ left_by addr.now self.old.given.items }
+    {
+        let place = place_at(self.given.as_slice(), addr);
+        if place >= self.given.len() {
+            return None;
+        }
+        let GivenListener { addr: _, listener } = self.given.remove(place);
+        Some(listener)
+    }
+
+    /// Listens at an address: by the listener that was given there, if one was; else one is bound,
+    /// and a Unix socket that was left there gives way first, where it is to.
+    pub(crate) fn open<R: Net + Files>(&mut self, rt: &R, addr: &Addr) -> Result<Opened, DevKind>
+        ensures given { IfSome (given_at addr.now self.old.given.items)
+            (λ listener. result ≡ Ok (Opened.Given listener)) }
+        ensures bound { IfNone (given_at addr.now self.old.given.items) (IfOk result IsBound) }
+        ensures left { self.new.given.items ≡ left_by addr.now self.old.given.items }
+    {
+        if let Some(listener) = self.take(addr) {
+            return Ok(Opened::Given(listener));
+        }
+        if self.replaces_stale {
+            let _ = remove_stale(rt, addr);
+        }
+        match listen(rt, &socket_address(addr)) {
+            Ok(listener) => Ok(Opened::Bound(listener)),
+            Err(kind) => Err(kind),
+        }
+    }
+}

@@ -1,0 +1,259 @@
+-- Part after part of a listing, and what they come to.
+use Rattle.std.specs.Prelude.{◌≡◌, ◌∷◌, ◌++◌, ◌⊎◌}
+use Rattle.relay_admin.proofs.Words.{◌∙◌, sym, ap, refl, subst, ℕ, List, [], length, take, Option, Some, None, inl, inr}
+use Rattle.relay_admin.proofs.Words.{append_assoc, append-nil, Appends, AppendsFront, appends_nothing, drop}
+use Rattle.relay_admin.proofs.Words.{take-append-drop, Ok, Err, Result}
+use Rattle.relay_admin.specs.Words.{OnOk, OnErr}
+use Rattle.relay_admin.proofs.Words.{appends_then_appends, Exchange, questions_of}
+use Rattle.std.proofs.lemmas.List.{take_at}
+use Rattle.relay_admin.specs.declared.admin.listing.Part.{Part}
+use Rattle.relay_admin.specs.declared.admin.listing.Part.TheVariants as part
+use Rattle.relay_admin.specs.declared.admin.reply_bytes.Reply.{Reply}
+use Rattle.relay_admin.specs.declared.admin.reply_text.TheConstants.{OUT_OF_MEMORY, SHOWN_ALL}
+use Rattle.relay_admin.specs.admin.Listing.{AnswerComesTo, Comes, Said, Shows, each, gone, line, refused, shown_all, whole}
+use Rattle.relay_admin.specs.admin.Parts.{IsPartOf, PartComes}
+use Rattle.relay_admin.specs.admin.Progress.{Delivers, DeliversFront}
+use Rattle.relay_admin.specs.admin.Reply.{AddsExchanges, Answer, IsReplyTo, Looks, looked_at}
+use Rattle.relay_admin.specs.admin.ReplyBytes.{bytes_of}
+use Rattle.relay_admin.specs.admin.Shown.{Particulars, shown_text}
+use Rattle.relay_admin.proofs.admin.LineTranscripts.{adds_none, adds_then}
+
+-- ---- Looks are no questions
+
+shows_ask_nothing : (list : List ℕ) (looks : List Exchange) (text : List ℕ) → Shows list looks text
+    → questions_of looks ≡ []
+shows_ask_nothing _ _ _ shown_all = refl
+shows_ask_nothing _ _ _ (gone {rest = rest} {looks = looks} {text = text} more) =
+    shows_ask_nothing rest looks text more
+shows_ask_nothing _ _ _ (line {rest = rest} {looks = looks} {text = text} seen more) =
+    shows_ask_nothing rest looks text more
+shows_ask_nothing _ _ _ (refused seen) = refl
+
+pub answer_asks_nothing : (o : Option (List ℕ)) (answer : Answer) (looks : List Exchange) (text : List ℕ)
+    → AnswerComesTo o answer looks text → questions_of looks ≡ []
+answer_asks_nothing None answer looks text h = ap questions_of h.0
+answer_asks_nothing (Some list) answer looks text h = shows_ask_nothing list looks text h
+
+-- ---- All ids may be gone
+
+abbrev gone_looks : List ℕ → List Exchange
+gone_looks [] = []
+gone_looks (id ∷ ids) = looked_at id None ∷ gone_looks ids
+
+all_gone : (list : List ℕ) → Shows list (gone_looks list) SHOWN_ALL.now
+all_gone [] = shown_all
+all_gone (id ∷ ids) = gone (all_gone ids)
+
+gone_asks_nothing : (list : List ℕ) → questions_of (gone_looks list) ≡ []
+gone_asks_nothing [] = refl
+gone_asks_nothing (id ∷ ids) = gone_asks_nothing ids
+
+-- each reply comes to something
+pub some_comes : (said : Said) → (looks : List Exchange) × (text : List ℕ) × Comes said looks text
+some_comes (whole reply) = ([], reply, (refl, refl))
+some_comes (each list) = (gone_looks list, SHOWN_ALL.now, all_gone list)
+
+-- ---- What a reply of the program comes to
+
+pub by_ids : (o : Option (List ℕ)) (answer : Answer) (list left : List ℕ) → o ≡ Some list → left ≡ list
+    → (looks : List Exchange) (text : List ℕ) → Comes (each left) looks text → AnswerComesTo o answer looks text
+by_ids o answer list left e same looks text comes =
+    subst (λ (p : Option (List ℕ)). AnswerComesTo p answer looks text) (sym e)
+    (subst (λ (l : List ℕ). Shows l looks text) same comes)
+
+pub by_whole : (o : Option (List ℕ)) (answer : Answer) (reply : List ℕ) → o ≡ None → IsReplyTo answer reply
+    → (looks : List Exchange) (text : List ℕ) → Comes (whole reply) looks text → AnswerComesTo o answer looks text
+by_whole o answer reply e is looks text comes =
+    subst (λ (p : Option (List ℕ)). AnswerComesTo p answer looks text) (sym e)
+    (comes.0, subst (λ (t : List ℕ). IsReplyTo answer t) (sym comes.1) is)
+
+-- ---- The next part
+
+pub next_comes_of : {A : Type 0} (p : Part A) (seen : Particulars) (id : ℕ) (left left' : List ℕ)
+    (k0 k1 : Option (List Exchange)) → IsPartOf p seen → seen.id ≡ id → left ≡ id ∷ left' → Looks k0 k1 id (Some seen)
+    → PartComes p left left' k0 k1
+next_comes_of part.Gone seen id left left' k0 k1 is same cut told = absurd is
+next_comes_of (part.Line reply) seen id left left' k0 k1 is same cut told = (
+  seen,
+  cut ∙ ap (λ (x : ℕ). x ∷ left') (sym same),
+  subst (λ (x : ℕ). Looks k0 k1 x (Some seen)) (sym same) told,
+  is,
+)
+next_comes_of (part.Last reply) seen id left left' k0 k1 is same cut told = inr (
+  seen,
+  cut ∙ ap (λ (x : ℕ). x ∷ left') (sym same),
+  subst (λ (x : ℕ). Looks k0 k1 x (Some seen)) (sym same) told,
+  is,
+)
+
+-- ---- The parts so far
+
+pub record SoFar (all left : List ℕ) (k0 k1 : Option (List Exchange)) (h0 h1 : Option (List ℕ)) : Type 0 where
+  pub looks : List Exchange
+  pub text : List ℕ
+  pub told : AddsExchanges k0 k1 looks
+  pub written : Appends h0 h1 text
+  pub carry : (more : List Exchange) (rest : List ℕ) → Shows left more rest → Shows all (looks ++ more) (text ++ rest)
+
+pub so_far_none : (all : List ℕ) (k : Option (List Exchange)) (h : Option (List ℕ)) → SoFar all all k k h h
+so_far_none all k h =
+    record { looks = []; text = []; told = adds_none k; written = appends_nothing h; carry = λ more rest are. are }
+
+pub so_far_gone : (all left left' : List ℕ) (k0 k1 k2 : Option (List Exchange)) (h0 h1 : Option (List ℕ))
+    → SoFar all left k0 k1 h0 h1 → (id : ℕ) × (left ≡ id ∷ left') × Looks k1 k2 id None → SoFar all left' k0 k2 h0 h1
+so_far_gone all left left' k0 k1 k2 h0 h1 s p =
+    let one : List Exchange = looked_at p.0 None ∷ [] in
+    record {
+      looks = s.looks ++ one;
+      text = s.text;
+      told = adds_then k0 k1 k2 s.looks one s.told p.2;
+      written = s.written;
+      carry = λ more rest are. subst (λ (m : List Exchange). Shows all m (s.text ++ rest))
+          (sym (append_assoc s.looks one more))
+          (s.carry (looked_at p.0 None ∷ more) rest
+          (subst (λ (l : List ℕ). Shows l (looked_at p.0 None ∷ more) rest) (sym p.1) (gone are)));
+    }
+
+-- the part is a line, whose bytes are these
+pub so_far_line : (all left left' bytes written : List ℕ) (k0 k1 k2 : Option (List Exchange))
+    (h0 h1 h2 : Option (List ℕ)) → SoFar all left k0 k1 h0 h1
+    → (seen : Particulars) × (left ≡ seen.id ∷ left') × Looks k1 k2 seen.id (Some seen) × (bytes ≡ shown_text seen)
+    → written ≡ bytes → Appends h1 h2 written → SoFar all left' k0 k2 h0 h2
+so_far_line all left left' bytes written k0 k1 k2 h0 h1 h2 s p same w =
+    let seen = p.0 in
+    let one : List Exchange = looked_at seen.id (Some seen) ∷ [] in
+    record {
+      looks = s.looks ++ one;
+      text = s.text ++ shown_text seen;
+      told = adds_then k0 k1 k2 s.looks one s.told p.2;
+      written = appends_then_appends h0 h1 h2 s.text (shown_text seen) s.written
+          (subst (λ (t : List ℕ). Appends h1 h2 t) (same ∙ p.3) w);
+      carry = λ more rest are. subst (λ (t : List ℕ). Shows all ((s.looks ++ one) ++ more) t)
+          (sym (append_assoc s.text (shown_text seen) rest))
+          (subst (λ (m : List Exchange). Shows all m (s.text ++ (shown_text seen ++ rest)))
+          (sym (append_assoc s.looks one more))
+          (s.carry (looked_at seen.id (Some seen) ∷ more) (shown_text seen ++ rest)
+          (subst (λ (l : List ℕ). Shows l (looked_at seen.id (Some seen) ∷ more) (shown_text seen ++ rest)) (sym p.1)
+          (line seen are))));
+    }
+
+-- ---- The last part
+
+-- what the last part comes to, whose bytes are these
+abbrev LastShows : List ℕ → List ℕ → Option (List Exchange) → Option (List Exchange) → Type 0
+LastShows left bytes k0 k1 = (looks : List Exchange) × Shows left looks bytes × AddsExchanges k0 k1 looks
+
+pub last_shows : {A : Type 0} (reply : Reply A) (left left' : List ℕ) (k0 k1 : Option (List Exchange))
+    → PartComes (part.Last reply) left left' k0 k1 → LastShows left (bytes_of reply) k0 k1
+last_shows reply left left' k0 k1 (inl p) = (
+  [],
+  subst (λ (l : List ℕ). Shows l [] (bytes_of reply)) (sym p.0)
+      (subst (λ (t : List ℕ). Shows [] [] t) (sym p.2) shown_all),
+  subst (λ (k : Option (List Exchange)). AddsExchanges k0 k []) (sym p.1) (adds_none k0),
+)
+last_shows reply left left' k0 k1 (inr p) =
+    let seen = p.0 in (
+      looked_at seen.id (Some seen) ∷ [],
+      subst (λ (l : List ℕ). Shows l (looked_at seen.id (Some seen) ∷ []) (bytes_of reply)) (sym p.1)
+          (subst (λ (t : List ℕ). Shows (seen.id ∷ left') (looked_at seen.id (Some seen) ∷ []) t) (sym p.3)
+          (refused seen)),
+      p.2,
+    )
+
+pub so_far_ends : (all left bytes written : List ℕ) (k0 k1 k2 : Option (List Exchange)) (h0 h1 h2 : Option (List ℕ))
+    → SoFar all left k0 k1 h0 h1 → LastShows left bytes k1 k2 → written ≡ bytes → Appends h1 h2 written
+    → Delivers (each all) k0 k2 h0 h2
+so_far_ends all left bytes written k0 k1 k2 h0 h1 h2 s p same w = record {
+  looks = s.looks ++ p.0;
+  text = s.text ++ bytes;
+  comes = s.carry p.0 bytes p.1;
+  told = adds_then k0 k1 k2 s.looks p.0 s.told p.2;
+  written = appends_then_appends h0 h1 h2 s.text bytes s.written (subst (λ (t : List ℕ). Appends h1 h2 t) same w);
+}
+
+-- ---- A part that couldn't be written
+
+-- a text with a front of the part behind it is a front of the whole
+front_of : (text bytes rest : List ℕ) (k : ℕ)
+    → text ++ take k bytes ≡ take (length (text ++ take k bytes)) (text ++ (bytes ++ rest))
+front_of text bytes rest k =
+    let front : List ℕ = text ++ take k bytes in
+    let cut : text ++ (bytes ++ rest) ≡ front ++ (drop k bytes ++ rest) =
+    ap (λ (t : List ℕ). text ++ (t ++ rest)) (sym (take-append-drop k bytes))
+    ∙ ap (λ (t : List ℕ). text ++ t) (append_assoc (take k bytes) (drop k bytes) rest)
+    ∙ sym (append_assoc text (take k bytes) (drop k bytes ++ rest)) in
+    sym (ap (λ (t : List ℕ). take (length front) t) cut ∙ take_at front (drop k bytes ++ rest) (length front) refl)
+
+breaks_at : (all left bytes rest : List ℕ) (more missing : List Exchange) (k0 k1 k2 : Option (List Exchange))
+    (h0 h1 h2 : Option (List ℕ)) → SoFar all left k0 k1 h0 h1 → Shows left (more ++ missing) (bytes ++ rest)
+    → questions_of missing ≡ [] → AddsExchanges k1 k2 more → AppendsFront h1 h2 bytes
+    → DeliversFront (each all) k0 k2 h0 h2
+breaks_at all left bytes rest more missing k0 k1 k2 h0 h1 h2 s are unasked told w = record {
+  looks = s.looks ++ more;
+  missing = missing;
+  text = s.text ++ (bytes ++ rest);
+  count = length (s.text ++ take w.0 bytes);
+  unasked = unasked;
+  comes = subst (λ (m : List Exchange). Shows all m (s.text ++ (bytes ++ rest)))
+      (sym (append_assoc s.looks more missing)) (s.carry (more ++ missing) (bytes ++ rest) are);
+  told = adds_then k0 k1 k2 s.looks more s.told told;
+  written = subst (λ (t : List ℕ). Appends h0 h2 t) (front_of s.text bytes rest w.0)
+      (appends_then_appends h0 h1 h2 s.text (take w.0 bytes) s.written w.2);
+}
+
+pub line_breaks_off : (all left left' bytes written : List ℕ) (k0 k1 k2 : Option (List Exchange))
+    (h0 h1 h2 : Option (List ℕ)) → SoFar all left k0 k1 h0 h1
+    → (seen : Particulars) × (left ≡ seen.id ∷ left') × Looks k1 k2 seen.id (Some seen) × (bytes ≡ shown_text seen)
+    → written ≡ bytes → AppendsFront h1 h2 written → DeliversFront (each all) k0 k2 h0 h2
+line_breaks_off all left left' bytes written k0 k1 k2 h0 h1 h2 s p same w =
+    let seen = p.0 in
+    let missing = gone_looks left' in
+    breaks_at all left bytes SHOWN_ALL.now (looked_at seen.id (Some seen) ∷ []) missing k0 k1 k2 h0 h1 h2 s
+    (subst (λ (l : List ℕ). Shows l (looked_at seen.id (Some seen) ∷ missing) (bytes ++ SHOWN_ALL.now)) (sym p.1)
+    (subst (λ (t : List ℕ). Shows (seen.id ∷ left') (looked_at seen.id (Some seen) ∷ missing) (t ++ SHOWN_ALL.now))
+    (sym p.3) (line seen (all_gone left')))) (gone_asks_nothing left') p.2
+    (subst (λ (t : List ℕ). AppendsFront h1 h2 t) same w)
+
+pub last_breaks_off : (all left bytes written : List ℕ) (k0 k1 k2 : Option (List Exchange))
+    (h0 h1 h2 : Option (List ℕ)) → SoFar all left k0 k1 h0 h1 → LastShows left bytes k1 k2 → written ≡ bytes
+    → AppendsFront h1 h2 written → DeliversFront (each all) k0 k2 h0 h2
+last_breaks_off all left bytes written k0 k1 k2 h0 h1 h2 s p same w =
+    breaks_at all left bytes [] p.0 [] k0 k1 k2 h0 h1 h2 s
+    (subst (λ (m : List Exchange). Shows left m (bytes ++ [])) (sym (append-nil p.0))
+    (subst (λ (t : List ℕ). Shows left p.0 t) (sym (append-nil bytes)) p.1)) refl p.2
+    (subst (λ (t : List ℕ). AppendsFront h1 h2 t) same w)
+
+-- ---- A whole reply
+
+pub whole_delivered : (said : Said) (reply written : List ℕ) (k : Option (List Exchange)) (h0 h1 : Option (List ℕ))
+    → said ≡ whole reply → written ≡ reply → Appends h0 h1 written → Delivers said k k h0 h1
+whole_delivered said reply written k h0 h1 is e w = record {
+  looks = [];
+  text = written;
+  comes = subst (λ (s : Said). Comes s [] written) (sym is) (refl, e);
+  told = adds_none k;
+  written = w;
+}
+
+pub whole_breaks_off : (said : Said) (reply written : List ℕ) (k : Option (List Exchange)) (h0 h1 : Option (List ℕ))
+    → said ≡ whole reply → written ≡ reply → AppendsFront h0 h1 written → DeliversFront said k k h0 h1
+whole_breaks_off said reply written k h0 h1 is e w = record {
+  looks = [];
+  missing = [];
+  text = written;
+  count = w.0;
+  unasked = refl;
+  comes = subst (λ (s : Said). Comes s [] written) (sym is) (refl, e);
+  told = adds_none k;
+  written = w.2;
+}
+
+-- ---- What follows from an outcome
+
+pub ok_then : {A E : Type 0} (r : Result A E) (P Q : Type 0) → OnOk r P → (P → Q) → OnOk r Q
+ok_then (Ok x) P Q p f = f p
+ok_then (Err e) P Q p f = tt
+
+pub err_then : {A E : Type 0} (r : Result A E) (P Q : Type 0) → OnErr r P → (P → Q) → OnErr r Q
+err_then (Ok x) P Q p f = tt
+err_then (Err e) P Q p f = f p

@@ -1,0 +1,24 @@
+-- A connection right after its set-up.
+use Rattle.std.specs.Prelude.{◌≡◌, ℕ, None}
+use Rattle.std.specs.Arc.{arc_value}
+use Rattle.std.specs.declared.alloc.Global.{Global}
+use Rattle.std.specs.declared.sync.Arc.{Arc}
+use Rattle.base_types.specs.declared.direction.Dir.TheVariants.{Read}
+use Rattle.fd_descriptor.specs.CellKey.{key_of_cell}
+use Rattle.relay_core.specs.declared.pair_tasks.FlowState.TheVariants.{Waits}
+use Rattle.relay_conn.specs.declared.connection.Connection.{Connection}
+use Rattle.relay_conn.specs.declared.connection_facts.ConnectionFacts.{ConnectionFacts}
+
+module _ {U D R : Type 0} where
+  -- the connection of which these facts are known, whose sides' descriptors have these keys: it has
+  -- the idle time that its rule had at the accept, both its reads are under way, and nothing failed
+  pub record IsSetUp (known : Arc ConnectionFacts Global) (client_key target_key : ℕ)
+      (connection : Connection U D R) : Type 0 where
+    pub facts : connection.facts ≡ known
+    pub up_idle : connection.up.gate.idle.idle_ms ≡ (arc_value known).acceptance.rule.idle_ms
+    pub down_idle : connection.down.gate.idle.idle_ms ≡ (arc_value known).acceptance.rule.idle_ms
+    pub up_reads : connection.tasks.up ≡ Waits Read
+    pub down_reads : connection.tasks.down ≡ Waits Read
+    pub unfailed : connection.failure ≡ None
+    pub client : key_of_cell (arc_value connection.client.cell) ≡ client_key
+    pub target : key_of_cell (arc_value connection.target.cell) ≡ target_key

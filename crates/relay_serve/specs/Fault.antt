@@ -1,0 +1,10 @@
+-- What a fault of a call below is to the relay.
+use Rattle.rwloops.specs.declared.fault.Fault.{Fault}
+use Rattle.rwloops.specs.declared.fault.Fault.TheVariants.{OutOfMemory}
+use Rattle.relay_admin.specs.declared.serve_fault.ServeFault.{ServeFault}
+use Rattle.relay_admin.specs.declared.serve_fault.ServeFault.TheVariants.{Memory, Metrics}
+
+-- what a refusal of the server of metrics is to the relay
+abbrev pub metrics_fault : Fault → ServeFault
+metrics_fault OutOfMemory = Memory
+metrics_fault other = Metrics

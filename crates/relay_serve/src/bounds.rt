@@ -1,0 +1,32 @@
+//! What a relay with its log and its metrics runs on.
+
+use std::net::{Net, TcpListener, TcpStream};
+use std::random::RandomSource;
+use std::sync::Wait;
+use std::thread::Threads;
+use std::time::Clock;
+
+/// What a relay runs on, and random keys too, for the tables of the metrics' server. One bound,
+/// since what goes to a thread may rest on none that is assumed of the sender's alone.
+pub(crate) trait ServeRuntime: Wait
+    + Threads
+    + Net<Listener = TcpListener, Stream = TcpStream>
+    + Clock
+    + RandomSource
+    + Copy
+    + Send
+    + Sync
+    + 'static {}
+
+impl<R> ServeRuntime for R
+where
+    R: Wait
+        + Threads
+        + Net<Listener = TcpListener, Stream = TcpStream>
+        + Clock
+        + RandomSource
+        + Copy
+        + Send
+        + Sync
+        + 'static,
+{}

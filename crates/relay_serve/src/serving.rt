@@ -1,0 +1,112 @@
+//! A relay from its rules file to its end.
+
+ghost use Rattle.std.specs.Prelude.{◌≡◌, ◌⊎◌, OnOk, IfErr};
+ghost use Rattle.relay_serve.specs.Output.{SaysItListens, WritesBothLines};
+ghost use Rattle.relay_admin.specs.ServeFault.{IsRunFault};
+
+use crate::bounds::ServeRuntime;
+use crate::given::{Given, tell_unused};
+use crate::outlets::{Outlets, StartedOutlets};
+use crate::output::{write_listening, write_totals};
+use relay::{Capacity, Config, Safeguards, ServeFault, Server};
+use std::alloc::Global;
+use std::fs::Files;
+use std::io::Write;
+use std::net::{Net, TcpListener, TcpStream};
+use std::random::RandomSource;
+use std::sync::Wait;
+use std::thread::Threads;
+use std::time::Clock;
+
+// Opens all, says that the relay listens, and turns until an admin session says stop, until it has
+// finished, or until something fails. The threads are started before, so that nothing which is
+// refused after the line ends it.
+fn run<L, R, W: Write>(
+    rt: R,
+    alloc: Global,
+    server: &mut Server<R>,
+    started: &mut StartedOutlets,
+    admin: &str,
+    errors: Option<L>,
+    outlets: Outlets<L>,
+    writer: &mut W,
+) -> Result<(), ServeFault>
+where
+    L: Write + Drop + Send + 'static,
+    R: ServeRuntime + Files,
+    ensures said { OnOk result (SaysItListens (W.contents writer.old) (W.contents writer.new)) }
+    ensures unwritten { IfErr result (λ fault. IsRunFault fault
+        ⊎ (W.contents writer.new ≡ W.contents writer.old)) }
+{
+    let Outlets { log, metrics } = outlets;
+    started.start_log(rt, server, log)?;
+    server.open(admin)?;
+    tell_unused(errors, server.unused());
+    started.serve_metrics(rt, alloc, server, &metrics)?;
+    server.start()?;
+    write_listening(writer, server.rules())?;
+    server.run()
+}
+
+/// Runs a relay by the rules file at the path `rules`, with its admin socket at the path `admin`,
+/// on so many loops, with so many connections at once, and with these safeguards, until an admin
+/// session says stop, or finish and that is over. It takes the listeners that are given, as
+/// `Server::give` says. It writes `listening N` once all sockets are open, and at the end
+/// `up U down D`, the bytes copied to the targets and to the clients. A fault at the start is the
+/// first of: the rules file can't be read, its rules are bad, the poller, the listeners in the
+/// rules' order, the admin socket, the metrics' address. Whatever comes, no thread, no socket and
+/// no path that it bound is left.
+// (its bounds are spelt out: a program that calls it over `ServeRuntime` isn't covered by the
+// prover)
+pub fn serve<L, R, W: Write>(
+    rt: R,
+    rules: &String,
+    admin: &String,
+    capacity: Capacity,
+    safeguards: Safeguards,
+    given: Given<L>,
+    outlets: Outlets<L>,
+    writer: &mut W,
+) -> Result<(), ServeFault>
+where
+    L: Write + Drop + Send + 'static,
+    R: Wait
+        + Threads
+        + Net<Listener = TcpListener, Stream = TcpStream>
+        + Clock
+        + Files
+        + RandomSource
+        + AllocGlobal
+        + Copy
+        + Send
+        + Sync
+        + 'static,
+    ensures written { OnOk result
+        (WritesBothLines (W.contents writer.old) (W.contents writer.new)) }
+    // Where the rules or a socket are at fault, nothing was written.
+    ensures unwritten { IfErr result (λ fault. IsRunFault fault
+        ⊎ (W.contents writer.new ≡ W.contents writer.old)) }
+{
+    let alloc = rt.alloc();
+    let has_log = outlets.log.is_some();
+    let config = Config::read(&rt, alloc, rules.as_str(), capacity, safeguards, has_log)?;
+    let server = Server::new(rt, alloc, config)?;
+    let (mut server, mut started) = (server, StartedOutlets::none());
+    let Given { listeners, errors } = given;
+    server.give(listeners);
+    let ran = run(
+        rt,
+        alloc,
+        &mut server,
+        &mut started,
+        admin.as_str(),
+        errors,
+        outlets,
+        writer,
+    );
+    let ended = server.end();
+    started.end(&rt);
+    ran?;
+    let totals = ended?;
+    write_totals(writer, &totals)
+}
