@@ -1,11 +1,13 @@
 """Compares what the crates promise with `tests/gate/clauses.list`, so that no clause is lost or weakened unseen.
 
     python3 tests/gate/clauses.py            compares, and writes nothing
-    python3 tests/gate/clauses.py --write    makes the list anew, at a release, and empties `tests/gate/clauses.changes`
+    python3 tests/gate/clauses.py --add      adds to the list what is new
+    python3 tests/gate/clauses.py --write    makes the list anew, before a change is begun, and empties `tests/gate/clauses.changes`
 
-The list has a line for each clause, ghost member and definition: `CRATE FUNCTION KIND:NAME DIGEST`. What is gone, or has another
-text, fails, as do a `requires` that came to a function which was there, and a second definition of a name, since a text that
-cites it may then mean another. It passes where `tests/gate/clauses.changes` has a line that names it with its reason:
+The list has a line for each clause, ghost member and definition: `CRATE FUNCTION KIND:NAME DIGEST`. What is new and isn't listed
+fails, since nobody would see it go. What is gone, or has another text, fails, as do a `requires` that came to a function which was
+there, and a second definition of a name, since a text that cites it may then mean another. Those pass where
+`tests/gate/clauses.changes` has a line that names it with its reason:
 
     CRATE FUNCTION KIND:NAME gone|changed|new REASON
 
@@ -115,32 +117,52 @@ def compare(promises):
     often = clause_texts.defined_often([key for key, digests in before.items() for _ in range(sum(digests.values()))])
     now = standing(promises, often)
     said, wrong = said_of(read(CHANGES))
-    left, idle = judged(differences(before, now), said, now)
+    found = differences(before, now)
+    left, idle = judged(found, said, now)
     for key, word in left:
         print(f"{' '.join(key)} {TOLD[word]}\n    if that is meant, add to {CHANGES}: {' '.join(key)} {word} REASON")
     wrong += [f"{CHANGES}: nothing became of this so: {' '.join(it)} {said[it]}" for it in idle]
     if left:
         print(f"    both texts of each: python3 tools/clauses.py $(git log -1 --format=%h {LIST})")
     print(*wrong, sep="\n", end="\n" if wrong else "")
-    came = sum(it.what != "-" for it in now.keys() - before.keys())
-    print(f"{came} new, {len(said) - len(idle)} changes with a reason")
-    failed = len(left) + len(wrong) + (not before)
+    came = sum(it.what != "-" for it in now.keys() - before.keys() - found.keys())
+    if came:
+        print(f"{came} new in no line of {LIST}, so that nobody would see them go: python3 tests/gate/clauses.py --add")
+    print(f"{len(said) - len(idle)} changes with a reason")
+    failed = len(left) + len(wrong) + (came > 0) + (not before)
     print(f"{len(before) - sum(word != 'new' for _, word in left)} passed, {failed} failed")
     return 1 if failed else 0
 
 
-def main(words):
-    given = argparse.ArgumentParser(description="Compares what the crates promise with the list.")
-    given.add_argument("--write", action="store_true", help="make the list anew, and empty the changes")
-    promises = clause_texts.promises_of(clause_texts.texts_of())
-    if not given.parse_args(words).write:
-        return compare(promises)
-    often = clause_texts.defined_often([it.key for it in promises])
-    lines = sorted(" ".join([*it.key, clause_texts.digest_of(it, often)]) for it in promises)
-    write(LIST, "\n".join(lines) + "\n")
-    write(CHANGES, HEAD)
+def lines_of(promises, often):
+    return [" ".join([*it.key, clause_texts.digest_of(it, often)]) for it in promises]
+
+
+def write_list(lines):
+    write(LIST, "\n".join(sorted(lines)) + "\n")
     print(f"{len(lines)} lines in {LIST}")
     return 0
+
+
+def added(promises):
+    """The lines of the list, and those of what is new and asks for no reason."""
+    before, often = listed(), clause_texts.defined_often([it.key for it in promises])
+    known = before.keys() | differences(before, standing(promises, often)).keys()
+    return read(LIST) + lines_of([it for it in promises if it.key not in known], often)
+
+
+def main(words):
+    given = argparse.ArgumentParser(description="Compares what the crates promise with the list.")
+    given.add_argument("--add", action="store_true", help="add to the list what is new")
+    given.add_argument("--write", action="store_true", help="make the list anew, and empty the changes")
+    given = given.parse_args(words)
+    promises = clause_texts.promises_of(clause_texts.texts_of())
+    if given.add:
+        return write_list(added(promises))
+    if given.write:
+        write(CHANGES, HEAD)
+        return write_list(lines_of(promises, clause_texts.defined_often([it.key for it in promises])))
+    return compare(promises)
 
 
 if __name__ == "__main__":

@@ -150,8 +150,7 @@ class Clauses(MadeFolder):
 
     def test_a_clause_that_was_renamed_is_one_that_is_gone_and_a_new_one(self):
         self.queue("ensures added", "ensures grown")
-        self.fails_with("made Queue::push ensures:added is gone")
-        self.assertIn("1 new, 0 changes with a reason", self.run_main()[1])
+        self.fails_with("made Queue::push ensures:added is gone", "1 new in no line of")
 
     def test_a_clause_of_a_trait_counts(self):
         self.queue("closed { result ≡ true }", "closed { result ≡ result }")
@@ -179,13 +178,23 @@ class Clauses(MadeFolder):
     def test_a_new_requires_fails_even_on_a_function_without_a_clause(self):
         self.queue("    fn count(&self) -> u64 {", "    fn count(&self) -> u64\n        requires some { 0 < self.now.items }\n    {")
         self.fails_with("made Queue::count requires:some came to what was there")
+        self.run_main("--add")
+        self.fails_with("made Queue::count requires:some came to what was there")
         self.passes_with("made Queue::count requires:some new nobody counts an empty queue")
 
-    def test_new_functions_and_clauses_pass_and_are_counted(self):
+    def test_new_functions_and_clauses_fail_until_they_are_listed(self):
         self.queue("    fn count", "    fn has(&self) -> bool\n        requires a { true }\n        ensures b { result ≡ true }\n    {\n        true\n    }\n\n    fn count")
         self.queue("-> u64 {", "-> u64\n        ensures counts { result ≡ self.now.items }\n    {")
+        self.fails_with("3 new in no line of")
+        self.assertEqual(self.run_main("--add")[0], 0)
         self.assertEqual(self.told(), [])
-        self.assertIn("3 new, 0 changes with a reason", self.run_main()[1])
+        self.queue("        ensures b { result ≡ true }\n", "")
+        self.fails_with("made Queue::has ensures:b is gone")
+
+    def test_what_is_added_to_the_list_hides_no_change(self):
+        self.queue("≡ items_of self.old + 1", "≤ items_of self.old + 1")
+        self.run_main("--add")
+        self.fails_with("made Queue::push ensures:added has another text")
 
     def test_a_second_definition_of_a_name_fails(self):
         self.write("crates/low/specs/Queue.antt", "-- any will do\nabbrev pub Fits : ℕ → Type 0\nFits q = ⊤\n")
@@ -251,7 +260,7 @@ class Clauses(MadeFolder):
     def test_a_crate_of_tests_promises_nothing(self):
         self.write("crates/made_tests/src/queue.rt", QUEUE)
         self.assertEqual(self.told(), [])
-        self.assertIn("0 new, 0 changes with a reason", self.run_main()[1])
+        self.assertIn("0 changes with a reason", self.run_main()[1])
 
 
 if __name__ == "__main__":
