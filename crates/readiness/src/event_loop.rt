@@ -197,8 +197,7 @@ impl<T, A: Allocator> EventLoop<T, A> {
         let all_again = self.tasks.begin_round(&mut self.round);
         let cells = &mut CellsThemselves { rt };
         if self.remote.has_due(rt, now) {
-            let due = self.remote.due(rt, now);
-            self.tasks.resume_due(cells, host, due.as_slice(), now);
+            self.resume_due(rt, now, host);
         }
         let gave_way = all_again || !self.round.is_empty() || self.tasks.gave_way();
         let heard = self
@@ -215,6 +214,15 @@ impl<T, A: Allocator> EventLoop<T, A> {
             self.tasks.resume_all(cells, host, Why::Again);
         }
         Ok(())
+    }
+
+    // Resumes the tasks whose timers are due. The list of 4 KiB is cleared when the frame that it is
+    // in is entered, so that frame is not the turn's.
+    #[inline(never)]
+    fn resume_due<R: Wait, H: Host<Task = T>>(&mut self, rt: &R, now: u64, host: &mut H) {
+        let due = self.remote.due(rt, now);
+        self.tasks
+            .resume_due(&mut CellsThemselves { rt }, host, due.as_slice(), now);
     }
 
     // Has the tasks go on of the events, those that were told, and those that gave way.

@@ -108,7 +108,7 @@ impl<A: Allocator> LoopRemote<A> {
         self.told.lock(rt).take(taken)
     }
 
-    /// Whether a timer is due, so that no list of 4 KiB is cleared in a turn without one.
+    /// Whether a timer is due, without making the list of them.
     pub(crate) fn has_due<R: Wait>(&self, rt: &R, now: u64) -> bool {
         match self.timers.lock(rt).next() {
             Some(at) => at <= now,

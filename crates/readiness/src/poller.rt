@@ -49,8 +49,26 @@ pub struct Poller<A: Allocator = Global> {
     waker: Arc<Waker, A>,
 }
 
-// Shows the clock to the entries whose timers are due, and gives the earliest moment that is left.
-// A key whose entry is gone is passed over.
+// Shows the clock to the entries whose timers are due. A key whose entry is gone is passed over.
+// The list of 4 KiB is cleared when the frame that it is in is entered, so that frame is not the
+// turn's.
+#[inline(never)]
+fn tick_listed<R: Wait, T: HasCell, B: Allocator, C: Allocator>(
+    rt: &R,
+    now: u64,
+    table: &Mutex<ConnTable<T, B>>,
+    timers: &Mutex<Timers<C>>,
+) {
+    let due = timers.lock(rt).due(now);
+    tick_entries(
+        &mut CellsThemselves { rt },
+        &table.lock(rt),
+        now,
+        due.as_slice(),
+    );
+}
+
+// Shows the clock to those whose timers are due, and gives the earliest moment that is left.
 fn tick_due<R: Wait, T: HasCell, B: Allocator, C: Allocator>(
     rt: &R,
     now: u64,
@@ -61,13 +79,7 @@ fn tick_due<R: Wait, T: HasCell, B: Allocator, C: Allocator>(
     if wait_ms(now, next) > 0 {
         return next;
     }
-    let due = timers.lock(rt).due(now);
-    tick_entries(
-        &mut CellsThemselves { rt },
-        &table.lock(rt),
-        now,
-        due.as_slice(),
-    );
+    tick_listed(rt, now, table, timers);
     timers.lock(rt).next()
 }
 
