@@ -4,6 +4,7 @@ use Rattle.std.specs.IoError.{error_kind}
 use Rattle.std.specs.declared.io.Error.{Error}
 use Rattle.std.specs.declared.io.ErrorKind.TheVariants.{OutOfMemory}
 use Rattle.rwloops.specs.declared.fault.Fault.{Fault}
+use Rattle.rwloops.specs.declared.fault.Fault.TheVariants as fault
 use Rattle.fd_descriptor.specs.HandleCalls.{Call, Connects, SetsDeadline, MayTell}
 use Rattle.fd_descriptor.specs.Marks.{Marks}
 use Rattle.net.specs.Errors.{Tells}
@@ -12,7 +13,12 @@ use Rattle.net.specs.Errors.{Tells}
 abbrev pub IsFaultOf : Call → Fault → Type 0
 IsFaultOf call told = (before after : Marks) × MayTell call before after told
 
--- the error tells such a fault
+-- a call that doesn't wait may be told this fault: one of the handle's call, or that there is no memory
+-- for the handle that it has for itself
+abbrev pub IsPolledFault : Call → Fault → Type 0
+IsPolledFault call told = IsFaultOf call told ⊎ (told ≡ fault.OutOfMemory)
+
+-- the error tells a fault that a handle may be told by this call
 abbrev pub IsErrorOf : Call → Error → Type 0
 IsErrorOf call error = (told : Fault) × IsFaultOf call told × Tells told error
 

@@ -1,16 +1,18 @@
-//! Reads and writes of a connection that answer at once, for tasks of a loop. Each has its direction
-//! for the try alone, so that a close waits for no task, and other threads may read and write by
-//! clones meanwhile.
+//! Reads and writes of a connection that wait for nothing from the peer, for tasks of a loop. Each has
+//! its direction for the try alone, so that a close waits for no task, and other threads may read and
+//! write by clones meanwhile; a try waits until theirs of its direction are over.
 
 ghost use Rattle.std.specs.Prelude.{◌≡◌, ◌≤◌, ◌<◌, ℕ, true, false, None, Result, Err};
-ghost use Rattle.std.specs.Prelude.{IfOk, IfSome, IsSomeAnd, IsNone, is_some, not, length};
+ghost use Rattle.std.specs.Prelude.{IfOk, IfErr, IfSome, IsSomeAnd, IsNone, is_some, not, length};
 ghost use Rattle.fd_descriptor.specs.FdHandle.{KeepsHandle};
+ghost use Rattle.fd_descriptor.specs.HandleCalls.{IfFailed, Reads, Writes};
 ghost use Rattle.fd_descriptor.specs.Polled.{is_over};
 ghost use Rattle.rwloops.specs.TryNow.{IsPartOf};
 ghost use Rattle.rwloops.specs.declared.fault.Fault.{Fault};
 ghost use Rattle.rwloops.specs.declared.tries.Progress.{Progress};
 ghost use Rattle.net.specs.Conn.{IsNotConnected, FailsBy, IsReadAnswer, IsWriteAnswer};
 ghost use Rattle.net.specs.Conn.{guard_of, handle_of, is_closed, untold_of};
+ghost use Rattle.net.specs.Failures.{IsPolledFault};
 ghost use Rattle.net.specs.Polled.{IsPolledWrite, reads_block, writes_block};
 
 use crate::errors::error_with;
@@ -20,25 +22,40 @@ use fd_descriptor::{Dir, Fault, FdHandle, Progress, TaskReader, TaskWriter, Writ
 use readiness::SockRes;
 use std::io;
 
-// A read by a handle of its own, which is let go with it.
+// A read by a handle of its own, which is let go with it, or why there is none.
 fn read_once<R: Runs>(
     rt: R,
-    handle: FdHandle<SockRes>,
+    own: Result<FdHandle<SockRes>, Fault>,
     buf: &mut [u8],
 ) -> Option<Result<usize, Fault>>
     ensures within { IfSome result (λ answer. IfOk answer (λ count. count ≤ length buf.old)) }
     ensures some { 0 < length buf.old → IfSome result (λ answer. IfOk answer (λ count. 0 < count)) }
+    ensures room { IsNone result → 0 < length buf.old }
+    ensures faults { IfErr own (λ fault. fault ≡ Fault.OutOfMemory)
+        → IfSome result (λ answer. IfErr answer (IsPolledFault Reads)) }
 {
-    let mut half = TaskReader::new(rt, handle);
-    half.poll_read(buf)
+    match own {
+        Ok(handle) => {
+            let mut half = TaskReader::new(rt, handle);
+            half.poll_read(buf)
+        }
+        Err(fault) => Some(Err(fault)),
+    }
 }
 
 // A write likewise.
-fn write_once<R: Runs>(rt: R, handle: FdHandle<SockRes>, bytes: &[u8]) -> Progress
+fn write_once<R: Runs>(rt: R, own: Result<FdHandle<SockRes>, Fault>, bytes: &[u8]) -> Progress
     ensures part { IsPartOf (length bytes.now) result }
+    ensures faults { IfErr own (λ fault. fault ≡ Fault.OutOfMemory)
+        → IfFailed result (λ failed. IsPolledFault Writes failed.fault) }
 {
-    let mut half = TaskWriter::new(rt, handle);
-    half.poll_write(bytes)
+    match own {
+        Ok(handle) => {
+            let mut half = TaskWriter::new(rt, handle);
+            half.poll_write(bytes)
+        }
+        Err(fault) => Progress::Failed(WriteFault { fault, count: 0 }),
+    }
 }
 
 // Whether a write would have blocked before its last byte.
@@ -76,12 +93,15 @@ fn polled_write(
 
 impl<R: Runs> Conn<R> {
     /// Reads what is there: so many bytes, 0 at the end, or what failed. `None` says that nothing is
-    /// there yet. It waits for nothing, and knows no time but the deadline.
+    /// there yet. It knows no time but the deadline. It waits for no byte, but behind a clone's read
+    /// under way, which has the direction for as long as it waits itself.
     pub fn poll_read(&mut self, buf: &mut [u8]) -> Option<io::Result<usize>>
         ensures keeps { KeepsHandle (handle_of self.old) (handle_of self.new) }
         ensures bound { IfSome result (λ read. IfOk read (λ count. count ≤ length buf.old)) }
         ensures answer { IfSome result (λ read. (told : Result ℕ Fault) × IsReadAnswer told read
+            × IfErr told (IsPolledFault Reads)
             × (0 < length buf.old → IfOk told (λ count. 0 < count))) }
+        ensures pending { IsNone result → (0 < length buf.old) × (is_closed self.new ≡ false) }
         ensures closed { is_closed self.old ≡ true → IsSomeAnd result IsNotConnected }
         ensures blocks { reads_block self.new ≡ not (is_some result) }
         ensures untold { untold_of self.new ≡ untold_of self.old }
@@ -92,11 +112,8 @@ impl<R: Runs> Conn<R> {
         if self.handle.look().closed {
             return Some(read_answer(Err(Fault::Closed), None));
         }
-        let handle = match self.handle.share() {
-            Ok(handle) => handle,
-            Err(fault) => return Some(read_answer(Err(fault), None)),
-        };
-        let Some(told) = read_once(guard.shared.rt, handle, buf) else {
+        let own = self.handle.share();
+        let Some(told) = read_once(guard.shared.rt, own, buf) else {
             self.blocked.read = true;
             return None;
         };
@@ -105,7 +122,7 @@ impl<R: Runs> Conn<R> {
 
     /// Writes what is taken at once: so many bytes from the front, or what failed. `None` says that
     /// none is taken yet. A fault that came after some bytes is told by the next write, as by one
-    /// that waits.
+    /// that waits. It waits behind a clone's write under way alone, as `poll_read` behind a read.
     pub fn poll_write(&mut self, buf: &[u8]) -> Option<io::Result<usize>>
         ensures keeps { KeepsHandle (handle_of self.old) (handle_of self.new) }
         ensures bound { IfSome result (λ written. IfOk written (λ count. count ≤ length buf.now)) }
@@ -113,9 +130,12 @@ impl<R: Runs> Conn<R> {
             × (untold_of self.new ≡ None)) }
         ensures answer { untold_of self.old ≡ None → (progress : Progress)
             × IsPartOf (length buf.now) progress
+            × IfFailed progress (λ failed. IsPolledFault Writes failed.fault)
             × IsPolledWrite progress (length buf.now) result (untold_of self.new) }
         ensures closed { untold_of self.old ≡ None → is_closed self.old ≡ true
             → IsSomeAnd result IsNotConnected }
+        ensures pending { IsNone result → (0 < length buf.now) × (is_closed self.new ≡ false)
+            × (untold_of self.old ≡ None) }
         ensures blocks { IsNone result → writes_block self.new ≡ true }
         ensures guard { guard_of self.new ≡ guard_of self.old }
     {
@@ -128,10 +148,8 @@ impl<R: Runs> Conn<R> {
         if self.handle.look().closed {
             return Some(refused_write());
         }
-        let progress = match self.handle.share() {
-            Ok(handle) => write_once(guard.shared.rt, handle, buf),
-            Err(fault) => Progress::Failed(WriteFault { fault, count: 0 }),
-        };
+        let own = self.handle.share();
+        let progress = write_once(guard.shared.rt, own, buf);
         self.blocked.write = would_block(&progress);
         polled_write(&mut self.untold, progress, buf.len(), code)
     }

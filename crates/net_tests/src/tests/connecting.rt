@@ -1,11 +1,12 @@
-//! Connections that aren't made: what they are told, with the system's number.
+//! Connections that aren't made: what they are told, with the system's number. And that the time of a
+//! connect is none of the connection's.
 
-use super::{millis, own_path};
+use super::{millis, own_path, pause};
 use libc::net as c;
 use mio::net::{TcpListener, UnixListener};
 use net::{Addr, Conn, Listener, Net, Runs, tcp};
 use std::alloc::Global;
-use std::io::ErrorKind;
+use std::io::{ErrorKind, Write};
 use std::net::{Ipv4Addr, Net as Sockets, SocketAddr};
 use std::os::fd::AsRawFd;
 use std::process::Abort;
@@ -78,4 +79,32 @@ fn a_full_queue_at_a_path_is_told(rt: HostRuntime) {
     holds!(rt; refused == Some(ErrorKind::WouldBlock));
     net.stop();
     holds!(rt; fs::remove_file(&rt, path.as_str()).is_ok());
+}
+
+/// A connection that was made within a few milliseconds, by one of many tries.
+fn made_soon<R>(rt: &R, net: &Net<R>, addr: &Addr) -> Option<Conn<R>>
+where
+    R: Runs + Threads + Sockets,
+{
+    for _ in 0..100u8 {
+        if let Ok(conn) = Conn::connect(net, addr, millis(20)) {
+            return Some(conn);
+        }
+        pause(rt, 1);
+    }
+    None
+}
+
+#[test]
+fn the_time_of_a_connect_is_none_of_the_connection(rt: HostRuntime) {
+    let net = Net::start(rt, rt.alloc()).expect(&rt, "net");
+    let listener = Listener::bind(&net, &tcp(0)).expect(&rt, "bound");
+    let addr = listener.local_addr().expect(&rt, "address");
+    let soon = made_soon(&rt, &net, &addr).expect(&rt, "made in time");
+    let ever = Conn::connect(&net, &addr, None).expect(&rt, "made without a time");
+    pause(&rt, 40);
+    for mut conn in [soon, ever] {
+        holds!(rt; conn.write_all(b"hello").is_ok(), "it has no time of its own");
+    }
+    net.stop();
 }

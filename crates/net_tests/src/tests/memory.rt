@@ -27,9 +27,14 @@ where
     far.read_exact(&mut [0; 5])
 }
 
+/// The files that are open. One look of two may be refused memory itself, and then sees fewer.
+fn looked(rt: &HostRuntime) -> Option<usize> {
+    open_files(rt).max(open_files(rt))
+}
+
 #[test]
 fn a_refused_round_is_told_and_leaves_nothing_open(rt: HostRuntime) {
-    let before = open_files(&rt);
+    let before = looked(&rt);
     let told = round(rt, rt.alloc());
     let fine = match told {
         Ok(()) => true,
@@ -37,5 +42,5 @@ fn a_refused_round_is_told_and_leaves_nothing_open(rt: HostRuntime) {
         Err(error) => matches!(error.kind(), ErrorKind::OutOfMemory | ErrorKind::WouldBlock),
     };
     holds!(rt; fine, "done, or told as want of memory");
-    holds!(rt; open_files(&rt) == before, "nothing is left open");
+    holds!(rt; before.is_some() && looked(&rt) == before, "nothing is left open");
 }

@@ -1,16 +1,16 @@
 //! Connections that are tasks of loops: what their clients hear, and what ends them.
 
 use super::tasks::{Does, task_that};
-use super::{millis, open_files};
+use super::{millis, open_files, pause};
 use net::{Addr, Conn, Listener, Net, Runs, Service, tcp};
 use std::alloc::Global;
 use std::fs::Files;
-use std::io;
 use std::io::{ErrorKind, Read, Write};
 use std::net::Net as Sockets;
 use std::process::Abort;
 use std::thread::Threads;
 use std::time::Instant;
+use std::{fs, io, thread};
 
 /// What is done while the client waits for the end.
 #[derive(Clone, Copy)]
@@ -176,4 +176,55 @@ fn a_task_ends_as_a_row_says_and_leaves_nothing_open(rt: HostRuntime) {
         drop(conn);
         holds!(rt; before.is_some() && open_files(&rt) == before, name);
     }
+}
+
+/// The number of this process's threads.
+fn threads(rt: &HostRuntime) -> Option<usize> {
+    Some(fs::read_dir(rt, "/proc/self/task").ok()?.count())
+}
+
+/// A service by so many loops.
+fn served_on<R>(rt: &R, net: &Net<R>, listener: Listener<R>, loops: usize) -> Service<R>
+where
+    R: Runs + Threads + Sockets + Abort + Send + Sync + 'static,
+{
+    net.serve(listener, loops, task_that(Does::Echoes(0)))
+        .expect(rt, "served")
+}
+
+#[test]
+fn each_loop_is_a_thread_and_so_is_who_accepts(rt: HostRuntime) {
+    let net = Net::start(rt, rt.alloc()).expect(&rt, "net");
+    for (loops, started) in [(0, 2), (1, 2), (3, 4)] {
+        let listener = Listener::bind(&net, &tcp(0)).expect(&rt, "bound");
+        let before = threads(&rt).expect(&rt, "threads");
+        let service = served_on(&rt, &net, listener, loops);
+        holds!(rt; threads(&rt) == before.checked_add(started));
+        service.stop();
+    }
+    net.stop();
+}
+
+/// A client that has a round trip while the service goes on, and then closes its listener.
+fn closes_later<R: Runs>(rt: R, conn: Conn<R>, listener: Listener<R>) -> io::Result<()> {
+    let (mut conn, mut listener) = (conn, listener);
+    pause(&rt, 20);
+    let said = says(&mut conn);
+    listener.close()?;
+    said
+}
+
+#[test]
+fn a_service_is_waited_for_until_its_listener_is_closed(rt: HostRuntime) {
+    let net = Net::start(rt, rt.alloc()).expect(&rt, "net");
+    let mut listener = Listener::bind(&net, &tcp(0)).expect(&rt, "bound");
+    let addr = listener.local_addr().expect(&rt, "address");
+    let theirs = listener.try_clone().expect(&rt, "cloned");
+    let service = served_on(&rt, &net, theirs, 1);
+    let conn = Conn::connect(&net, &addr, millis(60_000)).expect(&rt, "connected");
+    let client = thread::spawn(&rt, move || closes_later(rt, conn, listener));
+    service.wait();
+    let said = client.expect(&rt, "thread").join(&rt);
+    holds!(rt; said.is_ok(), "it served until then");
+    net.stop();
 }

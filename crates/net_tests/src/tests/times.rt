@@ -1,9 +1,9 @@
 //! Two readers of one connection with a time: the second's counts from when it has the connection
-//! to itself, and doesn't move the first's.
+//! to itself, and doesn't move the first's. And a time that was lifted, which ends no read.
 
 use super::{kind_of, millis, pair, pause};
 use net::{Conn, Net, Runs, tcp};
-use std::io::{ErrorKind, Read};
+use std::io::{ErrorKind, Read, Write};
 use std::process::Abort;
 use std::thread;
 use std::thread::{JoinHandle, Threads};
@@ -41,5 +41,19 @@ fn a_second_reader_moves_no_ones_time(rt: HostRuntime) {
     // Whichever came first, the other began its time when that one had ended.
     let apart = one.1.max(other.1).saturating_sub(one.1.min(other.1));
     holds!(rt; apart >= Duration::from_millis(190), "one after the other");
+    net.stop();
+}
+
+#[test]
+fn a_time_that_was_lifted_ends_no_read(rt: HostRuntime) {
+    let net = Net::start(rt, rt.alloc()).expect(&rt, "net");
+    let (mut near, mut far) = pair(&rt, &net, &tcp(0));
+    holds!(rt; near.set_read_timeout(millis(40)).is_ok());
+    holds!(rt; near.set_read_timeout(None).is_ok());
+    let start = Instant::now(&rt).expect(&rt, "clock");
+    let reading = start_read(rt, &mut near, start);
+    pause(&rt, 120);
+    holds!(rt; far.write_all(b"late").is_ok());
+    holds!(rt; reading.join(&rt).0.is_none(), "the read has waited on");
     net.stop();
 }
