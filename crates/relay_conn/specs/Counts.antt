@@ -1,11 +1,11 @@
 -- Which count is of what. A proof knows no value of an atomic number, so all counts are alike to
--- it, and one is told by its address: a block of memory, and a byte of it. The fields of a struct
--- of counts lie in the order in which the struct names them.
+-- it, and one is told by its address: a block of memory, and a byte of it. Counts of an array lie
+-- one behind the other, fields of a struct in the order in which the struct names them.
 use Rattle.std.specs.Prelude.{ℕ, ◌+◌, ◌*◌, Option, length, slice_get}
 use Rattle.relay_log.specs.declared.ended.Cause.{Cause}
-use Rattle.relay_log.specs.declared.ended.Cause.TheVariants as cause
 use Rattle.relay_log.specs.declared.ended.Ended.{Ended}
 use Rattle.relay_log.specs.declared.ended.Ended.TheVariants as how
+use Rattle.relay_log.specs.Ended.{cause_place, end_place}
 use Rattle.relay_conn.specs.declared.counts.LoopCounts.{LoopCounts}
 use Rattle.relay_conn.specs.declared.counts.RuleCounts.{RuleCounts}
 
@@ -13,25 +13,13 @@ use Rattle.relay_conn.specs.declared.counts.RuleCounts.{RuleCounts}
 abbrev pub count_behind : ℕ → ℕ × ℕ → ℕ × ℕ
 count_behind before from = (from.0, from.1 + 8 * before)
 
--- the count in `EndCounts` of the connections that ended so; one that was set up never ends as full
+-- the count in `EndCounts` of the connections that ended so
 abbrev pub count_of : Ended → ℕ × ℕ → ℕ × ℕ
-count_of how.Eof = count_behind 0
-count_of how.Idle = count_behind 1
-count_of how.Closed = count_behind 2
-count_of how.Drained = count_behind 3
-count_of (how.Read why) = count_behind 4
-count_of (how.Write why) = count_behind 5
-count_of how.Full = count_behind 2
-count_of how.RuleFull = count_behind 2
-count_of (how.Accept why) = count_behind 2
-count_of (how.NoTarget why) = count_behind 6
+count_of how = count_behind (end_place how)
 
 -- the count in `CauseCounts` of the targets that weren't reached for this cause
 abbrev pub cause_count_of : Cause → ℕ × ℕ → ℕ × ℕ
-cause_count_of cause.Refused = count_behind 0
-cause_count_of cause.Unreachable = count_behind 1
-cause_count_of cause.Timeout = count_behind 2
-cause_count_of cause.Descriptors = count_behind 3
+cause_count_of cause = count_behind (cause_place cause)
 
 -- the count in `LoopCounts` of the clients that weren't served so, for want of a target or of room
 abbrev pub refusal_of : Ended → ℕ × ℕ → ℕ × ℕ

@@ -5,8 +5,9 @@
 ghost use Rattle.std.specs.Prelude.{◌≡◌, ◌-◌};
 
 use base_types::OutOfMemory;
-use relay_log::ended::{Cause, Ended};
+use relay_log::ended::{CAUSES, Cause, ENDS, Ended};
 use std::alloc::Global;
+use std::array::from_fn;
 use std::sync::atomic::{AtomicU64, Ordering};
 
 /// A number that only rises.
@@ -31,16 +32,10 @@ impl Counter {
     }
 }
 
-/// How connections ended, by causes.
+/// How connections ended, by the places of the ways to end.
 #[derive(Drop)]
 pub struct EndCounts {
-    pub eof: Counter,
-    pub idle: Counter,
-    pub closed: Counter,
-    pub drained: Counter,
-    pub read: Counter,
-    pub write: Counter,
-    pub no_target: Counter,
+    pub counts: [Counter; ENDS],
 }
 
 impl EndCounts {
@@ -48,51 +43,31 @@ impl EndCounts {
 
     fn new() -> EndCounts {
         EndCounts {
-            eof: Counter::new(),
-            idle: Counter::new(),
-            closed: Counter::new(),
-            drained: Counter::new(),
-            read: Counter::new(),
-            write: Counter::new(),
-            no_target: Counter::new(),
+            counts: from_fn(|_| Counter::new()),
         }
     }
 
-    // The count of this cause. A connection that was set up was never refused for want of room, and
-    // is no failed accept. To a proof all counts are alike, so the clause says where in memory this
-    // one lies.
+    // The count of this way to end. To a proof all counts are alike, so the clause says where in
+    // memory this one lies.
     fn of(&self, how: Ended) -> &Counter
         ensures { result.ref_ptr ≡ spec.count_of how self.entry.ref_ptr }
     {
-        match how {
-            Ended::Eof => &self.eof,
-            Ended::Idle => &self.idle,
-            Ended::Closed | Ended::Full | Ended::RuleFull | Ended::Accept(_) => &self.closed,
-            Ended::Drained => &self.drained,
-            Ended::Read(_) => &self.read,
-            Ended::Write(_) => &self.write,
-            Ended::NoTarget(_) => &self.no_target,
-        }
+        &self.counts[how.place()]
     }
 
     fn sum(&self) -> u64 {
-        let faults = self.read.get().saturating_add(self.write.get());
-        let told = self.closed.get().saturating_add(self.drained.get());
-        let silent = self.eof.get().saturating_add(self.idle.get());
-        faults
-            .saturating_add(told)
-            .saturating_add(silent)
-            .saturating_add(self.no_target.get())
+        let mut sum = 0u64;
+        for count in &self.counts {
+            sum = sum.saturating_add(count.get());
+        }
+        sum
     }
 }
 
-/// The clients whose targets weren't reached, as they came or later, by causes.
+/// The clients whose targets weren't reached, as they came or later, by the places of the causes.
 #[derive(Drop)]
 pub struct CauseCounts {
-    pub refused: Counter,
-    pub unreachable: Counter,
-    pub timeout: Counter,
-    pub descriptors: Counter,
+    pub counts: [Counter; CAUSES],
 }
 
 impl CauseCounts {
@@ -100,10 +75,7 @@ impl CauseCounts {
 
     fn new() -> CauseCounts {
         CauseCounts {
-            refused: Counter::new(),
-            unreachable: Counter::new(),
-            timeout: Counter::new(),
-            descriptors: Counter::new(),
+            counts: from_fn(|_| Counter::new()),
         }
     }
 
@@ -111,12 +83,7 @@ impl CauseCounts {
     fn of(&self, cause: Cause) -> &Counter
         ensures { result.ref_ptr ≡ spec.cause_count_of cause self.entry.ref_ptr }
     {
-        match cause {
-            Cause::Refused => &self.refused,
-            Cause::Unreachable => &self.unreachable,
-            Cause::Timeout => &self.timeout,
-            Cause::Descriptors => &self.descriptors,
-        }
+        &self.counts[cause.place()]
     }
 
     // Counts the cause where this was for want of a target.

@@ -1,10 +1,6 @@
--- How a connection's end is spelled.
-use Rattle.std.specs.Prelude.{ℕ, List, ◌++◌}
-use Rattle.relay_log.specs.declared.words.TheConstants.{EOF, IDLE, CLOSED, DRAINED, READ, WRITE}
-use Rattle.relay_log.specs.declared.words.TheConstants.{FULL, NO_TARGET, RESET, ABORTED}
-use Rattle.relay_log.specs.declared.words.TheConstants.{BROKEN_PIPE, REFUSED, OTHER}
-use Rattle.relay_log.specs.declared.words.TheConstants.{RULE_FULL, ACCEPT, UNREACHABLE, TIMEOUT}
-use Rattle.relay_log.specs.declared.words.TheConstants.{DESCRIPTORS}
+-- How a connection's end is spelled, and where it is counted.
+use Rattle.std.specs.Prelude.{ℕ, List, ◌++◌, codes, map}
+use Rattle.relay_log.specs.declared.ended.TheConstants.{CAUSE_WORDS, END_LABELS}
 use Rattle.relay_log.specs.declared.ended.Cause.{Cause}
 use Rattle.relay_log.specs.declared.ended.Cause.TheVariants as cause
 use Rattle.relay_log.specs.declared.ended.Reason.{Reason}
@@ -14,28 +10,66 @@ use Rattle.relay_log.specs.declared.ended.Ended.TheVariants as ended
 
 -- the word of a reason
 abbrev pub reason_text : Reason → List ℕ
-reason_text reason.Reset = RESET.now
-reason_text reason.Aborted = ABORTED.now
-reason_text reason.BrokenPipe = BROKEN_PIPE.now
-reason_text reason.Refused = REFUSED.now
-reason_text reason.Other = OTHER.now
+reason_text reason.Reset = codes "reset"
+reason_text reason.Aborted = codes "aborted"
+reason_text reason.BrokenPipe = codes "broken-pipe"
+reason_text reason.Refused = codes "refused"
+reason_text reason.Other = codes "other"
 
 -- the word of a cause for which a target wasn't reached
 abbrev pub cause_text : Cause → List ℕ
-cause_text cause.Refused = REFUSED.now
-cause_text cause.Unreachable = UNREACHABLE.now
-cause_text cause.Timeout = TIMEOUT.now
-cause_text cause.Descriptors = DESCRIPTORS.now
+cause_text cause.Refused = codes "refused"
+cause_text cause.Unreachable = codes "unreachable"
+cause_text cause.Timeout = codes "timeout"
+cause_text cause.Descriptors = codes "descriptors"
 
 -- the words of an end, with its reason or its cause where it has one
 abbrev pub ended_text : Ended → List ℕ
-ended_text ended.Eof = EOF.now
-ended_text ended.Idle = IDLE.now
-ended_text ended.Closed = CLOSED.now
-ended_text ended.Drained = DRAINED.now
-ended_text (ended.Read why) = READ.now ++ reason_text why
-ended_text (ended.Write why) = WRITE.now ++ reason_text why
-ended_text ended.Full = FULL.now
-ended_text ended.RuleFull = RULE_FULL.now
-ended_text (ended.NoTarget why) = NO_TARGET.now ++ cause_text why
-ended_text (ended.Accept why) = ACCEPT.now ++ reason_text why
+ended_text ended.Eof = codes "eof"
+ended_text ended.Idle = codes "idle"
+ended_text ended.Closed = codes "closed"
+ended_text ended.Drained = codes "drained"
+ended_text (ended.Read why) = codes "read " ++ reason_text why
+ended_text (ended.Write why) = codes "write " ++ reason_text why
+ended_text ended.Full = codes "full"
+ended_text ended.RuleFull = codes "rule full"
+ended_text (ended.NoTarget why) = codes "no target " ++ cause_text why
+ended_text (ended.Accept why) = codes "accept " ++ reason_text why
+
+-- the place of a cause among the counts of causes
+abbrev pub cause_place : Cause → ℕ
+cause_place cause.Refused = 0
+cause_place cause.Unreachable = 1
+cause_place cause.Timeout = 2
+cause_place cause.Descriptors = 3
+
+-- the place of an end among the counts of connections that ended; one that was set up never ends as
+-- full, and is no failed accept
+abbrev pub end_place : Ended → ℕ
+end_place ended.Eof = 0
+end_place ended.Idle = 1
+end_place ended.Closed = 2
+end_place ended.Drained = 3
+end_place (ended.Read why) = 4
+end_place (ended.Write why) = 5
+end_place (ended.NoTarget why) = 6
+end_place other = 2
+
+-- what figures call an end
+abbrev pub end_label : Ended → List ℕ
+end_label ended.Eof = codes "eof"
+end_label ended.Idle = codes "idle"
+end_label ended.Closed = codes "closed"
+end_label ended.Drained = codes "drained"
+end_label (ended.Read why) = codes "read"
+end_label (ended.Write why) = codes "write"
+end_label (ended.NoTarget why) = codes "no_target"
+end_label other = codes "closed"
+
+-- what figures call the ends, by their places
+abbrev pub end_labels : List (List ℕ)
+end_labels = map (λ label. label.now) END_LABELS
+
+-- the words of the causes, by their places
+abbrev pub cause_words : List (List ℕ)
+cause_words = map (λ word. word.now) CAUSE_WORDS

@@ -1,14 +1,33 @@
-//! How a connection ended, or why it was refused.
+//! How a connection ended, or why it was refused: the words of each way, and its place among what
+//! is counted of a rule. All that is told of ends goes by these places, so that a way stands here
+//! and where it arises, and nowhere else.
 
 ghost use Rattle.std.specs.Prelude.{◌≡◌, ◌++◌, OnOk};
-ghost use Rattle.relay_log.specs.Ended.{cause_text, ended_text, reason_text};
+ghost use Rattle.relay_log.specs.Ended.{cause_place, cause_text, end_label, end_place};
+ghost use Rattle.relay_log.specs.Ended.{ended_text, reason_text};
 
-use crate::words::{
-    ABORTED, ACCEPT, BROKEN_PIPE, CLOSED, DESCRIPTORS, DRAINED, EOF, FULL, IDLE, NO_TARGET, OTHER,
-    READ, REFUSED, RESET, RULE_FULL, TIMEOUT, UNREACHABLE, WRITE,
-};
 use base_types::OutOfMemory;
 use std::alloc::Allocator;
+
+/// The ways for a connection to end that was set up.
+pub const ENDS: usize = 7;
+
+/// What figures call each of them, by their places.
+pub const END_LABELS: [&[u8]; ENDS] = [
+    b"eof",
+    b"idle",
+    b"closed",
+    b"drained",
+    b"read",
+    b"write",
+    b"no_target",
+];
+
+/// The causes for which a target isn't reached.
+pub const CAUSES: usize = 4;
+
+/// Their words, by their places.
+pub const CAUSE_WORDS: [&[u8]; CAUSES] = [b"refused", b"unreachable", b"timeout", b"descriptors"];
 
 /// What a device said of a read or a write that failed. One for each kind of `rwloops::DevKind`,
 /// on which this crate doesn't stand, since a log needs none of its loops.
@@ -32,11 +51,11 @@ impl Reason {
         ensures { result.now ≡ reason_text self }
     {
         match self {
-            Reason::Reset => RESET,
-            Reason::Aborted => ABORTED,
-            Reason::BrokenPipe => BROKEN_PIPE,
-            Reason::Refused => REFUSED,
-            Reason::Other => OTHER,
+            Reason::Reset => b"reset",
+            Reason::Aborted => b"aborted",
+            Reason::BrokenPipe => b"broken-pipe",
+            Reason::Refused => b"refused",
+            Reason::Other => b"other",
         }
     }
 }
@@ -59,11 +78,18 @@ impl Cause {
     pub fn word(self) -> &'static [u8]
         ensures { result.now ≡ cause_text self }
     {
+        CAUSE_WORDS[self.place()]
+    }
+
+    /// Its place among the counts of causes.
+    pub fn place(self) -> usize
+        ensures { result ≡ cause_place self }
+    {
         match self {
-            Cause::Refused => REFUSED,
-            Cause::Unreachable => UNREACHABLE,
-            Cause::Timeout => TIMEOUT,
-            Cause::Descriptors => DESCRIPTORS,
+            Cause::Refused => 0,
+            Cause::Unreachable => 1,
+            Cause::Timeout => 2,
+            Cause::Descriptors => 3,
         }
     }
 }
@@ -95,22 +121,45 @@ pub enum Ended {
 }
 
 impl Ended {
+    /// Its place among the counts of connections that ended. A connection that was set up was never
+    /// refused for want of room, and is no failed accept: those would be counted as closed.
+    pub fn place(self) -> usize
+        ensures { result ≡ end_place self }
+    {
+        match self {
+            Ended::Eof => 0,
+            Ended::Idle => 1,
+            Ended::Closed | Ended::Full | Ended::RuleFull | Ended::Accept(_) => 2,
+            Ended::Drained => 3,
+            Ended::Read(_) => 4,
+            Ended::Write(_) => 5,
+            Ended::NoTarget(_) => 6,
+        }
+    }
+
+    /// What figures call it.
+    pub fn label(self) -> &'static [u8]
+        ensures { result.now ≡ end_label self }
+    {
+        END_LABELS[self.place()]
+    }
+
     /// Puts its words behind what the vector holds. Where memory is refused a part of them may
     /// stand there.
     pub(crate) fn write<A: Allocator>(self, into: &mut Vec<u8, A>) -> Result<(), OutOfMemory>
         ensures { OnOk result (into.new.items ≡ into.old.items ++ ended_text self) }
     {
         match self {
-            Ended::Eof => into.extend_from_slice(EOF),
-            Ended::Idle => into.extend_from_slice(IDLE),
-            Ended::Closed => into.extend_from_slice(CLOSED),
-            Ended::Drained => into.extend_from_slice(DRAINED),
-            Ended::Read(why) => write_failed(into, READ, why),
-            Ended::Write(why) => write_failed(into, WRITE, why),
-            Ended::Full => into.extend_from_slice(FULL),
-            Ended::RuleFull => into.extend_from_slice(RULE_FULL),
-            Ended::NoTarget(cause) => write_both(into, NO_TARGET, cause.word()),
-            Ended::Accept(why) => write_failed(into, ACCEPT, why),
+            Ended::Eof => into.extend_from_slice(b"eof"),
+            Ended::Idle => into.extend_from_slice(b"idle"),
+            Ended::Closed => into.extend_from_slice(b"closed"),
+            Ended::Drained => into.extend_from_slice(b"drained"),
+            Ended::Read(why) => write_failed(into, b"read ", why),
+            Ended::Write(why) => write_failed(into, b"write ", why),
+            Ended::Full => into.extend_from_slice(b"full"),
+            Ended::RuleFull => into.extend_from_slice(b"rule full"),
+            Ended::NoTarget(cause) => write_both(into, b"no target ", cause.word()),
+            Ended::Accept(why) => write_failed(into, b"accept ", why),
         }
     }
 }

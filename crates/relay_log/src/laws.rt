@@ -3,12 +3,7 @@
 
 ghost use Rattle.std.specs.Prelude.{◌≡◌, codes};
 ghost use Rattle.relay_log.specs.declared.queue.TheConstants.{MOST_QUEUED_BYTES};
-ghost use Rattle.relay_log.specs.declared.words.TheConstants.{LOST, NO_ID, EOF, IDLE, CLOSED};
-ghost use Rattle.relay_log.specs.declared.words.TheConstants.{DRAINED, READ, WRITE, FULL};
-ghost use Rattle.relay_log.specs.declared.words.TheConstants.{NO_TARGET, RESET, ABORTED};
-ghost use Rattle.relay_log.specs.declared.words.TheConstants.{BROKEN_PIPE, REFUSED, OTHER};
-ghost use Rattle.relay_log.specs.declared.words.TheConstants.{RULE_FULL, ACCEPT, UNREACHABLE};
-ghost use Rattle.relay_log.specs.declared.words.TheConstants.{TIMEOUT, DESCRIPTORS};
+ghost use Rattle.relay_log.specs.declared.words.TheConstants.{LOST, NO_ID};
 ghost use Rattle.relay_log.specs.Conservation.{EachPushIsTold};
 
 /// However lines are pushed and taken, what was taken and what waits are the lines that were taken
@@ -29,22 +24,4 @@ pub fn the_bound_in_figures()
 pub fn the_words_in_letters()
     ensures lost { LOST.now ≡ codes "lost " }
     ensures no_id { NO_ID.now ≡ codes "-" }
-    ensures eof { EOF.now ≡ codes "eof" }
-    ensures idle { IDLE.now ≡ codes "idle" }
-    ensures closed { CLOSED.now ≡ codes "closed" }
-    ensures drained { DRAINED.now ≡ codes "drained" }
-    ensures read { READ.now ≡ codes "read " }
-    ensures write { WRITE.now ≡ codes "write " }
-    ensures full { FULL.now ≡ codes "full" }
-    ensures rule_full { RULE_FULL.now ≡ codes "rule full" }
-    ensures no_target { NO_TARGET.now ≡ codes "no target " }
-    ensures accept { ACCEPT.now ≡ codes "accept " }
-    ensures reset { RESET.now ≡ codes "reset" }
-    ensures aborted { ABORTED.now ≡ codes "aborted" }
-    ensures broken_pipe { BROKEN_PIPE.now ≡ codes "broken-pipe" }
-    ensures refused { REFUSED.now ≡ codes "refused" }
-    ensures other { OTHER.now ≡ codes "other" }
-    ensures unreachable { UNREACHABLE.now ≡ codes "unreachable" }
-    ensures timeout { TIMEOUT.now ≡ codes "timeout" }
-    ensures descriptors { DESCRIPTORS.now ≡ codes "descriptors" }
 {}

@@ -1,16 +1,15 @@
 -- How a snapshot is spelled: the text format of Prometheus, version 0.0.4. The figures of a family
 -- stand together, behind what is said of the family.
 use Rattle.std.specs.Prelude.{ℕ, Bool, ◌+◌, List, [], ◌∷◌, ◌++◌, codes, length, if◌then◌else◌}
-use Rattle.std.specs.List.{flat_map}
+use Rattle.std.specs.List.{flat_map, zip}
 use Rattle.std.specs.Fmt.{decimal}
+use Rattle.relay_log.specs.Ended.{cause_words, end_labels}
 use Rattle.relay_metrics.specs.declared.family.Family.{Family}
 use Rattle.relay_metrics.specs.declared.family.Family.TheVariants as family
 use Rattle.relay_metrics.specs.declared.figures.CarriedBytes.{CarriedBytes}
-use Rattle.relay_metrics.specs.declared.figures.Ends.{Ends}
 use Rattle.relay_metrics.specs.declared.figures.Figures.{Figures}
 use Rattle.relay_metrics.specs.declared.figures.Refusals.{Refusals}
 use Rattle.relay_metrics.specs.declared.figures.RuleFigures.{RuleFigures}
-use Rattle.relay_metrics.specs.declared.figures.Unreached.{Unreached}
 use Rattle.relay_metrics.specs.Family.{head_text, name_text}
 use Rattle.relay_metrics.specs.Sample.{rule_sample_text, sample_text, seconds_text}
 use Rattle.relay_metrics.specs.Sample.{single_text, value_text}
@@ -51,30 +50,13 @@ refused_text rule refused = cause_text family.RuleRefused rule (codes "full") re
     ++ (cause_text family.RuleRefused rule (codes "no_target") refused.no_target
     ++ cause_text family.RuleRefused rule (codes "rule_full") refused.rule_full)
 
--- a rule's connections that ended with no fault, for each cause
-unfoldable pub whole_ends_text : List ℕ → Ends → List ℕ
-whole_ends_text rule ends = cause_text family.RuleEnds rule (codes "eof") ends.eof
-    ++ (cause_text family.RuleEnds rule (codes "idle") ends.idle
-    ++ (cause_text family.RuleEnds rule (codes "closed") ends.closed
-    ++ cause_text family.RuleEnds rule (codes "drained") ends.drained))
+-- a rule's figure for a cause with its count
+abbrev pub counted_text : Family → List ℕ → List ℕ × ℕ → List ℕ
+counted_text f rule counted = cause_text f rule counted.0 counted.1
 
--- a rule's connections that ended by a fault, for each cause
-unfoldable pub faults_text : List ℕ → Ends → List ℕ
-faults_text rule ends = cause_text family.RuleEnds rule (codes "read") ends.read
-    ++ (cause_text family.RuleEnds rule (codes "write") ends.write
-    ++ cause_text family.RuleEnds rule (codes "no_target") ends.no_target)
-
--- a rule's connections that ended, for each cause
-unfoldable pub ends_text : List ℕ → Ends → List ℕ
-ends_text rule ends = whole_ends_text rule ends ++ faults_text rule ends
-
--- a rule's clients whose target wasn't reached, for each cause
-unfoldable pub no_target_text : List ℕ → Unreached → List ℕ
-no_target_text rule unreached =
-    cause_text family.RuleNoTarget rule (codes "refused") unreached.refused
-    ++ (cause_text family.RuleNoTarget rule (codes "unreachable") unreached.unreachable
-    ++ (cause_text family.RuleNoTarget rule (codes "timeout") unreached.timeout
-    ++ cause_text family.RuleNoTarget rule (codes "descriptors") unreached.descriptors))
+-- a rule's figure for each of these causes
+unfoldable pub causes_text : Family → List ℕ → List (List ℕ) → List ℕ → List ℕ
+causes_text f rule causes counts = flat_map (counted_text f rule) (zip causes counts)
 
 -- what holds is 1, what doesn't 0
 abbrev pub flag : Bool → ℕ
@@ -88,8 +70,9 @@ of_rule family.RuleAccepted r =
     sample_text family.RuleAccepted (codes "rule") r.name.bytes r.accepted
 of_rule family.RuleBytes r = rule_bytes_text r.name.bytes r.bytes
 of_rule family.RuleRefused r = refused_text r.name.bytes r.refused
-of_rule family.RuleEnds r = ends_text r.name.bytes r.ends
-of_rule family.RuleNoTarget r = no_target_text r.name.bytes r.unreached
+of_rule family.RuleEnds r = causes_text family.RuleEnds r.name.bytes end_labels r.ends
+of_rule family.RuleNoTarget r =
+    causes_text family.RuleNoTarget r.name.bytes cause_words r.unreached
 of_rule family.RuleAcceptFaults r =
     sample_text family.RuleAcceptFaults (codes "rule") r.name.bytes r.accept_faults
 of_rule family.RuleListening r =

@@ -5,6 +5,7 @@ ghost use Rattle.relay_metrics.specs.Figures.{IsBlank};
 ghost use Rattle.relay_metrics.specs.Figures.{all_listen};
 
 use arrayvec::ArrayString;
+use relay_log::ended::{CAUSES, ENDS};
 use std::alloc::Global;
 
 /// The bytes that were written to targets, and to clients.
@@ -25,38 +26,6 @@ pub struct Refusals {
     pub rule_full: u64,
 }
 
-/// The clients of a rule whose target wasn't reached, as they came or later, by causes.
-#[derive(Clone, Copy, Debug, Default, PartialEq, Eq, Drop)]
-pub struct Unreached {
-    /// Nobody listened there.
-    pub refused: u64,
-    /// There was no way to it.
-    pub unreachable: u64,
-    /// It wasn't connected in time.
-    pub timeout: u64,
-    /// The relay had no descriptor left.
-    pub descriptors: u64,
-}
-
-/// The connections of a rule that ended, by how they did.
-#[derive(Clone, Copy, Debug, Default, PartialEq, Eq, Drop)]
-pub struct Ends {
-    /// Both ends of file were passed on.
-    pub eof: u64,
-    /// No byte passed for the idle time of the rule.
-    pub idle: u64,
-    /// An admin session closed it.
-    pub closed: u64,
-    /// It ended what it had begun after a drain.
-    pub drained: u64,
-    /// A read failed.
-    pub read: u64,
-    /// A write failed.
-    pub write: u64,
-    /// The target wasn't reached after it was let in.
-    pub no_target: u64,
-}
-
 /// What is told of a rule. Its name stands in the text as it is, between quotation marks: neither
 /// they nor a backslash nor a line feed stands in it, as in no name of a rules file.
 #[derive(Clone, Copy, Debug, PartialEq, Eq, Drop)]
@@ -67,8 +36,11 @@ pub struct RuleFigures {
     pub accepted: u64,
     pub bytes: CarriedBytes,
     pub refused: Refusals,
-    pub ends: Ends,
-    pub unreached: Unreached,
+    /// The connections that ended, by the places of `relay_log::ended::END_LABELS`.
+    pub ends: [u64; ENDS],
+    /// The clients whose target wasn't reached, as they came or later, by the places of
+    /// `relay_log::ended::CAUSE_WORDS`.
+    pub unreached: [u64; CAUSES],
     /// The rows of accepts that failed one after the other.
     pub accept_faults: u64,
     /// Whether clients are accepted, as they should be.

@@ -11,5 +11,5 @@ mod rule_text;
 mod sample;
 mod text;
 
-pub use figures::{CarriedBytes, Ends, Figures, Refusals, RuleFigures, Unreached};
+pub use figures::{CarriedBytes, Figures, Refusals, RuleFigures};
 pub use metered::Metered;

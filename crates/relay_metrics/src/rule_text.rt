@@ -1,15 +1,15 @@
 //! What the text says of rules: a family's figures of all of them stand together.
 
-ghost use Rattle.std.specs.Prelude.{◌≡◌, ◌++◌, OnOk};
-ghost use Rattle.relay_metrics.specs.Text.{cause_text, defence_text, ends_text, faults_text, flag};
-ghost use Rattle.relay_metrics.specs.Text.{no_target_text, of_rule};
+ghost use Rattle.std.specs.Prelude.{◌≡◌, ◌++◌, OnOk, map};
+ghost use Rattle.relay_metrics.specs.Text.{cause_text, causes_text, defence_text, flag, of_rule};
 ghost use Rattle.relay_metrics.specs.Text.{refused_text, rule_bytes_text, rule_family_text};
-ghost use Rattle.relay_metrics.specs.Text.{rules_text, whole_ends_text};
+ghost use Rattle.relay_metrics.specs.Text.{rules_text};
 
 use crate::family::Family;
-use crate::figures::{CarriedBytes, Ends, Refusals, RuleFigures, Unreached};
+use crate::figures::{CarriedBytes, Refusals, RuleFigures};
 use crate::sample::{write_rule_sample, write_sample};
 use base_types::OutOfMemory;
+use relay_log::ended::{CAUSE_WORDS, END_LABELS};
 use std::alloc::Allocator;
 
 /// The families of rules.
@@ -78,8 +78,8 @@ fn write_rule<A: Allocator>(
         Family::RuleAccepted => write_sample(into, family, b"rule", name, rule.accepted),
         Family::RuleBytes => write_bytes(into, name, rule.bytes),
         Family::RuleRefused => write_refused(into, name, rule.refused),
-        Family::RuleEnds => write_ends(into, name, rule.ends),
-        Family::RuleNoTarget => write_no_target(into, name, rule.unreached),
+        Family::RuleEnds => write_causes(into, family, name, &END_LABELS, &rule.ends),
+        Family::RuleNoTarget => { write_causes(into, family, name, &CAUSE_WORDS, &rule.unreached) }
         Family::RuleAcceptFaults => write_sample(into, family, b"rule", name, rule.accept_faults),
         Family::RuleListening => {
             write_sample(into, family, b"rule", name, flag(rule.is_listening))
@@ -139,58 +139,20 @@ fn write_refused<A: Allocator>(
     )
 }
 
-#[tactic(auto, unfolding(crate::specs::Text::no_target_text))]
-fn write_no_target<A: Allocator>(
+// A rule's figure for each cause, by the places of the causes.
+#[tactic(auto, unfolding(crate::specs::Text::causes_text))]
+fn write_causes<A: Allocator>(
     into: &mut Vec<u8, A>,
+    family: Family,
     rule: &[u8],
-    unreached: Unreached,
+    causes: &[&[u8]],
+    counts: &[u64],
 ) -> Result<(), OutOfMemory>
-    ensures { OnOk result
-        (into.new.items ≡ into.old.items ++ no_target_text rule.now unreached) }
+    ensures { OnOk result (into.new.items ≡ into.old.items
+        ++ causes_text family rule.now (map (λ cause. cause.now) causes.now) counts.now) }
 {
-    let family = Family::RuleNoTarget;
-    write_cause(into, family, rule, b"refused", unreached.refused)?;
-    write_cause(into, family, rule, b"unreachable", unreached.unreachable)?;
-    write_cause(into, family, rule, b"timeout", unreached.timeout)?;
-    write_cause(into, family, rule, b"descriptors", unreached.descriptors)
-}
-
-#[tactic(auto, unfolding(crate::specs::Text::ends_text))]
-fn write_ends<A: Allocator>(
-    into: &mut Vec<u8, A>,
-    rule: &[u8],
-    ends: Ends,
-) -> Result<(), OutOfMemory>
-    ensures { OnOk result (into.new.items ≡ into.old.items ++ ends_text rule.now ends) }
-{
-    write_whole_ends(into, rule, ends)?;
-    write_faults(into, rule, ends)
-}
-
-#[tactic(auto, unfolding(crate::specs::Text::whole_ends_text))]
-fn write_whole_ends<A: Allocator>(
-    into: &mut Vec<u8, A>,
-    rule: &[u8],
-    ends: Ends,
-) -> Result<(), OutOfMemory>
-    ensures { OnOk result
-        (into.new.items ≡ into.old.items ++ whole_ends_text rule.now ends) }
-{
-    write_cause(into, Family::RuleEnds, rule, b"eof", ends.eof)?;
-    write_cause(into, Family::RuleEnds, rule, b"idle", ends.idle)?;
-    write_cause(into, Family::RuleEnds, rule, b"closed", ends.closed)?;
-    write_cause(into, Family::RuleEnds, rule, b"drained", ends.drained)
-}
-
-#[tactic(auto, unfolding(crate::specs::Text::faults_text))]
-fn write_faults<A: Allocator>(
-    into: &mut Vec<u8, A>,
-    rule: &[u8],
-    ends: Ends,
-) -> Result<(), OutOfMemory>
-    ensures { OnOk result (into.new.items ≡ into.old.items ++ faults_text rule.now ends) }
-{
-    write_cause(into, Family::RuleEnds, rule, b"read", ends.read)?;
-    write_cause(into, Family::RuleEnds, rule, b"write", ends.write)?;
-    write_cause(into, Family::RuleEnds, rule, b"no_target", ends.no_target)
+    for place in 0..causes.len().min(counts.len()) {
+        write_cause(into, family, rule, causes[place], counts[place])?;
+    }
+    Ok(())
 }

@@ -3,7 +3,7 @@
 import re
 
 from lib.pages.markdown import paragraphs, rows, section, spans
-from lib.pages.rust import constants, functions, without_comments
+from lib.pages.rust import constants, functions, texts, without_comments
 from lib.pages.tree import GUIDE
 
 WORDS = "crates/relay_log/src/words.rt"
@@ -14,15 +14,14 @@ STAMP = re.compile(r"^\d{4}-\d\d-\d\dT\S+Z ")
 
 def hows(tree):
     """How a connection ended: those words, and those that a reason follows, which end in a space."""
-    words = constants(tree.text(WORDS))
     body = functions(tree.text(ENDED))["write"]
-    return [words[it] for it in re.findall(r"Ended::\w+(?:\(\w+\))? => [^\n]*?\b([A-Z][A-Z_]+)\b", body)]
+    return re.findall(r'Ended::\w+(?:\(\w+\))? => [^\n]*?\bb"([^"]+)"', body)
 
 
 def reasons(tree):
     """The words of reasons and causes, which may follow."""
-    words = constants(tree.text(WORDS))
-    return [words[it] for it in re.findall(r"\b(?!Ended\b)\w+::\w+ => ([A-Z_]+),", tree.text(ENDED))]
+    causes = re.search(r"const CAUSE_WORDS: [^=]*= \[(.*?)\];", tree.text(ENDED), re.S)
+    return [*re.findall(r'\bReason::\w+ => b"([^"]+)"', tree.text(ENDED)), *texts(causes[1] if causes else "")]
 
 
 def fields(tree):
@@ -33,7 +32,7 @@ def fields(tree):
 
 def check(tree, told):
     ways, why = hows(tree), reasons(tree)
-    told.reads(len(ways) > 6 and len(why) > 3 and fields(tree) > 8, WORDS, __file__)
+    told.reads(len(ways) > 6 and len(why) > 3 and fields(tree) > 8, ENDED, __file__)
     text = section(tree.text(GUIDE), "Log")
     said = {it for _, it in spans(text)}
     for it in (*ways, *why):

@@ -9,6 +9,7 @@ from lib.pages.rust import functions
 from lib.pages.tree import GUIDE
 
 FAMILIES = "crates/relay_metrics/src/family.rt"
+ENDED = "crates/relay_log/src/ended.rt"
 TEXTS = ("crates/relay_metrics/src/text.rt", "crates/relay_metrics/src/rule_text.rt")
 PLACES = "crates/relay_metrics/src/place.rt"
 # A family, with the values of each label; of a label whose values are names or numbers there are none.
@@ -42,9 +43,17 @@ def labels(tree):
             found.setdefault(family, {}).setdefault(said[0], []).extend(said[1:])
         if call in key_of or call == "write_rule_sample":
             found[family].setdefault("rule", [])
+    for family, table in re.findall(r"Family::(\w+) => \{?\s*write_causes\(into, family, name, &(\w+)", code):
+        found[family] = {"rule": [], key_of["write_cause"]: rows_of(tree, table)}
     for family, key in re.findall(r'Family::(\w+) => \{?\s*write_sample\(\s*into,\s*family,\s*b"(\w+)"', code):
         found.setdefault(family, {}).setdefault(key, [])
     return found
+
+
+def rows_of(tree, table):
+    """The words of a table of ends or of causes."""
+    rows = re.search(rf"const {table}: [^=]*= \[(.*?)\];", tree.text(ENDED), re.S)
+    return re.findall(r'b"(\w+)"', rows[1]) if rows else []
 
 
 def named(body):

@@ -2,7 +2,8 @@
 
 use arrayvec::ArrayString;
 use base_types::OutOfMemory;
-use relay_metrics::{CarriedBytes, Ends, Figures, Metered, Refusals, RuleFigures, Unreached};
+use relay_log::ended::{CAUSES, ENDS};
+use relay_metrics::{CarriedBytes, Figures, Metered, Refusals, RuleFigures};
 use std::alloc::Global;
 use std::sync::atomic::{AtomicU64, Ordering};
 
@@ -21,21 +22,8 @@ fn web() -> Option<RuleFigures> {
             no_target: 6,
             rule_full: 7,
         },
-        ends: Ends {
-            eof: 20,
-            idle: 21,
-            closed: 22,
-            drained: 23,
-            read: 24,
-            write: 25,
-            no_target: 26,
-        },
-        unreached: Unreached {
-            refused: 30,
-            unreachable: 31,
-            timeout: 32,
-            descriptors: 33,
-        },
+        ends: [20, 21, 22, 23, 24, 25, 26],
+        unreached: [30, 31, 32, 33],
         accept_faults: 34,
         is_listening: true,
     })
@@ -49,8 +37,8 @@ fn unused() -> Option<RuleFigures> {
         accepted: 0,
         bytes: CarriedBytes::default(),
         refused: Refusals::default(),
-        ends: Ends::default(),
-        unreached: Unreached::default(),
+        ends: [0; ENDS],
+        unreached: [0; CAUSES],
         accept_faults: 0,
         is_listening: false,
     })
