@@ -4,8 +4,7 @@ use Rattle.std.specs.Option.{option_map}
 use Rattle.std.specs.List.{position_or_len}
 use Rattle.readiness.specs.declared.sock.Listen.{Listen}
 use Rattle.relay_admin.specs.declared.rules.addr.Addr.{Addr}
-use Rattle.relay_admin.specs.rules.Addr.{address_of}
-use Rattle.relay_admin.specs.rules.Reading.{same_address}
+use Rattle.relay_admin.specs.rules.Addr.{address_of, same_address}
 use Rattle.relay.specs.declared.listening.GivenListener.{GivenListener}
 use Rattle.relay.specs.declared.listening.Opened.{Opened}
 use Rattle.relay.specs.declared.listening.Opened.TheVariants.{Given, Bound}

@@ -3,15 +3,12 @@
 
 ghost use Rattle.std.specs.Prelude.{◌≡◌, IfSome, IfNone, IfOk, Ok};
 ghost use Rattle.std.specs.List.{position_or_len};
-ghost use Rattle.relay_admin.specs.rules.Addr.{address_of};
-ghost use Rattle.relay_admin.specs.rules.Reading.{same_address};
-ghost use Rattle.relay_conn.specs.Addr as addresses;
 ghost use Rattle.relay.specs.Listening.{IsBound, given_at, is_at, left_by};
 ghost use Rattle.relay.specs.declared.listening.Opened.{Opened};
 
 use readiness::{Listen, listen};
-use relay_admin::Addr;
-use relay_conn::address::{rule_address, socket_address};
+use relay_admin::{Addr, is_same_addr};
+use relay_conn::address::socket_address;
 use relay_conn::bound_path::remove_stale;
 use rwloops::DevKind;
 use std::fs::Files;
@@ -22,17 +19,6 @@ use std::net::Net;
 pub struct GivenListener {
     pub addr: Addr,
     pub listener: Listen,
-}
-
-impl GivenListener {
-    /// One that listens at this address.
-    pub fn new(addr: &readiness::Addr, listener: Listen) -> GivenListener
-        ensures addr { result.addr ≡ addresses.rule_address addr.now }
-        ensures listener { result.listener ≡ listener }
-    {
-        let addr = rule_address(addr);
-        GivenListener { addr, listener }
-    }
 }
 
 /// A listener, and whose its path is.
@@ -50,19 +36,6 @@ pub(crate) enum Opened {
 pub(crate) struct Listeners {
     pub(crate) given: Vec<GivenListener>,
     pub(crate) replaces_stale: bool,
-}
-
-// Whether both are one address.
-fn is_same_addr(one: &Addr, other: &Addr) -> bool
-    ensures { result ≡ same_address (address_of one.now) (address_of other.now) }
-{
-    match (one, other) {
-        (Addr::Tcp(a, port), Addr::Tcp(b, other_port)) => {
-            a[0] == b[0] && a[1] == b[1] && a[2] == b[2] && a[3] == b[3] && *port == *other_port
-        }
-        (Addr::Unix(path), Addr::Unix(other_path)) => path.as_str() == other_path.as_str(),
-        _ => false,
-    }
 }
 
 // The place of the first that is given at this address; how many there are, where none is.

@@ -17,14 +17,14 @@ pub use Rattle.relay_admin.specs.declared.admin.dialogue.TheConstants.{MAX_LINES
 pub use Rattle.relay_admin.specs.declared.admin.end.AdminEnd.{AdminEnd}
 pub use Rattle.relay_admin.specs.declared.rules.file.RulesFault.{RulesFault}
 pub use Rattle.relay_admin.specs.declared.rules.rule.Rule.{Rule}
-pub use Rattle.relay_admin.specs.rules.Addr.{Address, tcp, unix}
+pub use Rattle.relay_admin.specs.rules.Addr.{Address, tcp, unix, same_address}
 pub use Rattle.relay_admin.specs.rules.Fault.{CanStandTogether, HasName, LacksName, HasListen, LacksListen, LineFault}
 pub use Rattle.relay_admin.specs.rules.Fault.{bad_line, too_many, same_name, same_listen, FirstFault, SaysRules}
 pub use Rattle.relay_admin.specs.rules.Fault.{SaysFault}
 pub use Rattle.relay_admin.specs.rules.Grammar.{space, time_text, Entry, IsSkipped, SpellsRule, Spell}
 pub use Rattle.relay_admin.specs.rules.Grammar.{nothing, skipped, rule}
 pub use Rattle.relay_admin.specs.rules.Grammar.{entry_of, entries_of}
-pub use Rattle.relay_admin.specs.rules.Reading.{is_skipped, same_address, finds_name, finds_listen, TakesGoodLine}
+pub use Rattle.relay_admin.specs.rules.Reading.{is_skipped, finds_name, finds_listen, TakesGoodLine}
 pub use Rattle.relay_admin.specs.rules.Reading.{skips, adds}
 pub use Rattle.std.proofs.Common.{◌∙◌, sym, ap, refl, subst, ℕ, List, Bool, true, false}
 pub use Rattle.std.proofs.Common.{Option, Some, None, arith, [], length, inl, inr, get_or, take, drop}

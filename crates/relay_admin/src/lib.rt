@@ -19,7 +19,7 @@ pub use admin::reply_bytes::Reply;
 pub use admin::session::{serve_admin, serve_on};
 pub use admin::shown::{Shown, ShownSide, peer_name};
 pub use admin::stepwise::AdminSession;
-pub use rules::addr::{Addr, MAX_ADDR_BYTES, addr_of};
+pub use rules::addr::{Addr, MAX_ADDR_BYTES, addr_of, is_same_addr};
 pub use rules::file::{MAX_BYTES, MAX_RULES, Rules, RulesFault};
 pub use rules::rule::Rule;
 pub use rules::verdict::{Verdict, check_status};

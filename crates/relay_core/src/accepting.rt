@@ -62,14 +62,6 @@ impl AcceptEnded {
     {
         self == AcceptEnded::Draining
     }
-
-    /// Whether the accept worker is to begin again, as the admin socket's: without it nobody could
-    /// stop the relay, however many accepts in a row failed.
-    pub fn lets_it_begin_again(self) -> bool
-        ensures { result ≡ true ↔ self ≢ AcceptEnded.Closed }
-    {
-        self != AcceptEnded::Closed
-    }
 }
 
 /// The pause after a fault, by the pause before it, in milliseconds: 5 after the first fault in a

@@ -3,6 +3,7 @@ use Rattle.std.specs.Prelude.{◌≡◌, ◌==◌, ◌<◌, ℕ, Bool, true, fal
 use Rattle.std.specs.Prelude.{length, nat_le, slice_index, codes}
 use Rattle.std.specs.Fmt.{decimal}
 use Rattle.std.specs.List.{list_all}
+use Rattle.std.specs.Str.{bytes_eq}
 use Rattle.relay_admin.specs.declared.rules.addr.Addr.{Addr}
 use Rattle.relay_admin.specs.declared.rules.addr.TheConstants.{MAX_PATH_BYTES}
 use Rattle.relay_admin.specs.declared.rules.addr.Addr.TheVariants as variant
@@ -40,6 +41,13 @@ abbrev pub IsAddress : Address → Type 0
 IsAddress (tcp a b c d port) =
     (a < 256) × (b < 256) × (c < 256) × (d < 256) × (0 < port) × (port < 65536)
 IsAddress (unix path) = is_path path ≡ true
+
+-- both addresses are one
+abbrev pub same_address : Address → Address → Bool
+same_address (tcp a b c d port) (tcp e f g h other) =
+    (a == e) && (b == f) && (c == g) && (d == h) && (port == other)
+same_address (unix path) (unix other) = bytes_eq path other
+same_address _ _ = false
 
 -- "tcp:", the four numbers with dots between them, a colon and the port; or "unix:" and the path
 abbrev pub address_text : Address → List ℕ

@@ -5,7 +5,7 @@ use Rattle.std.specs.Prelude.{length, Option, Some, None}
 use Rattle.std.specs.Prelude.{Result, Ok, Err, codes, if◌then◌else◌}
 use Rattle.std.specs.List.{list_any}
 use Rattle.std.specs.Str.{bytes_eq}
-use Rattle.relay_admin.specs.rules.Addr.{Address, tcp, unix, dot, colon, is_path}
+use Rattle.relay_admin.specs.rules.Addr.{Address, tcp, unix, dot, colon, is_path, same_address}
 use Rattle.relay_admin.specs.rules.Grammar.{Entry, IsSkipped, SpellsRule, space, is_name}
 use Rattle.relay_admin.specs.rules.Fault.{LacksListen, LacksName, LineFault}
 use Rattle.relay_admin.specs.declared.rules.file.RulesFault.{RulesFault}
@@ -56,13 +56,6 @@ rule_at text = do
 abbrev pub is_skipped : List ℕ → Bool
 is_skipped [] = true
 is_skipped (byte ∷ line) = byte == 35
-
--- both addresses are one
-abbrev pub same_address : Address → Address → Bool
-same_address (tcp a b c d port) (tcp e f g h other) =
-    (a == e) && (b == f) && (c == g) && (d == h) && (port == other)
-same_address (unix path) (unix other) = bytes_eq path other
-same_address _ _ = false
 
 -- a rule has this name
 abbrev pub finds_name : List ℕ → List Entry → Bool

@@ -5,8 +5,8 @@ ghost use Rattle.std.specs.List.{list_all};
 ghost use Rattle.std.specs.Fmt.{decimal};
 ghost use Rattle.arrayvec.specs.ArrayString.{array_string_len};
 ghost use Rattle.relay_admin.specs.rules.Addr.{address_of, address_text, is_path, is_visible};
-ghost use Rattle.relay_admin.specs.rules.Addr.{tcp, unix};
-ghost use Rattle.relay_admin.specs.rules.Reading.{address_at, path_at, tcp_at, same_address};
+ghost use Rattle.relay_admin.specs.rules.Addr.{same_address, tcp, unix};
+ghost use Rattle.relay_admin.specs.rules.Reading.{address_at, path_at, tcp_at};
 ghost use Rattle.relay_admin.specs.TextReading.{Views};
 
 use crate::text::{number_between, split_once};
@@ -90,7 +90,7 @@ pub fn addr_of(text: &[u8]) -> Option<Addr>
 }
 
 /// Whether both are one address.
-pub(crate) fn is_same_addr(one: &Addr, other: &Addr) -> bool
+pub fn is_same_addr(one: &Addr, other: &Addr) -> bool
     ensures { result ≡ same_address (address_of one.now) (address_of other.now) }
 {
     match (one, other) {
