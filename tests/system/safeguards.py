@@ -277,7 +277,7 @@ def accept_faults(checks, folder):
 def few_descriptors(checks, _):
     """A relay that may have too few descriptors says so with both numbers, and starts; one that has enough says nothing."""
     options = ("--connections", "100", "--loops", "2")
-    for allowed, want in ((200, "few descriptors: 200, and 380 may be needed\n"), (380, "")):
+    for allowed, want in ((200, "few descriptors: 200, and 444 may be needed\n"), (444, "")):
         with Relay("", descriptors=allowed, env={}, options=options) as relay:
             checks.expect(f"few: of {allowed}", want, relay.errors())
             checks.expect(f"few: status, {allowed}", 0, relay.stop()[0])

@@ -1,3 +1,4 @@
 pub mod Descriptors
 pub mod ExitStatus
 pub mod CommandLine
+pub mod SoftLimit

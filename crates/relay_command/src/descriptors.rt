@@ -1,4 +1,4 @@
-//! How many descriptors a relay may come to have, and how many its process may.
+//! How many descriptors a relay may come to have.
 
 ghost use Rattle.std.specs.Prelude.{◌≡◌};
 ghost use Rattle.relay_command.specs.Descriptors.{needed};
@@ -17,22 +17,13 @@ const METRICS_CLIENTS: u64 = 64;
 /// client, a session or a scrape beyond the most, and a connect to a path that may be stale.
 const OTHERS: u64 = 16;
 
-/// The most descriptors that a relay of this size comes to have: two for each connection and each
-/// loop, one for each rule, each admin session and each client of the metrics, and sixteen others.
+/// The most descriptors that a relay of this size comes to have, beside sockets that it was started
+/// with and doesn't use: two for each connection, each loop and each rule, one for each admin
+/// session and each client of the metrics, and sixteen others. A rule takes two, since a reload that
+/// may be refused binds all new addresses before it closes a listener.
 pub fn descriptors_needed(pairs: PairLimit, loops: Loops) -> u64
     ensures { result ≡ needed pairs.count loops.count }
 {
     let of_size = 2 * pairs.count as u64 + 2 * loops.count as u64;
-    of_size + MAX_RULES as u64 + SESSIONS + METRICS_CLIENTS + OTHERS
-}
-
-/// How many descriptors a process may have, by what the system says of its limits
-/// (`/proc/self/limits` of Linux); none where that isn't said.
-pub fn descriptors_allowed(limits: &str) -> Option<u64> {
-    for line in limits.lines() {
-        if let Some(words) = line.strip_prefix("Max open files") {
-            return words.split_whitespace().next()?.parse::<u64>().ok();
-        }
-    }
-    None
+    of_size + 2 * MAX_RULES as u64 + SESSIONS + METRICS_CLIENTS + OTHERS
 }

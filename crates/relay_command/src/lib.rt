@@ -8,12 +8,14 @@ mod fault;
 mod grammar;
 mod job;
 mod options;
+mod soft_limit;
 mod status;
 mod usage;
 
 pub use ctl::reply_status;
-pub use descriptors::{descriptors_allowed, descriptors_needed};
+pub use descriptors::descriptors_needed;
 pub use fault::{Fault, NO_MEMORY};
 pub use job::{Job, job_of};
+pub use soft_limit::descriptors_allowed;
 pub use status::trace_status;
 pub use usage::{HELP, VERSION};
