@@ -2,8 +2,8 @@
 //! be set up ends the test's process there, so that a test is one straight line.
 
 /// Ends the test's process where this doesn't hold, and says what should. A call costs the proof
-/// of a test less than a branch does. `descriptor_tests` and `readiness_tests` have one too: no
-/// crate uses another's tests.
+/// of a test less than a branch does. `relay_conn_tests` and others have one too: no crate uses
+/// another's tests.
 macro_rules! holds {
     ($rt:expr; $is:expr) => {
         $crate::tests::holds(&$rt, $is, stringify!($is))
@@ -13,25 +13,25 @@ macro_rules! holds {
     };
 }
 
-// A relay by the rules of a place, on a thread of its own. (a macro: what a function sends to a thread
-// may rest on no bound that is assumed of its own runtime)
+// A relay by the rules of a place, on a thread of its own: of so many loops, or of a size and with
+// outlets. (a macro: what a function sends to a thread may rest on no bound that is assumed of its
+// own runtime)
 macro_rules! started {
+    ($rt:expr, $place:expr, $loops:expr) => {{
+        let capacity = $crate::tests::started::sized_by_default($loops).expect(&$rt, "a size");
+        started!($rt, $place, capacity, $crate::tests::no_outlets())
+    }};
     ($rt:expr, $place:expr, $capacity:expr, $outlets:expr) => {{
         let (rt, capacity, outlets) = ($rt, $capacity, $outlets);
         let (rules, admin, socket) = $place.parts();
-        let run = move || $crate::tests::served_at(rt, &rules, &socket, capacity, outlets);
+        let run = move || $crate::tests::served(rt, &rules, &socket, capacity, outlets);
         let thread = std::thread::spawn(&rt, run).expect(&rt, "thread");
         $crate::tests::Running { thread, admin }
     }};
 }
 
-mod ages;
-mod at_once;
 mod cause_rows;
 mod causes;
-mod closing;
-mod draining;
-mod echo;
 mod ending;
 mod ends;
 mod failing_files;
@@ -39,27 +39,21 @@ mod figures;
 mod finishing;
 mod leaving;
 mod live_threads;
-mod loops;
 mod main_loop;
 mod metrics;
-mod most_pairs;
 mod odd_clock;
 mod odd_moments;
-mod pairs;
 mod places;
 mod quiet;
 mod reloading;
 mod renewing;
 mod sessions;
-mod stalls;
 mod start_faults;
 mod started;
-mod steering;
 mod streams;
 mod watch;
-mod watching;
 
-use relay::{Capacity, Loops, PairLimit, Safeguards, ServeFault};
+use relay::{Capacity, Safeguards, ServeFault};
 use relay_serve::{Given, Outlets, serve};
 use std::fs::{File, Files};
 use std::io::Write;
@@ -112,38 +106,11 @@ fn no_outlets() -> Outlets<File> {
 }
 
 /// A relay from its start to its end, of this size, with this log and these metrics.
-fn served_at<R>(
+fn served<R>(
     rt: R,
     rules: &String,
     admin: &String,
     capacity: Capacity,
-    outlets: Outlets<File>,
-) -> Said
-where
-    R: Wait
-        + Threads
-        + Net<Listener = TcpListener, Stream = TcpStream>
-        + Clock
-        + Files
-        + RandomSource
-        + Abort
-        + AllocGlobal
-        + Copy
-        + Send
-        + Sync
-        + 'static,
-{
-    let safeguards = Safeguards::by_default();
-    served_with(rt, rules, admin, capacity, safeguards, outlets)
-}
-
-/// The same with these safeguards.
-fn served_with<R>(
-    rt: R,
-    rules: &String,
-    admin: &String,
-    capacity: Capacity,
-    safeguards: Safeguards,
     outlets: Outlets<File>,
 ) -> Said
 where
@@ -166,52 +133,12 @@ where
         rules,
         admin,
         capacity,
-        safeguards,
+        Safeguards::by_default(),
         Given::none(rt.alloc()),
         outlets,
         &mut text,
     );
     Said { done, text }
-}
-
-/// A relay from its start to its end, on so many loops, with the default of connections.
-fn served_on<R>(rt: R, rules: &String, admin: &String, loops: u64) -> Said
-where
-    R: Wait
-        + Threads
-        + Net<Listener = TcpListener, Stream = TcpStream>
-        + Clock
-        + Files
-        + RandomSource
-        + Abort
-        + AllocGlobal
-        + Copy
-        + Send
-        + Sync
-        + 'static,
-{
-    let loops = Loops::of(loops).expect(&rt, "loops");
-    let pairs = PairLimit::by_default();
-    served_at(rt, rules, admin, Capacity { loops, pairs }, no_outlets())
-}
-
-/// A relay from its start to its end, on two loops.
-fn served<R>(rt: R, rules: &String, admin: &String) -> Said
-where
-    R: Wait
-        + Threads
-        + Net<Listener = TcpListener, Stream = TcpStream>
-        + Clock
-        + Files
-        + RandomSource
-        + Abort
-        + AllocGlobal
-        + Copy
-        + Send
-        + Sync
-        + 'static,
-{
-    served_on(rt, rules, admin, 2)
 }
 
 /// A relay on a thread of its own.

@@ -3,7 +3,7 @@
 use super::live_threads::live_threads;
 use super::places::{Place, place_to};
 use super::watch::Watch;
-use super::{Running, no_outlets, served_on};
+use super::{Running, no_outlets};
 use relay::{Capacity, Loops, PairLimit, Safeguards, ServeFault};
 use relay_serve::{Given, serve};
 use std::fs::Files;
@@ -116,14 +116,7 @@ fn a_stop_ends_64_loops_that_sleep_at_once(rt: HostRuntime) {
     let mut is_quick = false;
     for _ in 0..STOPS {
         let (place, _port) = place_to(&rt, 9, "never").expect(&rt, "a place");
-        let Place {
-            rules,
-            admin,
-            socket,
-        } = place;
-        let thread = thread::spawn(&rt, move || served_on(rt, &rules, &socket, 64));
-        let thread = thread.expect(&rt, "thread");
-        let running = Running { thread, admin };
+        let running = started!(rt, place, 64);
         let began = stop_of_sleepers(&rt, &running).expect(&rt, "a relay");
         running.ends(&rt, "listening 1\nup 0 down 0\n");
         let took = began.elapsed(&rt).expect(&rt, "clock");

@@ -57,11 +57,6 @@ impl Ends {
         (client, peer)
     }
 
-    /// The client's own port.
-    pub(super) fn client_port(&self) -> Option<u16> {
-        Some(self.client.local_addr().ok()?.port())
-    }
-
     /// Whether 5 bytes go up and 2 come down.
     pub(super) fn pass(&mut self) -> bool {
         says(&mut self.client, b"hello")

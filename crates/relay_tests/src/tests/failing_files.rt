@@ -3,9 +3,8 @@
 //! between the accepts that fail.
 
 use super::places::{is_there, place_to};
-use super::started::sized_by_default;
 use super::watch::Watch;
-use super::{TURNS, no_outlets, pause};
+use super::{TURNS, pause};
 use relay::ServeFault;
 use std::time::{CpuClock, Duration, Instant};
 use std::{fs, thread};
@@ -97,8 +96,7 @@ fn a_relay_ends_where_a_poller_fails(rt: HostRuntime) {
     let watch = Watch::start(rt, rt.alloc());
     for row in ROWS.iter() {
         let (place, _port) = place_to(&rt, 9, "never").expect(&rt, "a place");
-        let capacity = sized_by_default(2).expect(&rt, "a size");
-        let running = started!(rt, place, capacity, no_outlets());
+        let running = started!(rt, place, 2);
         holds!(rt; comes_to_listen(&rt, &running.admin), row.name);
         holds!(rt; libc::close(poller(&rt, row.place)) == 0, row.name);
         let said = running.thread.join(&rt);
@@ -111,8 +109,7 @@ fn a_relay_ends_where_a_poller_fails(rt: HostRuntime) {
 fn an_admin_socket_that_fails_takes_no_processor_time(rt: HostRuntime) {
     let watch = Watch::start(rt, rt.alloc());
     let (place, _port) = place_to(&rt, 9, "never").expect(&rt, "a place");
-    let capacity = sized_by_default(1).expect(&rt, "a size");
-    let running = started!(rt, place, capacity, no_outlets());
+    let running = started!(rt, place, 1);
     holds!(rt; comes_to_listen(&rt, &running.admin));
     holds!(rt; libc::close(last_socket(&rt)) == 0, "the admin socket");
     thread::sleep(&rt, Duration::from_millis(UNTIL_IT_FAILS_MS));

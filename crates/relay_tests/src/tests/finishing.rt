@@ -1,12 +1,11 @@
 //! A relay that finishes: it takes nobody more, and ends with its last connection, at its moment, or
 //! by a stop.
 
+use super::Running;
 use super::ends::Ends;
 use super::places::{is_there, place_at, place_to_own};
-use super::started::sized_by_default;
 use super::streams::{reach_unix, target};
 use super::watch::Watch;
-use super::{Running, no_outlets};
 use std::net::TcpStream;
 
 /// How a relay with a connection is ended.
@@ -63,8 +62,7 @@ fn a_relay_that_finishes_ends(rt: HostRuntime) {
     for row in ROWS.iter() {
         let watch = Watch::start(rt, rt.alloc());
         let (place, listener, port) = place_to_own(&rt, "never").expect(&rt, "a place");
-        let capacity = sized_by_default(2).expect(&rt, "a size");
-        let running = started!(rt, place, capacity, no_outlets());
+        let running = started!(rt, place, 2);
         let mut ends = Ends::new(&rt, &listener, port).expect(&rt, row.name);
         holds!(rt; is_answered(&rt, &running, &mut ends, row, port), row.name);
         let said = running.thread.join(&rt);
@@ -84,8 +82,7 @@ fn a_relay_without_connections_finishes_at_once(rt: HostRuntime) {
     let watch = Watch::start(rt, rt.alloc());
     let (_listener, port) = target(&rt).expect(&rt, "a target");
     let (place, path) = place_at(&rt, "finishes", port).expect(&rt, "a place");
-    let capacity = sized_by_default(1).expect(&rt, "a size");
-    let running = started!(rt, place, capacity, no_outlets());
+    let running = started!(rt, place, 1);
     let silent = reach_unix(&rt, running.admin.as_str());
     holds!(rt; running.answers(&rt, "finish 86400000\n", "ok\n"));
     running.ends(&rt, "listening 1\nup 0 down 0\n");

@@ -1,9 +1,7 @@
 //! The main thread's loop: after a pause it goes on by itself, and a reload wakes it.
 
 use super::ends::Ends;
-use super::no_outlets;
 use super::places::place_to_own;
-use super::started::sized_by_default;
 use super::watch::Watch;
 
 /// So many faults of an accept, each with a pause that a session looks into.
@@ -16,8 +14,7 @@ const RELOADS: usize = 30;
 fn a_listener_that_pauses_goes_on_by_itself(rt: HostRuntime) {
     let watch = Watch::start(rt, rt.alloc());
     let (place, listener, port) = place_to_own(&rt, "never").expect(&rt, "a place");
-    let capacity = sized_by_default(1).expect(&rt, "a size");
-    let running = started!(rt, place, capacity, no_outlets());
+    let running = started!(rt, place, 1);
     for _ in 0..PAUSES {
         // The first has an accept fail, and the second comes within the pause.
         holds!(rt; running.answers(&rt, "deadline 1 0\n", "ok\n"));
@@ -34,8 +31,7 @@ fn a_listener_that_pauses_goes_on_by_itself(rt: HostRuntime) {
 fn a_reload_wakes_the_main_thread(rt: HostRuntime) {
     let watch = Watch::start(rt, rt.alloc());
     let (place, _listener, _port) = place_to_own(&rt, "never").expect(&rt, "a place");
-    let capacity = sized_by_default(1).expect(&rt, "a size");
-    let running = started!(rt, place, capacity, no_outlets());
+    let running = started!(rt, place, 1);
     for _ in 0..RELOADS {
         holds!(rt; running.answers(&rt, "reload\n", "rules 1\n"));
     }

@@ -4,7 +4,7 @@ use super::ends::Ends;
 use super::places::{Place, is_there, own_path, place_at, place_to, write_empty};
 use super::streams::{free_port, heard, reach, target};
 use super::watch::Watch;
-use super::{FEW_TURNS, Running, Said, rest, served_at};
+use super::{FEW_TURNS, Said, rest, served};
 use relay::{Capacity, Loops, PairLimit, ServeFault};
 use relay_admin::{Addr, addr_of};
 use relay_serve::Outlets;
@@ -14,7 +14,6 @@ use std::net::{Net, TcpListener, TcpStream};
 use std::process::Abort;
 use std::random::RandomSource;
 use std::sync::Wait;
-use std::thread;
 use std::thread::Threads;
 use std::time::Clock;
 
@@ -86,10 +85,7 @@ fn figures_are_given_at_an_address(rt: HostRuntime) {
     let (listener, target) = target(&rt).expect(&rt, "a target");
     let (place, port) = place_to(&rt, target, "never").expect(&rt, "a place");
     let (capacity, outlets, metrics) = metrics_at_port(&rt).expect(&rt, "an address");
-    let (rules, admin, socket) = place.parts();
-    let run = move || served_at(rt, &rules, &socket, capacity, outlets);
-    let thread = thread::spawn(&rt, run).expect(&rt, "thread");
-    let running = Running { thread, admin };
+    let running = started!(rt, place, capacity, outlets);
     let mut ends = Ends::new(&rt, &listener, port).expect(&rt, "a connection");
     holds!(rt; ends.pass());
     holds!(rt; running.comes_to(&rt, "totals\n", "totals up 5 down 2\n"));
@@ -125,7 +121,7 @@ where
     let pairs = PairLimit::by_default();
     let outlets = Outlets { log: None, metrics };
     let capacity = Capacity { loops, pairs };
-    let said = served_at(rt, &place.rules, &place.admin, capacity, outlets);
+    let said = served(rt, &place.rules, &place.admin, capacity, outlets);
     Some(said)
 }
 

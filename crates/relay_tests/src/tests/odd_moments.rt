@@ -1,12 +1,11 @@
 //! A relay whose clock goes fast, so that a minute of a session is a moment, or is read slowly,
 //! so that a session comes between two steps of a set-up.
 
+use super::Running;
 use super::odd_clock::OddClock;
 use super::places::{place_to, place_to_own};
-use super::started::sized_by_default;
 use super::streams::{has_ended, heard, reach, reach_unix};
 use super::watch::Watch;
-use super::{Running, no_outlets};
 use std::io::Write;
 use std::net::Shutdown;
 
@@ -80,8 +79,7 @@ fn a_silent_session_is_ended_and_the_next_is_served(rt: HostRuntime) {
         times: TIMES,
         look_ms: 0,
     };
-    let capacity = sized_by_default(1).expect(&rt, "a size");
-    let running = started!(fast, place, capacity, no_outlets());
+    let running = started!(fast, place, 1);
     for silence in SILENCES.iter() {
         holds!(rt; lets_the_next(&rt, &running, silence), silence.name);
     }
@@ -114,8 +112,7 @@ fn a_set_up_that_a_session_cuts_off_leaves_no_id(rt: HostRuntime) {
         times: 1,
         look_ms: LOOK_MS,
     };
-    let capacity = sized_by_default(1).expect(&rt, "a size");
-    let running = started!(slow, place, capacity, no_outlets());
+    let running = started!(slow, place, 1);
     for one in 0..SET_UPS {
         let id = one.saturating_mul(2).saturating_add(3);
         let is_cut_off = is_cut_off(&rt, &running, port, id);

@@ -1,24 +1,20 @@
 //! Reloads by an admin session: what is served afterwards, and what becomes of what stood before.
 
-use super::draining::is_refused;
+use super::Running;
 use super::ends::{Ends, are_rules, is_the_rule};
 use super::places::{is_there, own_path, place_at, place_to, rule_at};
-use super::streams::{accepted, free_port, hears, reach_unix, target};
+use super::streams::{accepted, free_port, hears, is_refused, reach_unix, target};
 use super::watch::Watch;
-use super::{Running, served};
+use std::fs;
 use std::io::Write;
 use std::net::TcpListener;
-use std::{fs, thread};
 
 #[test]
 fn a_rule_that_has_gone_leaves_its_connection_and_a_new_one_serves(rt: HostRuntime) {
     let watch = Watch::start(rt, rt.alloc());
     let (listener, target) = target(&rt).expect(&rt, "a target");
     let (place, port) = place_to(&rt, target, "never").expect(&rt, "a place");
-    let (rules, admin, socket) = place.parts();
-    let thread = thread::spawn(&rt, move || served(rt, &rules, &socket));
-    let thread = thread.expect(&rt, "thread");
-    let running = Running { thread, admin };
+    let running = started!(rt, place, 2);
     let mut old = Ends::new(&rt, &listener, port).expect(&rt, "a connection");
     holds!(rt; old.pass());
     let new_port = free_port(&rt).expect(&rt, "a port");
@@ -41,10 +37,7 @@ fn a_rule_with_another_target_keeps_its_listener_and_its_connections(rt: HostRun
     let (first, first_port) = target(&rt).expect(&rt, "a target");
     let (second, second_port) = target(&rt).expect(&rt, "a target");
     let (place, port) = place_to(&rt, first_port, "never").expect(&rt, "a place");
-    let (rules, admin, socket) = place.parts();
-    let thread = thread::spawn(&rt, move || served(rt, &rules, &socket));
-    let thread = thread.expect(&rt, "thread");
-    let running = Running { thread, admin };
+    let running = started!(rt, place, 2);
     let mut old = Ends::new(&rt, &first, port).expect(&rt, "a connection");
     holds!(rt; old.pass());
     holds!(rt; is_the_rule(&rt, "a", port, second_port));
@@ -94,10 +87,7 @@ fn a_refused_reload_changes_nothing(rt: HostRuntime) {
     let watch = Watch::start(rt, rt.alloc());
     let (listener, target) = target(&rt).expect(&rt, "a target");
     let (place, port) = place_to(&rt, target, "never").expect(&rt, "a place");
-    let (rules, admin, socket) = place.parts();
-    let thread = thread::spawn(&rt, move || served(rt, &rules, &socket));
-    let thread = thread.expect(&rt, "thread");
-    let running = Running { thread, admin };
+    let running = started!(rt, place, 2);
     holds!(rt; running.answers(&rt, "list\n", "ids 1\n"));
     holds!(rt; refuses(&rt, &running, "nowhere", "bad rules: line 2\nids 1\n"));
     holds!(rt; refuses_taken(&rt, &running, target));
@@ -121,10 +111,7 @@ fn a_missing_rules_file_is_told_and_changes_nothing(rt: HostRuntime) {
     let watch = Watch::start(rt, rt.alloc());
     let (listener, target) = target(&rt).expect(&rt, "a target");
     let (place, port) = place_to(&rt, target, "never").expect(&rt, "a place");
-    let (rules, admin, socket) = place.parts();
-    let thread = thread::spawn(&rt, move || served(rt, &rules, &socket));
-    let thread = thread.expect(&rt, "thread");
-    let running = Running { thread, admin };
+    let running = started!(rt, place, 2);
     holds!(rt; running.answers(&rt, "list\n", "ids 1\n"));
     holds!(rt; has_no_rules(&rt));
     holds!(rt; running.answers(&rt, "reload\nlist\n", "cannot read rules\nids 1\n"));
@@ -164,10 +151,7 @@ fn a_path_that_has_gone_is_removed_and_a_new_one_serves(rt: HostRuntime) {
     let watch = Watch::start(rt, rt.alloc());
     let (listener, target) = target(&rt).expect(&rt, "a target");
     let (place, old) = place_at(&rt, "old", target).expect(&rt, "a place");
-    let (rules, admin, socket) = place.parts();
-    let thread = thread::spawn(&rt, move || served(rt, &rules, &socket));
-    let thread = thread.expect(&rt, "thread");
-    let running = Running { thread, admin };
+    let running = started!(rt, place, 2);
     holds!(rt; running.answers(&rt, "list\n", "ids 1\n"));
     holds!(rt; passes_a_byte(&rt, old.as_str(), &listener));
     let new = rule_moves_to(&rt, "new", target).expect(&rt, "a path");

@@ -1,12 +1,9 @@
 //! What a reload renews: the idle time of a rule whose listener stands, and a listener that an admin
 //! session has closed.
 
-use super::draining::is_refused;
 use super::ends::{Ends, are_rules};
-use super::no_outlets;
 use super::places::place_to;
-use super::started::sized_by_default;
-use super::streams::target;
+use super::streams::{is_refused, target};
 use super::watch::Watch;
 
 /// Has the rules file say this idle time of the rule from a port to another.
@@ -25,8 +22,7 @@ fn a_reload_renews_an_idle_time_and_a_listener_that_was_closed(rt: HostRuntime) 
     let watch = Watch::start(rt, rt.alloc());
     let (listener, target) = target(&rt).expect(&rt, "a target");
     let (place, port) = place_to(&rt, target, "never").expect(&rt, "a place");
-    let capacity = sized_by_default(1).expect(&rt, "a size");
-    let running = started!(rt, place, capacity, no_outlets());
+    let running = started!(rt, place, 1);
     let mut old = Ends::new(&rt, &listener, port).expect(&rt, "a connection");
     holds!(rt; is_idle_time(&rt, port, target, "50"));
     holds!(rt; running.answers(&rt, "reload\n", "rules 1\n"));

@@ -1,11 +1,10 @@
 //! Admin sessions side by side: what one does delays no other, and there are only so many.
 
+use super::Running;
 use super::ends::Ends;
 use super::places::place_to_own;
-use super::started::sized_by_default;
 use super::streams::{heard, reach_unix};
 use super::watch::Watch;
-use super::{Running, no_outlets};
 use std::alloc::Global;
 use std::io::{Read, Write};
 use std::os::unix::net::UnixStream;
@@ -67,8 +66,7 @@ fn session_with(rt: &HostRuntime, running: &Running, row: &Row) -> Option<UnixSt
 fn a_session_delays_no_other(rt: HostRuntime) {
     let watch = Watch::start(rt, rt.alloc());
     let (place, _listener, _port) = place_to_own(&rt, "never").expect(&rt, "a place");
-    let capacity = sized_by_default(1).expect(&rt, "a size");
-    let running = started!(rt, place, capacity, no_outlets());
+    let running = started!(rt, place, 1);
     let mut others = Vec::new(rt.alloc());
     for row in ROWS.iter() {
         let other = session_with(&rt, &running, row);
@@ -129,8 +127,7 @@ fn first_has_gone(sessions: &mut [UnixStream], alloc: Global) -> bool {
 fn one_session_more_has_the_place_of_the_one_that_was_silent_for_longest(rt: HostRuntime) {
     let watch = Watch::start(rt, rt.alloc());
     let (place, _listener, _port) = place_to_own(&rt, "never").expect(&rt, "a place");
-    let capacity = sized_by_default(1).expect(&rt, "a size");
-    let running = started!(rt, place, capacity, no_outlets());
+    let running = started!(rt, place, 1);
     let mut all = silent_ones(&rt, &running).expect(&rt, "so many sessions");
     holds!(rt; running.answers(&rt, "list\n", "ids 1\n"), "one more");
     holds!(rt; first_has_gone(all.as_mut_slice(), rt.alloc()), "another has gone, or none");
@@ -147,8 +144,7 @@ const SILENT: usize = 300;
 fn a_stop_is_answered_behind_sessions_that_say_nothing(rt: HostRuntime) {
     let watch = Watch::start(rt, rt.alloc());
     let (place, _listener, _port) = place_to_own(&rt, "never").expect(&rt, "a place");
-    let capacity = sized_by_default(1).expect(&rt, "a size");
-    let running = started!(rt, place, capacity, no_outlets());
+    let running = started!(rt, place, 1);
     let mut all = Vec::new(rt.alloc());
     for _ in 0..SILENT {
         let one = reach_unix(&rt, running.admin.as_str());
@@ -180,8 +176,7 @@ fn is_closed(rt: &HostRuntime, running: &Running, ends: Ends) -> bool {
 fn a_close_of_a_connection_that_stalls_is_answered_once_it_is_done(rt: HostRuntime) {
     let watch = Watch::start(rt, rt.alloc());
     let (place, listener, port) = place_to_own(&rt, "never").expect(&rt, "a place");
-    let capacity = sized_by_default(1).expect(&rt, "a size");
-    let running = started!(rt, place, capacity, no_outlets());
+    let running = started!(rt, place, 1);
     let ends = Ends::new(&rt, &listener, port).expect(&rt, "a connection");
     holds!(rt; is_closed(&rt, &running, ends));
     holds!(rt; running.is_stopped(&rt));

@@ -1,8 +1,9 @@
 //! What keeps a relay from starting, which of two faults it tells, and that no path is left.
 
 use super::places::{Place, is_there, own_path, write_empty};
-use super::served;
+use super::started::sized_by_default;
 use super::watch::Watch;
+use super::{no_outlets, served};
 use arrayvec::ArrayString;
 use relay::ServeFault;
 use std::fs::Files;
@@ -33,7 +34,8 @@ where
         + Sync
         + 'static,
 {
-    served(rt, rules, admin).is(Err(fault), "")
+    let capacity = sized_by_default(2).expect(&rt, "a size");
+    served(rt, rules, admin, capacity, no_outlets()).is(Err(fault), "")
 }
 
 #[test]

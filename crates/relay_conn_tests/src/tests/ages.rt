@@ -1,14 +1,13 @@
 //! The times that a session is shown: since when something stands, and since when it is quiet. A
 //! moment lies between two of the test's own, so that each time has bounds on any machine.
 
-use super::ends::{Ends, are_rules};
-use super::places::place_to;
-use super::started::sized_by_default;
+use super::ends::Ends;
+use super::places::{own_path, place_to};
 use super::streams::{free_port, target};
 use super::watch::Watch;
-use super::{Running, TURNS, no_outlets, pause};
-use std::thread;
+use super::{Running, TURNS, pause};
 use std::time::{Duration, Instant};
+use std::{fs, thread};
 
 /// How long nothing happens before each thing that does, in milliseconds.
 const SILENCE_MS: u64 = 300;
@@ -169,9 +168,9 @@ fn has_two_rules(rt: &HostRuntime, listen: u16, target: u16) -> bool {
         "relay a tcp:127.0.0.1:{listen} tcp:127.0.0.1:{target} never\n\
         relay b tcp:127.0.0.1:{second} tcp:127.0.0.1:{target} never\n"
     );
-    match rules {
-        Ok(rules) => are_rules(rt, rules.as_str()),
-        Err(_) => false,
+    match (rules, own_path(rt, "rules")) {
+        (Ok(rules), Some(path)) => fs::write(rt, path.as_str(), rules.as_str()).is_ok(),
+        _ => false,
     }
 }
 
@@ -181,8 +180,7 @@ fn ages_and_silences_are_shown_as_long_as_they_were(rt: HostRuntime) {
     let (listener, target) = target(&rt).expect(&rt, "a target");
     let (place, port) = place_to(&rt, target, "never").expect(&rt, "a place");
     let mut marks = Marks::new(&rt).expect(&rt, "clock");
-    let capacity = sized_by_default(1).expect(&rt, "a size");
-    let running = started!(rt, place, capacity, no_outlets());
+    let running = started!(rt, place, 1);
     holds!(rt; running.answers(&rt, "list\n", "ids 1\n"));
     marks.now(&rt);
     marks.after_a_silence(&rt);

@@ -1,10 +1,9 @@
 //! Peers that don't read: what is sent to them waits, and a deadline ends the wait.
 
 use super::loops::{sends, takes, talking_pair};
-use super::places::{Place, place_to_own};
+use super::places::place_to_own;
 use super::streams::{has_ended, says};
 use super::watch::Watch;
-use super::{Running, served_on};
 use std::alloc::Global;
 use std::io::Write;
 use std::net::{Shutdown, TcpStream};
@@ -44,14 +43,7 @@ fn what_both_ends_send_and_read_late_comes_whole(rt: HostRuntime) {
     let watch = Watch::start(rt, rt.alloc());
     let alloc = rt.alloc();
     let (place, listener, port) = place_to_own(&rt, "never").expect(&rt, "a place");
-    let Place {
-        rules,
-        admin,
-        socket,
-    } = place;
-    let thread = thread::spawn(&rt, move || served_on(rt, &rules, &socket, 1));
-    let thread = thread.expect(&rt, "thread");
-    let running = Running { thread, admin };
+    let running = started!(rt, place, 1);
     let (client, peer) = talking_pair(&rt, &listener, port).expect(&rt, "a pair");
     let (up, down) = (client.try_clone(), peer.try_clone());
     let (up, down) = (up.expect(&rt, "client"), down.expect(&rt, "peer"));
@@ -85,14 +77,7 @@ fn a_write_that_stalls_ends_its_pair_after_the_idle_time(rt: HostRuntime) {
     let watch = Watch::start(rt, rt.alloc());
     let alloc = rt.alloc();
     let (place, listener, port) = place_to_own(&rt, "200").expect(&rt, "a place");
-    let Place {
-        rules,
-        admin,
-        socket,
-    } = place;
-    let thread = thread::spawn(&rt, move || served_on(rt, &rules, &socket, 1));
-    let thread = thread.expect(&rt, "thread");
-    let running = Running { thread, admin };
+    let running = started!(rt, place, 1);
     let (client, mut peer) = talking_pair(&rt, &listener, port).expect(&rt, "a pair");
     let sending = thread::spawn(&rt, move || sends(alloc, client)).expect(&rt, "thread");
     // The peer reads nothing and speaks all the time, so that only the write to it can be late.
@@ -111,14 +96,7 @@ fn a_deadline_of_a_session_ends_a_write_that_stalls(rt: HostRuntime) {
     let watch = Watch::start(rt, rt.alloc());
     let alloc = rt.alloc();
     let (place, listener, port) = place_to_own(&rt, "never").expect(&rt, "a place");
-    let Place {
-        rules,
-        admin,
-        socket,
-    } = place;
-    let thread = thread::spawn(&rt, move || served_on(rt, &rules, &socket, 1));
-    let thread = thread.expect(&rt, "thread");
-    let running = Running { thread, admin };
+    let running = started!(rt, place, 1);
     let (mut client, peer) = talking_pair(&rt, &listener, port).expect(&rt, "a pair");
     // Nothing is read from the target any more, so that only the write to it can be late.
     holds!(rt; peer.shutdown(Shutdown::Write).is_ok() && has_ended(&mut client));

@@ -1,10 +1,10 @@
 //! Many connections on one loop: each has its turn, and what an admin session does reaches a loop
 //! that sleeps.
 
+use super::Running;
 use super::places::{Place, place_to_own};
 use super::streams::{accepted, free_port, has_ended, hears, reach, says, target};
 use super::watch::Watch;
-use super::{Running, served_on};
 use std::alloc::Global;
 use std::io::{Read, Write};
 use std::net::{Shutdown, TcpListener, TcpStream};
@@ -74,14 +74,7 @@ fn ended_by(
 fn closes_and_deadlines_reach_a_loop_that_sleeps(rt: HostRuntime) {
     let watch = Watch::start(rt, rt.alloc());
     let (place, listener, port) = place_to_own(&rt, "never").expect(&rt, "a place");
-    let Place {
-        rules,
-        admin,
-        socket,
-    } = place;
-    let thread = thread::spawn(&rt, move || served_on(rt, &rules, &socket, 1));
-    let thread = thread.expect(&rt, "thread");
-    let running = Running { thread, admin };
+    let running = started!(rt, place, 1);
     let took = ended_by(&rt, &running, &listener, port).expect(&rt, "a pair doesn't end");
     holds!(rt; took < Duration::from_millis(LONGEST_MS), "the loop wakes by itself");
     holds!(rt; running.comes_to(&rt, "list\n", "ids 1\n"));
@@ -94,14 +87,7 @@ fn closes_and_deadlines_reach_a_loop_that_sleeps(rt: HostRuntime) {
 fn a_way_goes_on_after_the_end_of_the_other(rt: HostRuntime) {
     let watch = Watch::start(rt, rt.alloc());
     let (place, listener, port) = place_to_own(&rt, "never").expect(&rt, "a place");
-    let Place {
-        rules,
-        admin,
-        socket,
-    } = place;
-    let thread = thread::spawn(&rt, move || served_on(rt, &rules, &socket, 1));
-    let thread = thread.expect(&rt, "thread");
-    let running = Running { thread, admin };
+    let running = started!(rt, place, 1);
     let (mut client, mut peer) = talking_pair(&rt, &listener, port).expect(&rt, "a pair");
     holds!(rt; client.shutdown(Shutdown::Write).is_ok());
     holds!(rt; has_ended(&mut peer), "the client's end isn't passed on");
@@ -140,14 +126,7 @@ fn each_connection_has_the_idle_time_of_its_rule(rt: HostRuntime) {
     let watch = Watch::start(rt, rt.alloc());
     let (listener, target) = target(&rt).expect(&rt, "a target");
     let (place, short, long) = place_of_two(&rt, target).expect(&rt, "a place");
-    let Place {
-        rules,
-        admin,
-        socket,
-    } = place;
-    let thread = thread::spawn(&rt, move || served_on(rt, &rules, &socket, 1));
-    let thread = thread.expect(&rt, "thread");
-    let running = Running { thread, admin };
+    let running = started!(rt, place, 1);
     let (mut stays, mut its_peer) = talking_pair(&rt, &listener, long).expect(&rt, "a pair");
     let (mut ends, _peer) = talking_pair(&rt, &listener, short).expect(&rt, "a pair");
     holds!(rt; has_ended(&mut ends), "the short idle time doesn't end its pair");
@@ -218,14 +197,7 @@ fn others_have_their_turns_beside_a_bulk_stream(rt: HostRuntime) {
     let watch = Watch::start(rt, rt.alloc());
     let alloc = rt.alloc();
     let (place, listener, port) = place_to_own(&rt, "never").expect(&rt, "a place");
-    let Place {
-        rules,
-        admin,
-        socket,
-    } = place;
-    let thread = thread::spawn(&rt, move || served_on(rt, &rules, &socket, 1));
-    let thread = thread.expect(&rt, "thread");
-    let running = Running { thread, admin };
+    let running = started!(rt, place, 1);
     let (client, peer) = talking_pair(&rt, &listener, port).expect(&rt, "a pair");
     let sending = thread::spawn(&rt, move || sends(alloc, client)).expect(&rt, "thread");
     let taking = thread::spawn(&rt, move || takes(alloc, peer)).expect(&rt, "thread");

@@ -1,9 +1,9 @@
 //! Drains by an admin session: of a side of a pair, and of a listener.
 
-use super::places::{Place, place_to, place_to_own};
+use super::places::{place_to, place_to_own};
 use super::streams::{accepted, has_ended, hears, reach, says};
 use super::watch::Watch;
-use super::{Running, TURNS, is_text, served};
+use super::{Running, TURNS, is_text};
 use std::net::{TcpListener, TcpStream};
 use std::thread;
 use std::time::Duration;
@@ -29,7 +29,7 @@ fn waiting_pair(
 }
 
 /// Whether nobody listens at the port any more.
-pub(super) fn is_refused(rt: &HostRuntime, port: u16) -> bool {
+fn is_refused(rt: &HostRuntime, port: u16) -> bool {
     for _ in 0..TURNS {
         if TcpStream::connect(rt, ("127.0.0.1", port)).is_err() {
             return true;
@@ -58,14 +58,7 @@ fn drains(rt: &HostRuntime, running: &Running, id: u64, ids: &str) -> bool {
 fn a_drained_side_says_its_last_and_the_pair_ends(rt: HostRuntime) {
     let watch = Watch::start(rt, rt.alloc());
     let (place, listener, port) = place_to_own(&rt, "never").expect(&rt, "a place");
-    let Place {
-        rules,
-        admin,
-        socket,
-    } = place;
-    let thread = thread::spawn(&rt, move || served(rt, &rules, &socket));
-    let thread = thread.expect(&rt, "thread");
-    let running = Running { thread, admin };
+    let running = started!(rt, place, 2);
     let (mut client, mut peer) = waiting_pair(&rt, &listener, port).expect(&rt, "a pair");
     holds!(rt; drains(&rt, &running, 3, "ids 1 2 3\n"));
     holds!(rt; says(&mut peer, b"hello"));
@@ -89,14 +82,7 @@ fn a_drained_side_says_its_last_and_the_pair_ends(rt: HostRuntime) {
 fn a_drained_listener_takes_one_client_more_and_is_closed(rt: HostRuntime) {
     let watch = Watch::start(rt, rt.alloc());
     let (place, listener, port) = place_to_own(&rt, "never").expect(&rt, "a place");
-    let Place {
-        rules,
-        admin,
-        socket,
-    } = place;
-    let thread = thread::spawn(&rt, move || served(rt, &rules, &socket));
-    let thread = thread.expect(&rt, "thread");
-    let running = Running { thread, admin };
+    let running = started!(rt, place, 2);
     let (mut first, mut peer) = waiting_pair(&rt, &listener, port).expect(&rt, "a pair");
     holds!(rt; drains(&rt, &running, 1, "ids 1 2 3\n"));
     let _second = waiting_pair(&rt, &listener, port).expect(&rt, "a pair");
@@ -113,14 +99,7 @@ fn a_drained_listener_takes_one_client_more_and_is_closed(rt: HostRuntime) {
 fn a_drained_listener_whose_deadline_passed_takes_nobody(rt: HostRuntime) {
     let watch = Watch::start(rt, rt.alloc());
     let (place, port) = place_to(&rt, 9, "never").expect(&rt, "a place");
-    let Place {
-        rules,
-        admin,
-        socket,
-    } = place;
-    let thread = thread::spawn(&rt, move || served(rt, &rules, &socket));
-    let thread = thread.expect(&rt, "thread");
-    let running = Running { thread, admin };
+    let running = started!(rt, place, 2);
     holds!(rt; running.answers(&rt, "deadline 1 0\ndrain 1\n", "ok\nok\n"));
     holds!(rt; running.comes_to(&rt, "list\n", "ids\n"));
     holds!(rt; is_refused(&rt, port));

@@ -1,11 +1,9 @@
 //! Clients that came at once, while nobody was accepted: each is served.
 
-use super::places::{Place, place_to_own};
+use super::places::place_to_own;
 use super::streams::{accepted, hears, reach, says};
 use super::watch::Watch;
-use super::{Running, served_on};
 use std::net::{TcpListener, TcpStream};
-use std::thread;
 
 /// So many clients that nobody has accepted yet, each of which says this.
 fn waiting_clients(
@@ -46,14 +44,7 @@ const SAID: [&str; 2] = ["a", ""];
 fn clients_that_came_at_once_are_all_served(rt: HostRuntime) {
     let watch = Watch::start(rt, rt.alloc());
     let (place, listener, port) = place_to_own(&rt, "never").expect(&rt, "a place");
-    let Place {
-        rules,
-        admin,
-        socket,
-    } = place;
-    let thread = thread::spawn(&rt, move || served_on(rt, &rules, &socket, 3));
-    let thread = thread.expect(&rt, "thread");
-    let running = Running { thread, admin };
+    let running = started!(rt, place, 3);
     for said in SAID {
         // Nobody is accepted, so that all wait in the system's queue.
         holds!(rt; running.answers(&rt, "deadline 1 0\n", "ok\n"));

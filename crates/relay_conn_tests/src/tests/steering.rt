@@ -1,9 +1,9 @@
 //! Pairs that are ended: by an admin session, by a deadline, by silence, by a stop.
 
-use super::places::{Place, place_to_own};
+use super::TURNS;
+use super::places::place_to_own;
 use super::streams::{accepted, has_ended, hears, reach, says};
 use super::watch::Watch;
-use super::{Running, TURNS, served};
 use std::io::Write;
 use std::thread;
 use std::time::Duration;
@@ -12,14 +12,7 @@ use std::time::Duration;
 fn closing_one_side_ends_the_pair(rt: HostRuntime) {
     let watch = Watch::start(rt, rt.alloc());
     let (place, listener, port) = place_to_own(&rt, "never").expect(&rt, "a place");
-    let Place {
-        rules,
-        admin,
-        socket,
-    } = place;
-    let thread = thread::spawn(&rt, move || served(rt, &rules, &socket));
-    let thread = thread.expect(&rt, "thread");
-    let running = Running { thread, admin };
+    let running = started!(rt, place, 2);
     let mut client = reach(&rt, port).expect(&rt, "nobody listens");
     let mut peer = accepted(&rt, &listener).expect(&rt, "nobody connects");
     holds!(rt; says(&mut client, b"hello"));
@@ -39,14 +32,7 @@ fn closing_one_side_ends_the_pair(rt: HostRuntime) {
 fn a_deadline_ends_a_pair_and_one_that_is_lifted_lets_a_listener_accept(rt: HostRuntime) {
     let watch = Watch::start(rt, rt.alloc());
     let (place, listener, port) = place_to_own(&rt, "never").expect(&rt, "a place");
-    let Place {
-        rules,
-        admin,
-        socket,
-    } = place;
-    let thread = thread::spawn(&rt, move || served(rt, &rules, &socket));
-    let thread = thread.expect(&rt, "thread");
-    let running = Running { thread, admin };
+    let running = started!(rt, place, 2);
     holds!(rt; running.answers(&rt, "deadline 1 30\n", "ok\n"));
     // By then the listener's deadline has come.
     thread::sleep(&rt, Duration::from_millis(1_000));
@@ -69,14 +55,7 @@ fn a_deadline_ends_a_pair_and_one_that_is_lifted_lets_a_listener_accept(rt: Host
 fn the_silent_way_ends_a_pair_after_its_idle_time(rt: HostRuntime) {
     let watch = Watch::start(rt, rt.alloc());
     let (place, listener, port) = place_to_own(&rt, "100").expect(&rt, "a place");
-    let Place {
-        rules,
-        admin,
-        socket,
-    } = place;
-    let thread = thread::spawn(&rt, move || served(rt, &rules, &socket));
-    let thread = thread.expect(&rt, "thread");
-    let running = Running { thread, admin };
+    let running = started!(rt, place, 2);
     let mut client = reach(&rt, port).expect(&rt, "nobody listens");
     let _peer = accepted(&rt, &listener).expect(&rt, "nobody connects");
     // The client speaks all the time, and the target never: its silence ends the pair.
@@ -100,14 +79,7 @@ fn the_silent_way_ends_a_pair_after_its_idle_time(rt: HostRuntime) {
 fn a_stop_ends_pairs_that_stand(rt: HostRuntime) {
     let watch = Watch::start(rt, rt.alloc());
     let (place, listener, port) = place_to_own(&rt, "60000").expect(&rt, "a place");
-    let Place {
-        rules,
-        admin,
-        socket,
-    } = place;
-    let thread = thread::spawn(&rt, move || served(rt, &rules, &socket));
-    let thread = thread.expect(&rt, "thread");
-    let running = Running { thread, admin };
+    let running = started!(rt, place, 2);
     let mut first = reach(&rt, port).expect(&rt, "nobody listens");
     let mut second = reach(&rt, port).expect(&rt, "nobody listens");
     let mut peer = accepted(&rt, &listener).expect(&rt, "nobody connects");

@@ -4,8 +4,8 @@ use super::ends::Ends;
 use super::places::{Place, own_path, place_to};
 use super::streams::{has_ended, reach, target};
 use super::watch::Watch;
-use super::{Running, TURNS, served, served_at};
-use relay::{Capacity, Loops, PairLimit};
+use super::{Running, TURNS, sized_by_default};
+use relay::Safeguards;
 use relay_serve::Outlets;
 use std::alloc::Global;
 use std::fs::File;
@@ -52,10 +52,7 @@ fn each_id_is_shown_with_its_peer_and_bytes(rt: HostRuntime) {
     let watch = Watch::start(rt, rt.alloc());
     let (listener, target) = target(&rt).expect(&rt, "a target");
     let (place, port) = place_to(&rt, target, "never").expect(&rt, "a place");
-    let (rules, admin, socket) = place.parts();
-    let thread = thread::spawn(&rt, move || served(rt, &rules, &socket));
-    let thread = thread.expect(&rt, "thread");
-    let running = Running { thread, admin };
+    let running = started!(rt, place, 2);
     let mut ends = Ends::new(&rt, &listener, port).expect(&rt, "a connection");
     let client = ends.client_port().expect(&rt, "a port");
     holds!(rt; ends.pass());
@@ -140,13 +137,6 @@ fn log_alone(rt: &HostRuntime) -> Option<Outlets<File>> {
     })
 }
 
-/// One loop, so that the lines of a log come as the connections end.
-fn one_loop() -> Option<Capacity> {
-    let loops = Loops::of(1)?;
-    let pairs = PairLimit::by_default();
-    Some(Capacity { loops, pairs })
-}
-
 /// The port of a client whose connection passes 5 bytes up and 2 down, and ends by both ends of
 /// file.
 fn finished(rt: &HostRuntime, running: &Running, listener: &TcpListener, port: u16) -> Option<u16> {
@@ -213,11 +203,9 @@ fn each_end_has_its_line_in_the_log(rt: HostRuntime) {
     let (listener, target) = target(&rt).expect(&rt, "a target");
     let (place, port, to_nobody) = place_of_two(&rt, target).expect(&rt, "a place");
     let log = log_alone(&rt).expect(&rt, "a log");
-    let capacity = one_loop().expect(&rt, "a loop");
-    let (rules, admin, socket) = place.parts();
-    let thread = thread::spawn(&rt, move || served_at(rt, &rules, &socket, capacity, log));
-    let thread = thread.expect(&rt, "thread");
-    let running = Running { thread, admin };
+    // One loop, so that the lines of the log come as the connections end.
+    let capacity = sized_by_default(1).expect(&rt, "a size");
+    let running = started!(rt, place, capacity, Safeguards::by_default(), log);
     let first = finished(&rt, &running, &listener, port).expect(&rt, "one that ends");
     let second = closed(&rt, &running, &listener, port).expect(&rt, "one that is closed");
     let third = refused(&rt, to_nobody).expect(&rt, "one that is refused");

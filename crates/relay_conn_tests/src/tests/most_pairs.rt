@@ -1,10 +1,10 @@
 //! The most pairs that stand at once: the default, which takes some 2,100 descriptors, and fewer, of
 //! all or of a rule.
 
-use super::places::{Place, place_to};
+use super::places::place_to;
 use super::streams::{hears, reach, target};
 use super::watch::Watch;
-use super::{Running, TURNS, no_outlets, served_with};
+use super::{TURNS, no_outlets};
 use relay::{Capacity, Loops, PairLimit, Safeguards};
 use std::alloc::Global;
 use std::io::Write;
@@ -91,18 +91,10 @@ fn the_next_after_the_most_pairs_is_dropped_until_one_ends(rt: HostRuntime) {
         let greeter = thread::spawn(&rt, move || greet_all(alloc, &listener, count));
         let greeter = greeter.expect(&rt, "thread");
         let (place, port) = place_to(&rt, target, "never").expect(&rt, "a place");
-        let Place {
-            rules,
-            admin,
-            socket,
-        } = place;
         let capacity = Capacity { loops, pairs };
         let mut safeguards = Safeguards::by_default();
         safeguards.per_rule = per_rule;
-        let run = move || served_with(rt, &rules, &socket, capacity, safeguards, no_outlets());
-        let thread = thread::spawn(&rt, run);
-        let thread = thread.expect(&rt, "thread");
-        let running = Running { thread, admin };
+        let running = started!(rt, place, capacity, safeguards, no_outlets());
         let _clients = most_clients(&rt, port, count).expect(&rt, "a pair too few is served");
         holds!(rt; next_is_dropped(&rt, port), "one more is served");
         holds!(rt; running.answers(&rt, "close 2\n", "ok\n"));

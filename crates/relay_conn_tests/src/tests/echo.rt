@@ -1,9 +1,9 @@
 //! Bytes through the relay and back.
 
+use super::is_text;
 use super::places::{Place, is_there, own_path, place_to};
 use super::streams::{free_port, heard, reach, says, target};
 use super::watch::Watch;
-use super::{Running, is_text, served};
 use std::net::{Shutdown, TcpListener};
 use std::{io, thread};
 
@@ -32,14 +32,7 @@ fn hello_comes_back_and_is_counted(rt: HostRuntime) {
     let echoing = thread::spawn(&rt, move || echo(listener)).expect(&rt, "thread");
     let (place, port) = place_to(&rt, target, "never").expect(&rt, "a place");
     let path = own_path(&rt, "admin").expect(&rt, "a path");
-    let Place {
-        rules,
-        admin,
-        socket,
-    } = place;
-    let thread = thread::spawn(&rt, move || served(rt, &rules, &socket));
-    let thread = thread.expect(&rt, "thread");
-    let running = Running { thread, admin };
+    let running = started!(rt, place, 2);
     holds!(rt; is_text(echo_of_hello(&rt, port), "hello"));
     holds!(rt; echoing.join(&rt));
     holds!(rt; running.is_stopped(&rt));
@@ -66,14 +59,7 @@ fn unix_sockets_serve_on_both_sides(rt: HostRuntime) {
     let (listener, target) = target(&rt).expect(&rt, "a target");
     let echoing = thread::spawn(&rt, move || echo(listener)).expect(&rt, "thread");
     let (place, port) = place_over(&rt, middle.as_str(), target).expect(&rt, "a place");
-    let Place {
-        rules,
-        admin,
-        socket,
-    } = place;
-    let thread = thread::spawn(&rt, move || served(rt, &rules, &socket));
-    let thread = thread.expect(&rt, "thread");
-    let running = Running { thread, admin };
+    let running = started!(rt, place, 2);
     holds!(rt; is_text(echo_of_hello(&rt, port), "hello"));
     holds!(rt; echoing.join(&rt));
     holds!(rt; running.is_stopped(&rt));

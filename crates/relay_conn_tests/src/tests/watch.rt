@@ -1,0 +1,43 @@
+//! A watch over a test that waits for calls or threads: it ends the test as failed where that takes
+//! too long. `relay_tests` and others have one too: no crate uses another's tests,
+//! and a crate for this alone would be proved in each gate.
+
+use super::comes;
+use std::alloc::Global;
+use std::process::Abort;
+use std::sync::Arc;
+use std::sync::atomic::{AtomicU64, Ordering};
+use std::thread;
+use std::thread::{JoinHandle, Threads};
+use std::time::Clock;
+
+/// A thread that waits for the end of its test, at most `TURNS` turns.
+#[derive(Drop)]
+pub(super) struct Watch {
+    thread: JoinHandle<()>,
+    ended: Arc<AtomicU64>,
+}
+
+impl Watch {
+    pub(super) fn start<R: Threads + Clock + Abort + Copy + Send + Drop + 'static>(
+        rt: R,
+        alloc: Global,
+    ) -> Watch {
+        let ended = Arc::new(alloc, AtomicU64::new(0)).expect(&rt, "watch");
+        let seen = Arc::try_clone(&ended).expect(&rt, "watch");
+        let thread = thread::spawn(&rt, move || {
+            holds!(rt; comes(&rt, &seen), "somebody waits for good");
+        });
+        Watch {
+            thread: thread.expect(&rt, "watch"),
+            ended,
+        }
+    }
+
+    /// The test has ended.
+    pub(super) fn end<R: Threads>(self, rt: &R) {
+        let Watch { thread, ended } = self;
+        ended.store(1, Ordering::SeqCst);
+        thread.join(rt);
+    }
+}
