@@ -8,7 +8,7 @@
 trace    `pollrelay trace` with the text on standard input; the status is 0 or 1
 check    `pollrelay check --rules` of the text; the status is 0 or 1
 session  the text is an admin session of a running relay; each line is answered as it may be (fuzz_session.c), and a relay that was told to
-         stop ends with status 0
+         stop or to finish ends with status 0
 
 A crash, a run of 2 s or another status is a failure, and its text is kept in the folder that is named. A run that took 2 s by the clock is made again
 alone, and is a hang if it takes 2 s of processor time. The program is run as it was built: a library that is loaded before the C library's
@@ -44,7 +44,7 @@ TOKENS = {
         "#", "\n", "\r\n", " ", ":", ".", "/", "relay a tcp:1.1.1.1:1 unix:/x never\n", "x" * 16, "x" * 17, "/" + "x" * 100, *NUMBERS,
     ],
     "session": [
-        "list\n", "totals\n", "close ", "drain ", "drain 1\n", "show ", "show\n", "show 1\n", "reload\n", "deadline ", " never\n", "quit\n", "stop\n", "\n", "\r\n", " ", "x" * 64, "x" * 65, *NUMBERS,
+        "list\n", "totals\n", "close ", "drain ", "drain 1\n", "show ", "show\n", "finish ", "show 1\n", "reload\n", "deadline ", " never\n", "quit\n", "stop\n", "\n", "\r\n", " ", "x" * 64, "x" * 65, *NUMBERS,
     ],
 }
 SEEDS = {

@@ -1,7 +1,7 @@
 // Plays its input to a relay's admin socket as one session, and aborts where the replies are not those of docs/admin-protocol.md: one for
 // each line up to the end of the session, each of a kind that its command can be answered. afl-fuzz runs it.
 //
-//   fuzz_session SOCKET    the status is 7 where the input has told the relay to stop, and else 0
+//   fuzz_session SOCKET    the status is 7 where the input has told the relay to stop or to finish, and else 0
 #define _GNU_SOURCE
 #include <errno.h>
 #include <poll.h>
@@ -116,40 +116,67 @@ static int answers(const char *line, size_t length, const char *reply, size_t si
         return begins(reply, size, "ids");
     if (is(line, length, "totals"))
         return is(reply, size, "totals up 0 down 0");
+    if (is(line, length, "show"))
+        return is(reply, size, "end");
+    if (begins(line, length, "finish "))
+        return is(reply, size, "ok") || is(reply, size, "error 400 bad command");
     if (is(line, length, "quit") || is(line, length, "stop"))
         return is(reply, size, "ok");
     if (begins(line, length, "close ") || begins(line, length, "drain ") || begins(line, length, "deadline "))
         return is(reply, size, "ok") || is_fault(reply, size);
     if (is(line, length, "reload"))
         return begins(reply, size, "rules ") || begins(reply, size, "bad rules: ") || is(reply, size, "cannot read rules") ||
-               begins(reply, size, "cannot listen ");
+               begins(reply, size, "cannot listen ") || is(reply, size, "error 409 closed");
     if (begins(line, length, "show "))
         return shows(line, length, reply, size) || is_fault(reply, size);
     return is(reply, size, "error 400 bad command");
 }
 
-int main(int count, char **words) {
-    if (count != 2)
-        return 2;
-    size_t size = all_of_input(), at = 0, lines = 0;
-    name_relay(words[1], relay);
-    int sock = connected(words[1]), status = 0, is_over = 0;
-    char *replies = replies_to(sock, size), *reply = replies;
+// What comes behind the reply to this line, or nothing where there is no whole reply. That to `show` has a line for each id first.
+static char *behind_reply(const char *line, size_t length, char *reply) {
+    char *end = strchr(reply, '\n');
+    while (end != NULL && is(line, length, "show") && begins(reply, (size_t)(end - reply), "show ")) {
+        reply = end + 1;
+        end = strchr(reply, '\n');
+    }
+    if (end == NULL)
+        return NULL;
+    size_t size = (size_t)(end - reply);
+    if (length > MOST_LINE ? !is(reply, size, "error 400 bad command") : !answers(line, length, reply, size))
+        abort();
+    return end + 1;
+}
+
+// Whether the relay was told to end, once each line has its reply and there are no others.
+static int is_told_to_end(size_t size, char *reply) {
+    size_t at = 0, lines = 0;
+    int is_over = 0, is_stopped = 0, is_finishing = 0;
     while (at < size && !is_over && lines++ < MOST_LINES) {
         char *line = input + at, *feed = memchr(line, '\n', size - at);
         size_t length = feed == NULL ? size - at : (size_t)(feed - line);
-        char *end = strchr(reply, '\n');
-        if (end == NULL || (length > MOST_LINE ? !is(reply, (size_t)(end - reply), "error 400 bad command")
-                                               : !answers(line, length, reply, (size_t)(end - reply))))
+        char *rest = behind_reply(line, length, reply);
+        if (rest == NULL && is_finishing)
+            break; // it has no connection, so that it ends at once
+        if (rest == NULL)
             abort();
-        is_over = length > MOST_LINE || is(line, length, "quit") || is(line, length, "stop");
-        status = is(line, length, "stop") ? STOPPED : 0;
-        reply = end + 1;
+        is_stopped = is(line, length, "stop");
+        is_finishing |= begins(line, length, "finish ") && begins(reply, (size_t)(rest - reply), "ok");
+        is_over = length > MOST_LINE || is_stopped || is(line, length, "quit");
+        reply = rest;
         at += length + 1;
     }
     if (*reply != 0)
         abort();
-    if (status == STOPPED)
-        wait_for_successor(words[1]);
-    return status;
+    return is_stopped || is_finishing;
+}
+
+int main(int count, char **words) {
+    if (count != 2)
+        return 2;
+    size_t size = all_of_input();
+    name_relay(words[1], relay);
+    if (!is_told_to_end(size, replies_to(connected(words[1]), size)))
+        return 0;
+    wait_for_successor(words[1]);
+    return STOPPED;
 }

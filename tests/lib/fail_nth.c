@@ -13,13 +13,16 @@
 #define _GNU_SOURCE
 #include <dlfcn.h>
 #include <errno.h>
+#include <fcntl.h>
 #include <pthread.h>
+#include <stdarg.h>
 #include <stdatomic.h>
 #include <stdlib.h>
 #include <string.h>
 #include <sys/epoll.h>
 #include <sys/eventfd.h>
 #include <sys/socket.h>
+#include <sys/stat.h>
 #include <sys/types.h>
 #include <time.h>
 #include <unistd.h>
@@ -142,6 +145,9 @@ FAILS(int, connect, fd, (int fd, const struct sockaddr *to, socklen_t length), f
 FAILS(int, setsockopt, fd, (int fd, int level, int name, const void *value, socklen_t size), fd, level, name, value, size)
 FAILS(int, getsockopt, fd, (int fd, int level, int name, void *value, socklen_t *size), fd, level, name, value, size)
 FAILS(int, getpeername, fd, (int fd, struct sockaddr *to, socklen_t *size), fd, to, size)
+FAILS(int, getsockname, fd, (int fd, struct sockaddr *at, socklen_t *size), fd, at, size)
+FAILS(int, statx, -1, (int at, const char *path, int flags, unsigned mask, struct statx *found), at, path, flags, mask, found)
+FAILS(int, unlink, -1, (const char *path), path)
 FAILS(int, epoll_create1, -1, (int flags), flags)
 FAILS(int, eventfd, -1, (unsigned count, int flags), count, flags)
 FAILS(int, epoll_wait, -1, (int poller, struct epoll_event *events, int most, int ms), poller, events, most, ms)
@@ -156,6 +162,18 @@ int listen(int fd, int most) {
     socklen_t size = sizeof domain;
     getsockopt(fd, SOL_SOCKET, SO_DOMAIN, &domain, &size);
     return domain == AF_INET && is_failed("listen", CALLER) ? fail(fd) : it(fd, most);
+}
+
+// The program gives each of its calls a number as the third word.
+int fcntl(int fd, int what, ...) {
+    static int (*it)(int, int, ...);
+    va_list rest;
+    va_start(rest, what);
+    long number = va_arg(rest, long);
+    va_end(rest);
+    if (it == NULL)
+        it = real("fcntl");
+    return is_failed("fcntl", CALLER) ? fail(fd) : it(fd, what, number);
 }
 
 int epoll_ctl(int poller, int what, int fd, struct epoll_event *event) {

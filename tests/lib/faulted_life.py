@@ -1,8 +1,10 @@
 """A run of the built program on a system that fails it: a relay under a preloaded library or a tracer, from its start to its end, and
 what has to hold whatever failed.
 """
+import os
 import random
 import re
+import socket
 import time
 
 from lib.clients import TAG_BYTES, Desk, Ledger, Misses, exchange, open_connection
@@ -11,7 +13,10 @@ from lib.sockets import free_port
 from lib.waiting import wait_until
 
 # What a relay that can't start may say, as docs/operations.md has it.
-START_LINES = re.compile(r"(cannot read rules|cannot listen [a-z0-9]+|relay fault: (device|memory))\n")
+START_LINES = re.compile(
+    r"(unused socket 3: no (listener|address of a rule)\n)?"
+    r"(cannot read rules|cannot listen [a-z0-9]+|relay fault: (device|memory))\n"
+)
 STOP_SECONDS = 20
 GONE = ("error 404 no such connection", "error 409 closed")
 MARKS = ("[refused]\n", "[failed]\n")
@@ -43,13 +48,21 @@ def start_fault(fault, may_lose_lines=0):
 class Run:
     """One relay with its clients, from its start to its end."""
 
-    def __init__(self, targets, port, rng, most=1):
-        self.targets, self.port, self.rng = targets, port, rng
+    # The line that ends the relay, as it is asked.
+    last_line = "stop"
+
+    def __init__(self, targets, rng, most=1):
+        self.targets, self.port, self.rng = targets, free_port(), rng
         # Each failed call may spoil a try.
         self.tries = most + 2
         self.ledger, self.misses, self.wrong = Ledger(), Misses(), []
         self.standing = []
         self.relay = self.rest = None
+
+    def start(self, env, before=()):
+        """The relay, which may not start."""
+        self.relay = Relay(self.targets.rules(self.port), env=env, before=before, options=self.options())
+        return self.relay
 
     def options(self):
         """What the relay is asked for beside its rules and its admin socket."""
@@ -136,16 +149,17 @@ class Run:
             self.wrong.append(f"a drain wanted memory: {wanting}")
 
     def stop(self, desk, may_lose_lines=0):
-        """Says stop, and looks at the relay's end. A last line that can't be written is status 3, and a second one that can't is
+        """Ends the relay, and looks at its end. A last line that can't be written is status 3, and a second one that can't is
         that of the fault."""
         before = len(self.misses.names)
-        reply = desk.ask("stop")
+        reply = desk.ask(self.last_line)
         desk.drop()
         if reply != "ok" and len(self.misses.names) > before:
             # It is carried out, and its reply was lost: one session, though later tries find nobody.
             del self.misses.names[before + 1 :]
         elif reply != "ok":
-            self.wrong.append(f"stop was answered {reply!r}")
+            self.wrong.append(f"{self.last_line!r} was answered {reply!r}")
+        self.let_go()
         if not self.relay.ends_within(STOP_SECONDS):
             self.wrong.append("the relay doesn't end")
             return
@@ -154,15 +168,60 @@ class Run:
         is_right = end[:2] == (0, "") and self.ledger.holds(totals_of(last))
         if not is_right and end not in [(3, "relay fault: device\n", ""), (3, "", "")][:may_lose_lines]:
             self.wrong.append(f"it ended with {end}, and what arrived is {self.ledger}")
-        if self.relay.sockets():
-            self.wrong.append(f"it left {self.relay.sockets()}")
+        if left := self.left():
+            self.wrong.append(f"it left {left}")
+
+    def let_go(self):
+        """What clients do once the relay was told to end."""
+
+    def left(self):
+        """The Unix paths that an ended relay has left."""
+        return self.relay.sockets()
+
+
+class Handed(Run):
+    """A relay that is started with a listener, finds a Unix socket that a killed one left, and is told to finish: its connections
+    end by themselves."""
+
+    last_line = "finish 86400000"
+
+    def __init__(self, *words):
+        super().__init__(*words)
+        self.path = f"{self.targets.folder}/in.sock"
+
+    def options(self):
+        return "--replace-stale", "--connect-timeout", "20000"
+
+    def start(self, env, before=()):
+        self.leave_stale()
+        with socket.create_server(("127.0.0.1", 0)) as given:
+            self.port = given.getsockname()[1]
+            rules = self.targets.rules(self.port).replace("{folder}", self.targets.folder)
+            self.relay = Relay(rules, env=env, before=before, options=self.options(), sockets=(given,))
+        return self.relay
+
+    def leave_stale(self):
+        if self.left():
+            os.unlink(self.path)
+        with socket.socket(socket.AF_UNIX) as sock:
+            sock.bind(self.path)
+
+    def addresses(self):
+        yield "tcp", f"tcp:127.0.0.1:{self.port}"
+        yield "unix", f"unix:{self.path}"
+
+    def let_go(self):
+        for it in self.standing:
+            it.close()
+
+    def left(self):
+        return [self.path] if os.path.lexists(self.path) else []
 
 
 def rest_of(targets, env, kind=Run):
     """Threads and descriptors of a relay that has served, and serves nobody now."""
-    run = kind(targets, free_port(), random.Random(0))
-    with Relay(targets.rules(run.port), env=env, options=run.options()) as relay:
-        run.relay = relay
+    run = kind(targets, random.Random(0))
+    with run.start(env) as relay:
         run.open_each()
         run.pass_and_end(1_000)
         wait_until(lambda: relay.ids() == [1, 2], 5)
@@ -176,14 +235,13 @@ def rest_of(targets, env, kind=Run):
 
 def single_run(targets, env, rest, seed, before=(), most=1, size=20_000, may_lose_lines=0, kind=Run):
     """A run in which calls fail, at most so many of them noticed: what came of it, whether one failed, and what is wrong."""
-    run = kind(targets, free_port(), random.Random(seed), most)
+    run = kind(targets, random.Random(seed), most)
     targets.drain()
     try:
-        relay = Relay(targets.rules(run.port), env=env, before=before, options=run.options())
+        relay = run.start(env, before)
     except StartFault as fault:
         return f"the start: {said_of(fault.errors)[0].strip()}", said_of(fault.errors)[1], start_fault(fault, may_lose_lines)
     with relay:
-        run.relay = relay
         run.serve_and_stop(rest, size, may_lose_lines)
         has_failed = said_of(relay.errors())[1]
     if rest is not None and len(run.misses.names) > (most if has_failed else 0):

@@ -8,6 +8,7 @@ import subprocess
 import tempfile
 import time
 
+from lib.activation import started_with
 from lib.places import PROGRAM
 from lib.sockets import REPLY_SECONDS, connect
 
@@ -64,10 +65,10 @@ class Relay:
 
     With an environment of its own its standard error is kept, for errors(). `before` are words ahead of the program's, as of a
     tracer, and `options` are added to those of `serve`. `wrapper` are words in place of the program's, as of packaging/pollrelay-run,
-    which starts it.
+    which starts it. With sockets it is started with these, and the environment is its alone.
     """
 
-    def __init__(self, rules, program=PROGRAM, descriptors=DESCRIPTORS, env=None, before=(), options=(), wrapper=()):
+    def __init__(self, rules, program=PROGRAM, descriptors=DESCRIPTORS, env=None, before=(), options=(), wrapper=(), sockets=()):
         self.folder = tempfile.mkdtemp(prefix="relay-")
         self.admin = f"{self.folder}/admin.sock"
         with open(f"{self.folder}/rules", "w", encoding="ascii") as file:
@@ -76,9 +77,15 @@ class Relay:
             env = {**(env or {}), "POLLRELAY": program}
         words = [*before, *(wrapper or (program, "serve")), "--rules", f"{self.folder}/rules", "--admin", self.admin, *options]
         self.kept_errors = None if env is None else open(f"{self.folder}/errors", "ab")
+        given = {}
+        if sockets:
+            front, given = started_with(sockets)
+            words = [*front, "env", *(f"{name}={value}" for name, value in (env or {}).items()), *words]
+            env = env and {}
         self.process = subprocess.Popen(
             words, stdin=subprocess.DEVNULL, stdout=subprocess.PIPE, stderr=self.kept_errors,
             env=None if env is None else {**os.environ, **env}, preexec_fn=lambda: allow_descriptors(descriptors),
+            **given,
         )
         said = self.process.stdout.readline().decode()
         if not said.startswith("listening "):

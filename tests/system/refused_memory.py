@@ -1,15 +1,18 @@
 #!/usr/bin/env python3
 """Refuses each request for memory of the built program in turn.
 
-    python3 tests/system/refused_memory.py [--most N] [script | single | watched | drought | mappings]..
+    python3 tests/system/refused_memory.py [--most N] [script | commands | single | watched | handed | drought | mappings]..
 
 script    the Nth allocation of a run of `pollrelay trace` is refused, for N from 1 until a run meets no refusal: it ends with status 3 and
           a fault of memory, or with all it has to print, and what it printed is a front of that.
+commands  the same of `help`, `version`, and `check` and `ctl` with rules of their own: it prints all and ends with status 0, or nothing and
+          ends with status 3 and the fault.
 single    the Nth allocation is refused, for N from 1 until a run meets no refusal. Before `listening 2` the relay ends with status 3 and
           one line; later one connection is dropped, or one session or its reply, and all others go on. After `stop` the totals are
           exactly the bytes that arrived, and no thread, descriptor or Unix path is left.
 watched   the same of a relay with a log and metrics, whose sessions show a connection and reload the rules too, and of which a
           scraper asks. The log's lines are whole, and with those that it says were lost they are at least the connections that stood.
+handed    the same of a relay that is started with a listener, takes a path that a killed one left, and is told to finish.
 drought   every allocation is refused while connections stand: the bytes of one without an idle time go on, and the relay stops with totals that
           fit. Where memory comes back, new connections are served.
 mappings  the Nth mmap, mprotect, brk or clone3 of each thread is refused by strace, also those of threads' stacks and of the C library's own.
@@ -27,10 +30,11 @@ import time
 from functools import partial
 
 sys.path.insert(1, f"{sys.path[0]}/..")
+from lib.admin_replies import is_reply
 from lib.c_code import library
 from lib.checks import Checks
 from lib.clients import WAIT_SECONDS, Desk, Misses, Targets, exchange
-from lib.faulted_life import Run, kind_of, rest_of, said_of, single_run, summary, tell
+from lib.faulted_life import Handed, Run, kind_of, rest_of, said_of, single_run, summary, tell
 from lib.log_text import read_log
 from lib.metrics import scrape
 from lib.places import LIB, PROGRAM
@@ -47,17 +51,17 @@ def refusing(folder):
     return {"LD_PRELOAD": library(f"{LIB}/refuse_nth.c", f"{folder}/refuse_nth.so"), "REFUSE": "0"}
 
 
-def traced(env):
-    ran = subprocess.run([PROGRAM, "trace"], input=SCRIPT, env={**os.environ, **env}, capture_output=True, timeout=WAIT_SECONDS, check=False)
+def ended(words, env, sent=b""):
+    ran = subprocess.run([PROGRAM, *words], input=sent, env={**os.environ, **env}, capture_output=True, timeout=WAIT_SECONDS, check=False)
     return ran.returncode, ran.stdout, *said_of(ran.stderr.decode())
 
 
 def script(checks, folder, most):
     env = refusing(folder)
-    whole, number = traced(env), 0
+    whole, number = ended(["trace"], env, SCRIPT), 0
     checks.expect("script: a run in which nothing is refused", (0, "", False), (whole[0], *whole[2:]))
     for number in range(1, most + 1):
-        status, printed, said, was_refused = traced({**env, "REFUSE": str(number)})
+        status, printed, said, was_refused = ended(["trace"], {**env, "REFUSE": str(number)}, SCRIPT)
         if not was_refused:
             break
         # A growth that was refused may be made smaller; then the whole text is owed.
@@ -65,6 +69,32 @@ def script(checks, folder, most):
         is_right = is_told or (status, printed, said) == (0, whole[1], "")
         checks.holds(f"script: allocation {number}", is_right, f"{status}, {printed}, {said!r}")
     checks.holds("script: refusals end", 1 < number < most, f"after {number}")
+
+
+def commands(checks, folder, most):
+    env, targets = refusing(folder), Targets(folder)
+    with Relay(targets.rules(free_port())) as relay:
+        at = ["--admin", relay.admin]
+        for words in (["help"], ["version"], ["check", "--rules", f"{relay.folder}/rules"], ["ctl", *at, "list"], ["ctl", *at, "show"]):
+            command(checks, words, env, most)
+        checks.expect("commands: the relay's end", (0, (0, 0)), relay.stop()[:2])
+    targets.close()
+
+
+def command(checks, words, env, most):
+    """Each allocation of such a command refused in turn. Its fault is told where others are, and by `check` on its output."""
+    name, faults = " ".join(it for it in words if it.isalpha()), ((b"", "relay fault: memory\n"), (b"relay fault: memory\n", ""))
+    whole = ended(words, env)
+    checks.expect(f"{name}: a run in which nothing is refused", (0, "", False), (whole[0], *whole[2:]))
+    for number in range(1, most + 1):
+        status, printed, said, was_refused = ended(words, {**env, "REFUSE": str(number)})
+        if not was_refused:
+            print(f"commands: {name}: {number - 1} runs", flush=True)
+            return
+        is_whole = is_reply("show", printed.decode().splitlines() or [""], (1, 2)) if words[-1] == "show" else printed == whole[1]
+        is_right = (status, said, is_whole) == (0, "", True) or status == 3 and (printed, said) in faults
+        checks.holds(f"{name}: allocation {number}", is_right, f"{status}, {printed}, {said!r}")
+    checks.holds(f"{name}: refusals end", False, f"not after {most}")
 
 
 class Watched(Run):
@@ -133,9 +163,8 @@ def each_refused(checks, folder, most, name, kind):
 
 
 def drought_run(targets, env, comes_back, seed):
-    run = Run(targets, free_port(), random.Random(seed))
-    with Relay(targets.rules(run.port), env=env) as relay:
-        run.relay = relay
+    run = Run(targets, random.Random(seed))
+    with run.start(env) as relay:
         run.open_each()
         if run.misses.names:
             run.wrong.append(f"before the drought: {run.misses.names}")
@@ -236,7 +265,8 @@ def mappings(checks, folder, most):
 
 
 STAGES = {
-    "script": script, "single": partial(each_refused, name="single", kind=Run), "watched": partial(each_refused, name="watched", kind=Watched),
+    "script": script, "commands": commands, "single": partial(each_refused, name="single", kind=Run),
+    "watched": partial(each_refused, name="watched", kind=Watched), "handed": partial(each_refused, name="handed", kind=Handed),
     "drought": drought, "mappings": mappings,
 }
 
