@@ -9,7 +9,8 @@ mod pushers;
 mod refused_memory;
 
 use device::{Device, Store};
-use log_writer::{Log, LogThread};
+use lines::tells;
+use log_writer::{Finish, Log, LogThread};
 use std::alloc::Global;
 use std::process::Abort;
 use std::sync::{Arc, Wait};
@@ -43,19 +44,46 @@ struct Running {
     thread: LogThread,
 }
 
+/// What two share.
+fn two_of<T: Drop>(alloc: Global, value: T) -> Option<(Arc<T>, Arc<T>)> {
+    let first = Arc::new(alloc, value).ok()?;
+    let second = Arc::try_clone(&first).ok()?;
+    Some((first, second))
+}
+
 impl Running {
     fn start<R>(rt: R, alloc: Global, store: Store) -> Running
     where
         R: Wait + Threads + Clock + Abort + Copy + Drop + Send + Sync + 'static,
     {
-        let log = Arc::new(alloc, Log::new(alloc)).expect(&rt, "a log");
-        let store = Arc::new(alloc, store).expect(&rt, "a store");
-        let device = Device {
-            rt,
-            store: Arc::try_clone(&store).expect(&rt, "the store"),
-        };
-        let own = Arc::try_clone(&log).expect(&rt, "the log");
-        let thread = LogThread::start(rt, own, device).expect(&rt, "a thread");
-        Running { log, store, thread }
+        let (log, own) = two_of(alloc, Log::new(alloc)).expect(&rt, "a log");
+        let (store, behind) = two_of(alloc, store).expect(&rt, "a store");
+        let thread = LogThread::start(rt, own, Device { rt, store: behind });
+        Running {
+            log,
+            store,
+            thread: thread.ok().expect(&rt, "a thread"),
+        }
     }
+
+    /// Ends the log, whose device has all of so many pushes then, or how many were lost, which it
+    /// gives.
+    fn lost_at_its_end<R>(self, rt: &R, pushed: u64, row: &str) -> u64
+    where
+        R: Wait + Threads + Clock + Abort,
+    {
+        let Running { log, store, thread } = self;
+        log.end(rt);
+        holds!(*rt; comes_to_its_end(rt, &log), row);
+        holds!(*rt; thread.finish(rt) == Finish::Over, row);
+        lost_of(rt, &log, &store, pushed, row)
+    }
+}
+
+/// How many lines were lost of so many, where the store tells of all.
+fn lost_of<R: Wait + Abort>(rt: &R, log: &Log, store: &Store, pushed: u64, row: &str) -> u64 {
+    let counts = log.counts(rt);
+    holds!(*rt; counts.pushed == pushed, row);
+    holds!(*rt; tells(store.bytes.lock(rt).as_slice(), pushed, counts.lost), row);
+    counts.lost
 }

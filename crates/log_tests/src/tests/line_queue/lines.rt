@@ -3,8 +3,9 @@
 use relay_log::ended::{Cause, Ended, Reason};
 use relay_log::line::LogLine;
 use relay_log::moment::Moment;
+use std::alloc::Global;
 use std::prelude::HostRuntime;
-use std::test::Fail;
+use std::str;
 
 /// A connection that ended so.
 pub(super) fn ended(how: Ended) -> LogLine<'static> {
@@ -22,54 +23,78 @@ pub(super) fn ended(how: Ended) -> LogLine<'static> {
     }
 }
 
+/// One that was refused.
+fn refused(client_id: Option<u64>) -> LogLine<'static> {
+    LogLine {
+        client_id,
+        target_id: None,
+        up: u64::MAX,
+        down: 0,
+        milliseconds: 0,
+        ..ended(Ended::Full)
+    }
+}
+
+fn is_text(text: &[u8], front: &str, rest: &str) -> bool {
+    match str::from_utf8(text) {
+        Ok(text) => text.strip_prefix(front) == Some(rest),
+        Err(_) => false,
+    }
+}
+
+/// Whether these lines are written one behind the other, as such a front and the rest.
+fn are_written(alloc: Global, lines: &[LogLine<'static>], front: &str, rest: &str) -> bool {
+    let mut text = Vec::new(alloc);
+    let mut are_written = true;
+    for line in lines {
+        are_written = line.write(alloc, &mut text).is_ok() && are_written;
+    }
+    are_written && is_text(text.as_slice(), front, rest)
+}
+
 // What the lines of `ended` begin with.
 const FRONT: &str =
     "2026-11-24T15:21:47.123Z web 2 3 127.0.0.1:40000 unix:/run/app.sock 24 1000 57 ";
 
-#[test]
-fn each_end_has_its_words(rt: HostRuntime) -> Result<(), Fail> {
-    for (how, want) in [
-        (Ended::Eof, "eof"),
-        (Ended::Idle, "idle"),
-        (Ended::Closed, "closed"),
-        (Ended::Drained, "drained"),
-        (Ended::Read(Reason::Reset), "read reset"),
-        (Ended::Read(Reason::Aborted), "read aborted"),
-        (Ended::Write(Reason::BrokenPipe), "write broken-pipe"),
-        (Ended::Write(Reason::Refused), "write refused"),
-        (Ended::Write(Reason::Other), "write other"),
-        (Ended::Full, "full"),
-        (Ended::RuleFull, "rule full"),
-        (Ended::NoTarget(Cause::Refused), "no target refused"),
-        (Ended::NoTarget(Cause::Unreachable), "no target unreachable"),
-        (Ended::NoTarget(Cause::Timeout), "no target timeout"),
-        (Ended::NoTarget(Cause::Descriptors), "no target descriptors"),
-        (Ended::Accept(Reason::Other), "accept other"),
-    ] {
-        let mut text = Vec::new(rt.alloc());
-        ended(how).write(rt.alloc(), &mut text)?;
-        let line = format!(in rt.alloc(); "{FRONT}{want}\n")?;
-        assert_eq!(rt; text.as_slice(), line.as_bytes(), "{want}");
-    }
-    Ok(())
-}
+const ENDS: &[(Ended, &str)] = &[
+    (Ended::Eof, "eof\n"),
+    (Ended::Idle, "idle\n"),
+    (Ended::Closed, "closed\n"),
+    (Ended::Drained, "drained\n"),
+    (Ended::Read(Reason::Reset), "read reset\n"),
+    (Ended::Read(Reason::Aborted), "read aborted\n"),
+    (Ended::Write(Reason::BrokenPipe), "write broken-pipe\n"),
+    (Ended::Write(Reason::Refused), "write refused\n"),
+    (Ended::Write(Reason::Other), "write other\n"),
+    (Ended::Full, "full\n"),
+    (Ended::RuleFull, "rule full\n"),
+    (Ended::NoTarget(Cause::Refused), "no target refused\n"),
+    (
+        Ended::NoTarget(Cause::Unreachable),
+        "no target unreachable\n",
+    ),
+    (Ended::NoTarget(Cause::Timeout), "no target timeout\n"),
+    (
+        Ended::NoTarget(Cause::Descriptors),
+        "no target descriptors\n",
+    ),
+    (Ended::Accept(Reason::Other), "accept other\n"),
+];
 
 #[test]
-fn a_refused_connection_has_no_ids_and_lines_stand_in_a_row(rt: HostRuntime) -> Result<(), Fail> {
-    let mut refused = ended(Ended::Full);
-    refused.client_id = None;
-    refused.target_id = None;
-    refused.up = u64::MAX;
-    refused.down = 0;
-    refused.milliseconds = 0;
-    let mut text = Vec::new(rt.alloc());
-    refused.write(rt.alloc(), &mut text)?;
-    refused.client_id = Some(u64::MAX);
-    refused.write(rt.alloc(), &mut text)?;
-    let want = "2026-11-24T15:21:47.123Z web - - 127.0.0.1:40000 unix:/run/app.sock \
-        18446744073709551615 0 0 full\n\
-        2026-11-24T15:21:47.123Z web 18446744073709551615 - 127.0.0.1:40000 unix:/run/app.sock \
-        18446744073709551615 0 0 full\n";
-    assert_eq!(rt; text.as_slice(), want.as_bytes());
-    Ok(())
+fn each_end_has_its_words(rt: HostRuntime) {
+    for (how, want) in ENDS {
+        holds!(rt; are_written(rt.alloc(), &[ended(*how)], FRONT, want), want);
+    }
+}
+
+const REFUSED: &str = "2026-11-24T15:21:47.123Z web - - 127.0.0.1:40000 unix:/run/app.sock \
+    18446744073709551615 0 0 full\n\
+    2026-11-24T15:21:47.123Z web 18446744073709551615 - 127.0.0.1:40000 unix:/run/app.sock \
+    18446744073709551615 0 0 full\n";
+
+#[test]
+fn a_refused_connection_has_no_ids_and_lines_stand_in_a_row(rt: HostRuntime) {
+    let lines = [refused(None), refused(Some(u64::MAX))];
+    holds!(rt; are_written(rt.alloc(), &lines, "", REFUSED));
 }

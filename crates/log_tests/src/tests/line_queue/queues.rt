@@ -1,71 +1,128 @@
 //! A queue at its bound: a line that fills it, one byte more, and what is said of lost lines.
 
 use relay_log::queue::{LogQueue, Lost};
-use std::alloc::{AllocError, Global};
+use std::alloc::Global;
 use std::prelude::HostRuntime;
-use std::test::Fail;
+use std::process::Abort;
 
-// A line of so many bytes.
-fn line_of(alloc: Global, len: usize) -> Result<Vec<u8>, AllocError> {
-    let mut line = Vec::new(alloc);
-    line.resize(len, b'x')?;
-    Ok(line)
+/// A step on a queue, with what it has to come to.
+#[derive(Clone, Copy)]
+enum Step {
+    /// A line goes in.
+    In(&'static [u8]),
+    /// A line of so many bytes goes in.
+    LongIn(usize),
+    /// There is no room for a line of so many bytes.
+    Out(usize),
+    /// The bytes that wait, and how many lines are lost.
+    Has(usize, u64),
+    Take(&'static [u8]),
+    /// A line of so many bytes is taken.
+    TakeLong(usize),
+    Finish(&'static [u8]),
 }
 
-#[test]
-fn a_line_that_fills_the_queue_goes_in_and_a_byte_more_does_not(
-    rt: HostRuntime,
-) -> Result<(), Fail> {
-    let all = line_of(rt.alloc(), 65_536)?;
-    let more = line_of(rt.alloc(), 65_537)?;
-    let mut queue = LogQueue::new(rt.alloc());
-    assert_eq!(rt; queue.push(more.as_slice()), Err(Lost::NoRoom));
-    assert_eq!(rt; (queue.len(), queue.lost()), (0, 1));
-    let mut queue = LogQueue::new(rt.alloc());
-    assert_eq!(rt; queue.push(all.as_slice()), Ok(()));
-    assert_eq!(rt; (queue.len(), queue.lost()), (65_536, 0));
-    assert_eq!(rt; queue.push(b"\n"), Err(Lost::NoRoom));
-    assert_eq!(rt; queue.push(b""), Err(Lost::NoRoom));
-    assert_eq!(rt; (queue.len(), queue.lost()), (65_536, 2));
-    let mut taken = Vec::new(rt.alloc());
-    queue.take(&mut taken);
-    assert_eq!(rt; taken.as_slice(), all.as_slice());
-    Ok(())
+use Step::{Finish, Has, In, LongIn, Out, Take, TakeLong};
+
+/// A row: its name, and the steps on a queue of its own.
+const ROWS: &[(&str, &[Step])] = &[
+    (
+        "a byte more than fills the queue does not go in",
+        &[Out(65_537), Has(0, 1)],
+    ),
+    (
+        "a line that fills the queue goes in",
+        &[
+            LongIn(65_536),
+            Has(65_536, 0),
+            Out(1),
+            Out(0),
+            Has(65_536, 2),
+            TakeLong(65_536),
+        ],
+    ),
+    // After one lost line the words `lost 1` and a line feed take 7 bytes of the room.
+    (
+        "what is said of lost lines takes room too",
+        &[Out(65_537), LongIn(93), LongIn(65_436)],
+    ),
+    (
+        "what is said of lost lines takes its room",
+        &[Out(65_537), LongIn(93), Out(65_437)],
+    ),
+    (
+        "lost lines are said once and the last at the end",
+        &[
+            In(b"a\n"),
+            Out(65_536),
+            Out(65_536),
+            Out(65_536),
+            Out(65_536),
+            Out(65_536),
+            Out(65_536),
+            Out(65_536),
+            Out(65_536),
+            Out(65_536),
+            Out(65_536),
+            Out(65_536),
+            Out(65_536),
+            In(b"b\n"),
+            In(b"c\n"),
+            Take(b"a\nlost 12\nb\nc\n"),
+            In(b"d\n"),
+            Out(65_536),
+            Finish(b"d\nlost 1\n"),
+            Finish(b""),
+        ],
+    ),
+];
+
+/// What a queue is tried with: a line that is longer than there is room for, of which others are
+/// fronts, and what was taken last.
+#[derive(Drop)]
+struct Tried {
+    queue: LogQueue<Global>,
+    taken: Vec<u8>,
 }
 
-// After one lost line the words `lost 1` and a line feed take 7 bytes of the room.
-#[test]
-fn what_is_said_of_lost_lines_takes_room_too(rt: HostRuntime) -> Result<(), Fail> {
-    for (len, goes_in) in [(65_436, true), (65_437, false)] {
-        let mut queue = LogQueue::new(rt.alloc());
-        assert!(rt; queue.push(line_of(rt.alloc(), 65_537)?.as_slice()).is_err());
-        assert_eq!(rt; queue.push(line_of(rt.alloc(), 93)?.as_slice()), Ok(()));
-        assert_eq!(rt;
-            queue.push(line_of(rt.alloc(), len)?.as_slice()).is_ok(),
-            goes_in
-        );
+impl Tried {
+    fn is_taken(&mut self, want: &[u8]) -> bool {
+        self.queue.take(&mut self.taken);
+        self.taken.as_slice() == want
     }
-    Ok(())
+
+    fn is_finished(&mut self, want: &[u8]) -> bool {
+        self.queue.finish(&mut self.taken).is_ok() && self.taken.as_slice() == want
+    }
+
+    /// Takes a step, and says whether it comes to what it must.
+    fn goes(&mut self, long: &[u8], step: Step) -> bool {
+        match step {
+            In(line) => self.queue.push(line) == Ok(()),
+            LongIn(len) => self.queue.push(&long[..len.min(long.len())]) == Ok(()),
+            Out(len) => self.queue.push(&long[..len.min(long.len())]) == Err(Lost::NoRoom),
+            Has(len, lost) => (self.queue.len(), self.queue.lost()) == (len, lost),
+            Take(want) => self.is_taken(want),
+            TakeLong(len) => self.is_taken(&long[..len.min(long.len())]),
+            Finish(want) => self.is_finished(want),
+        }
+    }
+}
+
+fn run(rt: &impl Abort, alloc: Global, row: &str, steps: &[Step]) {
+    let long = [b'x'; 65_537];
+    let mut tried = Tried {
+        queue: LogQueue::new(alloc),
+        taken: Vec::new(alloc),
+    };
+    for (at, step) in steps.iter().enumerate() {
+        assert!(rt; tried.goes(&long, *step), "{row}: step {at}");
+    }
 }
 
 #[test]
-fn lost_lines_are_said_once_and_the_last_at_the_end(rt: HostRuntime) -> Result<(), Fail> {
-    let long = line_of(rt.alloc(), 65_536)?;
-    let mut queue = LogQueue::new(rt.alloc());
-    let mut taken = Vec::new(rt.alloc());
-    assert_eq!(rt; queue.push(b"a\n"), Ok(()));
-    for _ in 0..12 {
-        assert_eq!(rt; queue.push(long.as_slice()), Err(Lost::NoRoom));
+fn queues_answer_as_their_rows_say(rt: HostRuntime) {
+    for (row, steps) in ROWS {
+        run(&rt, rt.alloc(), row, steps);
     }
-    assert_eq!(rt; queue.push(b"b\n"), Ok(()));
-    assert_eq!(rt; queue.push(b"c\n"), Ok(()));
-    queue.take(&mut taken);
-    assert_eq!(rt; taken.as_slice(), b"a\nlost 12\nb\nc\n".as_slice());
-    assert_eq!(rt; queue.push(b"d\n"), Ok(()));
-    assert_eq!(rt; queue.push(long.as_slice()), Err(Lost::NoRoom));
-    assert_eq!(rt; queue.finish(&mut taken), Ok(()));
-    assert_eq!(rt; taken.as_slice(), b"d\nlost 1\n".as_slice());
-    assert_eq!(rt; queue.finish(&mut taken), Ok(()));
-    assert_eq!(rt; taken.as_slice(), b"".as_slice());
-    Ok(())
 }

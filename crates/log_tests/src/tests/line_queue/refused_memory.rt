@@ -4,90 +4,146 @@ use super::lines::ended;
 use linked_list_allocator::LocalHeap;
 use relay_log::ended::Ended;
 use relay_log::queue::{LogQueue, Lost};
+use std::alloc::Global;
 use std::prelude::HostRuntime;
-use std::test::Fail;
 
-#[test]
-fn a_line_that_is_refused_memory_leaves_the_vector(rt: HostRuntime) -> Result<(), Fail> {
-    let mut refused = 0u32;
-    for units in 1..200usize {
-        let heap = LocalHeap::new(rt.alloc(), units * 16)?;
-        let mut text = Vec::new(&heap);
-        if ended(Ended::Eof).write(&heap, &mut text).is_ok() {
-            assert_eq!(rt; text.len(), 83, "{units} units");
-            assert!(rt; refused > 2, "{refused} refusals");
-            return Ok(());
-        }
-        assert!(rt; text.is_empty(), "{units} units");
-        refused = refused.saturating_add(1);
-    }
-    Err(Fail::new("always refused"))
+/// What is asked of a heap.
+#[derive(Clone, Copy)]
+enum Call {
+    Write,
+    Push,
+    Finish,
 }
 
-#[test]
-fn a_push_that_is_refused_memory_is_lost_and_said_later(rt: HostRuntime) -> Result<(), Fail> {
-    let mut refused = 0u64;
-    let mut queue_of_small_heap = 0u32;
-    for units in 1..200usize {
-        let heap = LocalHeap::new(rt.alloc(), units * 16)?;
-        let mut queue = LogQueue::new(&heap);
-        let first = queue.push(b"a line of thirty-two bytes here\n");
-        let before = queue.len();
-        let second = queue.push(&[b'x'; 300]);
-        if second.is_ok() {
-            assert_eq!(rt; first, Ok(()), "{units} units");
-            assert!(rt; refused > 2, "{refused} refusals");
-            assert!(rt;
-                queue_of_small_heap > 2,
-                "{queue_of_small_heap} with one line"
-            );
-            return Ok(());
-        }
-        assert_eq!(rt; second, Err(Lost::NoMemory), "{units} units");
-        assert_eq!(rt; queue.len(), before, "{units} units");
-        let lost = if first.is_ok() { 1 } else { 2 };
-        assert_eq!(rt; queue.lost(), lost, "{units} units");
-        if first.is_ok() {
-            queue_of_small_heap = queue_of_small_heap.saturating_add(1);
-        }
-        refused = refused.saturating_add(1);
-    }
-    Err(Fail::new("always refused"))
+/// What came of it.
+#[derive(Clone, Copy)]
+enum Came {
+    Done,
+    Refused,
+    /// It was refused, and a line of before was in the queue.
+    RefusedBehindALine,
 }
 
-// The buffers go round, so that one of two further calls has the memory of the line that was taken.
-#[test]
-fn a_finish_that_is_refused_memory_can_be_made_again(rt: HostRuntime) -> Result<(), Fail> {
-    let mut refused = 0u32;
-    for units in 1..200usize {
-        let heap = LocalHeap::new(rt.alloc(), units * 16)?;
-        let mut queue = LogQueue::new(&heap);
-        let mut taken = Vec::new(&heap);
-        if queue.push(b"twelve bytes\n").is_err() {
-            continue;
-        }
-        assert!(rt; queue.push(&[b'x'; 65_537]).is_err());
-        if queue.finish(&mut taken).is_ok() {
-            assert_eq!(rt;
-                taken.as_slice(),
-                b"twelve bytes\nlost 1\n".as_slice(),
-                "{units} units"
-            );
-            assert_eq!(rt; queue.lost(), 0, "{units} units");
-            assert!(rt; refused > 0, "never refused");
-            return Ok(());
-        }
-        assert_eq!(rt;
-            taken.as_slice(),
-            b"twelve bytes\n".as_slice(),
-            "{units} units"
-        );
-        assert_eq!(rt; queue.lost(), 1, "{units} units");
-        if queue.finish(&mut taken).is_err() {
-            assert_eq!(rt; queue.finish(&mut taken), Ok(()), "{units} units");
-        }
-        assert_eq!(rt; taken.as_slice(), b"lost 1\n".as_slice(), "{units} units");
-        refused = refused.saturating_add(1);
+type Queue<'a> = LogQueue<&'a LocalHeap>;
+
+type Taken<'a> = Vec<u8, &'a LocalHeap>;
+
+/// A line that is refused memory leaves the vector.
+fn writes_on(heap: &LocalHeap) -> Option<Came> {
+    let mut text = Vec::new(heap);
+    let is_written = ended(Ended::Eof).write(heap, &mut text).is_ok();
+    match (is_written, text.len()) {
+        (true, 83) => Some(Came::Done),
+        (false, 0) => Some(Came::Refused),
+        _ => None,
     }
-    Err(Fail::new("always refused"))
+}
+
+/// A push that is refused memory is lost, and counted so.
+fn pushes_on(queue: &mut Queue<'_>) -> Option<Came> {
+    let is_first_in = queue.push(b"a line of thirty-two bytes here\n").is_ok();
+    let before = queue.len();
+    let second = queue.push(&[b'x'; 300]);
+    match (is_first_in, second, queue.lost()) {
+        (true, Ok(()), _) => Some(Came::Done),
+        (true, Err(Lost::NoMemory), 1) if queue.len() == before => Some(Came::RefusedBehindALine),
+        (false, Err(Lost::NoMemory), 2) if queue.len() == before => Some(Came::Refused),
+        _ => None,
+    }
+}
+
+/// The end of a queue with a line, after which another was lost. It can be asked for again: the
+/// buffers go round, so that one of two further calls has the memory of the line that was taken.
+fn finishes_on<'a>(queue: &mut Queue<'a>, taken: &mut Taken<'a>) -> Option<Came> {
+    if queue.finish(taken).is_ok() {
+        let is_told = taken.as_slice() == b"twelve bytes\nlost 1\n".as_slice();
+        return if is_told && queue.lost() == 0 {
+            Some(Came::Done)
+        } else {
+            None
+        };
+    }
+    if taken.as_slice() != b"twelve bytes\n".as_slice() || queue.lost() != 1 {
+        return None;
+    }
+    let is_finished = queue.finish(taken).is_ok() || queue.finish(taken).is_ok();
+    if is_finished && taken.as_slice() == b"lost 1\n".as_slice() {
+        return Some(Came::RefusedBehindALine);
+    }
+    None
+}
+
+fn finishes_with_a_line<'a>(queue: &mut Queue<'a>, taken: &mut Taken<'a>) -> Option<Came> {
+    if queue.push(b"twelve bytes\n").is_err() {
+        return Some(Came::Refused);
+    }
+    if queue.push(&[b'x'; 65_537]).is_ok() {
+        return None;
+    }
+    finishes_on(queue, taken)
+}
+
+fn came_on(heap: &LocalHeap, call: Call) -> Option<Came> {
+    let mut queue = LogQueue::new(heap);
+    let mut taken = Vec::new(heap);
+    match call {
+        Call::Write => writes_on(heap),
+        Call::Push => pushes_on(&mut queue),
+        Call::Finish => finishes_with_a_line(&mut queue, &mut taken),
+    }
+}
+
+fn came_within(alloc: Global, units: usize, call: Call) -> Option<Came> {
+    let heap = LocalHeap::new(alloc, units.saturating_mul(16)).ok()?;
+    came_on(&heap, call)
+}
+
+/// How often a call was refused on ever larger heaps until it was done, and how often of these
+/// behind a line; or the units of the heap where it went otherwise.
+fn refusals(alloc: Global, call: Call) -> Result<(u32, u32), usize> {
+    let (mut all, mut behind) = (0u32, 0u32);
+    for units in 1..200usize {
+        match came_within(alloc, units, call) {
+            Some(Came::Done) => return Ok((all, behind)),
+            Some(Came::Refused) => {}
+            Some(Came::RefusedBehindALine) => behind = behind.saturating_add(1),
+            None => return Err(units),
+        }
+        all = all.saturating_add(1);
+    }
+    Err(200)
+}
+
+/// A row: its name, the call, and how often it is refused at least, and behind a line.
+const ROWS: &[(&str, Call, u32, u32)] = &[
+    (
+        "a line that is refused memory leaves the vector",
+        Call::Write,
+        3,
+        0,
+    ),
+    (
+        "a push that is refused memory is lost and said later",
+        Call::Push,
+        3,
+        3,
+    ),
+    (
+        "a finish that is refused memory can be made again",
+        Call::Finish,
+        1,
+        1,
+    ),
+];
+
+#[test]
+fn calls_that_are_refused_memory_go_as_their_rows_say(rt: HostRuntime) {
+    for (row, call, least, least_behind) in ROWS {
+        let refused = refusals(rt.alloc(), *call);
+        let is_right = match refused {
+            Ok((all, behind)) => all >= *least && behind >= *least_behind,
+            Err(_) => false,
+        };
+        assert!(rt; is_right, "{row}: {refused:?}");
+    }
 }

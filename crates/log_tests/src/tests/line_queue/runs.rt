@@ -1,59 +1,84 @@
 //! A long run of pushes and takes, whose lines are counted at the end.
 
 use relay_log::queue::LogQueue;
+use std::alloc::Global;
 use std::prelude::HostRuntime;
-use std::test::Fail;
+use std::str;
 
-// The lines of a text that were pushed, and the sum of the numbers after `lost `.
-fn counted(text: &str) -> Option<(u64, u64)> {
-    let (mut lines, mut lost) = (0u64, 0u64);
-    for line in text.lines() {
-        match line.strip_prefix("lost ") {
-            Some(number) => lost = lost.saturating_add(number.parse::<u64>().ok()?),
-            None => lines = lines.saturating_add(1),
-        }
-    }
-    Some((lines, lost))
+/// Pushes the line of this number, which stands behind `queued` where it went in, and says whether
+/// it did; none where there is no memory for its text.
+fn pushed(
+    alloc: Global,
+    queue: &mut LogQueue<Global>,
+    queued: &mut Vec<u8>,
+    n: u64,
+) -> Option<bool> {
+    let line = format!(in alloc; "line {n} of a run of ten thousand lines\n").ok()?;
+    let is_in = queue.push(line.as_bytes()).is_ok();
+    let kept = if is_in { line.as_str() } else { "" };
+    queued.extend_from_slice(kept.as_bytes()).ok()?;
+    Some(is_in)
 }
 
-// Takes come so seldom that the queue is full again and again.
-#[test]
-fn ten_thousand_pushes_are_each_taken_or_said_to_be_lost(rt: HostRuntime) -> Result<(), Fail> {
-    let mut queue = LogQueue::new(rt.alloc());
-    let mut taken = Vec::new(rt.alloc());
-    let mut whole = Vec::new(rt.alloc());
-    let (mut queued, mut lost) = (0u64, 0u64);
-    let mut want = Vec::new(rt.alloc());
+/// Pushes ten thousand lines, and says how many were lost. Takes come so seldom that the queue is
+/// full again and again.
+fn lost_of_all(
+    alloc: Global,
+    queue: &mut LogQueue<Global>,
+    queued: &mut Vec<u8>,
+    taken: &mut Vec<u8>,
+    whole: &mut Vec<u8>,
+) -> Option<u64> {
+    let mut lost = 0u64;
     for n in 0..10_000u64 {
-        let line = format!(in rt.alloc(); "line {n} of a run of ten thousand lines\n")?;
-        match queue.push(line.as_bytes()) {
-            Ok(()) => {
-                queued = queued.saturating_add(1);
-                want.extend_from_slice(line.as_bytes())?;
-            }
-            Err(_) => lost = lost.saturating_add(1),
+        if !pushed(alloc, queue, queued, n)? {
+            lost = lost.saturating_add(1);
         }
         if n % 2_500 == 2_400 {
-            queue.take(&mut taken);
-            whole.extend_from_slice(taken.as_slice())?;
+            queue.take(taken);
+            whole.extend_from_slice(taken.as_slice()).ok()?;
         }
     }
-    queue.finish(&mut taken)?;
-    whole.extend_from_slice(taken.as_slice())?;
-    let text = str::from_utf8(whole.as_slice()).map_err(|_| Fail::new("no text"))?;
-    assert_eq!(rt; counted(text), Some((queued, lost)));
-    assert_eq!(rt; queued.saturating_add(lost), 10_000);
-    assert!(rt; lost > 1_000, "{lost} lost");
-    let mut lines = Vec::new(rt.alloc());
-    for line in text.lines() {
-        if !line.starts_with("lost ") {
-            lines.extend_from_slice(line.as_bytes())?;
-            lines.extend_from_slice(b"\n")?;
+    queue.finish(taken).ok()?;
+    whole.extend_from_slice(taken.as_slice()).ok()?;
+    Some(lost)
+}
+
+/// The sum of the numbers after `lost `, where the other lines are those that were queued, in their
+/// order.
+fn told_of(whole: &[u8], queued: &[u8]) -> Option<u64> {
+    let mut queued = str::from_utf8(queued).ok()?.lines();
+    let mut lost = 0u64;
+    for line in str::from_utf8(whole).ok()?.lines() {
+        if let Some(number) = line.strip_prefix("lost ") {
+            lost = lost.saturating_add(number.parse::<u64>().ok()?);
+        } else if queued.next() != Some(line) {
+            return None;
         }
     }
-    assert!(rt;
-        lines.as_slice() == want.as_slice(),
-        "other lines, or in another order"
-    );
-    Ok(())
+    if queued.next().is_none() {
+        Some(lost)
+    } else {
+        None
+    }
+}
+
+/// How many lines were lost, and how many it is told of.
+fn lost_and_told(alloc: Global) -> Option<(u64, u64)> {
+    let mut queue = LogQueue::new(alloc);
+    let mut queued = Vec::new(alloc);
+    let mut taken = Vec::new(alloc);
+    let mut whole = Vec::new(alloc);
+    let lost = lost_of_all(alloc, &mut queue, &mut queued, &mut taken, &mut whole);
+    match (lost, told_of(whole.as_slice(), queued.as_slice())) {
+        (Some(lost), Some(told)) => Some((lost, told)),
+        _ => None,
+    }
+}
+
+#[test]
+fn ten_thousand_pushes_are_each_taken_or_said_to_be_lost(rt: HostRuntime) {
+    let found = lost_and_told(rt.alloc());
+    let is_right = found.is_some_and(|(lost, told)| lost == told && lost > 1_000);
+    assert!(rt; is_right, "{found:?} lost and told of, or other lines");
 }

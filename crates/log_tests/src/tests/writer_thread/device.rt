@@ -1,6 +1,6 @@
 //! A device in memory, which a test fills, frees and looks at while the log's thread writes to it.
 
-ghost use Rattle.std.specs.Prelude.{◌≤◌, IfOk, length};
+ghost use Rattle.std.specs.Prelude.{◌≤◌, IfOk, IfSome, length};
 
 use super::{TURNS, pause};
 use std::alloc::Global;
@@ -11,7 +11,7 @@ use std::sync::{Arc, Mutex, Wait};
 use std::time::Clock;
 
 /// What a device does whose room is used up.
-#[derive(Clone, Copy, Debug, PartialEq, Eq, Drop)]
+#[derive(Clone, Copy, Drop)]
 pub(super) enum Full {
     Fails,
     TakesNothing,
@@ -83,24 +83,45 @@ impl Store {
         }
     }
 
-    fn take<R: Wait>(&self, rt: &R, buf: &[u8]) -> io::Result<usize>
-        ensures { IfOk result (λ count. count ≤ length buf.now) }
+    /// Keeps a front of the bytes, as much as there is room for, and says how much; none where there
+    /// is no memory.
+    fn keep<R: Wait>(&self, rt: &R, buf: &[u8]) -> Option<usize>
+        ensures { IfSome result (λ count. count ≤ length buf.now) }
     {
         let mut bytes = self.bytes.lock(rt);
         let count = buf.len().min(self.most).min(self.room_left(bytes.len()));
+        match bytes.extend_from_slice(&buf[..count]) {
+            Ok(()) => Some(count),
+            Err(_) => None,
+        }
+    }
+
+    fn take<R: Wait>(&self, rt: &R, buf: &[u8]) -> io::Result<usize>
+        ensures { IfOk result (λ count. count ≤ length buf.now) }
+    {
+        let Some(count) = self.keep(rt, buf) else {
+            return Err(ErrorKind::OutOfMemory.into());
+        };
         if count == 0 && !buf.is_empty() {
             self.refused.fetch_add(1, Ordering::SeqCst);
-            if self.full == Full::Fails {
+            if matches!(self.full, Full::Fails) {
                 return Err(ErrorKind::StorageFull.into());
             }
         }
-        if bytes.extend_from_slice(&buf[..count]).is_err() {
-            return Err(ErrorKind::OutOfMemory.into());
-        }
-        let feeds = buf[..count].iter().filter(|byte| **byte == b'\n').count();
-        self.lines.fetch_add(feeds as u64, Ordering::SeqCst);
+        self.lines
+            .fetch_add(line_feeds(&buf[..count]), Ordering::SeqCst);
         Ok(count)
     }
+}
+
+fn line_feeds(bytes: &[u8]) -> u64 {
+    let mut count = 0u64;
+    for byte in bytes {
+        if *byte == b'\n' {
+            count = count.saturating_add(1);
+        }
+    }
+    count
 }
 
 /// The device itself, which the log's thread has.
@@ -115,7 +136,7 @@ impl<R: Wait + Clock + Drop> Write for Device<R> {
         if self.store.is_interrupted() {
             return Err(ErrorKind::Interrupted.into());
         }
-        if self.store.full == Full::Blocks {
+        if matches!(self.store.full, Full::Blocks) {
             self.store.wait_for_room(&self.rt);
         }
         if self.store.pause_ms > 0 {

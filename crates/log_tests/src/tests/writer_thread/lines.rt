@@ -5,7 +5,7 @@ use relay_log::ended::Ended;
 use relay_log::line::LogLine;
 use relay_log::moment::Moment;
 use std::alloc::Allocator;
-use std::process::Abort;
+use std::str;
 use std::sync::Wait;
 
 /// The names of those who push.
@@ -39,46 +39,46 @@ pub(super) fn push_all<R: Wait, A: Allocator + Copy>(rt: &R, log: &Log<A>, name:
     }
 }
 
+/// The place of a pusher among the names.
+fn place_of(name: &str) -> Option<usize> {
+    for (place, one) in NAMES.iter().enumerate() {
+        if *one == name {
+            return Some(place);
+        }
+    }
+    None
+}
+
 /// The place of the pusher and the number in a line, if it is one of these, whole.
 fn parsed(line: &str) -> Option<(usize, u64)> {
     let rest = line.strip_prefix(FRONT)?.strip_suffix(BACK)?;
     let (name, number) = rest.split_once(" ")?;
-    let place = NAMES.iter().position(|one| *one == name)?;
-    Some((place, number.parse::<u64>().ok()?))
+    Some((place_of(name)?, number.parse::<u64>().ok()?))
 }
 
-/// What the lines of a text come to.
-#[derive(Clone, Copy, Debug, PartialEq, Eq)]
-pub(super) struct Told {
-    pub(super) lines: u64,
-    pub(super) lost: u64,
-}
-
-/// Counts the lines of a text. None where one isn't whole, or comes before an earlier one of the
-/// same pusher, or twice.
-pub(super) fn counted(text: &[u8]) -> Option<Told> {
-    let text = str::from_utf8(text).ok()?;
+/// How many lines of pushers a text has, and how many lost ones it tells of. None where a line
+/// isn't whole, or comes before an earlier one of the same pusher, or twice.
+pub(super) fn counted(text: &[u8]) -> Option<(u64, u64)> {
     let mut next = [0u64; 4];
-    let mut told_of = Told { lines: 0, lost: 0 };
-    for line in text.lines() {
+    let (mut lines, mut lost) = (0u64, 0u64);
+    for line in str::from_utf8(text).ok()?.lines() {
         if let Some(number) = line.strip_prefix("lost ") {
-            told_of.lost = told_of.lost.saturating_add(number.parse::<u64>().ok()?);
+            lost = lost.saturating_add(number.parse::<u64>().ok()?);
             continue;
         }
         let (place, number) = parsed(line)?;
-        if place >= 4 || number < next[place] {
+        let next = next.get_mut(place)?;
+        if number < *next {
             return None;
         }
-        next[place] = number.saturating_add(1);
-        told_of.lines = told_of.lines.saturating_add(1);
+        *next = number.saturating_add(1);
+        lines = lines.saturating_add(1);
     }
-    Some(told_of)
+    Some((lines, lost))
 }
 
-/// Ends the test unless the text tells of so many pushes, whole and in order, and of so many lost.
-pub(super) fn tells_all<R: Abort>(rt: &R, text: &[u8], pushed: u64, lost: u64) {
-    assert!(rt; text.is_empty() || text.ends_with(b"\n"), "a line is cut");
-    let told_of = counted(text);
-    let lines = pushed.saturating_sub(lost);
-    assert_eq!(rt; told_of, Some(Told { lines, lost }));
+/// Whether the text tells of so many pushes, whole and in order, and of so many lost.
+pub(super) fn tells(text: &[u8], pushed: u64, lost: u64) -> bool {
+    let is_whole = text.is_empty() || text.ends_with(b"\n");
+    is_whole && counted(text) == Some((pushed.saturating_sub(lost), lost))
 }
