@@ -19,6 +19,7 @@ mod memory;
 mod meter;
 mod pages;
 mod served;
+mod servers;
 mod sockets;
 mod streams;
 mod text;

@@ -1,51 +1,39 @@
 //! The end of a server, and addresses at which none begins.
 
-use super::served::{LONG_NS, Served, is_free, is_removed, loopback, opened, own_path};
-use super::streams::{has_ended, reach, standing};
+use super::served::{LONG_NS, fault_at, is_removed, loopback, opened, own_path};
+use super::streams::{are_well, have_ended, reach, reached};
 use super::watch::Watch;
 use fd_descriptor::{DevKind, Fault};
-use readiness::Addr;
-use std::alloc::Global;
 use std::fs;
-use std::fs::Files;
-use std::net::{Net, TcpStream};
-use std::sync::Wait;
-use std::time::Clock;
+use std::net::TcpStream;
 
-fn have_ended(clients: &mut [TcpStream]) -> bool {
-    for client in clients {
-        if !has_ended(client) {
-            return false;
-        }
+/// Whether each but the first is told that all is well.
+fn others_are_well(clients: &mut [TcpStream]) -> bool {
+    match clients.split_first_mut() {
+        Some((_, others)) => are_well(others),
+        None => false,
     }
-    true
 }
 
 // Four were answered and wait, and one never said a word.
 #[test]
 fn a_stop_closes_all_clients_and_frees_the_port(rt: HostRuntime) {
     let watch = Watch::start(rt, rt.alloc());
-    let Served { running, port } = Served::start(rt, rt.alloc(), LONG_NS).expect(&rt, "a server");
-    let mut clients = standing(&rt, port, 4).expect(&rt, "four clients");
-    let mut silent = reach(&rt, port).expect(&rt, "a client");
+    let server = opened(rt, rt.alloc(), &loopback(0), LONG_NS).ok();
+    let server = server.expect(&rt, "a server");
+    let port = server.port().expect(&rt, "a port");
+    let mut clients = reached(&rt, port, 5).expect(&rt, "five clients");
+    let running = server.start().ok().expect(&rt, "a thread");
+    holds!(rt; others_are_well(clients.as_mut_slice()));
     running.stop(&rt);
-    holds!(rt; have_ended(clients.as_mut_slice()), "the four");
-    holds!(rt; has_ended(&mut silent), "who is silent");
+    holds!(rt; have_ended(clients.as_mut_slice()), "they stay");
     holds!(rt; reach(&rt, port).is_none(), "somebody listens");
-    holds!(rt; is_free(rt, rt.alloc(), &loopback(port)), "the port is free");
+    holds!(rt; fault_at(rt, rt.alloc(), &loopback(port)).is_none(), "the port is free");
     watch.end(&rt);
 }
 
-/// Whether this address is refused as what a device refuses.
-fn is_refused<R>(rt: R, alloc: Global, addr: &Addr) -> bool
-where
-    R: Wait + Clock + Net + Files + Copy,
-{
-    match opened(rt, alloc, addr, LONG_NS) {
-        Ok(_) => false,
-        Err(fault) => fault == Fault::Device(DevKind::Other),
-    }
-}
+/// An address that is taken is refused as what a device refuses.
+const TAKEN: Option<Fault> = Some(Fault::Device(DevKind::Other));
 
 #[test]
 fn an_address_that_is_taken_is_refused(rt: HostRuntime) {
@@ -53,11 +41,11 @@ fn an_address_that_is_taken_is_refused(rt: HostRuntime) {
         .ok()
         .expect(&rt, "a server");
     let port = first.port().expect(&rt, "a port");
-    holds!(rt; is_refused(rt, rt.alloc(), &loopback(port)), "a port");
+    holds!(rt; fault_at(rt, rt.alloc(), &loopback(port)) == TAKEN, "a port");
     drop(first);
-    holds!(rt; is_free(rt, rt.alloc(), &loopback(port)), "a port that was left");
+    holds!(rt; fault_at(rt, rt.alloc(), &loopback(port)).is_none(), "a port that was left");
     let (path, addr) = own_path(&rt, "taken").expect(&rt, "a path");
     holds!(rt; fs::write(&rt, path.as_str(), "").is_ok());
-    holds!(rt; is_refused(rt, rt.alloc(), &addr), "a path");
+    holds!(rt; fault_at(rt, rt.alloc(), &addr) == TAKEN, "a path");
     holds!(rt; is_removed(&rt, &path), "who was refused removes nothing");
 }

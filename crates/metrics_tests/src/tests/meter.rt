@@ -44,9 +44,7 @@ fn unused() -> Option<RuleFigures> {
     })
 }
 
-/// A snapshot of two loops and two rules.
-pub(super) fn made(alloc: Global) -> Option<Figures> {
-    let mut figures = Figures::new(alloc);
+fn fill(figures: &mut Figures) -> Option<()> {
     figures.up_ms = 83_045;
     figures.turns.push(1_000).ok()?;
     figures.turns.push(7).ok()?;
@@ -57,8 +55,16 @@ pub(super) fn made(alloc: Global) -> Option<Figures> {
     figures.log_lines = 40;
     figures.log_lost_lines = 4;
     figures.rules.push(web()?).ok()?;
-    figures.rules.push(unused()?).ok()?;
-    Some(figures)
+    figures.rules.push(unused()?).ok()
+}
+
+/// A snapshot of two loops and two rules.
+pub(super) fn made(alloc: Global) -> Option<Figures> {
+    let mut figures = Figures::new(alloc);
+    match fill(&mut figures) {
+        Some(()) => Some(figures),
+        None => None,
+    }
 }
 
 /// What a snapshot is read from. Its admin sessions are the reads that were made, this one with

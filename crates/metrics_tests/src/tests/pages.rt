@@ -1,6 +1,7 @@
 //! What requests are answered, over bytes in memory.
 
 use super::meter::Meter;
+use super::text::is_in;
 use http_server::{Config, Connection, serve};
 use metrics_server::MetricsService;
 use relay_metrics::Figures;
@@ -19,53 +20,71 @@ pub(super) fn page_of(alloc: Global, reads: u64) -> Option<String> {
     String::from_utf8(figures.text(alloc).ok()?).ok()
 }
 
-/// What a client is answered that sends this, and then no more.
-pub(super) fn answered(rt: &HostRuntime, meter: Meter, sent: &str) -> Option<String> {
-    let keys = RandomState::new(rt).ok()?;
+/// Serves what a client sends, and then no more, and says whether it could be.
+fn serves(
+    rt: &HostRuntime,
+    keys: RandomState,
+    meter: Meter,
+    sent: &str,
+    into: &mut Vec<u8>,
+) -> bool {
     let mut connection = Connection::new(rt.alloc(), keys, Config::default());
     let mut service = MetricsService::new(rt.alloc(), meter);
     let mut reader = sent.as_bytes();
+    serve(&mut connection, &mut service, &mut reader, into).is_ok()
+}
+
+/// What a client is answered that sends this, and then no more.
+pub(super) fn answered(rt: &HostRuntime, meter: Meter, sent: &str) -> Option<String> {
+    let keys = RandomState::new(rt).ok()?;
     let mut written = Vec::new(rt.alloc());
-    serve(&mut connection, &mut service, &mut reader, &mut written).ok()?;
-    String::from_utf8(written).ok()
+    if serves(rt, keys, meter, sent, &mut written) {
+        String::from_utf8(written).ok()
+    } else {
+        None
+    }
 }
 
-/// What this request is answered.
-fn answer_to(rt: &HostRuntime, request: &str) -> Option<String> {
+/// What this request is answered, of a relay one of whose rules may take no clients.
+fn answer_to(rt: &HostRuntime, is_deaf: bool, request: &str) -> Option<String> {
     let sent = format!(in rt.alloc(); "{request} HTTP/1.1\r\nHost: x\r\n\r\n").ok()?;
-    answered(rt, Meter::new(), sent.as_str())
+    let meter = if is_deaf { Meter::deaf() } else { Meter::new() };
+    answered(rt, meter, sent.as_str())
 }
 
-/// Whether an answer has this status, a field with this value, and this body.
-pub(super) fn is_answer(text: &str, status: &str, field: &str, body: &str) -> bool {
-    let Some((head, rest)) = text.split_once("\r\n\r\n") else {
-        return false;
-    };
-    let Some((first, _)) = head.split_once("\r\n") else {
-        return false;
-    };
-    first.strip_prefix("HTTP/1.1 ") == Some(status)
-        && head.lines().any(|line| line == field)
-        && rest == body
-}
-
-/// Whether this request is answered so.
-fn is_answered(rt: &HostRuntime, request: &str, status: &str, field: &str, body: &str) -> bool {
-    match answer_to(rt, request) {
-        Some(text) => is_answer(text.as_str(), status, field, body),
+/// Whether a head has this status, and a field with this value.
+fn is_head(head: &str, status: &str, field: &str) -> bool {
+    match head.split_once("\r\n") {
+        Some((first, fields)) => {
+            first.strip_prefix("HTTP/1.1 ") == Some(status) && is_in(fields, field)
+        }
         None => false,
     }
 }
 
-#[test]
-fn the_page_of_figures_has_their_whole_text(rt: HostRuntime) {
-    let page = page_of(rt.alloc(), 1).expect(&rt, "a page");
-    for (request, body) in [
-        ("GET /metrics", page.as_str()),
-        ("GET /metrics?name=up", page.as_str()),
-        ("HEAD /metrics", ""),
-    ] {
-        holds!(rt; is_answered(&rt, request, "200 OK", FIGURES, body), request);
+/// Whether an answer has this status, a field with this value, and this body.
+pub(super) fn is_answer(text: &str, status: &str, field: &str, body: &str) -> bool {
+    match text.split_once("\r\n\r\n") {
+        Some((head, rest)) => rest == body && is_head(head, status, field),
+        None => false,
+    }
+}
+
+/// The page of figures that were read once, or this text.
+fn is_answered_by(rt: &HostRuntime, text: &str, status: &str, field: &str, body: Body) -> bool {
+    match (body, page_of(rt.alloc(), 1)) {
+        (Body::Is(body), _) => is_answer(text, status, field, body),
+        (Body::Page, Some(page)) => is_answer(text, status, field, page.as_str()),
+        (Body::Page, None) => false,
+    }
+}
+
+/// Whether a request is answered as its row says.
+fn is_answered(rt: &HostRuntime, row: &Row) -> bool {
+    let Row(is_deaf, request, status, field, body) = *row;
+    match answer_to(rt, is_deaf, request) {
+        Some(text) => is_answered_by(rt, text.as_str(), status, field, body),
+        None => false,
     }
 }
 
@@ -79,43 +98,55 @@ const GONE: &str = "404 Not Found";
 
 const EMPTY: &str = "content-length: 0";
 
-/// Requests, each with its status, one of its fields, and its body.
-const ROWS: [(&str, &str, &str, &str); 15] = [
-    ("GET /healthz", OK, PLAIN, "ok\n"),
-    ("GET /healthz?verbose=1", OK, PLAIN, "ok\n"),
-    ("GET http://relay.example/healthz", OK, PLAIN, "ok\n"),
-    ("HEAD /healthz", OK, "content-length: 3", ""),
-    ("POST /metrics", REFUSED, READERS, ""),
-    ("PUT /healthz", REFUSED, READERS, ""),
-    ("DELETE /metrics", REFUSED, READERS, ""),
-    ("OPTIONS /healthz", REFUSED, READERS, ""),
-    ("get /metrics", REFUSED, READERS, ""),
-    ("GET /", GONE, EMPTY, ""),
-    ("POST /", GONE, EMPTY, ""),
-    ("GET /metrics/", GONE, EMPTY, ""),
-    ("GET /Metrics", GONE, EMPTY, ""),
-    ("GET /healthz/metrics", GONE, EMPTY, ""),
-    ("GET /metric", GONE, EMPTY, ""),
+const DEAF: &str = "503 Service Unavailable";
+
+#[derive(Clone, Copy)]
+enum Body {
+    Is(&'static str),
+    /// The page of figures that were read once.
+    Page,
+}
+
+use Body::{Is, Page};
+
+/// A row: whether a rule of the relay takes no clients, a request, its status, one of its fields,
+/// and its body.
+#[derive(Clone, Copy)]
+struct Row(bool, &'static str, &'static str, &'static str, Body);
+
+const ROWS: &[Row] = &[
+    Row(false, "GET /metrics", OK, FIGURES, Page),
+    Row(false, "GET /metrics?name=up", OK, FIGURES, Page),
+    Row(false, "HEAD /metrics", OK, FIGURES, Is("")),
+    Row(false, "GET /healthz", OK, PLAIN, Is("ok\n")),
+    Row(false, "GET /healthz?verbose=1", OK, PLAIN, Is("ok\n")),
+    Row(
+        false,
+        "GET http://relay.example/healthz",
+        OK,
+        PLAIN,
+        Is("ok\n"),
+    ),
+    Row(false, "HEAD /healthz", OK, "content-length: 3", Is("")),
+    Row(false, "POST /metrics", REFUSED, READERS, Is("")),
+    Row(false, "PUT /healthz", REFUSED, READERS, Is("")),
+    Row(false, "DELETE /metrics", REFUSED, READERS, Is("")),
+    Row(false, "OPTIONS /healthz", REFUSED, READERS, Is("")),
+    Row(false, "get /metrics", REFUSED, READERS, Is("")),
+    Row(false, "GET /", GONE, EMPTY, Is("")),
+    Row(false, "POST /", GONE, EMPTY, Is("")),
+    Row(false, "GET /metrics/", GONE, EMPTY, Is("")),
+    Row(false, "GET /Metrics", GONE, EMPTY, Is("")),
+    Row(false, "GET /healthz/metrics", GONE, EMPTY, Is("")),
+    Row(false, "GET /metric", GONE, EMPTY, Is("")),
+    Row(true, "GET /healthz", DEAF, PLAIN, Is("not listening\n")),
+    Row(true, "HEAD /healthz", DEAF, PLAIN, Is("")),
+    Row(true, "POST /healthz", REFUSED, READERS, Is("")),
 ];
 
 #[test]
 fn a_request_is_answered_by_its_path_and_its_method(rt: HostRuntime) {
-    for (request, status, field, body) in ROWS {
-        holds!(rt; is_answered(&rt, request, status, field, body), request);
-    }
-}
-
-#[test]
-fn a_relay_with_a_rule_that_takes_no_clients_is_not_well(rt: HostRuntime) {
-    for (request, status, body) in [
-        ("GET", "503 Service Unavailable", "not listening\n"),
-        ("HEAD", "503 Service Unavailable", ""),
-        ("POST", REFUSED, ""),
-    ] {
-        let sent = format!(in rt.alloc(); "{request} /healthz HTTP/1.1\r\nHost: x\r\n\r\n");
-        let sent = sent.expect(&rt, "a request");
-        let text = answered(&rt, Meter::deaf(), sent.as_str()).expect(&rt, "an answer");
-        let field = if status == REFUSED { READERS } else { PLAIN };
-        holds!(rt; is_answer(text.as_str(), status, field, body), request);
+    for row in ROWS {
+        holds!(rt; is_answered(&rt, row), row.1);
     }
 }

@@ -3,14 +3,12 @@
 use super::meter::Meter;
 use arrayvec::ArrayString;
 use fd_descriptor::Fault;
-use metrics_server::{MetricsServer, Running};
+use metrics_server::MetricsServer;
 use readiness::Addr;
 use std::alloc::Global;
 use std::fs::Files;
 use std::net::Net;
-use std::random::RandomSource;
 use std::sync::Wait;
-use std::thread::Threads;
 use std::time::Clock;
 use std::{env, fs, process};
 
@@ -35,31 +33,12 @@ where
     MetricsServer::open(rt, alloc, addr, limit_ns, Meter::new())
 }
 
-/// Whether a server can listen at this address. It ends at once.
-pub(super) fn is_free<R>(rt: R, alloc: Global, addr: &Addr) -> bool
+/// Why no server can listen at this address, where none can. One that can ends at once.
+pub(super) fn fault_at<R>(rt: R, alloc: Global, addr: &Addr) -> Option<Fault>
 where
     R: Wait + Clock + Net + Files + Copy,
 {
-    opened(rt, alloc, addr, LONG_NS).is_ok()
-}
-
-/// A server on a thread of its own, at a port of loopback.
-#[derive(Drop)]
-pub(super) struct Served {
-    pub(super) running: Running,
-    pub(super) port: u16,
-}
-
-impl Served {
-    pub(super) fn start<R>(rt: R, alloc: Global, limit_ns: u64) -> Option<Served>
-    where
-        R: Wait + Threads + Clock + RandomSource + Net + Files + Copy + Send + Sync + 'static,
-    {
-        let server = opened(rt, alloc, &loopback(0), limit_ns).ok()?;
-        let port = server.port()?;
-        let running = server.start().ok()?;
-        Some(Served { running, port })
-    }
+    opened(rt, alloc, addr, LONG_NS).err()
 }
 
 /// A path in the test's own folder, with this name in it, and its address.

@@ -1,9 +1,9 @@
-//! Clients that are served over loopback and over a Unix path.
+//! Requests over loopback and over a Unix path.
 
 use super::pages::{FIGURES, is_answer, page_of};
 use super::pause;
-use super::served::{LONG_NS, Served, is_free, is_removed, opened, own_path};
-use super::streams::{asked, hears, is_well, reach, says, serves};
+use super::served::{LONG_NS, fault_at, is_removed, opened, own_path};
+use super::streams::{answered, asked, hears, is_well, reach, says, serves};
 use super::watch::Watch;
 use std::alloc::Global;
 use std::io::{ErrorKind, Read, Write};
@@ -22,115 +22,89 @@ fn gives_figures<S: Read + Write>(stream: &mut S, alloc: Global, reads: u64) -> 
     }
 }
 
-#[test]
-fn one_connection_is_given_both_pages_until_it_asks_to_end(rt: HostRuntime) {
-    let watch = Watch::start(rt, rt.alloc());
-    let served = Served::start(rt, rt.alloc(), LONG_NS).expect(&rt, "a server");
-    let mut client = reach(&rt, served.port).expect(&rt, "a client");
-    holds!(rt; is_well(&mut client), "health");
-    holds!(rt; is_well(&mut client), "and again");
-    holds!(rt; gives_figures(&mut client, rt.alloc(), 3), "figures");
-    served.running.stop(&rt);
-    watch.end(&rt);
+/// Whether this connection is told that all is well again and again, and then gives the figures,
+/// which were read so often.
+pub(super) fn gets_both_pages<S: Read + Write>(alloc: Global, stream: &mut S, reads: u64) -> bool {
+    for _ in 1..reads {
+        if !is_well(stream) {
+            return false;
+        }
+    }
+    gives_figures(stream, alloc, reads)
 }
 
-// More than may stand at once, so that each has the place of one that ended.
-#[test]
-fn clients_that_come_one_after_another_are_each_given_figures_of_their_own(rt: HostRuntime) {
-    let watch = Watch::start(rt, rt.alloc());
-    let served = Served::start(rt, rt.alloc(), LONG_NS).expect(&rt, "a server");
-    for reads in 1..41u64 {
-        let mut client = reach(&rt, served.port).expect(&rt, "a client");
-        holds!(rt; gives_figures(&mut client, rt.alloc(), reads));
+fn is_given_figures(rt: &HostRuntime, port: u16, reads: u64) -> bool {
+    match reach(rt, port) {
+        Some(mut client) => gives_figures(&mut client, rt.alloc(), reads),
+        None => false,
     }
-    served.running.stop(&rt);
-    watch.end(&rt);
+}
+
+/// How many clients come one after another.
+const ONE_BY_ONE: u64 = 40;
+
+/// Whether clients that come one after another are each given figures of their own.
+pub(super) fn come_one_by_one(rt: &HostRuntime, port: u16) -> bool {
+    for reads in 1..=ONE_BY_ONE {
+        if !is_given_figures(rt, port, reads) {
+            return false;
+        }
+    }
+    true
 }
 
 /// A client at a Unix path, if somebody listens there.
-fn reach_unix(rt: &HostRuntime, path: &String) -> Option<UnixStream> {
-    let stream = UnixStream::connect(rt, path.as_str()).ok()?;
-    stream.set_read_timeout(Some(Duration::from_secs(10))).ok()?;
-    Some(stream)
+fn reach_unix(rt: &HostRuntime, path: &str) -> Option<UnixStream> {
+    let stream = UnixStream::connect(rt, path).ok()?;
+    match stream.set_read_timeout(Some(Duration::from_secs(10))) {
+        Ok(()) => Some(stream),
+        Err(_) => None,
+    }
+}
+
+fn gives_both_pages(rt: &HostRuntime, path: &str) -> bool {
+    match reach_unix(rt, path) {
+        Some(mut client) => gets_both_pages(rt.alloc(), &mut client, 2),
+        None => false,
+    }
 }
 
 #[test]
 fn a_unix_path_gives_both_pages_and_stays_after_the_end(rt: HostRuntime) {
     let watch = Watch::start(rt, rt.alloc());
     let (path, addr) = own_path(&rt, "pages").expect(&rt, "a path");
-    let server = opened(rt, rt.alloc(), &addr, LONG_NS)
-        .ok()
-        .expect(&rt, "a server");
+    let server = opened(rt, rt.alloc(), &addr, LONG_NS).ok();
+    let server = server.expect(&rt, "a server");
     holds!(rt; server.port().is_none(), "it has no port");
     let running = server.start().ok().expect(&rt, "a thread");
-    let mut client = reach_unix(&rt, &path).expect(&rt, "a client");
-    holds!(rt; is_well(&mut client), "health");
-    holds!(rt; gives_figures(&mut client, rt.alloc(), 2), "figures");
+    holds!(rt; gives_both_pages(&rt, path.as_str()), "both pages");
     running.stop(&rt);
-    holds!(rt; reach_unix(&rt, &path).is_none(), "somebody listens");
+    holds!(rt; reach_unix(&rt, path.as_str()).is_none(), "somebody listens");
     holds!(rt; is_removed(&rt, &path), "the path is gone");
-    holds!(rt; is_free(rt, rt.alloc(), &addr), "the path is free");
+    holds!(rt; fault_at(rt, rt.alloc(), &addr).is_none(), "the path is free");
     holds!(rt; is_removed(&rt, &path));
     watch.end(&rt);
 }
 
 /// Whether a client of its own is answered with a head that begins so, and no body.
-fn is_refused(rt: &HostRuntime, port: u16, request: &str, status: &str) -> bool {
-    let Some(mut client) = reach(rt, port) else {
-        return false;
-    };
-    match asked(&mut client, rt.alloc(), request) {
+pub(super) fn is_refused(rt: &HostRuntime, port: u16, request: &str, status: &str) -> bool {
+    match answered(rt, port, request) {
         Some(text) => is_answer(text.as_str(), status, "content-length: 0", ""),
         None => false,
     }
 }
 
-#[test]
-fn requests_that_are_none_or_ask_for_nothing_there_are_refused(rt: HostRuntime) {
-    let watch = Watch::start(rt, rt.alloc());
-    let served = Served::start(rt, rt.alloc(), LONG_NS).expect(&rt, "a server");
-    for (request, status) in [
-        (
-            "GET /metrics HTTP/1.1\r\nno colon\r\n\r\n",
-            "400 Bad Request",
-        ),
-        ("GET /metrics\r\n\r\n", "400 Bad Request"),
-        ("\r\x01\x02\x03\r\n\r\n", "400 Bad Request"),
-        (
-            "GET /metrics HTTP/1.1\r\nHost: a/b\r\n\r\n",
-            "400 Bad Request",
-        ),
-        (
-            "GET / HTTP/1.1\r\nHost: x\r\nConnection: close\r\n\r\n",
-            "404 Not Found",
-        ),
-    ] {
-        holds!(rt; is_refused(&rt, served.port, request, status), request);
-    }
-    served.running.stop(&rt);
-    watch.end(&rt);
-}
+const DRIPPED: &[u8] = b"HEAD /nowhere HTTP/1.1\r\nHost: x\r\n\r\n";
 
-/// Sends a request a byte at a time, and says whether each was taken.
-fn drips(rt: &HostRuntime, stream: &mut TcpStream, request: &[u8]) -> bool {
-    for byte in request {
+/// Sends a request a byte at a time, and says whether it is answered.
+pub(super) fn drips(rt: &HostRuntime, stream: &mut TcpStream) -> bool {
+    for byte in DRIPPED {
         if !says(stream, &[*byte]) {
             return false;
         }
         pause(rt, 1);
     }
-    true
-}
-
-#[test]
-fn a_request_that_comes_a_byte_at_a_time_is_answered(rt: HostRuntime) {
-    let watch = Watch::start(rt, rt.alloc());
-    let served = Served::start(rt, rt.alloc(), LONG_NS).expect(&rt, "a server");
-    let mut client = reach(&rt, served.port).expect(&rt, "a client");
-    holds!(rt; drips(&rt, &mut client, b"HEAD /nowhere HTTP/1.1\r\nHost: x\r\n\r\n"));
-    holds!(rt; hears(&mut client, b"HTTP/1.1 404 Not Found\r\n"));
-    served.running.stop(&rt);
-    watch.end(&rt);
+    hears(stream, b"HTTP/1.1 404 Not Found\r\n")
 }
 
 /// The next of a row of numbers that look random, and are the same at each run.
@@ -141,52 +115,60 @@ fn next(state: u64) -> u64 {
 }
 
 /// Bytes that are no request.
-fn nonsense(alloc: Global, seed: u64) -> Option<Vec<u8>> {
-    let mut bytes = Vec::new(alloc);
+fn nonsense(seed: u64) -> [u8; 300] {
+    let mut bytes = [0u8; 300];
     let mut state = next(seed);
-    for _ in 0..300 {
+    for byte in &mut bytes {
         state = next(state);
         let [first, ..] = state.to_be_bytes();
-        bytes.push(first).ok()?;
+        *byte = first;
     }
-    Some(bytes)
+    bytes
 }
 
 /// A request of which one of the first fifty bytes is another.
-fn broken(alloc: Global, seed: u64) -> Option<Vec<u8>> {
-    let mut bytes = Vec::from_slice(alloc, ASKS_FIGURES.as_bytes()).ok()?;
+fn broken(seed: u64) -> [u8; 53] {
+    let mut bytes = *b"GET /metrics HTTP/1.1\r\nHost: x\r\nConnection: close\r\n\r\n";
     let state = next(next(seed));
     let [first, place, ..] = state.to_be_bytes();
-    *bytes.get_mut(usize::from(place % 50))? = first;
-    Some(bytes)
+    bytes[usize::from(place % 50)] = first;
+    bytes
 }
 
-/// Whether a client that sends this, and then no more, comes to its end.
-fn comes_to_its_end(rt: &HostRuntime, port: u16, bytes: Option<Vec<u8>>) -> bool {
-    let (Some(mut client), Some(bytes)) = (reach(rt, port), bytes) else {
-        return false;
-    };
-    if !says(&mut client, bytes.as_slice()) {
+/// Sends this, and then no more, and says whether the connection comes to its end.
+fn ends_after(client: &mut TcpStream, alloc: Global, bytes: &[u8]) -> bool {
+    if !says(client, bytes) {
         return false;
     }
     // What was refused may have reset the connection already.
     let _ = client.shutdown(Shutdown::Write);
-    let mut all = Vec::new(rt.alloc());
+    let mut all = Vec::new(alloc);
     match client.read_to_end(&mut all) {
         Ok(_) => true,
         Err(error) => error.kind() == ErrorKind::ConnectionReset,
     }
 }
 
-#[test]
-fn whatever_bytes_come_the_next_client_is_answered(rt: HostRuntime) {
-    let watch = Watch::start(rt, rt.alloc());
-    let served = Served::start(rt, rt.alloc(), LONG_NS).expect(&rt, "a server");
+/// Whether a client that sends this comes to its end, and the next is answered.
+fn is_harmless(rt: &HostRuntime, port: u16, bytes: &[u8]) -> bool {
+    let has_ended = match reach(rt, port) {
+        Some(mut client) => ends_after(&mut client, rt.alloc(), bytes),
+        None => false,
+    };
+    has_ended && serves(rt, port)
+}
+
+/// Whether nonsense, or else broken requests, harm nobody.
+pub(super) fn are_harmless(rt: &HostRuntime, port: u16, are_broken: bool) -> bool {
     for seed in 0..32u64 {
-        holds!(rt; comes_to_its_end(&rt, served.port, nonsense(rt.alloc(), seed)), "nonsense");
-        holds!(rt; comes_to_its_end(&rt, served.port, broken(rt.alloc(), seed)), "broken");
-        holds!(rt; serves(&rt, served.port), "a good request");
+        let is_harmless = if are_broken {
+            is_harmless(rt, port, &broken(seed))
+        } else {
+            is_harmless(rt, port, &nonsense(seed))
+        };
+        if !is_harmless {
+            return false;
+        }
     }
-    served.running.stop(&rt);
-    watch.end(&rt);
+    true
 }

@@ -17,14 +17,22 @@ const ASKS_HEALTH_ONCE: &str = "GET /healthz HTTP/1.1\r\nHost: x\r\nConnection: 
 const IS_WELL: &[u8] =
     b"HTTP/1.1 200 OK\r\ncontent-type: text/plain; charset=utf-8\r\ncontent-length: 3\r\n\r\nok\n";
 
+/// Has a client wait so long, and its bytes go at once.
+fn is_set_up(stream: &TcpStream) -> bool {
+    let longest = Some(Duration::from_secs(LONGEST_SECONDS));
+    stream.set_read_timeout(longest).is_ok()
+        && stream.set_write_timeout(longest).is_ok()
+        && stream.set_nodelay(true).is_ok()
+}
+
 /// A client at a port of loopback, if somebody listens there. What it writes goes at once.
 pub(super) fn reach(rt: &HostRuntime, port: u16) -> Option<TcpStream> {
     let stream = TcpStream::connect(rt, ("127.0.0.1", port)).ok()?;
-    let longest = Some(Duration::from_secs(LONGEST_SECONDS));
-    stream.set_read_timeout(longest).ok()?;
-    stream.set_write_timeout(longest).ok()?;
-    stream.set_nodelay(true).ok()?;
-    Some(stream)
+    if is_set_up(&stream) {
+        Some(stream)
+    } else {
+        None
+    }
 }
 
 /// Writes these bytes, and says whether all were taken.
@@ -67,13 +75,16 @@ pub(super) fn is_well<S: Read + Write>(stream: &mut S) -> bool {
     says(stream, ASKS_HEALTH) && hears(stream, IS_WELL)
 }
 
+/// What a client of its own is answered, and all that comes until its connection ends.
+pub(super) fn answered(rt: &HostRuntime, port: u16, request: &str) -> Option<String> {
+    let mut client = reach(rt, port)?;
+    asked(&mut client, rt.alloc(), request)
+}
+
 /// Whether a new client is told that all is well. Its connection has ended then, so that its place
 /// is free.
 pub(super) fn serves(rt: &HostRuntime, port: u16) -> bool {
-    let Some(mut client) = reach(rt, port) else {
-        return false;
-    };
-    match asked(&mut client, rt.alloc(), ASKS_HEALTH_ONCE) {
+    match answered(rt, port, ASKS_HEALTH_ONCE) {
         Some(text) => is_answer(text.as_str(), "200 OK", "connection: close", "ok\n"),
         None => false,
     }
@@ -90,15 +101,30 @@ pub(super) fn comes_to_serve(rt: &HostRuntime, port: u16) -> bool {
     false
 }
 
-/// So many clients, each of which was told that all is well, and stays.
-pub(super) fn standing(rt: &HostRuntime, port: u16, count: usize) -> Option<Vec<TcpStream>> {
+/// So many clients, none of which says anything.
+pub(super) fn reached(rt: &HostRuntime, port: u16, count: usize) -> Option<Vec<TcpStream>> {
     let mut clients = Vec::new(rt.alloc());
     for _ in 0..count {
-        let mut client = reach(rt, port)?;
-        if !is_well(&mut client) {
-            return None;
-        }
-        clients.push(client).ok()?;
+        clients.push(reach(rt, port)?).ok()?;
     }
     Some(clients)
+}
+
+/// Whether each is told that all is well.
+pub(super) fn are_well(clients: &mut [TcpStream]) -> bool {
+    for client in clients {
+        if !is_well(client) {
+            return false;
+        }
+    }
+    true
+}
+
+pub(super) fn have_ended(clients: &mut [TcpStream]) -> bool {
+    for client in clients {
+        if !has_ended(client) {
+            return false;
+        }
+    }
+    true
 }

@@ -111,10 +111,20 @@ fn spelled(alloc: Global, figures: &Figures) -> Option<String> {
     String::from_utf8(figures.text(alloc).ok()?).ok()
 }
 
+/// Whether the text has this line.
+pub(super) fn is_in(text: &str, want: &str) -> bool {
+    for line in text.lines() {
+        if line == want {
+            return true;
+        }
+    }
+    false
+}
+
 /// Whether the text of a snapshot has this line.
 fn has_line(alloc: Global, figures: &Figures, line: &str) -> bool {
     match spelled(alloc, figures) {
-        Some(text) => text.as_str().lines().any(|one| one == line),
+        Some(text) => is_in(text.as_str(), line),
         None => false,
     }
 }
@@ -126,11 +136,17 @@ fn a_snapshot_is_spelled_family_by_family(rt: HostRuntime) {
     holds!(rt; text.as_str() == MADE);
 }
 
-/// The lines of the text that say what figures are, or those that tell one.
-fn lines_that(text: &str, are_comments: bool) -> usize {
-    text.lines()
-        .filter(|line| line.starts_with("# ") == are_comments)
-        .count()
+/// How many lines of the text say what figures are, and how many tell one.
+fn lines_of(text: &str) -> (usize, usize) {
+    let (mut comments, mut figures) = (0usize, 0usize);
+    for line in text.lines() {
+        if line.starts_with("# ") {
+            comments = comments.saturating_add(1);
+        } else {
+            figures = figures.saturating_add(1);
+        }
+    }
+    (comments, figures)
 }
 
 #[test]
@@ -138,24 +154,26 @@ fn without_loops_and_rules_the_same_families_are_said(rt: HostRuntime) {
     let figures = Figures::new(rt.alloc());
     let text = spelled(rt.alloc(), &figures).expect(&rt, "a text");
     for line in NOTHING_YET {
-        holds!(rt; has_line(rt.alloc(), &figures, line), line);
+        holds!(rt; is_in(text.as_str(), line), line);
     }
-    holds!(rt; lines_that(text.as_str(), false) == NOTHING_YET.len(), "no other figure");
-    holds!(rt; lines_that(text.as_str(), true) == lines_that(MADE, true), "each family");
+    let (families, _) = lines_of(MADE);
+    holds!(rt; lines_of(text.as_str()) == (families, NOTHING_YET.len()), "each, and no other");
 }
+
+const UP: &[(u64, &str)] = &[
+    (9, "pollrelay_up_seconds 0.009"),
+    (10, "pollrelay_up_seconds 0.010"),
+    (999, "pollrelay_up_seconds 0.999"),
+    (1_000, "pollrelay_up_seconds 1.000"),
+    (86_400_100, "pollrelay_up_seconds 86400.100"),
+    (u64::MAX, "pollrelay_up_seconds 18446744073709551.615"),
+];
 
 #[test]
 fn milliseconds_are_spelled_as_seconds_with_three_digits(rt: HostRuntime) {
     let mut figures = Figures::new(rt.alloc());
-    for (ms, line) in [
-        (9, "pollrelay_up_seconds 0.009"),
-        (10, "pollrelay_up_seconds 0.010"),
-        (999, "pollrelay_up_seconds 0.999"),
-        (1_000, "pollrelay_up_seconds 1.000"),
-        (86_400_100, "pollrelay_up_seconds 86400.100"),
-        (u64::MAX, "pollrelay_up_seconds 18446744073709551.615"),
-    ] {
-        figures.up_ms = ms;
+    for (ms, line) in UP {
+        figures.up_ms = *ms;
         holds!(rt; has_line(rt.alloc(), &figures, line), line);
     }
 }
