@@ -2,6 +2,7 @@
 
     sh tests/run.sh [--lanes N] [--list] [PART]..        the quick tier, or those parts
     sh tests/run.sh [--lanes N] [--list] full            the full tier too
+    sh tests/run.sh [--lanes N] [--list] outside         of the quick tier what tries the program from outside
 
 The quick tier is the tests of each crate, and each program on its stored input, as `rt try` builds them, with checks in place
 of proofs; and the rows of the table in tests/README.md that are quick, among them those that try the relay from outside, on a
@@ -39,7 +40,7 @@ PASSED, RAN = re.compile(r"(\d+) passed[;,] (\d+) failed"), re.compile(r"^Ran (\
 HINT, HINT_SECONDS = b"no function", 1
 
 PROGRAM, PROVED = "program", "crates/pollrelay/out/pollrelay"
-QUICK, FULL = "quick", "full"
+QUICK, FULL, OUTSIDE = "quick", "full", "outside"
 Row = namedtuple("Row", "name tier seconds needs command shows")
 
 
@@ -233,13 +234,14 @@ class Run:
 
 
 def chosen_parts(names):
-    """Those that are named, or the quick tier, or with `full` both tiers; the program is built where one of them needs it."""
+    """Those that are named, or the quick tier, or with `full` both tiers, or with `outside` those of the quick tier that try the
+    program; the program is built where one of them needs it."""
     program, *found = parts()
     tiers = {QUICK, FULL} if FULL in names else {QUICK} if QUICK in names or not names else set()
-    unknown = set(names) - {PROGRAM, QUICK, FULL, *(it.name for it in found)}
+    unknown = set(names) - {PROGRAM, QUICK, FULL, OUTSIDE, *(it.name for it in found)}
     if unknown:
         sys.exit(f"no part is named {' '.join(sorted(unknown))}: sh tests/run.sh --list")
-    chosen = [it for it in found if it.name in names or it.tier in tiers]
+    chosen = [it for it in found if it.name in names or it.tier in tiers or OUTSIDE in names and it.on_program and it.tier == QUICK]
     is_wanted = "POLLRELAY" not in os.environ and any(it.on_program for it in chosen)
     return [program, *chosen] if is_wanted or PROGRAM in names else chosen
 
@@ -254,7 +256,7 @@ def print_list(chosen):
 
 def main():
     options = argparse.ArgumentParser(description=__doc__.split("\n")[0])
-    options.add_argument("parts", nargs="*", metavar="PART", help="parts, or a tier: quick, full")
+    options.add_argument("parts", nargs="*", metavar="PART", help="parts, or outside, or a tier: quick, full")
     options.add_argument("--lanes", type=int, default=len(os.sched_getaffinity(0)), metavar="N")
     options.add_argument("--list", action="store_true", help="say which parts there are")
     given = options.parse_args()

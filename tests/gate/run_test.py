@@ -93,13 +93,13 @@ class Runs(MadeFolder):
             self.assertEqual(self.ran(self.part("hangs", "sleep 60"))[:2], (0, 1))
 
     def test_tiers_and_names_choose_parts_and_the_program_comes_where_it_is_needed(self):
-        rows = ("| `one` | quick | 9 |  | `sh one` | x |", "| `two` | full | 5 | program, alone, gcc | `sh two` | x |", "| `three` | gate | 5 |  | `sh three` | x |")
+        rows = ("| `one` | quick | 9 |  | `sh one` | x |", "| `two` | full | 5 | program, alone, gcc | `sh two` | x |", "| `three` | gate | 5 |  | `sh three` | x |", "| `four` | quick | 3 | program | `sh four` | x |")
         self.write("tests/README.md", "\n".join(rows))
         chosen = lambda *names: [it.name for it in run.chosen_parts(names)]
-        self.assertEqual((chosen(), chosen("quick"), chosen("three")), (["one"], ["one"], ["three"]))
-        self.assertEqual((chosen("full"), chosen("two", "one")), (["program", "one", "two"], ["program", "one", "two"]))
+        self.assertEqual((chosen(), chosen("quick"), chosen("three")), (["program", "one", "four"], ["program", "one", "four"], ["three"]))
+        self.assertEqual((chosen("full"), chosen("two", "one")), (["program", "one", "two", "four"], ["program", "one", "two"]))
         os.environ["POLLRELAY"] = "/bin/true"
-        self.assertEqual(chosen("two"), ["two"])
+        self.assertEqual((chosen("two"), chosen("outside")), (["two"], ["four"]))
 
     def test_files_and_the_proved_program_are_what_a_part_may_lack(self):
         for needs, lacking in (([], None), (["program"], None), (["out/it", "alone"], "out/it"), (["proved program"], run.PROVED)):

@@ -101,7 +101,7 @@ class Scripts:
         return [*beside, "tests/lib/stages.py"]
 
     def wrong_part(self, words):
-        named = {name for name, _ in self.rows} | self.crates | {"full", "quick", "program"}
+        named = {name for name, _ in self.rows} | self.crates | {"full", "outside", "quick", "program"}
         for word in words:
             if not word.startswith("-") and not ANY.search(word) and not word.isdigit() and word not in named:
                 return f"there is no part {word}"
