@@ -1,6 +1,8 @@
 """The lines of a relay's log, as docs/operations.md has them."""
 import re
 
+from lib.waiting import comes
+
 LINE = re.compile(
     r"(?P<moment>\d{4}-\d\d-\d\dT\d\d:\d\d:\d\d\.\d{3}Z) (?P<rule>\S+) (?P<client_id>\d+|-) (?P<target_id>\d+|-) "
     r"(?P<client>tcp:\S+|unix:\S*) (?P<target>tcp:\S+|unix:\S+) (?P<up>\d+) (?P<down>\d+) (?P<ms>\d+) "
@@ -21,3 +23,14 @@ def read_log(text):
         else:
             others.append(line)
     return lines, lost, others
+
+
+def logged(path, count):
+    """The lines of a log, once it has so many; a loss, or a line that is none, is one more."""
+    def read():
+        with open(path, encoding="ascii") as file:
+            lines, lost, others = read_log(file.read())
+        return lines + [{"how": f"lost {lost}"}] * (lost > 0) + [{"how": it} for it in others]
+
+    comes(lambda: len(read()) >= count)
+    return read()

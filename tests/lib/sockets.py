@@ -25,6 +25,11 @@ def free_port():
                 continue
 
 
+def some_address():
+    """A TCP address that nobody has."""
+    return f"tcp:127.0.0.1:{free_port()}"
+
+
 def connect(address, timeout=REPLY_SECONDS):
     """A connection to an address."""
     if address.startswith("unix:"):

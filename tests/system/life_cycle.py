@@ -38,7 +38,7 @@ from lib.relay import Relay, Session, allow_descriptors, totals_of
 from lib.requests import ANSWERED, REFUSED, RESET, Requests, counts
 from lib.served import heard, seconds_until_end
 from lib.signals import hear_all
-from lib.sockets import BlackHole, connect, free_port, is_served
+from lib.sockets import BlackHole, connect, is_served, some_address
 from lib.stages import options, run_stages
 from lib.waiting import wait_until
 
@@ -60,10 +60,6 @@ hear_all()
 def wrapped(rules, *words):
     """A relay that pollrelay-run has started."""
     return Relay(rules, wrapper=(WRAPPER, *words))
-
-
-def some_address():
-    return f"tcp:127.0.0.1:{free_port()}"
 
 
 def status_and_totals(relay):

@@ -33,14 +33,6 @@ MOST_LINES = 65_536
 # The most admin sessions at once.
 MOST_SESSIONS = 32
 
-# How a relay with one connection finishes: the lines, the replies, and whether its connection ends by itself.
-FINISHES = (
-    ("by its last connection", b"finish 86400000\nlist\nreload\n", b"ok\nids 2 3\nerror 409 closed\n", True),
-    ("at its moment", b"finish 300\n", b"ok\n", False),
-    ("at a sooner moment", b"finish 86400000\nfinish 300\n", b"ok\nok\n", False),
-    ("by a stop", b"finish 86400000\nstop\n", b"ok\nok\n", False),
-)
-
 # The bytes of a stream, and the processor time that a thread which copied one has taken at least, beside an eighth of all.
 STREAM = 64 << 20
 BUSY_NS = 10_000_000
@@ -232,11 +224,16 @@ def start_faults(checks, folder):
         checks.expect("start: a listener", (3, "", "cannot listen second\n"), serve_fault(in_use, admin))
         only_third = write(f"{folder}/third", "".join(taken.splitlines(True)[::2]))
         checks.expect("start: a later listener", (3, "", "cannot listen third\n"), serve_fault(only_third, admin))
-    good = write(f"{folder}/good", RULE.format("first", free_port()))
-    admin_fault = (3, "", "cannot listen admin\n")
-    checks.expect("start: the admin socket", admin_fault, serve_fault(good, admin))
-    for path in ("", f"{folder}/no/such", "/" + "x" * 100, f"{folder}/{'x' * (100 - len(folder))}"):
-        checks.expect(f"start: the admin path {path[:20]!r} of {len(path)} bytes", admin_fault, serve_fault(good, path))
+    bound = f"{folder}/bound"
+    at_path = f"relay a unix:{bound} unix:/x never\n"
+    taken = write(f"{folder}/taken-path", f"{at_path}relay b unix:{admin} unix:/x never\n")
+    checks.expect("start: a listener at a path that is taken", (3, "", "cannot listen b\n"), serve_fault(taken, admin))
+    checks.expect("start: the path that was bound before it", False, os.path.lexists(bound))
+    good = write(f"{folder}/good", at_path)
+    for path in (admin, "", f"{folder}/no/such", "/" + "x" * 100, f"{folder}/{'x' * (100 - len(folder))}"):
+        what = f"start: the admin path {path[:20]!r} of {len(path)} bytes"
+        checks.expect(what, (3, "", "cannot listen admin\n"), serve_fault(good, path))
+        checks.expect(f"{what}: the path that was bound before it", False, os.path.lexists(bound))
     checks.expect("start: a path that was there stays", True, os.path.isfile(admin))
 
 
@@ -545,7 +542,7 @@ def metrics_at_a_path(checks, folder):
         checks.holds("metrics: an answer", answered == 200 and "\npollrelay_loops " in told, told)
         checks.expect("metrics: status", 0, relay.stop()[0])
     checks.expect("metrics: what is left", [], os.listdir(folder))
-    rules, taken = write(f"{folder}/rules", rule), write(f"{folder}/taken", "")
+    rules, taken = write(f"{folder}/rules", f"relay one unix:{folder}/listens tcp:127.0.0.1:1 never\n"), write(f"{folder}/taken", "")
     for admin, fault in ((f"{folder}/admin", b"cannot listen metrics\n"), (taken, b"cannot listen admin\n")):
         words = ["serve", "--rules", rules, "--admin", admin, "--metrics", f"unix:{taken}"]
         checks.expect(f"metrics: a path that is taken, {fault}", (3, b"", fault), run(words))
@@ -628,40 +625,10 @@ def many_sessions(checks, _):
             sock.close()
 
 
-def finishing(checks, _):
-    """A relay that finishes refuses clients and reloads, passes on what it has, and ends with its last connection or at its moment."""
-    accepts, target = listener()
-    for name, lines, replies, ends_by_itself in FINISHES:
-        port = free_port()
-        with Relay(f"relay one tcp:127.0.0.1:{port} {target} never\n") as relay:
-            client = connect(f"tcp:127.0.0.1:{port}")
-            taken, _ = accepts.accept()
-            client.sendall(b"hello")
-            checks.expect(f"finish, {name}: before", b"hello", received(taken))
-            checks.expect(f"finish, {name}: replies", replies, session(relay.admin, lines))
-            try:
-                connect(f"tcp:127.0.0.1:{port}").close()
-                is_refused = False
-            except ConnectionRefusedError:
-                is_refused = True
-            checks.holds(f"finish, {name}: nobody is let in", is_refused, "a client was let in")
-            if ends_by_itself:
-                client.sendall(b"again")
-                checks.expect(f"finish, {name}: meanwhile", b"again", received(taken))
-                client.close()
-                taken.close()
-            said, _ = relay.process.communicate(timeout=20)
-            total = b"up 10 down 0\n" if ends_by_itself else b"up 5 down 0\n"
-            checks.expect(f"finish, {name}: its end", (total, 0), (said, relay.process.poll()))
-            client.close()
-            taken.close()
-    accepts.close()
-
-
 STAGES = {it.__name__: it for it in (
     command_lines, traces, verdicts, outputs, start_faults, poller_fault, refused_paths, admin_sessions, listings, stopped_and_gone,
     no_rule, sample_rules, sample_sessions, sample_metrics, metrics_at_a_path, spread,
-    asked_pairs, silent_sessions, many_sessions, finishing, control, own_texts,
+    asked_pairs, silent_sessions, many_sessions, control, own_texts,
 )}
 
 

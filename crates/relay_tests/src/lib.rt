@@ -1,5 +1,5 @@
-//! Tests of the relay as it runs: clients, targets and admin sessions over loopback and Unix
-//! sockets. They stand apart from `relay`, which is proved once without them.
+//! Tests of the relay that need its process: odd clocks, files that fail, what it leaves at its end;
+//! the close of an entry, and pairs of workers. What its sockets show, scripts of `tests/system` try.
 #![tactic(auto)]
 
 #[cfg(test)]

@@ -2,7 +2,7 @@
 //! be set up ends the test's process there, so that a test is one straight line.
 
 /// Ends the test's process where this doesn't hold, and says what should. A call costs the proof
-/// of a test less than a branch does. `relay_conn_tests` and others have one too: no crate uses
+/// of a test less than a branch does. `metrics_tests` and others have one too: no crate uses
 /// another's tests.
 macro_rules! holds {
     ($rt:expr; $is:expr) => {
@@ -13,16 +13,16 @@ macro_rules! holds {
     };
 }
 
-// A relay by the rules of a place, on a thread of its own: of so many loops, or of a size and with
-// outlets. (a macro: what a function sends to a thread may rest on no bound that is assumed of its
+// A relay by the rules of a place, on a thread of its own: of so many loops, with outlets or without.
+// (a macro: what a function sends to a thread may rest on no bound that is assumed of its
 // own runtime)
 macro_rules! started {
-    ($rt:expr, $place:expr, $loops:expr) => {{
-        let capacity = $crate::tests::started::sized_by_default($loops).expect(&$rt, "a size");
-        started!($rt, $place, capacity, $crate::tests::no_outlets())
-    }};
-    ($rt:expr, $place:expr, $capacity:expr, $outlets:expr) => {{
-        let (rt, capacity, outlets) = ($rt, $capacity, $outlets);
+    ($rt:expr, $place:expr, $loops:expr) => {
+        started!($rt, $place, $loops, $crate::tests::no_outlets())
+    };
+    ($rt:expr, $place:expr, $loops:expr, $outlets:expr) => {{
+        let (rt, outlets) = ($rt, $outlets);
+        let capacity = $crate::tests::sized_by_default($loops).expect(&rt, "a size");
         let (rules, admin, socket) = $place.parts();
         let run = move || $crate::tests::served(rt, &rules, &socket, capacity, outlets);
         let thread = std::thread::spawn(&rt, run).expect(&rt, "thread");
@@ -30,30 +30,19 @@ macro_rules! started {
     }};
 }
 
-mod cause_rows;
-mod causes;
+mod closing;
 mod ending;
-mod ends;
 mod failing_files;
-mod figures;
-mod finishing;
 mod leaving;
 mod live_threads;
-mod main_loop;
-mod metrics;
 mod odd_clock;
 mod odd_moments;
+mod pairs;
 mod places;
-mod quiet;
-mod reloading;
-mod renewing;
-mod sessions;
-mod start_faults;
-mod started;
 mod streams;
 mod watch;
 
-use relay::{Capacity, Safeguards, ServeFault};
+use relay::{Capacity, Loops, PairLimit, Safeguards, ServeFault};
 use relay_serve::{Given, Outlets, serve};
 use std::fs::{File, Files};
 use std::io::Write;
@@ -69,19 +58,8 @@ use streams::{heard, reach_unix};
 /// The most turns of one millisecond that a test waits.
 const TURNS: u32 = 10_000;
 
-/// The most turns of ten milliseconds that a test waits which then names its row: its watch waits
-/// longer.
-const FEW_TURNS: u32 = 300;
-
 fn holds<R: Abort>(rt: &R, is: bool, what: &str) {
     assert!(rt; is, "{what}");
-}
-
-/// Ends the test's process where a row doesn't hold, and names it.
-fn all_hold<R: Abort>(rt: &R, failed: Option<&str>) {
-    if let Some(row) = failed {
-        holds(rt, false, row);
-    }
 }
 
 /// What a relay answered, and what it wrote.
@@ -103,6 +81,13 @@ fn no_outlets() -> Outlets<File> {
         log: None,
         metrics: None,
     }
+}
+
+/// So many loops, and the default of connections.
+fn sized_by_default(loops: u64) -> Option<Capacity> {
+    let loops = Loops::of(loops)?;
+    let pairs = PairLimit::by_default();
+    Some(Capacity { loops, pairs })
 }
 
 /// A relay from its start to its end, of this size, with this log and these metrics.
@@ -186,11 +171,6 @@ impl Running {
 /// Waits for a millisecond.
 fn pause<C: Clock>(clock: &C) {
     thread::sleep(clock, Duration::from_millis(1));
-}
-
-/// Waits for ten milliseconds.
-fn rest<C: Clock>(clock: &C) {
-    thread::sleep(clock, Duration::from_millis(10));
 }
 
 /// Waits until this was counted up, and says whether it was.

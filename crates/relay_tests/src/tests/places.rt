@@ -35,6 +35,16 @@ impl Place {
         fs::write(rt, place.rules.as_str(), text).ok()?;
         Some(place)
     }
+
+    /// Its paths: of the rules, of the admin socket, and of that for the relay.
+    pub(super) fn parts(self) -> (String, String, String) {
+        let Place {
+            rules,
+            admin,
+            socket,
+        } = self;
+        (rules, admin, socket)
+    }
 }
 
 /// A place with a rule from a port of loopback to another, with this idle time, and the first port.
@@ -53,24 +63,7 @@ pub(super) fn place_to_own(rt: &HostRuntime, idle: &str) -> Option<(Place, TcpLi
     Some((place, listener, port))
 }
 
-pub(super) fn write_empty(rt: &HostRuntime, path: &String) -> bool {
-    fs::write(rt, path.as_str(), "").is_ok()
-}
-
 /// Whether there is a file at this path.
 pub(super) fn is_there(rt: &HostRuntime, path: &String) -> bool {
     fs::metadata(rt, path.as_str()).is_ok()
-}
-
-/// The text of a rule from this path to a port of loopback.
-pub(super) fn rule_at(rt: &HostRuntime, path: &str, target: u16) -> Option<String> {
-    let rule = format!(in rt.alloc(); "relay a unix:{path} tcp:127.0.0.1:{target} never\n");
-    rule.ok()
-}
-
-/// A place with a rule that listens at a path of this name, and the path.
-pub(super) fn place_at(rt: &HostRuntime, name: &str, target: u16) -> Option<(Place, String)> {
-    let path = own_path(rt, name)?;
-    let rule = rule_at(rt, path.as_str(), target)?;
-    Some((Place::with_rules(rt, &rule)?, path))
 }

@@ -73,17 +73,6 @@ pub(super) fn accepted(rt: &HostRuntime, listener: &TcpListener) -> Option<TcpSt
     None
 }
 
-/// Whether nobody listens at the port any more.
-pub(super) fn is_refused(rt: &HostRuntime, port: u16) -> bool {
-    for _ in 0..TURNS {
-        if TcpStream::connect(rt, ("127.0.0.1", port)).is_err() {
-            return true;
-        }
-        thread::sleep(rt, Duration::from_millis(1));
-    }
-    false
-}
-
 /// Writes these bytes, and says whether all were taken.
 pub(super) fn says(stream: &mut TcpStream, bytes: &[u8]) -> bool {
     stream.write_all(bytes).is_ok()

@@ -1,4 +1,4 @@
-use Rattle.relay_conn_tests.proofs.tests.pairs.both_directions_run_at_once.Given as goal
+use Rattle.relay_tests.proofs.tests.pairs.both_directions_run_at_once.Given as goal
 
 abbrev pub ghosts-both_run-U-Ledger : goal.ghosts-both_run-U-Ledger
 ghosts-both_run-U-Ledger g a = record { name = a.up.name; parts = a.up.parts }

@@ -1,0 +1,144 @@
+#!/usr/bin/env python3
+"""Reloads by an admin session: what is served afterwards, what becomes of what stood before, and what a refused one leaves.
+
+    python3 tests/system/reloading.py [STAGE]..
+
+rules    a rule that has gone leaves its connection and a new one serves; one with another target keeps its listener.
+refused  a reload of bad rules, of a port that is taken or of no file changes nothing.
+paths    a path that has gone is removed, and a new one serves.
+renewed  a reload renews an idle time, and a listener that a session has closed.
+wakes    a reload wakes the main thread.
+"""
+import os
+import sys
+import time
+
+sys.path.insert(1, f"{sys.path[0]}/..")
+from lib.checks import Checks
+from lib.relay import allow_descriptors
+from lib.sockets import connect, listener
+from lib.stages import options, run_stages
+from lib.tried import WAIT_SECONDS, Ends, Tried, is_refused
+
+ONE = "relay a {0} {target} {idle}\n"
+AT_PATH = "relay a unix:{folder}/%s {target} never\n"
+# Reloads, and the longest that all may take: one that wakes nobody takes a second. On a machine that is full of other work some rounds
+# take longer.
+RELOADS, LONGEST, ROUNDS = 30, 10, 3
+
+
+def rules(checks, _):
+    with Tried(checks, "gone rule") as it:
+        old = it.ends()
+        it.holds("before", old.pass_both(), "no bytes pass")
+        it.now_rules("relay b {1} {target} never\n")
+        it.answers("reload\nlist\n", "rules 1\nids 2 3 4\n")
+        it.holds("its listener", is_refused(it.listens[0]), "it listens")
+        new = it.ends(1)
+        it.holds("the new rule serves", new.pass_both(), "no bytes pass")
+        it.holds("a connection that stood before", old.pass_both(), "no bytes pass")
+        it.comes_to("list\ntotals\n", "ids 2 3 4 5 6\ntotals up 15 down 6\n")
+        it.stop("listening 1\nup 15 down 6\n")
+    another_target(checks)
+
+
+def another_target(checks):
+    accepts, second = listener()
+    with accepts, Tried(checks, "another target") as it:
+        old = it.ends()
+        it.holds("before", old.pass_both(), "no bytes pass")
+        it.now_rules(f"relay a {{0}} {second} never\n")
+        it.answers("reload\nlist\n", "rules 1\nids 1 2 3\n")
+        client, (peer, _) = it.client(), accepts.accept()
+        peer.settimeout(WAIT_SECONDS)
+        it.holds("the new target is reached", Ends(client, peer).pass_both(), "no bytes pass")
+        it.holds("a connection that stood before", old.pass_both(), "no bytes pass")
+        it.comes_to("list\ntotals\n", "ids 1 2 3 4 5\ntotals up 15 down 6\n")
+        it.stop("listening 1\nup 15 down 6\n")
+        peer.close()
+
+
+def is_served(it):
+    it.holds("the rule still serves", it.ends().pass_both(), "no bytes pass")
+
+
+def refused(checks, _):
+    """Of two rules the second is bad, or listens where somebody does; nobody listens for the first."""
+    with Tried(checks, "refused") as it:
+        it.answers("list\n", "ids 1\n", "list before")
+        for second, answer in (("nowhere", "bad rules: line 2\nids 1\n"), ("{target} unix:/x never", "cannot listen b\nids 1\n")):
+            it.now_rules("relay c {1} unix:/x never\nrelay b " + second + "\n")
+            it.answers("reload\nlist\n", answer)
+            it.holds("nobody listens for the first rule", is_refused(it.listens[1]), "somebody does")
+        is_served(it)
+        it.stop("listening 1\nup 5 down 2\n")
+    with Tried(checks, "no rules file") as it:
+        it.answers("list\n", "ids 1\n")
+        os.remove(f"{it.relay.folder}/rules")
+        it.answers("reload\nlist\n", "cannot read rules\nids 1\n")
+        is_served(it)
+        it.now_rules(ONE)
+        it.answers("reload\n", "rules 1\n")
+        it.stop("listening 1\nup 5 down 2\n")
+
+
+def byte_at(it, path):
+    """Sees that a byte of a client at this path comes to the target."""
+    with connect(f"unix:{path}") as client:
+        it.goes(f"a byte at {os.path.basename(path)}", client, it.peer(), b"x")
+
+
+def paths(checks, _):
+    with Tried(checks, "path", rules=AT_PATH % "old") as it:
+        old, new = f"{it.relay.folder}/old", f"{it.relay.folder}/new"
+        it.answers("list\n", "ids 1\n")
+        byte_at(it, old)
+        it.now_rules(AT_PATH % "new")
+        it.answers("reload\n", "rules 1\n")
+        it.expect("the path that has gone", False, os.path.lexists(old))
+        byte_at(it, new)
+        it.stop("listening 1\nup 2 down 0\n")
+        it.expect("the path of the relay's end", False, os.path.lexists(new))
+
+
+def renewed(checks, _):
+    with Tried(checks, "renewed", rules=ONE, loops=1) as it:
+        old = it.ends()
+        it.now_rules(ONE, 50)
+        it.answers("reload\n", "rules 1\n")
+        new = it.ends()
+        it.are_over(new.client, new.peer, what="a connection with the new idle time ends")
+        it.holds("one with the old idle time stays", old.pass_both(), "no bytes pass")
+        it.now_rules(ONE)
+        it.answers("close 1\n", "ok\n")
+        it.holds("nobody listens after a close", is_refused(it.listens[0]), "it listens")
+        it.answers("reload\n", "rules 1\n", "reload after a close")
+        it.comes_to("list\n", "ids 2 3 6\n")
+        it.holds("the listener is back", it.ends().pass_both(), "no bytes pass")
+        it.stop("listening 1\nup 10 down 4\n")
+
+
+def wakes(checks, _):
+    with Tried(checks, "wakes", loops=1) as it:
+        rounds = []
+        while len(rounds) < ROUNDS and (not rounds or rounds[-1] >= LONGEST):
+            began = time.monotonic()
+            for _ in range(RELOADS):
+                it.answers("reload\n", "rules 1\n")
+            rounds.append(time.monotonic() - began)
+        it.holds("the main thread is woken", rounds[-1] < LONGEST, f"{RELOADS} reloads took {rounds} s")
+        it.stop("listening 1\nup 0 down 0\n")
+
+
+STAGES = {it.__name__: it for it in (rules, refused, paths, renewed, wakes)}
+
+
+def main():
+    given, checks = options(__doc__, STAGES), Checks()
+    allow_descriptors()
+    run_stages(checks, STAGES, given.stages)
+    return checks.end()
+
+
+if __name__ == "__main__":
+    sys.exit(main())
