@@ -4,11 +4,11 @@ ghost use Rattle.std.specs.Prelude.{◌≡◌};
 
 use relay_ledger::book::{Book, Full, PARTS};
 use relay_ledger::share::{CarriedShare, Share, give_up_all};
-use std::alloc::{AllocError, Global};
+use std::alloc::Global;
 use std::marker::Brand;
+use std::process::Abort;
 use std::sync::ledger::{Blank, Ledger};
 use std::sync::{Arc, Mutex, Wait};
-use std::test::Fail;
 use std::thread;
 use std::thread::Threads;
 
@@ -54,7 +54,7 @@ fn total_of<L: Ledger>(book: &mut Book<L>, shares: Vec<Share<L>>) -> Option<u64>
     }
 }
 
-#[derive(Debug, PartialEq, Eq, Drop)]
+#[derive(Clone, Copy, PartialEq)]
 struct Row {
     amounts: (u64, u64, u64),
     back_of_two: Option<usize>,
@@ -117,7 +117,7 @@ fn all_shares_gather_and_two_of_three_do_not(rt: HostRuntime) {
         opens_later: false,
         again: None,
     };
-    assert_eq!(rt; got, Some(want));
+    assert!(rt; got == Some(want), "the worked row");
 }
 
 // Takes a share back, where there is one.
@@ -150,7 +150,7 @@ fn settled_row<L: Ledger>(heap: Global, blank: Blank) -> (u32, u64, Option<u64>,
 #[test]
 fn settled_shares_need_not_be_kept(rt: HostRuntime) {
     let got = settled_row::<Brand>(rt.alloc(), Blank::new(PARTS));
-    assert_eq!(rt; got, (1, 12, None, Some(12), 0));
+    assert!(rt; got == (1, 12, None, Some(12), 0), "{got:?}");
 }
 
 // What a credit of 1 at the greatest total answers, and the total and the amount then.
@@ -176,7 +176,10 @@ fn one_too_many<L: Ledger>(blank: Blank) -> Option<(Result<(), Full>, u64, u64)>
 fn credit_past_the_greatest_total_is_full(rt: HostRuntime) {
     let greatest = 18_446_744_073_709_551_615u64;
     let got = one_too_many::<Brand>(Blank::new(PARTS));
-    assert_eq!(rt; got, Some((Err(Full), greatest, greatest)));
+    assert!(rt;
+        got == Some((Err(Full), greatest, greatest)),
+        "the greatest total"
+    );
 }
 
 // A worker on its own thread: it opens its share there, and gives it to the join.
@@ -194,24 +197,22 @@ fn work<L: Ledger, R: Wait>(rt: &R, book: &Mutex<Book<L>>, n: u64) -> Option<Car
 }
 
 // The gathered total of three workers and the book's own, where the last share may be lost.
-fn across_threads<L, R>(
-    rt: R,
-    heap: Global,
-    blank: Blank,
-    lose: bool,
-) -> Result<(Option<u64>, u64), AllocError>
+fn across_threads<L, R>(rt: R, heap: Global, blank: Blank, lose: bool) -> (Option<u64>, u64)
 where
     L: Ledger + Send + Sync + 'static,
-    R: Threads + Wait + Copy + Send + 'static,
+    R: Threads + Wait + Abort + Copy + Send + 'static,
     requires name { blank.name ≡ L.name }
     requires parts { blank.parts ≡ L.parts }
     requires all { blank.parts ≡ 4294967296 }
 {
-    let book = Arc::new(heap, Mutex::new(Book::<L>::new(blank)))?;
-    let one = Arc::try_clone(&book)?;
-    let two = Arc::try_clone(&book)?;
-    let first = thread::spawn(&rt, move || work(&rt, &*one, 1))?;
-    let second = thread::spawn(&rt, move || work(&rt, &*two, 10))?;
+    let book = Arc::new(heap, Mutex::new(Book::<L>::new(blank))).ok();
+    let book = book.expect(&rt, "a book");
+    let one = Arc::try_clone(&book).ok().expect(&rt, "the book");
+    let two = Arc::try_clone(&book).ok().expect(&rt, "the book");
+    let first = thread::spawn(&rt, move || work(&rt, &*one, 1)).ok();
+    let second = thread::spawn(&rt, move || work(&rt, &*two, 10)).ok();
+    let first = first.expect(&rt, "a worker");
+    let second = second.expect(&rt, "a worker");
     let third = work(&rt, &*book, 100);
     let mut shares = Vec::new(heap);
     put_into(&mut shares, first.join(&rt));
@@ -221,19 +222,26 @@ where
     }
     let mut book = book.lock(&rt);
     let gathered = total_of(&mut *book, shares);
-    Ok((gathered, book.total()))
+    (gathered, book.total())
 }
 
-#[test]
-fn shares_cross_threads_and_gather(rt: HostRuntime) -> Result<(), Fail> {
-    let got = across_threads::<Brand, _>(rt, rt.alloc(), Blank::new(PARTS), false)?;
-    assert_eq!(rt; got, (Some(11_100), 11_100));
-    Ok(())
+fn crossed<R>(rt: R, heap: Global, lose: bool) -> (Option<u64>, u64)
+where
+    R: Threads + Wait + Abort + Copy + Send + 'static,
+{
+    across_threads::<Brand, _>(rt, heap, Blank::new(PARTS), lose)
 }
 
+/// A row: its name, whether a share is lost, and the gathered total.
+const CROSSED: [(&str, bool, Option<u64>); 2] = [
+    ("shares cross threads and gather", false, Some(11_100)),
+    ("a book with a lost share never gathers", true, None),
+];
+
 #[test]
-fn book_with_a_lost_share_never_gathers(rt: HostRuntime) -> Result<(), Fail> {
-    let got = across_threads::<Brand, _>(rt, rt.alloc(), Blank::new(PARTS), true)?;
-    assert_eq!(rt; got, (None, 11_100));
-    Ok(())
+fn shares_that_cross_threads_gather_unless_one_is_lost(rt: HostRuntime) {
+    for (row, lose, gathered) in CROSSED {
+        let got = crossed(rt, rt.alloc(), lose);
+        assert!(rt; got == (gathered, 11_100), "{row}: {got:?}");
+    }
 }

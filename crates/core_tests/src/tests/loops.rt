@@ -26,22 +26,14 @@ fn a_try_is_offered_a_gibibyte_at_most(rt: HostRuntime) {
 }
 
 #[test]
-fn a_read_loop_can_be_fed_by_hand(rt: HostRuntime) {
+fn loops_can_be_fed_by_hand(rt: HostRuntime) {
     let mut reading = ReadLoop::new(8);
     assert!(rt; reading.feed(Outcome::WouldBlock) == Next::Wait);
     assert!(rt; reading.feed(Outcome::Aborted) == Next::Failed(Fault::Device(DevKind::Aborted)));
-}
-
-#[test]
-fn a_write_loop_can_be_fed_by_hand(rt: HostRuntime) {
     let mut writing = WriteLoop::new(8);
     assert!(rt; writing.feed(Outcome::Count(3)) == Next::Try);
     assert!(rt; writing.count() == 3);
     assert!(rt; writing.feed(Outcome::Count(5)) == Next::Done(8));
-}
-
-#[test]
-fn an_accept_loop_can_be_fed_by_hand(rt: HostRuntime) {
     let mut accepting = AcceptLoop::new();
     assert!(rt; accepting.feed(AcceptOutcome::Took(7)) == Next::Done(7));
     assert!(rt; Fault::from(Refusal::Closed) == Fault::Closed);

@@ -18,9 +18,11 @@ enum Case {
     Idle(u64, u32, u64),
     /// A pause in ms, and the next.
     Pause(u64, u64),
+    /// The connections of each loop, and the loop that takes one more.
+    Loop(&'static [u64], usize),
 }
 
-use Case::{Idle, Pause, Room};
+use Case::{Idle, Loop, Pause, Room};
 
 const CASES: &[(&str, Case)] = &[
     ("the last pair by default", Room(None, 511, Some(true))),
@@ -41,6 +43,8 @@ const CASES: &[(&str, Case)] = &[
     ("a pause below half a second", Pause(499, 998)),
     ("a pause past half a second", Pause(640, 1_000)),
     ("the longest pause", Pause(u64::MAX, 1_000)),
+    ("the first of the least loops", Loop(&[3, 1, 2, 1], 1)),
+    ("the first of two loops", Loop(&[0, 0], 0)),
 ];
 
 fn has_room(asked: Option<u64>, pairs: usize) -> Option<bool> {
@@ -56,11 +60,12 @@ fn holds(case: &Case) -> bool {
         Room(asked, pairs, room) => has_room(*asked, *pairs) == *room,
         Idle(now, idle_ms, deadline) => idle_deadline(*now, *idle_ms) == *deadline,
         Pause(before, next) => next_pause_ms(*before) == *next,
+        Loop(counts, least) => !counts.is_empty() && loop_of(counts) == *least,
     }
 }
 
 #[test]
-fn pairs_deadlines_and_pauses_are_as_their_rows_say(rt: HostRuntime) {
+fn pairs_deadlines_pauses_and_loops_are_as_their_rows_say(rt: HostRuntime) {
     for (row, case) in CASES {
         assert!(rt; holds(case), "{row}");
     }
@@ -158,10 +163,4 @@ fn event_resumes_the_ways_that_wait_for_it(rt: HostRuntime) {
     for (at, turn) in TURNS.iter().enumerate() {
         assert!(rt; answers(&mut tasks, turn), "turn {at}");
     }
-}
-
-#[test]
-fn least_loop_takes_a_connection(rt: HostRuntime) {
-    assert!(rt; loop_of(&[3, 1, 2, 1]) == 1, "the first of the least");
-    assert!(rt; loop_of(&[0, 0]) == 0, "the first of two");
 }

@@ -95,24 +95,31 @@ fn holds(alloc: Global, call: Call, armed: u64, dir: Dir, refusals: &mut Refusal
         && is_due(&mut timers, call, armed)
 }
 
-#[test]
-fn an_arm_refused_at_each_request_changes_nothing(rt: HostRuntime) {
+/// Whether a call was refused in turn behind each of so many armed keys, and both at a first request
+/// and at a later one; or the number of keys, or 40, where it wasn't.
+fn refused_behind(alloc: Global, is_both: bool) -> Result<(), u64> {
     let mut seen = Refusals::none();
     for armed in 0..40u64 {
-        let held = holds(rt.alloc(), Call::Arm(armed), armed, Read, &mut seen);
-        assert!(rt; held, "{armed} armed");
+        let held = if is_both {
+            holds(alloc, Call::ArmBoth, armed, Write, &mut seen)
+        } else {
+            holds(alloc, Call::Arm(armed), armed, Read, &mut seen)
+        };
+        if !held {
+            return Err(armed);
+        }
     }
-    let Refusals { first, later } = seen;
-    assert!(rt; seen.are_both_seen(), "{first} and {later} refusals");
+    if seen.are_both_seen() {
+        Ok(())
+    } else {
+        Err(40)
+    }
 }
 
 #[test]
-fn an_arm_of_both_refused_at_each_request_changes_neither(rt: HostRuntime) {
-    let mut seen = Refusals::none();
-    for armed in 0..40u64 {
-        let held = holds(rt.alloc(), Call::ArmBoth, armed, Write, &mut seen);
-        assert!(rt; held, "{armed} armed");
+fn an_arm_refused_at_each_request_changes_nothing(rt: HostRuntime) {
+    for (row, is_both) in [("of one", false), ("of both", true)] {
+        let refused = refused_behind(rt.alloc(), is_both);
+        assert!(rt; refused.is_ok(), "{row}: {refused:?} armed");
     }
-    let Refusals { first, later } = seen;
-    assert!(rt; seen.are_both_seen(), "{first} and {later} refusals");
 }

@@ -205,7 +205,7 @@ fn read_of(
     let buf = &mut buf[..room.min(8)];
     let answer = read(rt, half, buf, waits);
     if let Ok(count) = answer {
-        if !buf[..count].iter().all(|byte| *byte == b'x') {
+        if buf[..count] != [b'x'; 8][..count] {
             return None;
         }
     }
