@@ -15,6 +15,7 @@ import os
 import re
 import subprocess
 import sys
+import time
 from unittest import mock
 
 sys.path.insert(1, f"{sys.path[0]}/..")
@@ -144,7 +145,8 @@ class WrongRelay(Relay):
 def never_failed():
     """The checks of relay_program.py that passed, whatever was changed."""
     session, rest_of, text_of = relay_program.session, relay_program.rest_of, relay_program.text_of
-    lexists = os.path.lexists
+    lexists, ids_shown = os.path.lexists, relay_program.ids_shown
+    fast = mock.Mock(wraps=time, monotonic=lambda: 1_000 * time.monotonic())
     wrong = [
         mock.patch.object(subprocess, "Popen", WrongProcess),
         mock.patch.object(relay_program, "Relay", WrongRelay),
@@ -155,6 +157,8 @@ def never_failed():
         mock.patch.object(os.path, "lexists", lambda path: not lexists(path)),
         mock.patch.object(os.path, "isfile", lambda path: False),
         mock.patch.object(os, "listdir", lambda path: ["x"]),
+        mock.patch.object(relay_program, "ids_shown", lambda lines: ids_shown(lines)[::-1]),
+        mock.patch.object(relay_program, "time", fast),
         mock.patch.object(relay_program, "scrape", lambda address: (500, "")),
         mock.patch.object(relay_program, "heard", lambda sock, seconds: b"x"),
         mock.patch.object(Relay, "ask", lambda relay, line: "x"),

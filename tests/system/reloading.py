@@ -7,7 +7,7 @@ rules    a rule that has gone leaves its connection and a new one serves; one wi
 refused  a reload of bad rules, of a port that is taken or of no file changes nothing.
 paths    a path that has gone is removed, and a new one serves.
 renewed  a reload renews an idle time, and a listener that a session has closed.
-wakes    a reload wakes the main thread.
+prompt   reloads that follow each other are answered at once.
 """
 import os
 import sys
@@ -22,8 +22,8 @@ from lib.tried import WAIT_SECONDS, Ends, Tried, is_refused
 
 ONE = "relay a {0} {target} {idle}\n"
 AT_PATH = "relay a unix:{folder}/%s {target} never\n"
-# Reloads, and the longest that all may take: one that wakes nobody takes a second. On a machine that is full of other work some rounds
-# take longer.
+# Reloads, and the longest that all may take: a turn of a loop that nobody wakes lasts a second. On a machine that is full of other work
+# some rounds take longer.
 RELOADS, LONGEST, ROUNDS = 30, 10, 3
 
 
@@ -118,19 +118,19 @@ def renewed(checks, _):
         it.stop("listening 1\nup 10 down 4\n")
 
 
-def wakes(checks, _):
-    with Tried(checks, "wakes", loops=1) as it:
+def prompt(checks, _):
+    with Tried(checks, "prompt", loops=1) as it:
         rounds = []
         while len(rounds) < ROUNDS and (not rounds or rounds[-1] >= LONGEST):
             began = time.monotonic()
             for _ in range(RELOADS):
                 it.answers("reload\n", "rules 1\n")
             rounds.append(time.monotonic() - began)
-        it.holds("the main thread is woken", rounds[-1] < LONGEST, f"{RELOADS} reloads took {rounds} s")
+        it.holds("none waits for a turn", rounds[-1] < LONGEST, f"{RELOADS} reloads took {rounds} s")
         it.stop("listening 1\nup 0 down 0\n")
 
 
-STAGES = {it.__name__: it for it in (rules, refused, paths, renewed, wakes)}
+STAGES = {it.__name__: it for it in (rules, refused, paths, renewed, prompt)}
 
 
 def main():
