@@ -25,7 +25,7 @@ from lib.waiting import comes
 HELD, MOST = 30, 34
 # The turns that each loop makes at least for its half of these: each passes something twice.
 LEAST_TURNS = 34
-RULES = "relay a {0} {target} never\nrelay t {1} tcp:127.0.0.1:9 never\nrelay g {2} unix:{folder}/gone never\n"
+RULES = "relay a {0} {target} never\nrelay t {1} {3} never\nrelay g {2} unix:{folder}/gone never\n"
 # What a line says of a connection that the stop ends.
 STOPPED = ("a", "5", "2", "closed")
 # The figures after all rows, and after two reloads.

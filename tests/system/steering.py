@@ -25,7 +25,7 @@ from lib.stages import options, run_stages
 from lib.tried import Tried, hears, is_refused
 from lib.waiting import TURNS
 
-NOBODY = "relay a {0} tcp:127.0.0.1:9 never\n"
+NOBODY = "relay a {0} {3} never\n"
 UNKNOWN = "error 404 no such connection\n"
 # Longer than a loop takes to its next wait.
 UNTIL_IT_WAITS = 0.2
