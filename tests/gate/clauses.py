@@ -10,13 +10,16 @@ there, and a second definition of a name, since a text that cites it may then me
 `tests/gate/clauses.changes` has a line that names it with its reason:
 
     CRATE FUNCTION KIND:NAME gone|changed|new REASON
+    CRATE * * moved:CRATE[,CRATE..] REASON
 
 `*` in place of KIND:NAME stands for all of a function, type or definition of which nothing is left, and `* *` for all of a crate
-of which nothing is left. A line that names nothing which changed fails too. The last line is `N passed, M failed`.
+of which nothing is left. What moved stands in the other crate as it stood in the first, under the same name and with the same
+digest, or it is gone. A line that names nothing which changed fails too. The last line is `N passed, M failed`.
 """
 
 import argparse
 import os
+import re
 import sys
 from collections import Counter, defaultdict
 
@@ -26,9 +29,10 @@ from lib.clause_texts import DEFINITION, Key
 
 LIST, CHANGES = "tests/gate/clauses.list", "tests/gate/clauses.changes"
 HEAD = """# What became of promises since tests/gate/clauses.list was made (tests/gate/clauses.py): a line each,
-# CRATE FUNCTION KIND:NAME gone|changed|new REASON
+# CRATE FUNCTION KIND:NAME gone|changed|new REASON or CRATE * * moved:CRATE[,CRATE..] REASON
 """
 WORDS = ("gone", "changed", "new")
+MOVED = "moved:"
 
 
 def read(name):
@@ -81,13 +85,40 @@ def said_of(lines):
     said, wrong = {}, []
     for line in lines:
         parts = line.split(None, 4)
-        if len(parts) < 4 or parts[3] not in WORDS:
-            wrong.append(f"{CHANGES}: not `CRATE FUNCTION KIND:NAME gone|changed|new REASON`: {line}")
+        if len(parts) < 4 or not (parts[3] in WORDS or parts[1:3] == ["*", "*"] and parts[3].startswith(MOVED)):
+            wrong.append(f"{CHANGES}: not `CRATE FUNCTION KIND:NAME gone|changed|new REASON` nor `CRATE * * moved:CRATE REASON`: {line}")
         elif len(parts) < 5:
             wrong.append(f"{CHANGES}: no reason is given: {line}")
         else:
             said[Key(*parts[:3])] = parts[3]
     return said, wrong
+
+
+def as_it_was(promise, moves, often):
+    """The digests that a promise would have where it was, if the crates that its names come from moved too."""
+    for crate, to in moves:
+        path = re.compile(rf"^Rattle\.(?:{'|'.join(to)})\.")
+        imports = {name: path.sub(f"Rattle.{crate}.", at) for name, at in promise.imports.items()}
+        yield clause_texts.digest_of(promise._replace(imports=imports), often)
+
+
+def with_moves(before, said, promises, often):
+    """What was listed, with all that only moved under the crate where it stands now, and the lines that say of such."""
+    moves = {line: word.removeprefix(MOVED).split(",") for line, word in said.items() if word.startswith(MOVED)}
+    stands, now, used = defaultdict(list), standing(promises, often), set()
+    for it in promises:
+        stands[it.key] += [{*as_it_was(it, [(line.crate, to) for line, to in moves.items()], often)}]
+    owners = {it[:2] for it in stands}
+    for line, crates in moves.items():
+        for key in [it for it in before if it.crate == line.crate and it not in stands]:
+            there = next((it for it in (key._replace(crate=to) for to in crates) if it[:2] in owners), None)
+            if there and key.what == "-":
+                before[there] = before.pop(key)
+            elif there and all(sum(one in it for it in stands[there]) >= times for one, times in before[key].items()):
+                used.add(line)
+                del before[key]
+                before[there] = now[there]
+    return before, used
 
 
 def judged(found, said, now):
@@ -117,8 +148,9 @@ def compare(promises):
     often = clause_texts.defined_often([key for key, digests in before.items() for _ in range(sum(digests.values()))])
     now = standing(promises, often)
     said, wrong = said_of(read(CHANGES))
+    before, moved = with_moves(before, said, promises, often)
     found = differences(before, now)
-    left, idle = judged(found, said, now)
+    left, idle = judged(found, {it: word for it, word in said.items() if it not in moved}, now)
     for key, word in left:
         print(f"{' '.join(key)} {TOLD[word]}\n    if that is meant, add to {CHANGES}: {' '.join(key)} {word} REASON")
     wrong += [f"{CHANGES}: nothing became of this so: {' '.join(it)} {said[it]}" for it in idle]
@@ -147,6 +179,7 @@ def write_list(lines):
 def added(promises):
     """The lines of the list, and those of what is new and asks for no reason."""
     before, often = listed(), clause_texts.defined_often([it.key for it in promises])
+    before, _ = with_moves(before, said_of(read(CHANGES))[0], promises, often)
     known = before.keys() | differences(before, standing(promises, often)).keys()
     return read(LIST) + lines_of([it for it in promises if it.key not in known], often)
 

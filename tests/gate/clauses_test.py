@@ -230,6 +230,35 @@ class Clauses(MadeFolder):
         self.says("made * * gone nobody used it")
         self.fails_with("low room_of definition is gone", "tests/gate/clauses.changes: nothing became of this so: made * *")
 
+    def move_room(self):
+        """Has `low` pass its one definition on to a crate of its own."""
+        os.remove(f"{self.folder}/crates/low/specs/Room.antt")
+        self.write("crates/lower/specs/Room.antt", OTHER)
+
+    def test_what_moved_as_it_was_passes_where_a_line_says_so(self):
+        self.move_room()
+        self.fails_with("low room_of definition is gone", "lower room_of definition came to what was there")
+        self.passes_with("low * * moved:other,lower it is for all")
+        self.change("lower/specs/Room.antt", "room_of q = 64", "room_of q = 0")
+        self.fails_with("low room_of definition is gone", "lower room_of definition came to what was there",
+            "tests/gate/clauses.changes: nothing became of this so: low * *")
+
+    def test_what_moved_to_another_crate_than_the_line_says_is_gone(self):
+        self.move_room()
+        self.says("low * * moved:made it is for all")
+        self.fails_with("low room_of definition is gone", "lower room_of definition came to what was there",
+            "tests/gate/clauses.changes: nothing became of this so: low * *")
+
+    def test_a_requires_that_comes_to_what_moved_fails(self):
+        os.rename(f"{self.folder}/crates/made", f"{self.folder}/crates/done")
+        self.passes_with("made * * moved:done its name is another")
+        self.change("done/src/queue.rt", "-> u64 {", "-> u64\n        requires some { 0 < self.now.items }\n    {")
+        self.fails_with("done Queue::count requires:some came to what was there")
+
+    def test_a_move_is_said_of_a_whole_crate(self):
+        self.says("low room_of definition moved:lower it is for all")
+        self.fails_with("tests/gate/clauses.changes: not `CRATE FUNCTION")
+
     def test_a_line_without_a_reason_fails(self):
         self.queue("        ensures { Fits self.new }\n", "")
         self.says("made Queue::push ensures:#1 gone   ")
