@@ -11,8 +11,8 @@ use relay_command::{
     Fault, HELP, Job, NO_MEMORY, VERSION, descriptors_allowed, descriptors_needed, job_of,
     reply_status, trace_status,
 };
-use relay_conn::address::rule_address;
 use relay_serve::{Given, Outlets, serve};
+use relay_shared::address::rule_address;
 use std::alloc::Global;
 use std::env::VarError;
 use std::fs::{File, Files};

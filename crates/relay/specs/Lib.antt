@@ -1,11 +1,1 @@
-pub mod Accepting
-pub mod Deadlines
-pub mod Desk
-pub mod Fault
-pub mod Finishing
-pub mod Listening
-pub mod Reload
-pub mod Safeguards
 pub mod Server
-pub mod Session
-pub mod Sessions

@@ -1,6 +1,6 @@
 -- A relay, as its callers see it.
 use Rattle.std.specs.Prelude.{List}
-use Rattle.relay.specs.declared.listening.GivenListener.{GivenListener}
+use Rattle.relay_main.specs.declared.listening.GivenListener.{GivenListener}
 use Rattle.relay.specs.declared.server.Server.{Server}
 
 module _ {R : Type 0} where

@@ -1,8 +1,8 @@
 //! The end of what a relay's threads share, once all of them have ended.
 
-use crate::shared::Shared;
 use crate::threads::Joined;
-use relay_conn::closing::Closer;
+use relay_shared::closing::Closer;
+use relay_shared::shared::Shared;
 use std::alloc::Global;
 use std::fs::Files;
 use std::sync::Wait;

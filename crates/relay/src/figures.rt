@@ -1,11 +1,11 @@
 //! The relay's figures, for its metrics.
 
-use crate::loop_handle::totals_of;
-use crate::shared::Shared;
 use base_types::OutOfMemory;
-use relay_conn::clock::{Moments, RelayClock};
-use relay_conn::rule_figures::rule_figures;
+use relay_facts::clock::{Moments, RelayClock};
+use relay_facts::rule_figures::rule_figures;
 use relay_metrics::{CarriedBytes, Figures, Metered};
+use relay_shared::loop_handle::totals_of;
+use relay_shared::shared::Shared;
 use std::sync::{Arc, Wait};
 use std::time::Clock;
 

@@ -5,35 +5,24 @@ ghost use Rattle.relay.specs.Server.{given_in};
 ghost use Rattle.relay_admin.specs.ServeFault.{IsRunFault};
 ghost use Rattle.relay_admin.specs.declared.serve_fault.ServeFault.{ServeFault};
 
-use crate::close_wishes::CloseWishes;
-use crate::config::Config;
 use crate::ending::{close_listeners, empty_inboxes};
 use crate::figures::RelayFigures;
-use crate::listening::{GivenListener, Listeners};
-use crate::loop_handle::LoopHandle;
-use crate::loops::LoopParts;
-use crate::main_host::MainHost;
-use crate::main_loop::MainLoop;
-use crate::opening::{Pollers, open_admin};
-use crate::session::MAX_SESSIONS;
-use crate::sessions::Sessions;
-use crate::shared::Shared;
-use crate::stopping::StopFlag;
+use crate::pollers::Pollers;
 use crate::threads::StartedThreads;
-use conntable::ConnTable;
 use log_writer::Log;
-use readiness::{EventLoop, LoopRemote};
 use relay_admin::ServeFault;
-use relay_conn::bound_path::BoundPath;
-use relay_conn::clock::RelayClock;
-use relay_conn::counts::Counter;
-use relay_conn::totals::Totals;
+use relay_facts::bound_path::BoundPath;
+use relay_facts::clock::RelayClock;
+use relay_facts::config::Config;
+use relay_facts::totals::Totals;
+use relay_main::{GivenListener, MainLoop, Sessions};
+use relay_shared::loop_handle::LoopParts;
+use relay_shared::shared::shared_of;
 use std::alloc::Global;
 use std::fs::Files;
 use std::mem;
 use std::net::{Net, TcpListener, TcpStream};
-use std::sync::atomic::AtomicBool;
-use std::sync::{Arc, Mutex, Wait};
+use std::sync::{Arc, Wait};
 use std::thread::Threads;
 use std::time::{Clock, Instant};
 
@@ -47,41 +36,6 @@ pub struct Server<R: Wait + Clock + Copy> {
     threads: StartedThreads,
     /// The path of the admin socket, once it is bound.
     admin: Option<BoundPath>,
-}
-
-// What the threads share, where nobody has stopped, and no entry stands.
-fn shared_of(
-    alloc: Global,
-    config: Config,
-    main: Arc<LoopRemote>,
-    loops: Vec<LoopHandle>,
-) -> Result<Arc<Shared>, ServeFault>
-    ensures faults { IfErr result (λ fault. fault ≡ ServeFault.Memory) }
-{
-    let Config {
-        rules,
-        rules_path,
-        capacity,
-        safeguards,
-        log,
-    } = config;
-    let shared = Shared {
-        table: Mutex::new(ConnTable::new(alloc)),
-        rules: Mutex::new(rules),
-        rules_path,
-        closes: CloseWishes::none(alloc)?,
-        is_finishing: AtomicBool::new(false),
-        main,
-        loops,
-        stop: StopFlag::new(),
-        limit: capacity.pairs,
-        safeguards,
-        log,
-        sessions: Counter::new(),
-        dropped_sessions: Counter::new(),
-        reloads: Counter::new(),
-    };
-    Ok(Arc::new(alloc, shared)?)
 }
 
 // (its bounds are spelt out: a program that calls it over `RelayRuntime` isn't covered by the
@@ -111,28 +65,10 @@ where
             loops,
             handles,
         } = Pollers::open(&rt, alloc, config.capacity.loops)?;
-        let replaces_stale = config.safeguards.replaces_stale;
         let shared = shared_of(alloc, config, main.remote()?, handles)?;
-        let host = MainHost {
-            rt,
-            clock: RelayClock::new(rt, start),
-            shared,
-            unarmed: None,
-            callers: Vec::new(alloc),
-            named: [false; MAX_SESSIONS],
-        };
+        let clock = RelayClock::new(rt, start);
         Ok(Server {
-            main: MainLoop {
-                alloc,
-                tasks: EventLoop::on(main),
-                host,
-                listeners: Listeners {
-                    given: Vec::new(alloc),
-                    replaces_stale,
-                },
-                admin: 0,
-                finish_at: None,
-            },
+            main: MainLoop::new(rt, alloc, clock, shared, main),
             sessions: Sessions::none(alloc)?,
             loops,
             threads: StartedThreads::none(alloc),
@@ -160,21 +96,7 @@ where
     /// `Device` and `Memory`; what was opened before stands, for `end`.
     pub fn open(&mut self, admin: &str) -> Result<(), ServeFault> {
         self.main.listen()?;
-        let Server {
-            main,
-            admin: path,
-            ..
-        } = self;
-        let (rt, alloc) = (main.host.rt, main.alloc);
-        main.admin = open_admin(
-            &rt,
-            alloc,
-            &mut main.tasks,
-            admin,
-            &mut main.listeners,
-            path,
-        )?;
-        Ok(())
+        self.main.open_admin(admin, &mut self.admin)
     }
 
     /// Starts the loops' threads. After a fault those that were started run on, for `end`.

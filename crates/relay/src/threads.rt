@@ -5,15 +5,18 @@ ghost use Rattle.relay_admin.specs.ServeFault.{IsRunFault};
 ghost use Rattle.relay_admin.specs.declared.serve_fault.ServeFault.{ServeFault};
 
 use crate::bounds::RelayRuntime;
-use crate::loops::{LoopContext, LoopParts, run_loop};
-use crate::main_loop::{AcceptsEnded, MainLoop};
 use crate::stacks::LOOP_STACK_BYTES;
-use crate::stopping::Stopped;
 use relay_admin::ServeFault;
-use relay_conn::totals::Totals;
 use relay_core::LoopMemory;
+use relay_facts::totals::Totals;
+use relay_loops::{LoopContext, run_loop};
+use relay_main::{AcceptsEnded, MainLoop};
+use relay_shared::loop_handle::LoopParts;
+use relay_shared::stopping::Stopped;
 use std::alloc::Global;
+use std::sync::{Arc, Wait};
 use std::thread::{Builder, JoinHandle, Threads};
+use std::time::Clock;
 
 /// The threads beside the main one, as far as they were started. It isn't `Drop`: `join` alone lets
 /// it go, so that no thread is left.
@@ -48,6 +51,22 @@ impl Joined {
     }
 }
 
+// What the thread of the loop at this place knows of the relay.
+fn context_of<R: Wait + Clock + Copy>(
+    main: &MainLoop<R>,
+    place: usize,
+) -> Result<LoopContext<R>, ServeFault>
+    ensures faults { IfErr result (λ fault. fault ≡ ServeFault.Memory) }
+{
+    Ok(LoopContext {
+        rt: main.host.rt,
+        alloc: main.alloc,
+        clock: main.host.clock,
+        place,
+        shared: Arc::try_clone(&main.host.shared)?,
+    })
+}
+
 fn spawn_loop<R: RelayRuntime>(
     context: LoopContext<R>,
     parts: LoopParts,
@@ -80,7 +99,7 @@ impl StartedThreads {
     {
         self.loops.reserve(loops.len())?;
         for parts in loops {
-            let context = main.context(self.loops.len())?;
+            let context = context_of(main, self.loops.len())?;
             let memory = LoopMemory::new(main.alloc)?;
             let _ = self.loops.push(spawn_loop(context, parts, memory)?);
         }

@@ -6,7 +6,7 @@ ghost use Rattle.relay_command.specs.Descriptors.{needed};
 use relay_admin::MAX_RULES;
 use relay_core::{Loops, PairLimit};
 
-/// As many admin sessions may stand at once, as `MAX_SESSIONS` of `relay` says.
+/// As many admin sessions may stand at once, as `MAX_SESSIONS` of `relay_shared` says.
 const SESSIONS: u64 = 32;
 
 /// As many clients may ask for metrics at once, as `MOST_CLIENTS` of `metrics_server` says.

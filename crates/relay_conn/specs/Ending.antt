@@ -11,7 +11,7 @@ use Rattle.relay_core.specs.declared.ways.Way.{Way}
 use Rattle.relay_log.specs.declared.ended.Cause.TheVariants.{Timeout}
 use Rattle.relay_log.specs.declared.ended.Ended.{Ended as How}
 use Rattle.relay_log.specs.declared.ended.Ended.TheVariants as how
-use Rattle.relay_conn.specs.HowEnded.{how_of, how_unreached}
+use Rattle.relay_facts.specs.HowEnded.{how_of, how_unreached}
 use Rattle.relay_conn.specs.declared.reach.Reach.{Reach}
 use Rattle.relay_conn.specs.declared.reach.Reach.TheVariants.{Connecting, Reached}
 

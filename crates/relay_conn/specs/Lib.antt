@@ -1,13 +1,5 @@
-pub mod Addr
-pub mod Books
-pub mod BoundPath
 pub mod Connection
-pub mod Counts
 pub mod Deadlines
 pub mod Ending
-pub mod Handle
-pub mod HowEnded
 pub mod Reach
 pub mod SetUp
-pub mod Shown
-pub mod Subject

@@ -7,7 +7,7 @@ use Rattle.base_types.specs.declared.direction.Dir.TheVariants.{Read}
 use Rattle.fd_descriptor.specs.CellKey.{key_of_cell}
 use Rattle.relay_core.specs.declared.pair_tasks.FlowState.TheVariants.{Waits}
 use Rattle.relay_conn.specs.declared.connection.Connection.{Connection}
-use Rattle.relay_conn.specs.declared.connection_facts.ConnectionFacts.{ConnectionFacts}
+use Rattle.relay_facts.specs.declared.connection_facts.ConnectionFacts.{ConnectionFacts}
 
 module _ {U D R : Type 0} where
   -- the connection of which these facts are known, whose sides' descriptors have these keys: it has

@@ -4,9 +4,9 @@
 ghost use Rattle.std.specs.Prelude.{◌≡◌};
 ghost use Rattle.relay_conn.specs.Ending as spec;
 
-use crate::how_ended::{how_of, how_unreached};
 use crate::reach::Reach;
 use relay_core::{Ended, FlowState, Step, Way};
+use relay_facts::how_ended::{how_of, how_unreached};
 use relay_log::ended::{Cause, Ended as How};
 
 // How a connection ended of which no way has failed, and whose ways stand so. Where one goes on

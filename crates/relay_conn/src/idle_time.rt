@@ -5,12 +5,12 @@ ghost use Rattle.deadline_core.specs.declared.deadline.Deadline.{Deadline};
 ghost use Rattle.fd_descriptor.specs.TaskHalf.{KeepsHalf, is_under_way};
 ghost use Rattle.relay_conn.specs.Deadlines.{dirs_of};
 
-use crate::clock::Moments;
 use base_types::Dir;
 use deadline_core::{Deadline, Dirs};
 use fd_descriptor::{Alarms, Guards, Setting, TaskHalf};
 use readiness::{ReadHalf, SockRes, WriteHalf};
 use relay_core::idle_deadline;
+use relay_facts::clock::Moments;
 use rwloops::Fault;
 use std::sync::Wait;
 

@@ -7,15 +7,15 @@ ghost use Rattle.fd_descriptor.specs.FdHandle.{key_of};
 ghost use Rattle.readiness.specs.Sockets.{is_tcp};
 ghost use Rattle.relay_core.specs.SourceState.{unknown_source};
 ghost use Rattle.relay_admin.specs.declared.admin.shown.ShownSide.{ShownSide};
-ghost use Rattle.relay_conn.specs.Subject.{IsSideOf};
+ghost use Rattle.relay_shared.specs.Subject.{IsSideOf};
 
-use crate::connection_facts::ConnectionFacts;
-use crate::entry::{Entry, Handle, Owner, Subject};
 use crate::task_gate::Source;
 use fd_descriptor::{FdHandle, PollCell};
 use readiness::{Poller, RemoteAlarms, Sock, SockRes};
 use relay_admin::ShownSide;
 use relay_core::SourceState;
+use relay_facts::connection_facts::ConnectionFacts;
+use relay_shared::entry::{Entry, Handle, Owner, Subject};
 use std::alloc::Global;
 use std::sync::{Arc, Wait};
 

@@ -6,11 +6,11 @@ ghost use Rattle.std.specs.Prelude.{OnOk, IfOk, IfSome, IfNone};
 ghost use Rattle.fd_descriptor.specs.TaskHalf.{IsHalfOf, is_under_way};
 ghost use Rattle.relay_core.specs.SourceState.{resumed, ReadsAll};
 
-use crate::clock::Moments;
 use crate::idle_time::IdleTime;
 use fd_descriptor::{Alarms, FdHandle, TaskReader, TaskWriter};
 use readiness::SockRes;
 use relay_core::{PollGate, SourceState};
+use relay_facts::clock::Moments;
 use rwloops::{Fault, Progress, WriteFault};
 use std::sync::Wait;
 

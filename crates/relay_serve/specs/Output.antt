@@ -3,7 +3,7 @@ use Rattle.std.specs.Prelude.{ℕ, List, [], ◌∷◌, ◌++◌, Option, codes}
 use Rattle.std.specs.Fmt.{decimal}
 use Rattle.std.specs.Io.KnownBytes.{Appends}
 use Rattle.relay_admin.specs.rules.Addr.{address_of, address_text}
-use Rattle.relay.specs.declared.listening.GivenListener.{GivenListener}
+use Rattle.relay_main.specs.declared.listening.GivenListener.{GivenListener}
 
 -- the line of a relay that listens by so many rules
 abbrev pub listening_line : ℕ → List ℕ

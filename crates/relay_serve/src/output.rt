@@ -9,7 +9,7 @@ use arrayvec::ArrayString;
 use itoa::Buffer;
 use relay::GivenListener;
 use relay_admin::ServeFault;
-use relay_conn::totals::Totals;
+use relay_facts::totals::Totals;
 use std::io::Write;
 use stream_base::sink::deliver_to;
 use stream_base::writer_sink::WriterSink;

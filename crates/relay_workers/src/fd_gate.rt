@@ -1,9 +1,9 @@
 //! What a worker copies through: two descriptors, of which one is read and the other written.
 
 use fd_descriptor::{Alarms, FdHandle, HalfClose, Resource};
-use relay_conn::clock::Moments;
 use relay_conn::idle_time::IdleTime;
 use relay_core::CopyGate;
+use relay_facts::clock::Moments;
 use rwloops::{Fault, TryRead, TryWrite, WriteFault};
 use std::sync::Wait;
 

@@ -8,7 +8,7 @@ use super::watch::Watch;
 use base_types::Dir;
 use conntable::ConnTable;
 use deadline_core::Timers;
-use relay_conn::closing::{Closer, Closes, close_by_id};
+use relay_shared::closing::{Closer, Closes, close_by_id};
 use rwloops::Fault;
 use std::process::Abort;
 use std::sync::atomic::{AtomicU64, Ordering};

@@ -1,0 +1,19 @@
+//! What is known of a relay: what it was asked to be, its rules as it serves them, its connections
+//! while they stand, counts and totals; and what the log, the metrics and a session are told of
+//! them. Nothing here needs a socket.
+#![tactic(auto)]
+
+pub mod books;
+pub mod bound_path;
+pub mod clock;
+pub mod config;
+pub mod connection_facts;
+pub mod counts;
+pub mod how_ended;
+pub mod log_lines;
+pub mod rule_figures;
+pub mod rules_file;
+pub mod safeguards;
+pub mod served_rule;
+pub mod shown;
+pub mod totals;

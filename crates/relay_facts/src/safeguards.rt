@@ -1,0 +1,44 @@
+//! What keeps one target, one rule or a path that was left from harming the rest of a relay.
+
+ghost use Rattle.std.specs.Prelude.{◌≡◌, ◌↔◌, true, Some, None, false};
+ghost use Rattle.relay_facts.specs.Safeguards.{IsAtRuleLimit};
+
+use relay_core::PairLimit;
+
+/// How long targets may keep connections waiting, how many of these a rule may have, and what
+/// becomes of sockets that were left at Unix paths.
+#[derive(Clone, Copy, Debug, PartialEq, Eq, Drop)]
+pub struct Safeguards {
+    /// How many milliseconds a target has to be connected; without it as long as the system takes.
+    pub connect_ms: Option<u32>,
+    /// How many connections of one rule stand at once; without it as many as of all.
+    pub per_rule: Option<PairLimit>,
+    /// Whether a Unix socket at which nobody listens any more gives way to a listener.
+    pub replaces_stale: bool,
+}
+
+impl Safeguards {
+    /// Those of a relay that isn't asked for others: five seconds, no limit of a rule's own, and no
+    /// path that is replaced.
+    pub fn by_default() -> Safeguards
+        ensures connect_ms { result.connect_ms ≡ Some 5000 }
+        ensures per_rule { result.per_rule ≡ None }
+        ensures replaces_stale { result.replaces_stale ≡ false }
+    {
+        Safeguards {
+            connect_ms: Some(5_000),
+            per_rule: None,
+            replaces_stale: false,
+        }
+    }
+
+    /// Whether a rule of which so many connections stand has as many as it may.
+    pub fn is_at_limit(&self, standing: u64) -> bool
+        ensures { result ≡ true ↔ IsAtRuleLimit self.now.per_rule standing }
+    {
+        match self.per_rule {
+            Some(limit) => standing >= limit.count as u64,
+            None => false,
+        }
+    }
+}

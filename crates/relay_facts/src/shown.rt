@@ -1,0 +1,72 @@
+//! What an admin session is shown of a connection or a listener.
+
+ghost use Rattle.std.specs.Prelude.{◌≡◌, ◌-◌, ◌/◌, Some, None};
+ghost use Rattle.relay_facts.specs.Shown.{peer_of_side};
+ghost use Rattle.relay_admin.specs.declared.admin.shown.ShownSide.{ShownSide};
+
+use crate::connection_facts::{Acceptance, ConnectionFacts, ms_between};
+use crate::served_rule::ServedRule;
+use relay_admin::{Addr, Rule, Shown, ShownSide};
+use std::sync::Wait;
+
+// The address at the other end of a side.
+fn peer_of(acceptance: &Acceptance, side: ShownSide) -> Option<Addr>
+    ensures { result ≡ peer_of_side acceptance.now.client acceptance.now.rule side }
+{
+    match side {
+        ShownSide::Client => acceptance.client,
+        ShownSide::Target => Some(acceptance.rule.target),
+        ShownSide::Listener => Some(acceptance.rule.listen),
+    }
+}
+
+/// What is shown at this moment of the side with this id.
+pub fn shown_side(facts: &ConnectionFacts, id: u64, side: ShownSide, now: u64) -> Shown
+    ensures id { result.id ≡ id }
+    ensures rule { result.rule ≡ facts.now.acceptance.rule.name }
+    ensures side { result.side ≡ side }
+    ensures peer { result.peer ≡ peer_of_side facts.now.acceptance.client
+        facts.now.acceptance.rule side }
+    ensures age { result.age_ms ≡ (now - facts.now.acceptance.at) / 1000000 }
+{
+    Shown {
+        id,
+        rule: facts.acceptance.rule.name,
+        side,
+        peer: peer_of(&facts.acceptance, side),
+        up: facts.up(),
+        down: facts.down(),
+        age_ms: facts.acceptance.age_ms(now),
+        quiet_ms: ms_between(facts.last(), now),
+    }
+}
+
+// The same of a listener that is one of this rule's.
+fn shown_of_rule(served: &ServedRule, rule: &Rule, id: u64, now: u64) -> Shown
+    ensures id { result.id ≡ id }
+    ensures rule { result.rule ≡ rule.now.name }
+    ensures side { result.side ≡ ShownSide.Listener }
+    ensures peer { result.peer ≡ Some served.now.listen }
+{
+    let (up, down) = served.counts.bytes();
+    Shown {
+        id,
+        rule: rule.name,
+        side: ShownSide::Listener,
+        peer: Some(served.listen),
+        up,
+        down,
+        age_ms: ms_between(served.since(), now),
+        quiet_ms: ms_between(served.last(), now),
+    }
+}
+
+/// What is shown at this moment of the rule's listener with this id: where it listens, the bytes of
+/// all its connections so far, since when it stands, and how long ago it accepted last.
+pub fn shown_listener<R: Wait>(rt: &R, served: &ServedRule, id: u64, now: u64) -> Shown
+    ensures id { result.id ≡ id }
+    ensures side { result.side ≡ ShownSide.Listener }
+    ensures peer { result.peer ≡ Some served.now.listen }
+{
+    shown_of_rule(served, &served.rule(rt), id, now)
+}

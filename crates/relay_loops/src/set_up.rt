@@ -1,0 +1,163 @@
+//! Setting a connection up for an accepted socket.
+
+ghost use Rattle.std.specs.Prelude.{◌≡◌, IfSome};
+ghost use Rattle.std.specs.Arc.{arc_value};
+
+use crate::connecting::Waiting;
+use crate::loops::{ConnLoop, ConnTask, LoopContext, LoopHost};
+use readiness::{Poller, Sock, connect_io};
+use relay_admin::Addr;
+use relay_conn::connection::Connection;
+use relay_conn::reach::{Reach, cause_of_connect};
+use relay_conn::set_up::{OwnedSock, SetUp};
+use relay_facts::clock::Moments;
+use relay_facts::connection_facts::{Acceptance, ConnectionFacts};
+use relay_log::ended::Ended as How;
+use relay_shared::address::socket_address;
+use relay_shared::entry::Owner;
+use relay_shared::loop_handle::Accepted;
+use std::net::Net;
+use std::sync::ledger::Ledger;
+use std::sync::{Arc, Wait};
+use std::time::Clock;
+
+// Who will have both sides of the next connection of a loop: a task at its vacant place.
+fn owners<U: Ledger, D: Ledger, R: Wait + Clock + Copy>(
+    tasks: &mut ConnLoop<U, D, R>,
+) -> Option<(Owner, Owner)> {
+    let place = tasks.vacant().ok()?;
+    let first = Owner {
+        remote: tasks.remote().ok()?,
+        token: place.first,
+    };
+    let second = Owner {
+        remote: tasks.remote().ok()?,
+        token: place.second,
+    };
+    Some((first, second))
+}
+
+impl<R: Wait + Net + Clock + Copy> LoopContext<R> {
+    // What a connection of its loop is set up by.
+    fn set_up<'a>(&'a self, poller: &'a Poller) -> SetUp<'a, R> {
+        SetUp {
+            rt: self.rt,
+            alloc: self.alloc,
+            clock: self.clock,
+            table: &self.shared.table,
+            poller,
+        }
+    }
+
+    // What is known of a connection with this client.
+    fn facts(&self, acceptance: &Acceptance) -> Option<Arc<ConnectionFacts>>
+        ensures rule { IfSome result (λ facts.
+            (arc_value facts).acceptance.rule ≡ acceptance.now.rule) }
+    {
+        let facts = ConnectionFacts::new(acceptance.try_clone()?, self.place);
+        Arc::new(self.alloc, facts).ok()
+    }
+
+    // How far a connection is from its target that begins now.
+    fn reach(&self, acceptance: &Acceptance) -> Reach {
+        let is_tcp = matches!(&acceptance.rule.target, Addr::Tcp(_, _));
+        Reach::at(is_tcp, self.clock.now(), self.shared.safeguards.connect_ms)
+    }
+
+    // A client isn't served, since there is no target, or no room.
+    fn refuse(&self, acceptance: &Acceptance, how: How) {
+        if let Some(counts) = acceptance.served.counts.of_loop(self.place) {
+            counts.note_refused(how);
+        }
+        let now = self.clock.now();
+        self.shared.tell_refused(&self.rt, acceptance, now, how);
+    }
+
+    // A connection is about to go on.
+    fn note_begin(&self, acceptance: &Acceptance) {
+        if let Some(counts) = acceptance.served.counts.of_loop(self.place) {
+            counts.note_begin();
+        }
+    }
+}
+
+impl<U: Ledger, D: Ledger, R: Wait + Net + Clock + Copy> LoopHost<U, D, R> {
+    // A connection of both sockets, where there is room.
+    fn join(
+        &mut self,
+        tasks: &mut ConnLoop<U, D, R>,
+        client: Sock,
+        target: Sock,
+        facts: Arc<ConnectionFacts>,
+    ) -> Option<Connection<U, D, R>> {
+        let (first, second) = owners(tasks)?;
+        let client = OwnedSock {
+            sock: client,
+            owner: first,
+        };
+        let target = OwnedSock {
+            sock: target,
+            owner: second,
+        };
+        self.context
+            .set_up(tasks.poller())
+            .connection(&mut self.books, client, target, facts)
+    }
+
+    // Connects to the target, and makes a connection of both sockets; or says why not.
+    fn connect_sides(
+        &mut self,
+        tasks: &mut ConnLoop<U, D, R>,
+        sock: Sock,
+        acceptance: &Acceptance,
+    ) -> Result<Connection<U, D, R>, How> {
+        let Some(facts) = self.context.facts(acceptance) else {
+            return Err(How::Full);
+        };
+        let address = socket_address(&acceptance.rule.target);
+        let target = match connect_io(&self.context.rt, &address) {
+            Ok(target) => target,
+            Err(error) => return Err(How::NoTarget(cause_of_connect(&error))),
+        };
+        match self.join(tasks, sock, target, facts) {
+            Some(connection) => Ok(connection),
+            None => Err(How::Full),
+        }
+    }
+
+    /// Sets a connection up. An accepted socket whose setting up is refused is dropped, and nothing
+    /// is left of it.
+    pub(crate) fn set_up(&mut self, tasks: &mut ConnLoop<U, D, R>, accepted: Accepted) {
+        let Accepted {
+            sock,
+            acceptance,
+            counted,
+        } = accepted;
+        let connection = match self.connect_sides(tasks, sock, &acceptance) {
+            Ok(connection) => connection,
+            Err(how) => {
+                self.context.refuse(&acceptance, how);
+                self.context.shared.settle_gone(&self.context.rt);
+                return;
+            }
+        };
+        self.context.note_begin(&acceptance);
+        let reach = self.context.reach(&acceptance);
+        let mut task = ConnTask {
+            connection,
+            counted,
+        };
+        task.connection.begin(reach);
+        match tasks.put(task) {
+            Ok(place) => self.wait_for_target(tasks, reach, place.first),
+            Err(task) => self.end(task),
+        }
+    }
+
+    // Has a connection given up in time that waits for its target.
+    fn wait_for_target(&mut self, tasks: &ConnLoop<U, D, R>, reach: Reach, token: u64) {
+        if let Some(until) = reach.until() {
+            self.note_connecting(tasks, Waiting { until, token });
+        }
+    }
+}

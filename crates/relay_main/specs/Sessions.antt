@@ -1,0 +1,33 @@
+-- Which admin session gives its place up to another.
+use Rattle.std.specs.Prelude.{◌≡◌, ◌<◌, ◌≤◌, ℕ, List, Option, Some, false, length, slice_get}
+use Rattle.std.specs.Box.{box_value}
+use Rattle.std.specs.Global.{Box}
+use Rattle.relay_main.specs.declared.sessions.Seated.{Seated}
+
+-- the session at this place may give it up: no reply of it waits for a close
+abbrev pub MayLeave : List (Option (Box Seated)) → ℕ → Box Seated → Type 0
+MayLeave places place session =
+    (slice_get places place ≡ Some (Some session)) × ((box_value session).is_held ≡ false)
+
+-- until when a session stands that doesn't get on: so long after it last did
+abbrev pub patience : Box Seated → ℕ
+patience session = (box_value session).until
+
+-- of those at the first places that may leave, the session at this place has got nowhere for
+-- longest, and those before it not as long
+pub record IsQuietestOf (places : List (Option (Box Seated))) (count : ℕ) (place : ℕ)
+    (session : Box Seated) : Type 0 where
+  pub leaves : MayLeave places place session
+  pub longest : (k : ℕ) (other : Box Seated) → k < count → MayLeave places k other
+      → patience session ≤ patience other
+  pub first : (k : ℕ) (other : Box Seated) → k < place → MayLeave places k other
+      → patience session < patience other
+
+-- the same of all sessions
+abbrev pub IsQuietest : List (Option (Box Seated)) → ℕ → Box Seated → Type 0
+IsQuietest places place session = IsQuietestOf places (length places) place session
+
+-- none of those at the first places may leave
+abbrev pub NoneMayLeave : List (Option (Box Seated)) → ℕ → Type 0
+NoneMayLeave places count =
+    (k : ℕ) (session : Box Seated) → k < count → MayLeave places k session → ⊥

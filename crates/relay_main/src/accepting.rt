@@ -1,0 +1,157 @@
+//! Accepting, by tasks of the main thread's loop: each goes on when its listener may be ready. A
+//! rule's delivers to the loops, and that of the admin socket to the main thread.
+
+ghost use Rattle.std.specs.Prelude.{◌≡◌, ◌↔◌, true};
+ghost use Rattle.relay_main.specs.Accepting.{turn_of};
+
+use crate::admin::{AdminDoor, AdminTask, Caller};
+use crate::main_host::MainHost;
+use crate::rule_task::{RuleListener, RuleTask, accept_on};
+use readiness::Turn;
+use relay_core::{AcceptEnded, AcceptStep, Accepting, next_pause_ms};
+use relay_facts::clock::Moments;
+use relay_facts::how_ended::reason_of_fault;
+use relay_facts::log_lines::tell_accept_fault;
+use relay_facts::served_rule::ServedRule;
+use relay_shared::closing::{Closer, Closes};
+use rwloops::Fault;
+use std::sync::Wait;
+use std::time::Clock;
+
+/// How long a task pauses that begins anew after too many faults in a row, in milliseconds.
+const RESTART_MS: u64 = 1_000;
+
+/// How often a listener that is to be closed is accepted from, 64 clients each time: as many as its
+/// queue may have.
+const LAST_ROUNDS: u32 = 64;
+
+// What the loop does with an accept task after this step.
+fn turn_after(step: &AcceptStep) -> Turn
+    ensures { result ≡ turn_of step.now }
+{
+    match step {
+        AcceptStep::Waits | AcceptStep::Pauses(_) => Turn::Waits,
+        AcceptStep::Ended(AcceptEnded::TooManyFaults(_)) => Turn::Waits,
+        AcceptStep::Again => Turn::Again,
+        AcceptStep::Ended(_) => Turn::Over,
+    }
+}
+
+// Whether a fault after which there is such a pause was the first in a row.
+fn begins_row(pause_ms: u64) -> bool
+    ensures { result ≡ true ↔ pause_ms ≡ 5 }
+{
+    pause_ms == next_pause_ms(0)
+}
+
+impl<R: Wait + Clock + Copy, C: Moments> MainHost<R, C> {
+    /// Has a rule's task go on.
+    pub(crate) fn resume_rule(&mut self, task: &mut RuleTask<R>) -> Turn {
+        if self.is_paused(&mut task.paused_until) {
+            return Turn::Waits;
+        }
+        let (step, fault) = accept_on(self.rt, &self.clock, &*self.shared, task);
+        match step {
+            AcceptStep::Pauses(ms) => {
+                self.note_fault(&task.served, fault, begins_row(ms));
+                self.pause(task.place, &mut task.paused_until, ms);
+            }
+            AcceptStep::Ended(AcceptEnded::TooManyFaults(_)) => self.begin_anew(task),
+            AcceptStep::Ended(ended) => {
+                task.served.note_listening(false);
+                self.end(&task.listener, ended);
+            }
+            AcceptStep::Waits | AcceptStep::Again => task.served.note_listening(true),
+        }
+        turn_after(&step)
+    }
+
+    // An accept failed. The log and the metrics are told of the first in a row.
+    fn note_fault(&self, served: &ServedRule, fault: Option<Fault>, is_first: bool) {
+        served.note_listening(false);
+        if !is_first {
+            return;
+        }
+        served.counts.accept_faults.add(1);
+        if let (Some(log), Some(fault)) = (&self.shared.log, fault) {
+            tell_accept_fault(&self.rt, log, served, reason_of_fault(fault));
+        }
+    }
+
+    // Accepts failed too often in a row. The task begins anew after a pause, since its clients would
+    // wait in the system's queue, and nobody would come for them.
+    fn begin_anew(&mut self, task: &mut RuleTask<R>)
+        ensures anew { task.new.accepting ≡ 0 }
+    {
+        self.pause(task.place, &mut task.paused_until, RESTART_MS);
+        task.accepting = Accepting::new();
+    }
+
+    // A drained listener is closed: else its clients would wait in the system's queue, and nobody
+    // would come for them.
+    fn end(&self, listener: &RuleListener<R>, ended: AcceptEnded) {
+        if ended.leaves_a_listener_to_close() {
+            self.shared.close(&self.rt, listener.id, Closer::ItsLoop);
+        }
+    }
+
+    // Takes over one that came, if there is memory.
+    fn take_caller(&mut self, caller: Caller) -> bool {
+        match self.callers.push(caller) {
+            Ok(()) => true,
+            Err(_) => false,
+        }
+    }
+
+    // Takes over who came. One for whom there is no memory is dropped, and counted.
+    fn take_callers(&mut self, door: &mut AdminDoor) {
+        for caller in door.callers.drain(..) {
+            self.shared.sessions.add(1);
+            if !self.take_caller(caller) {
+                self.shared.dropped_sessions.add(1);
+            }
+        }
+        self.shared.dropped_sessions.add(door.dropped);
+        door.dropped = 0;
+    }
+
+    /// Accepts sessions. However many faults come in a row, it goes on.
+    pub(crate) fn accept_sessions(&mut self, task: &mut AdminTask) -> Turn {
+        if self.is_paused(&mut task.paused_until) {
+            return Turn::Waits;
+        }
+        let step = task.accepting.resume(&mut task.door);
+        self.take_callers(&mut task.door);
+        match step {
+            AcceptStep::Pauses(ms) => self.pause(task.place, &mut task.paused_until, ms),
+            AcceptStep::Ended(_) => {
+                task.accepting = Accepting::new();
+                self.pause(task.place, &mut task.paused_until, RESTART_MS);
+            }
+            AcceptStep::Waits | AcceptStep::Again => {}
+        }
+        match step {
+            AcceptStep::Again => Turn::Again,
+            _ => Turn::Waits,
+        }
+    }
+
+    /// Lets a rule's last clients in: nobody finds its listener any more, those who wait are
+    /// accepted, and then it is closed. (a close resets who waits in the system's queue)
+    pub(crate) fn let_last_in(&self, task: RuleTask<R>) {
+        let mut task = task;
+        let removed = self.shared.table.lock(&self.rt).remove(task.listener.id);
+        for _ in 0..LAST_ROUNDS {
+            let (step, _) = accept_on(self.rt, &self.clock, &*self.shared, &mut task);
+            if step != AcceptStep::Again {
+                break;
+            }
+        }
+        drop(task);
+        if let Ok(entry) = removed {
+            let mut entry = entry;
+            let _ = entry.close(&self.rt, Closer::ItsLoop);
+            entry.disarm(&self.rt);
+        }
+    }
+}

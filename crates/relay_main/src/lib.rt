@@ -1,0 +1,21 @@
+//! The main thread of a relay: on a loop of its own it accepts by all rules, and serves the admin
+//! sessions, which steer connections, have the rules read again and end the relay.
+#![tactic(auto)]
+
+mod accepting;
+mod admin;
+mod desk;
+mod finishing;
+mod listening;
+mod main_host;
+mod main_loop;
+mod main_task;
+mod opening;
+mod reload;
+mod rule_task;
+mod session;
+mod sessions;
+
+pub use listening::GivenListener;
+pub use main_loop::{AcceptsEnded, MainLoop};
+pub use sessions::Sessions;

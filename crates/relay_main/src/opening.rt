@@ -1,0 +1,187 @@
+//! Opening: the listeners in the rules' order, and the admin socket.
+
+ghost use Rattle.std.specs.Prelude.{◌≡◌, IfErr};
+ghost use Rattle.relay_admin.specs.ServeFault.{IsRunFault};
+ghost use Rattle.relay_admin.specs.declared.serve_fault.ServeFault.{ServeFault};
+
+use crate::admin::{AdminDoor, AdminTask};
+use crate::listening::{Listeners, Opened};
+use crate::main_task::MainTask;
+use crate::rule_task::{RuleListener, RuleTask};
+use arrayvec::ArrayString;
+use conntable::ConnTable;
+use fd_descriptor::{FdHandle, TaskReader};
+use readiness::{EventLoop, HoldFault, Listen, ListenRes};
+use relay_admin::{Addr, ServeFault};
+use relay_core::Accepting;
+use relay_facts::bound_path::BoundPath;
+use relay_facts::served_rule::ServedRule;
+use relay_shared::entry::{Entry, Handle, Owner, Subject};
+use std::alloc::Global;
+use std::fs::Files;
+use std::net::Net;
+use std::sync::{Arc, Mutex, Wait};
+
+// Listens at a rule's address.
+fn bind<R: Wait + Net + Files>(
+    rt: &R,
+    served: &ServedRule,
+    listeners: &mut Listeners,
+) -> Result<Listen, ServeFault> {
+    match listeners.open(rt, &served.listen) {
+        Ok(Opened::Given(socket)) => Ok(socket),
+        Ok(Opened::Bound(socket)) => {
+            served.note_bound(rt);
+            Ok(socket)
+        }
+        Err(_) => Err(ServeFault::Listen(served.rule(rt).name)),
+    }
+}
+
+// A descriptor of a rule's listener, which stands in the table.
+fn listener_in<R: Wait + Copy>(
+    rt: R,
+    table: &mut ConnTable<Entry>,
+    handle: FdHandle<ListenRes>,
+    owner: Owner,
+    served: &Arc<ServedRule>,
+) -> Option<RuleListener<R>> {
+    let mut handle = handle;
+    let cell = handle.cell().ok()?;
+    let subject = Subject::Listener(Arc::try_clone(served).ok()?);
+    let entry = Entry::new(Handle::Listener(handle.share().ok()?), owner, subject);
+    let (id, _) = table.insert(entry).ok()?;
+    Some(RuleListener {
+        id,
+        cell,
+        half: TaskReader::new(rt, handle),
+    })
+}
+
+// Has a task accept from this socket from the next turn on; its descriptor stands in the table
+// under the next id. After a fault no task is left, and an entry may be, of the id that the rule
+// then has.
+fn hold_rule<R: Wait + Copy>(
+    rt: R,
+    alloc: Global,
+    tasks: &mut EventLoop<MainTask<R>>,
+    table: &mut ConnTable<Entry>,
+    socket: Listen,
+    served: Arc<ServedRule>,
+    now: u64,
+) -> Result<(), ServeFault> {
+    let Ok(place) = tasks.vacant() else {
+        return Err(ServeFault::Memory);
+    };
+    let opened = tasks.poller().open_listener(alloc, socket, place.first);
+    let handle = match opened {
+        Ok(handle) => handle,
+        Err(HoldFault::Device(_)) => return Err(ServeFault::Device),
+        Err(_) => return Err(ServeFault::Memory),
+    };
+    let owner = Owner {
+        remote: tasks.remote()?,
+        token: place.first,
+    };
+    let Some(listener) = listener_in(rt, table, handle, owner, &served) else {
+        return Err(ServeFault::Memory);
+    };
+    served.note_listener(listener.id, place.first, now);
+    let task = RuleTask {
+        served,
+        place,
+        listener,
+        accepting: Accepting::new(),
+        paused_until: None,
+    };
+    match tasks.put(MainTask::Rule(task)) {
+        Ok(_) => {
+            tasks.again(place.first);
+            Ok(())
+        }
+        Err(_) => Err(ServeFault::Memory),
+    }
+}
+
+/// Listens at a rule's address, and has a task accept there from the next turn on. After a fault no
+/// task is left, and an entry of the table may be, of the id that the rule then has.
+pub(crate) fn listen_by<R: Wait + Net + Files + Copy>(
+    rt: &R,
+    alloc: Global,
+    tasks: &mut EventLoop<MainTask<R>>,
+    table: &Mutex<ConnTable<Entry>>,
+    served: &Arc<ServedRule>,
+    listeners: &mut Listeners,
+    now: u64,
+) -> Result<(), ServeFault> {
+    let socket = bind(rt, served, listeners)?;
+    let served = Arc::try_clone(served)?;
+    hold_rule(*rt, alloc, tasks, &mut *table.lock(rt), socket, served, now)
+}
+
+// Listens at the admin path; `bound` says whether it has bound it. A path of no byte, or of more
+// than an address holds, can't be listened on.
+fn listen_at_admin<R: Net + Files>(
+    rt: &R,
+    path: &str,
+    listeners: &mut Listeners,
+    bound: &mut Option<BoundPath>,
+) -> Result<Listen, ServeFault>
+    ensures faults { IfErr result (λ fault. fault ≡ ServeFault.Admin) }
+{
+    if path.is_empty() {
+        return Err(ServeFault::Admin);
+    }
+    let Ok(path) = ArrayString::from(path) else {
+        return Err(ServeFault::Admin);
+    };
+    let addr = Addr::Unix(path);
+    match listeners.open(rt, &addr) {
+        Ok(Opened::Given(listener)) => Ok(listener),
+        Ok(Opened::Bound(listener)) => {
+            *bound = Some(BoundPath::of(&addr));
+            Ok(listener)
+        }
+        Err(_) => Err(ServeFault::Admin),
+    }
+}
+
+/// Opens the admin socket at this path, and has a task accept there from the next turn on, whose
+/// token it gives; `bound` says whether it has bound the path.
+pub(crate) fn open_admin<R: Wait + Net + Files + Copy>(
+    rt: &R,
+    alloc: Global,
+    tasks: &mut EventLoop<MainTask<R>>,
+    path: &str,
+    listeners: &mut Listeners,
+    bound: &mut Option<BoundPath>,
+) -> Result<u64, ServeFault> {
+    let mut listener = listen_at_admin(rt, path, listeners, bound)?;
+    let Ok(place) = tasks.vacant() else {
+        return Err(ServeFault::Memory);
+    };
+    if tasks
+        .poller()
+        .register_listener(&mut listener, place.first)
+        .is_err()
+    {
+        return Err(ServeFault::Device);
+    }
+    let task = AdminTask {
+        place,
+        door: AdminDoor {
+            listener,
+            callers: Vec::new(alloc),
+            dropped: 0,
+        },
+        accepting: Accepting::new(),
+        paused_until: None,
+    };
+    match tasks.put(MainTask::Admin(task)) {
+        Ok(_) => {
+            tasks.again(place.first);
+            Ok(place.first)
+        }
+        Err(_) => Err(ServeFault::Memory),
+    }
+}

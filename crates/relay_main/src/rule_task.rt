@@ -1,0 +1,131 @@
+//! A rule's task of the main thread's loop: it accepts from the rule's listener, and delivers to the
+//! loops.
+
+ghost use Rattle.std.specs.Prelude.{◌≡◌, ⊤, IfSome};
+ghost use Rattle.std.specs.Arc.{arc_value};
+
+use fd_descriptor::{PollCell, TaskReader};
+use readiness::{ListenRes, Place, Sock};
+use relay_core::{AcceptStep, Accepting, PollAcceptGate};
+use relay_facts::clock::Moments;
+use relay_facts::connection_facts::Acceptance;
+use relay_facts::served_rule::ServedRule;
+use relay_shared::address::rule_address;
+use relay_shared::shared::Shared;
+use rwloops::Fault;
+use std::sync::{Arc, Wait};
+use std::time::Clock;
+
+/// A rule's listener, as its task has it.
+#[derive(Drop)]
+pub struct RuleListener<R: Wait + Copy> {
+    pub(crate) id: u64,
+    pub(crate) cell: Arc<PollCell>,
+    pub(crate) half: TaskReader<ListenRes, R>,
+}
+
+/// Accepts by a rule until its listener is closed or drained.
+#[derive(Drop)]
+pub struct RuleTask<R: Wait + Copy> {
+    pub(crate) served: Arc<ServedRule>,
+    pub(crate) place: Place,
+    pub(crate) listener: RuleListener<R>,
+    pub(crate) accepting: Accepting,
+    /// The end of its pause, where it pauses.
+    pub(crate) paused_until: Option<u64>,
+}
+
+// Accepts from a rule's listener, and delivers to the loops.
+#[derive(Drop)]
+struct RuleGate<'a, R: Wait + Copy, C> {
+    rt: R,
+    clock: &'a C,
+    served: &'a Arc<ServedRule>,
+    listener: &'a mut RuleListener<R>,
+    shared: &'a Shared,
+    // The last fault of an accept.
+    fault: Option<Fault>,
+}
+
+impl<'a, R, C> RuleGate<'a, R, C>
+where
+    R: Wait + Copy,
+    C: Moments,
+{
+    // What is known of a client that this listener gave just now: the listener's own rule serves
+    // it.
+    fn acceptance(&self, client: Option<relay_admin::Addr>) -> Option<Acceptance>
+        ensures own { IfSome result (λ acceptance.
+            arc_value acceptance.served ≡ arc_value self.now.served.now) }
+        ensures client { IfSome result (λ acceptance. acceptance.client ≡ client) }
+    {
+        let served = Arc::try_clone(self.served).ok()?;
+        let rule = served.rule(&self.rt);
+        Some(Acceptance {
+            served,
+            rule,
+            client,
+            at: self.clock.now(),
+        })
+    }
+}
+
+impl<'a, R, C> PollAcceptGate for RuleGate<'a, R, C>
+where
+    R: Wait + Clock + Copy,
+    C: Moments,
+{
+    type T = Sock;
+
+    // What a listener gave can't be told.
+    ghost tells = { λ _ _. ⊥ };
+
+    ghost blocked = { λ _. ⊤ };
+
+    fn poll_accept(&mut self) -> Option<Result<Sock, Fault>> {
+        let accepted = self.listener.half.poll_accept();
+        if let Some(Err(fault)) = &accepted {
+            self.fault = Some(*fault);
+        }
+        accepted
+    }
+
+    fn deliver(&mut self, taken: Sock) {
+        if let Some(acceptance) = self.acceptance(peer_of(&taken)) {
+            self.shared.deliver(&self.rt, taken, acceptance);
+        }
+    }
+}
+
+// The client's address, in the terms of rules.
+fn peer_of(sock: &Sock) -> Option<relay_admin::Addr> {
+    match sock.peer() {
+        Some(addr) => Some(rule_address(&addr)),
+        None => None,
+    }
+}
+
+/// Has a task accept by its rule, and gives the last fault too.
+pub(crate) fn accept_on<'a, R: Wait + Clock + Copy, C: Moments>(
+    rt: R,
+    clock: &'a C,
+    shared: &'a Shared,
+    task: &'a mut RuleTask<R>,
+) -> (AcceptStep, Option<Fault>) {
+    let RuleTask {
+        served,
+        listener,
+        accepting,
+        ..
+    } = task;
+    let mut gate = RuleGate {
+        rt,
+        clock,
+        served,
+        listener,
+        shared,
+        fault: None,
+    };
+    let step = accepting.resume(&mut gate);
+    (step, gate.fault)
+}

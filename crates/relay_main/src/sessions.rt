@@ -1,0 +1,270 @@
+//! The admin sessions of a relay, which the main thread serves between two turns of its loop. So a
+//! command may do what only that thread does, and no session waits for another: each has a few lines
+//! answered in a turn.
+
+ghost use Rattle.std.specs.Prelude.{◌≡◌, ◌<◌, ◌↔◌, true, Some, None, length, slice_get};
+ghost use Rattle.std.specs.Prelude.{IfErr, IfSome, IfNone};
+ghost use Rattle.relay_main.specs.Sessions.{IsQuietest, NoneMayLeave, patience};
+ghost use Rattle.relay_admin.specs.declared.serve_fault.ServeFault.{ServeFault};
+
+use crate::desk::RelayDesk;
+use crate::main_loop::MainLoop;
+use crate::main_task::MainTask;
+use crate::session::{Session, SessionStep};
+use readiness::Sock;
+use relay_admin::ServeFault;
+use relay_core::{has_come, silence_end};
+use relay_facts::clock::Moments;
+use relay_shared::close_wishes::{CloseWishes, MAX_SESSIONS};
+use std::alloc::Global;
+use std::fs::Files;
+use std::mem;
+use std::net::Net;
+use std::sync::Wait;
+use std::time::Clock;
+
+/// The most lines that a session has answered in a turn, or looks at that a listing takes, or reads
+/// that it makes, so that others have theirs.
+const LINES_A_TURN: u32 = 8;
+
+/// A session in its place.
+#[derive(Drop)]
+struct Seated {
+    session: Session,
+    /// The token of its task, and the key of its alarm.
+    token: u64,
+    /// When it is ended, unless it gets on before.
+    until: u64,
+    /// Its reply waits for a close that it has asked for.
+    is_held: bool,
+}
+
+/// The sessions, by their places.
+#[derive(Drop)]
+pub struct Sessions {
+    places: Vec<Option<Box<Seated>>>,
+}
+
+impl Seated {
+    // Goes on for some lines. One that doesn't get on for too long has ended.
+    fn go_on<R>(&mut self, main: &mut MainLoop<R>, place: usize) -> SessionStep
+    where
+        R: Wait + Net + Files + Clock + Copy,
+    {
+        let mut step = self.session.pay();
+        for _ in 0..LINES_A_TURN {
+            if step == SessionStep::Again {
+                step = self.ask(main, place);
+            }
+        }
+        let now = main.host.clock.now();
+        if self.session.takes_progress() {
+            self.until = silence_end(now);
+            main.host.arm(self.token, self.until);
+        }
+        if step == SessionStep::Waits && !self.is_held && has_come(Some(self.until), now) {
+            return SessionStep::Over;
+        }
+        step
+    }
+
+    // Has the next line answered, and its reply written, unless that is to wait.
+    fn ask<R>(&mut self, main: &mut MainLoop<R>, place: usize) -> SessionStep
+    where
+        R: Wait + Net + Files + Clock + Copy,
+    {
+        let alloc = main.alloc;
+        let mut desk = RelayDesk::of(main, place);
+        let step = self.session.ask(alloc, &mut desk);
+        self.is_held = desk.is_held;
+        if self.is_held {
+            return SessionStep::Waits;
+        }
+        match step {
+            SessionStep::Again => self.session.pay(),
+            other => other,
+        }
+    }
+}
+
+// Whether a session has got nowhere for longer than one that was found, if one was.
+fn is_quieter(session: &Box<Seated>, found: Option<(usize, &Box<Seated>)>) -> bool
+    ensures some { IfSome found.entry (λ before. result ≡ true
+        ↔ patience session.now < patience before.1.now) }
+    ensures none { IfNone found.entry (result ≡ true) }
+{
+    match found {
+        Some((_, before)) => session.until < before.until,
+        None => true,
+    }
+}
+
+impl Sessions {
+    /// None, with room for as many as may be.
+    pub fn none(alloc: Global) -> Result<Sessions, ServeFault>
+        ensures faults { IfErr result (λ fault. fault ≡ ServeFault.Memory) }
+    {
+        let mut places = Vec::new(alloc);
+        for _ in 0..MAX_SESSIONS {
+            places.push(None)?;
+        }
+        Ok(Sessions { places })
+    }
+
+    // A place that is free.
+    fn vacant(&self) -> Option<usize>
+        ensures free { IfSome result (λ place. slice_get self.now.places.items place ≡ Some None) }
+    {
+        for place in 0..self.places.len() {
+            if self.places[place].is_none() {
+                return Some(place);
+            }
+        }
+        None
+    }
+
+    // The session that has got nowhere for longest, with its place. One whose reply waits for a
+    // close isn't asked.
+    fn quietest(&self) -> Option<(usize, &Box<Seated>)>
+        ensures longest { IfSome result (λ found.
+            IsQuietest self.now.places.items found.0 found.1.now) }
+        ensures none { IfNone result
+            (NoneMayLeave self.now.places.items (length self.now.places.items)) }
+    {
+        let mut found: Option<(usize, &Box<Seated>)> = None;
+        for place in 0..self.places.len() {
+            if let Some(session) = &self.places[place] {
+                if !session.is_held && is_quieter(session, found) {
+                    found = Some((place, session));
+                }
+            }
+        }
+        found
+    }
+
+    // A place for one session more: so those that say nothing keep nobody out.
+    fn make_room<R>(&mut self, main: &mut MainLoop<R>) -> Option<usize>
+    where
+        R: Wait + Net + Files + Clock + Copy,
+    {
+        if let Some(place) = self.vacant() {
+            return Some(place);
+        }
+        let (place, session) = self.quietest()?;
+        let token = session.token;
+        self.end(main, place, token);
+        main.host.shared.dropped_sessions.add(1);
+        Some(place)
+    }
+
+    // Begins a session over a socket that was accepted, if there is a place, and memory.
+    fn begin<R>(&mut self, main: &mut MainLoop<R>, sock: Sock) -> Option<()>
+    where
+        R: Wait + Net + Files + Clock + Copy,
+    {
+        let place = self.make_room(main)?;
+        let seated = main.seat(sock, place)?;
+        *self.places.get_mut(place)? = Some(seated);
+        Some(())
+    }
+
+    // Begins what was accepted in the last turn. What finds no place is dropped, and counted.
+    fn begin_all<R>(&mut self, main: &mut MainLoop<R>)
+    where
+        R: Wait + Net + Files + Clock + Copy,
+    {
+        let mut came = mem::replace(&mut main.host.callers, Vec::new(main.alloc));
+        for caller in came.drain(..) {
+            if self.begin(main, caller.sock).is_none() {
+                main.host.shared.dropped_sessions.add(1);
+            }
+        }
+        main.host.callers = came;
+    }
+
+    // Whether the session at this place may go on: one whose reply waits for a close, once that is
+    // done; any other, where it was named.
+    fn may_go_on(&mut self, place: usize, is_named: bool, wishes: &CloseWishes) -> bool {
+        let Some(Some(seated)) = self.places.get_mut(place) else {
+            return false;
+        };
+        if !seated.is_held {
+            return is_named;
+        }
+        if !wishes.is_settled(place) {
+            return false;
+        }
+        wishes.take_back(place);
+        seated.is_held = false;
+        true
+    }
+
+    // Has the session at this place go on, and ends it where it has ended.
+    fn go_on<R>(&mut self, main: &mut MainLoop<R>, place: usize)
+    where
+        R: Wait + Net + Files + Clock + Copy,
+    {
+        let Some(Some(seated)) = self.places.get_mut(place) else {
+            return;
+        };
+        let token = seated.token;
+        match seated.go_on(main, place) {
+            SessionStep::Waits => {}
+            SessionStep::Again => main.tasks.again(token),
+            SessionStep::Over => self.end(main, place, token),
+            SessionStep::Stops => {
+                self.end(main, place, token);
+                main.host.shared.stop();
+            }
+        }
+    }
+
+    fn end<R>(&mut self, main: &mut MainLoop<R>, place: usize, token: u64)
+    where
+        R: Wait + Net + Files + Clock + Copy,
+    {
+        drop(main.tasks.take(token));
+        main.host.disarm(token);
+        if let Some(seat) = self.places.get_mut(place) {
+            *seat = None;
+        }
+    }
+
+    /// Begins the sessions that came, and has those go on that may.
+    pub(crate) fn serve<R>(&mut self, main: &mut MainLoop<R>)
+    where
+        R: Wait + Net + Files + Clock + Copy,
+    {
+        self.begin_all(main);
+        let named = mem::replace(&mut main.host.named, [false; MAX_SESSIONS]);
+        for place in 0..MAX_SESSIONS {
+            if self.may_go_on(place, named[place], &main.host.shared.closes) {
+                self.go_on(main, place);
+            }
+        }
+    }
+}
+
+impl<R: Wait + Net + Files + Clock + Copy> MainLoop<R> {
+    // A session over this socket, with a task and an alarm of its own; none where that is refused,
+    // and the socket is dropped.
+    fn seat(&mut self, sock: Sock, place: usize) -> Option<Box<Seated>> {
+        let token = self.tasks.vacant().ok()?.first;
+        let mut sock = sock;
+        self.tasks.poller().register(&mut sock, token).ok()?;
+        let until = silence_end(self.host.clock.now());
+        let seated = Seated {
+            session: Session::over(self.alloc, sock)?,
+            token,
+            until,
+            is_held: false,
+        };
+        let seated = Box::new(self.alloc, seated).ok()?;
+        if !self.host.arm(token, until) {
+            return None;
+        }
+        self.tasks.put(MainTask::Session(place)).ok()?;
+        self.tasks.again(token);
+        Some(seated)
+    }
+}

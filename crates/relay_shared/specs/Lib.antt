@@ -1,0 +1,5 @@
+pub mod Addr
+pub mod Fault
+pub mod Handle
+pub mod StalePath
+pub mod Subject

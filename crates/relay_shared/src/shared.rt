@@ -1,0 +1,191 @@
+//! What the relay's threads share.
+//!
+//! Locks are held for a few steps, and taken in this order: the rules', the table's, an entry's, a
+//! rule's or a cell's, a remote's. The inboxes' are held alone.
+
+ghost use Rattle.std.specs.Prelude.{◌≡◌, IfErr};
+ghost use Rattle.relay_admin.specs.declared.serve_fault.ServeFault.{ServeFault};
+
+use crate::close_wishes::{CloseWishes, MAX_SESSIONS};
+use crate::closing::{Closer, close_by_id};
+use crate::entry::Entry;
+use crate::loop_handle::LoopHandle;
+use crate::stopping::{StopFlag, Stopped};
+use arrayvec::ArrayVec;
+use conntable::ConnTable;
+use log_writer::Log;
+use readiness::{LoopRemote, Sock};
+use relay_admin::ServeFault;
+use relay_core::{MAX_LOOPS, PairLimit, place_of_pair};
+use relay_facts::config::Config;
+use relay_facts::connection_facts::Acceptance;
+use relay_facts::counts::Counter;
+use relay_facts::log_lines::tell_refused;
+use relay_facts::safeguards::Safeguards;
+use relay_facts::served_rule::ServedRule;
+use relay_log::ended::Ended;
+use rwloops::Fault;
+use std::alloc::Global;
+use std::sync::atomic::{AtomicBool, Ordering};
+use std::sync::{Arc, Mutex, Wait};
+use std::time::Clock;
+
+#[derive(Drop)]
+pub struct Shared {
+    pub table: Mutex<ConnTable<Entry>>,
+    /// The rules that are served, in the order of their file, as it was read last.
+    pub rules: Mutex<Vec<Arc<ServedRule>>>,
+    /// The remote of the main thread's loop, which accepts.
+    pub main: Arc<LoopRemote>,
+    /// The loops', by their places.
+    pub loops: Vec<LoopHandle>,
+    pub stop: StopFlag,
+    /// How many connections stand at once.
+    pub limit: PairLimit,
+    pub safeguards: Safeguards,
+    /// Where the rules file is.
+    pub rules_path: String,
+    /// What sessions want closed.
+    pub closes: CloseWishes,
+    /// Whether the main thread is to be told of each connection that ends, since it waits for the
+    /// last. It is never unset.
+    pub is_finishing: AtomicBool,
+    pub log: Option<Arc<Log>>,
+    pub sessions: Counter,
+    /// Of these, those for which there was no place.
+    pub dropped_sessions: Counter,
+    pub reloads: Counter,
+}
+
+/// What a relay's threads share, where nobody has stopped, and no entry stands: by what it was asked
+/// to be, with the remote of the main thread's loop and the handles of the others, by their places.
+pub fn shared_of(
+    alloc: Global,
+    config: Config,
+    main: Arc<LoopRemote>,
+    loops: Vec<LoopHandle>,
+) -> Result<Arc<Shared>, ServeFault>
+    ensures faults { IfErr result (λ fault. fault ≡ ServeFault.Memory) }
+{
+    let Config {
+        rules,
+        rules_path,
+        capacity,
+        safeguards,
+        log,
+    } = config;
+    let shared = Shared {
+        table: Mutex::new(ConnTable::new(alloc)),
+        rules: Mutex::new(rules),
+        rules_path,
+        closes: CloseWishes::none(alloc)?,
+        is_finishing: AtomicBool::new(false),
+        main,
+        loops,
+        stop: StopFlag::new(),
+        limit: capacity.pairs,
+        safeguards,
+        log,
+        sessions: Counter::new(),
+        dropped_sessions: Counter::new(),
+        reloads: Counter::new(),
+    };
+    Ok(Arc::new(alloc, shared)?)
+}
+
+impl Shared {
+    // The loop with the fewest connections; none where as many stand as may.
+    fn place(&self) -> Option<&LoopHandle> {
+        let mut counts = ArrayVec::<u64, MAX_LOOPS>::new();
+        let mut all = 0u64;
+        for handle in self.loops.iter() {
+            let count = handle.connections();
+            all = all.saturating_add(count);
+            let _ = counts.try_push(count);
+        }
+        self.loops.get(place_of_pair(counts.as_slice(), all as usize, self.limit)?)
+    }
+
+    /// Delivers a socket that was accepted just now to the loop with the fewest connections. One
+    /// beyond the most pairs, of its rule or of all, is dropped. The main thread alone delivers.
+    pub fn deliver<R: Wait + Clock>(&self, rt: &R, sock: Sock, acceptance: Acceptance) {
+        acceptance.served.note_accept(acceptance.at);
+        let Some(told) = acceptance.try_clone() else {
+            return;
+        };
+        if self.safeguards.is_at_limit(told.served.standing()) {
+            told.served.counts.rule_full.add(1);
+            self.tell_refused(rt, &told, told.at, Ended::RuleFull);
+            return;
+        }
+        let is_there = match self.place() {
+            Some(handle) => handle.deliver(rt, sock, acceptance),
+            None => false,
+        };
+        if !is_there {
+            told.served.counts.full.add(1);
+            self.tell_refused(rt, &told, told.at, Ended::Full);
+        }
+    }
+
+    /// Tells the log, if there is one, of a client that isn't served.
+    pub fn tell_refused<R: Wait + Clock>(
+        &self,
+        rt: &R,
+        acceptance: &Acceptance,
+        now: u64,
+        how: Ended,
+    ) {
+        if let Some(log) = &self.log {
+            tell_refused(rt, log, acceptance, now, how);
+        }
+    }
+
+    /// Closes the connection or listener with this id; `None` says that another did.
+    pub fn close<R: Wait + Copy>(&self, rt: &R, id: u64, by: Closer) -> Option<Result<(), Fault>> {
+        close_by_id(rt, &self.table, id, by)
+    }
+
+    /// How many connections stand, those among them that are being set up.
+    pub fn standing(&self) -> u64 {
+        let mut all = 0u64;
+        for handle in self.loops.iter() {
+            all = all.saturating_add(handle.connections());
+        }
+        all
+    }
+
+    /// Settles the wishes for entries that are in the table no more: after a set-up that was
+    /// refused, and took back what it had put there.
+    pub fn settle_gone<R: Wait>(&self, rt: &R) {
+        for place in 0..MAX_SESSIONS {
+            if let Some(id) = self.closes.wished(place) {
+                let is_gone = self.table.lock(rt).by_id(id).is_none();
+                if is_gone && self.closes.settle(id) {
+                    self.main.wake();
+                }
+            }
+        }
+    }
+
+    /// Tells the main thread of a connection that has ended, where anybody there waits for it. Its
+    /// sides had these ids.
+    pub fn note_end(&self, client: u64, target: u64) {
+        let client = self.closes.settle(client);
+        let target = self.closes.settle(target);
+        if client || target || self.is_finishing.load(Ordering::SeqCst) {
+            self.main.wake();
+        }
+    }
+
+    /// Tells the main thread and all loops that no more turns are wanted.
+    pub fn stop(&self) -> Stopped {
+        let stopped = self.stop.set();
+        stopped.wake_loops(&self.main, self.loops.as_slice());
+        stopped
+    }
+
+    pub fn is_stopped(&self) -> bool {
+        self.stop.is_set()
+    }
+}
