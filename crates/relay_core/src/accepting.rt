@@ -1,6 +1,6 @@
 //! The worker that accepts: it delivers what it accepted, and waits between faults.
 
-ghost use Rattle.std.specs.Prelude.{◌≡◌, ◌≢◌, ◌<◌, ◌*◌, ◌↔◌, min, true, List, ◌∷◌};
+ghost use Rattle.std.specs.Prelude.{◌≡◌, ◌<◌, ◌*◌, ◌↔◌, min, true, List, ◌∷◌};
 ghost use Rattle.relay_core.specs.declared.accepting.AcceptEnded.{AcceptEnded};
 ghost use Rattle.relay_core.specs.AcceptTrace.{AcceptCall, Accepted, Delivered, Paused};
 ghost use Rattle.relay_core.specs.AcceptTrace.{IsAccepting};
