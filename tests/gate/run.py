@@ -39,7 +39,8 @@ PASSED, RAN = re.compile(r"(\d+) passed[;,] (\d+) failed"), re.compile(r"^Ran (\
 # A word of the check that `rt try` makes beside each run, for a hint on names, which takes as long as the run.
 HINT, HINT_SECONDS = b"no function", 1
 
-PROGRAM, PROVED = "program", "crates/pollrelay/out/pollrelay"
+PROGRAM, RELAY = "program", "pollrelay"
+PROVED = f"crates/{RELAY}/out/{RELAY}"
 QUICK, FULL, OUTSIDE = "quick", "full", "outside"
 Row = namedtuple("Row", "name tier seconds needs command shows")
 
@@ -144,10 +145,11 @@ def parts():
             found.append(Part(name, ["rt", "try", "--test"], 60 + lines_in(folder) / 20, folder))
         stored = f"{ROOT}/{folder}/stdout"
         if os.path.isfile(f"{ROOT}/{folder}/src/main.rt") and os.path.isfile(stored):
-            args = text_of(f"{ROOT}/{folder}/args").split("\n")
-            words = ["rt", "try", "--", *[it for it in args if it]]
-            given = f"{ROOT}/{folder}/stdin"
-            found.append(Part(name, words, 50, folder, stdin=given if os.path.isfile(given) else None, wanted=stored))
+            args = [it for it in text_of(f"{ROOT}/{folder}/args").split("\n") if it]
+            given, is_relay = f"{ROOT}/{folder}/stdin", name == RELAY
+            words = ["sh", "-c", 'exec "$POLLRELAY" "$@"', "sh", *args] if is_relay else ["rt", "try", "--", *args]
+            stored_run = {"stdin": given if os.path.isfile(given) else None, "wanted": stored, "on_program": is_relay}
+            found.append(Part(name, words, 1 if is_relay else 50, folder, **stored_run))
     found += map(part_of, rows())
     found.sort(key=lambda it: (it.on_program, -it.weight))
     return [Part(PROGRAM, [sys.executable, "tools/unproved.py"], 999), *found]

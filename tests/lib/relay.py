@@ -65,10 +65,12 @@ class Relay:
 
     With an environment of its own its standard error is kept, for errors(). `before` are words ahead of the program's, as of a
     tracer, and `options` are added to those of `serve`. `wrapper` are words in place of the program's, as of packaging/pollrelay-run,
-    which starts it. With sockets it is started with these, and the environment is its alone.
+    which starts it. With sockets it is started with these, `handed` says so (`started_with`), and the environment is its alone.
     """
 
-    def __init__(self, rules, program=PROGRAM, descriptors=DESCRIPTORS, env=None, before=(), options=(), wrapper=(), sockets=()):
+    def __init__(
+        self, rules, program=PROGRAM, descriptors=DESCRIPTORS, env=None, before=(), options=(), wrapper=(), sockets=(), handed=None
+    ):
         self.folder = tempfile.mkdtemp(prefix="relay-")
         self.admin = f"{self.folder}/admin.sock"
         with open(f"{self.folder}/rules", "w", encoding="ascii") as file:
@@ -79,7 +81,7 @@ class Relay:
         self.kept_errors = None if env is None else open(f"{self.folder}/errors", "ab")
         given = {}
         if sockets:
-            front, given = started_with(sockets)
+            front, given = started_with(sockets, **(handed or {}))
             words = [*front, "env", *(f"{name}={value}" for name, value in (env or {}).items()), *words]
             env = env and {}
         self.process = subprocess.Popen(

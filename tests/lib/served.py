@@ -4,6 +4,7 @@ import time
 
 from lib.relay import Relay
 from lib.sockets import connect, free_port, listener
+from lib.talk import both_ways, seconds_until_end
 from lib.waiting import wait_until
 
 WAIT_SECONDS = 5
@@ -39,48 +40,12 @@ class Served:
         self.folder.cleanup()
 
 
-def passes(client, target):
-    """Whether a byte goes through and comes back."""
-    try:
-        client.sendall(b"x")
-        arrived = target.recv(1)
-        target.sendall(arrived)
-        return client.recv(1) == b"x"
-    except OSError:
-        return False
-
-
 def opens(served, at):
     """Whether a new connection goes through."""
     try:
-        return passes(*served.open(at))
+        return both_ways(*served.open(at))
     except OSError:
         return False
-
-
-def seconds_until_end(sock, most):
-    """How long it takes until the other side ends or resets, or None where it takes longer."""
-    began = time.monotonic()
-    sock.settimeout(most)
-    try:
-        while sock.recv(65_536):
-            pass
-    except TimeoutError:
-        return None
-    except OSError:
-        pass
-    return time.monotonic() - began
-
-
-def heard(sock, seconds):
-    """What comes next in so much time, or None where nothing does."""
-    sock.settimeout(seconds)
-    try:
-        return sock.recv(100)
-    except TimeoutError:
-        return None
-    except OSError as fault:
-        return repr(fault)
 
 
 def so_many_pairs(checks, name, count, *options):
@@ -91,11 +56,11 @@ def so_many_pairs(checks, name, count, *options):
         all_ids = 2 + 2 * count
         checks.holds(f"{name}: ids", wait_until(lambda: len(relay.ids()) == all_ids, 2), f"{len(relay.ids())} of {all_ids}")
         # (the first that doesn't is enough, since who waits for it waits long)
-        first = next((at for at, pair in enumerate(held) if not passes(*pair)), None)
+        first = next((at for at, pair in enumerate(held) if not both_ways(*pair)), None)
         checks.expect(f"{name}: each passes a byte both ways", None, first)
         one_more = connect(served.listens[0])
         checks.holds(f"{name}: one more is dropped", seconds_until_end(one_more, 3) is not None, "it stays open")
-        checks.holds(f"{name}: a full relay goes on", passes(*held[-1]), "no byte came back")
+        checks.holds(f"{name}: a full relay goes on", both_ways(*held[-1]), "no byte came back")
         for sock in held[0]:
             sock.close()
         wait_until(lambda: len(relay.ids()) < all_ids, 2)

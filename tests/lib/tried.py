@@ -3,45 +3,11 @@ import socket
 
 from lib.relay import Relay
 from lib.sockets import connect, is_served, listener, read_to_end, some_address
+from lib.talk import has_ended, passes
 from lib.waiting import comes
 
 # The longest that a session has no answer, and a connection no byte: less than the minute after which a silent session is ended.
 WAIT_SECONDS = 20
-
-
-def hears(sock, data):
-    """Whether these bytes come next."""
-    came = b""
-    try:
-        while len(came) < len(data) and (part := sock.recv(len(data) - len(came))):
-            came += part
-    except OSError:
-        return False
-    return came == data
-
-
-def says(sock, data):
-    """Whether all of it was taken."""
-    try:
-        sock.sendall(data)
-        return True
-    except OSError:
-        return False
-
-
-def passes(speaker, hearer, data):
-    """Whether what one end says comes to the other."""
-    return says(speaker, data) and hears(hearer, data)
-
-
-def has_ended(sock):
-    """Whether the other side has ended or reset, and no byte is left."""
-    try:
-        return sock.recv(1) == b""
-    except ConnectionResetError:
-        return True
-    except OSError:
-        return False
 
 
 def is_refused(address):

@@ -18,7 +18,8 @@ from lib.metrics import scrape
 from lib.relay import allow_descriptors
 from lib.sockets import connect, read_to_end, some_address
 from lib.stages import options, run_stages
-from lib.tried import Tried, has_ended, passes, says
+from lib.talk import has_ended, passes, says
+from lib.tried import Tried
 from lib.waiting import comes
 
 # So many connections stand until the stop, and four beside them until the first rows have ended: the most that may stand at once.

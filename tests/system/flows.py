@@ -23,7 +23,8 @@ from lib.echoes import target
 from lib.relay import allow_descriptors
 from lib.sockets import connect, read_to_end
 from lib.stages import options, run_stages
-from lib.tried import Tried, hears, passes
+from lib.talk import hears, passes
+from lib.tried import Tried
 from lib.waiting import comes
 
 # Connections that take turns beside a bulk stream, and their turns.

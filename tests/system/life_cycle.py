@@ -36,10 +36,10 @@ from lib.metrics import scrape
 from lib.places import LIB, PROGRAM, ROOT
 from lib.relay import Relay, Session, allow_descriptors, totals_of
 from lib.requests import ANSWERED, REFUSED, RESET, Requests, counts
-from lib.served import heard, seconds_until_end
 from lib.signals import hear_all
 from lib.sockets import BlackHole, connect, is_served, some_address
 from lib.stages import options, run_stages
+from lib.talk import heard, seconds_until_end
 from lib.waiting import wait_until
 
 WRAPPER = f"{ROOT}/packaging/pollrelay-run"

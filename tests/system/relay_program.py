@@ -20,9 +20,10 @@ from lib.checks import Checks
 from lib.metrics import scrape
 from lib.places import LIB, PROGRAM, ROOT
 from lib.relay import DESCRIPTORS, Relay, allow_descriptors
-from lib.served import heard, so_many_pairs
+from lib.served import so_many_pairs
 from lib.sockets import REPLY_SECONDS, connect, free_port, listener
 from lib.stages import options, run_stages
+from lib.talk import heard
 from lib.waiting import wait_until
 
 BAD_COMMAND = b"error 400 bad command\n"

@@ -13,9 +13,10 @@ import time
 sys.path.insert(1, f"{sys.path[0]}/..")
 from lib.checks import Checks
 from lib.relay import Session, allow_descriptors
-from lib.served import WAIT_SECONDS, Served, heard, opens, passes, seconds_until_end, so_many_pairs
+from lib.served import WAIT_SECONDS, Served, opens, so_many_pairs
 from lib.sockets import connect, is_served
 from lib.stages import options, run_stages
+from lib.talk import both_ways, heard, seconds_until_end
 from lib.waiting import wait_until
 
 # How much later than its moment a deadline may end a connection.
@@ -63,14 +64,14 @@ def read_stops(checks, _):
     """A read that comes short has not always read all: what follows a stop goes through, though the poller tells of it once."""
     with Served("never", "never") as served, open("/dev/null") as file:
         (client, target), (other_client, other_target) = served.open(0), served.open(1)
-        passes(client, target), passes(other_client, other_target)
+        both_ways(client, target), both_ways(other_client, other_target)
         while_frozen(served.relay, lambda: [client.send(b"ab"), client.send(b"!", socket.MSG_OOB), client.send(b"cd")])
         checks.expect("read stops: bytes behind urgent data", b"abcd", next_of(target, 4))
         pieces = [(b"e", []), (b"f", [file.fileno()]), (b"g", []), (b"h", [file.fileno()]), (b"i", [])]
         while_frozen(served.relay, lambda: [socket.send_fds(other_target, [it], fds) for it, fds in pieces])
         checks.expect("read stops: bytes behind those with a descriptor", b"efghi", next_of(other_client, 5))
         client, target = served.open(0)
-        passes(client, target)
+        both_ways(client, target)
         while_frozen(served.relay, lambda: [client.send(b"end"), client.shutdown(socket.SHUT_WR)])
         checks.expect("read stops: the bytes ahead of an end", b"end", next_of(target, 3))
         checks.expect("read stops: the end behind them", b"", next_of(target, 1))
@@ -85,10 +86,10 @@ def ids(checks, _):
         relay = served.relay
         checks.expect("list: listeners", "ids 1 2", relay.ask("list"))
         first = served.open(0)
-        passes(*first)
+        both_ways(*first)
         checks.expect("list: a connection", "ids 1 2 3 4", relay.ask("list"))
         second = served.open(1)
-        passes(*second)
+        both_ways(*second)
         checks.expect("close: the client's side", "ok", relay.ask("close 3"))
         checks.holds("close: the target sees the end", seconds_until_end(first[1], 1) is not None, "not in 1 s")
         checks.holds("close: both ids go", wait_until(lambda: relay.ids() == [1, 2, 5, 6], 0.5), relay.ask("list"))
@@ -98,7 +99,7 @@ def ids(checks, _):
         checks.holds("close: the client sees the end", seconds_until_end(second[0], 1) is not None, "not in 1 s")
         try:
             third = served.open(0)
-            checks.holds("list: after a close the next connection", passes(*third), "no byte came back")
+            checks.holds("list: after a close the next connection", both_ways(*third), "no byte came back")
         except OSError as fault:
             checks.holds("list: after a close the next connection", False, repr(fault))
         checks.expect("list: ids don't come again", "ids 1 2 7 8", relay.ask("list"))
@@ -110,7 +111,7 @@ def many_ids(checks, _):
         gone = 0
         for _ in range(300):
             pair = served.open()
-            passes(*pair)
+            both_ways(*pair)
             for sock in pair:
                 sock.close()
             if not wait_until(lambda: served.relay.ids() == [1], WAIT_SECONDS):
@@ -118,7 +119,7 @@ def many_ids(checks, _):
             gone += 1
         checks.expect("list: connections that went", 300, gone)
         last = served.open()
-        passes(*last)
+        both_ways(*last)
         checks.expect("list: after 300 connections", "ids 1 602 603", served.relay.ask("list"))
         for sock in last:
             sock.close()
@@ -130,7 +131,7 @@ def deadlines(checks, _):
     with Served("never") as served:
         for turn, milliseconds in enumerate([0, 1, 60, 130, 250, 400] * 3):
             client, target = served.open()
-            passes(client, target)
+            both_ways(client, target)
             # At any phase of a poll that lasts up to a second.
             time.sleep(random.random() * 0.3)
             id = served.relay.ids()[1 + turn % 2]
@@ -152,11 +153,11 @@ def lifted(checks, _):
     """`never` takes a deadline away, and a read or write of a rule with an idle time sets its own."""
     with Served("never", 1_000) as served:
         client, target = served.open(0)
-        passes(client, target)
+        both_ways(client, target)
         served.relay.ask("deadline 3 300")
         checks.expect("deadline: never", "ok", served.relay.ask("deadline 3 never"))
         time.sleep(0.6)
-        checks.holds("deadline: lifted", passes(client, target), "the connection ended")
+        checks.holds("deadline: lifted", both_ways(client, target), "the connection ended")
         found = None
         for _ in range(10):
             found = lifted_idle(served, 1, 1.0) if found is None else found
@@ -171,7 +172,7 @@ def lifted_idle(served, at, idle_seconds):
     that byte's arrival and from its send. None where the machine was too slow to lift the idle time before it had passed."""
     client, target = served.open(at)
     began = time.monotonic()
-    passes(client, target)
+    both_ways(client, target)
     # The next read of each way begins, and sets the idle time again, a moment after its byte.
     time.sleep(0.2)
     for id in served.relay.ids()[-2:]:
@@ -180,7 +181,7 @@ def lifted_idle(served, at, idle_seconds):
         return None
     time.sleep(1.5 * idle_seconds)
     sent = time.monotonic()
-    lived = passes(client, target)
+    lived = both_ways(client, target)
     took = seconds_until_end(client, 5)
     return lived, time.monotonic() - sent, took
 
@@ -193,7 +194,7 @@ def goes_on(served, at, idle_seconds):
     while last - began < 1.3 * idle_seconds:
         time.sleep(0.2)
         before, last = last, time.monotonic()
-        if not passes(client, target):
+        if not both_ways(client, target):
             return False if time.monotonic() - before < idle_seconds else None
     return True
 
@@ -204,7 +205,7 @@ def idle(checks, _):
         for first in (False, True):
             client, target = served.open()
             if first:
-                passes(client, target)
+                both_ways(client, target)
             took = seconds_until_end(client, 3)
             name = "idle: silent after its first byte" if first else "idle: silent from its start"
             checks.holds(name, took is not None and 0.3 <= took <= 0.9, f"{took} s for 0.4 s")
@@ -264,7 +265,7 @@ DRAINING = "error 409 draining"
 def open_and_wait(served, at=0):
     """A connection through which a byte has gone each way, and both of whose reads wait for more."""
     pair = served.open(at)
-    passes(*pair)
+    both_ways(*pair)
     time.sleep(0.2)
     return pair
 
@@ -361,7 +362,7 @@ def drained_listeners(checks, _):
         checks.holds("drain: the listener takes who it waited for", opens(served, 0), "no byte came back")
         checks.holds("drain: the listener goes", has_gone(relay, [1]), relay.ask("list"))
         checks.holds("drain: the listener refuses", wait_until(lambda: not is_served(served.listens[0]), 1.5), "it still accepts")
-        checks.holds("drain: the listener's connection stays", passes(*before), "no byte came back")
+        checks.holds("drain: the listener's connection stays", both_ways(*before), "no byte came back")
         relay.ask("deadline 2 0")
         checks.expect("drain: of a listener whose deadline passed", "ok", relay.ask("drain 2"))
         checks.holds("drain: the listener goes at once", has_gone(relay, [2]), relay.ask("list"))

@@ -24,9 +24,10 @@ from lib.log_text import read_log
 from lib.metrics import scrape
 from lib.places import LIB
 from lib.relay import Relay, Session, StartFault
-from lib.served import Served, passes, seconds_until_end
+from lib.served import Served
 from lib.sockets import connect, free_port, listener
 from lib.stages import options, run_stages
+from lib.talk import both_ways, seconds_until_end
 from lib.waiting import wait_until
 
 TIMEOUT_MS = 400
@@ -100,10 +101,10 @@ def dead_target(checks, folder):
             if turn % 6 == 0:
                 client = connect(f"tcp:127.0.0.1:{port}")
                 taken, _ = accepts.accept()
-                served += passes(client, taken)
+                served += both_ways(client, taken)
                 client.close(), taken.close()
         checks.expect("dead: the healthy rule served", 10, served)
-        checks.holds("dead: a pair that stands stays", passes(stands, stands_target), "no byte came back")
+        checks.holds("dead: a pair that stands stays", both_ways(stands, stands_target), "no byte came back")
         for client in clients:
             checks.holds("dead: each client sees the end", seconds_until_end(client, 10) is not None, "not in 10 s")
         tells(checks, metrics, 'pollrelay_rule_no_target_total{rule="dead",cause="timeout"}', 61)
@@ -171,17 +172,17 @@ def per_rule(checks, folder):
     log, metrics = f"{folder}/rule.log", f"tcp:127.0.0.1:{free_port()}"
     with Served("never", "never", options=("--connections-per-rule", "3", "--connections", "5", "--log", log, "--metrics", metrics)) as served:
         held = [served.open(0) for _ in range(3)]
-        checks.holds("rule: so many", all(passes(*it) for it in held), "no byte came back")
+        checks.holds("rule: so many", all(both_ways(*it) for it in held), "no byte came back")
         checks.holds("rule: one more is dropped", seconds_until_end(connect(served.listens[0]), 5) is not None, "it stays open")
         others = [served.open(1) for _ in range(2)]
-        checks.holds("rule: another rule's", all(passes(*it) for it in others), "no byte came back")
+        checks.holds("rule: another rule's", all(both_ways(*it) for it in others), "no byte came back")
         checks.holds("rule: the whole relay is full", seconds_until_end(connect(served.listens[1]), 5) is not None, "it stays open")
         for sock in held.pop():
             sock.close()
         tells(checks, metrics, 'pollrelay_rule_connections{rule="r0"}', 2)
         time.sleep(0.1)
         held.append(served.open(0))
-        checks.holds("rule: room again", passes(*held[-1]), "no byte came back")
+        checks.holds("rule: room again", both_ways(*held[-1]), "no byte came back")
         tells(checks, metrics, 'pollrelay_rule_refused_total{rule="r0",cause="rule_full"}', 1)
         tells(checks, metrics, 'pollrelay_rule_refused_total{rule="r1",cause="full"}', 1)
         tells(checks, metrics, 'pollrelay_rule_refused_total{rule="r1",cause="rule_full"}', 0)
@@ -261,7 +262,7 @@ def accept_faults(checks, folder):
         checks.holds("faults: a second row", wait_until(lambda: reloaded(relay) and (figure(metrics, rows) or 0) >= 2, 60), figure(metrics, rows))
         checks.expect("faults: lifted", "ok", relay.ask("deadline 1 never"))
         began = time.monotonic()
-        checks.holds("faults: the rule serves", passes(*served.open()), "no byte came back")
+        checks.holds("faults: the rule serves", both_ways(*served.open()), "no byte came back")
         checks.holds("faults: within two seconds", time.monotonic() - began < 2, f"{time.monotonic() - began:.1f} s")
         tells(checks, metrics, 'pollrelay_rule_listening{rule="r0"}', 1)
         checks.expect("faults: well again", (200, "ok\n"), scrape(metrics, "/healthz"))

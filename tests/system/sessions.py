@@ -14,7 +14,8 @@ from lib.checks import Checks
 from lib.relay import allow_descriptors
 from lib.sockets import connect
 from lib.stages import options, run_stages
-from lib.tried import WAIT_SECONDS, Tried, has_ended, hears, says
+from lib.talk import has_ended, hears, says
+from lib.tried import WAIT_SECONDS, Tried
 
 # The most sessions at once, and so many that say nothing as are more than may be.
 MOST, SILENT = 32, 300

@@ -25,9 +25,9 @@ from lib.lane_runs import admin_ends, expect_end, expect_nothing_left, is_quiet,
 from lib.lanes import LANES, STALL_MS, make_lanes, run_lanes
 from lib.meddler import Meddler
 from lib.relay import Relay, allow_descriptors
-from lib.served import passes
 from lib.sockets import share_ports
 from lib.stages import FAULTS, options
+from lib.talk import both_ways
 from lib.waiting import wait_until
 
 GROWTH_KIB = 256
@@ -103,7 +103,7 @@ class Soak:
         self.asked += meddler.asked
         if self.is_exact():
             self.add([admin_ends(self.relay, self.rng, 2, self.standing())], 2)
-            alive = [passes(*ends) for ends in self.held]
+            alive = [both_ways(*ends) for ends in self.held]
             self.checks.expect(f"{self.name}: long-lived connections", [True] * len(alive), alive)
             self.sums = [count + len(alive) for count in self.sums]
         self.look()

@@ -22,7 +22,8 @@ from lib.checks import Checks
 from lib.relay import allow_descriptors
 from lib.sockets import connect, is_served
 from lib.stages import options, run_stages
-from lib.tried import Tried, hears, is_refused
+from lib.talk import hears
+from lib.tried import Tried, is_refused
 from lib.waiting import TURNS
 
 NOBODY = "relay a {0} {3} never\n"

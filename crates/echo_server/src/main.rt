@@ -1,12 +1,9 @@
-//! `echo_server PORT IDLE_MS` gives back what it is sent, and closes a connection that is idle for
-//! so long. With no words it serves one client at any port: itself, as `own_client` has it.
+//! `echo_server PORT IDLE_MS` gives back what it is sent at this port of loopback, and closes a
+//! connection that is idle for so long.
 #![tactic(auto)]
 
-mod client;
-mod own_client;
-
-use crate::own_client::{asked, says_hello};
 use net::{Conn, Listener, Net, Runs, tcp};
+use std::io::ErrorKind;
 use std::time::Duration;
 use std::{env, io, thread};
 
@@ -18,16 +15,22 @@ fn echo<R: Runs>(conn: Conn<R>, idle: Duration) -> io::Result<u64> {
     io::copy(&mut conn, &mut writer)
 }
 
+/// The port and the milliseconds that the words ask for.
+fn asked(words: &[String]) -> Option<(u16, u64)> {
+    match words {
+        [_, port, idle_ms] => Some((port.parse().ok()?, idle_ms.parse().ok()?)),
+        _ => None,
+    }
+}
+
 fn main(rt: HostRuntime) -> io::Result<()> {
     let words: Vec<String> = env::args(&rt)?.collect(rt.alloc())?;
-    let (port, idle) = asked(words.as_slice())?;
+    let Some((port, idle_ms)) = asked(words.as_slice()) else {
+        return Err(ErrorKind::InvalidInput.into());
+    };
+    let idle = Duration::from_millis(idle_ms);
     let net = Net::start(rt, rt.alloc())?;
     let mut listener = Listener::bind(&net, &tcp(port))?;
-    if let (0, Some(addr)) = (port, listener.local_addr()) {
-        let client = thread::spawn(&rt, move || says_hello(&rt, addr))?;
-        let _ = echo(listener.accept()?, idle);
-        return println!(rt; "{}", client.join(&rt));
-    }
     for _ in rt.forever() {
         let conn = listener.accept()?;
         thread::spawn(&rt, move || echo(conn, idle))?;

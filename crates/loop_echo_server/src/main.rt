@@ -1,14 +1,12 @@
-//! `loop_echo_server PORT LOOPS IDLE_MS` gives back what it is sent, to many clients on each of its
-//! threads. With other words it is its own clients, as `own_clients` has it.
+//! `loop_echo_server PORT LOOPS IDLE_MS` gives back what it is sent at this port of loopback, to many
+//! clients on each of so many threads, and closes a connection that is idle for so long.
 #![tactic(auto)]
 
 ghost use Rattle.std.specs.Prelude.{◌≡◌, ◌≤◌};
 
-mod own_clients;
-
-use crate::own_clients::{asked, plays};
 use net::{Cause, Conn, Listener, Net, Next, Runs, Task, tcp};
 use std::alloc::Global;
+use std::io::ErrorKind;
 use std::time::Duration;
 use std::{env, io};
 
@@ -60,13 +58,27 @@ impl<R: Runs> Task<R> for Echo {
     }
 }
 
-fn main(rt: HostRuntime) -> io::Result<()> {
-    let asked = asked(env::args(&rt)?.collect(rt.alloc())?)?;
-    let net = Net::start(rt, rt.alloc())?;
-    let listener = Listener::bind(&net, &tcp(asked.port))?;
-    let service = net.serve(listener, asked.loops, Echo::new(asked.idle))?;
-    match asked.clients {
-        Some(clients) => println!(rt; "{}", plays(&rt, rt.alloc(), service.local_addr(), clients)),
-        None => Ok(service.wait()),
+/// The port, the threads and the milliseconds that the words ask for.
+fn asked(words: &[String]) -> Option<(u16, usize, u64)> {
+    match words {
+        [_, port, loops, idle_ms] => Some((
+            port.parse().ok()?,
+            loops.parse().ok()?,
+            idle_ms.parse().ok()?,
+        )),
+        _ => None,
     }
+}
+
+fn main(rt: HostRuntime) -> io::Result<()> {
+    let words: Vec<String> = env::args(&rt)?.collect(rt.alloc())?;
+    let Some((port, loops, idle_ms)) = asked(words.as_slice()) else {
+        return Err(ErrorKind::InvalidInput.into());
+    };
+    let net = Net::start(rt, rt.alloc())?;
+    let listener = Listener::bind(&net, &tcp(port))?;
+    let idle = Duration::from_millis(idle_ms);
+    let service = net.serve(listener, loops, Echo::new(idle))?;
+    service.wait();
+    Ok(())
 }

@@ -14,11 +14,9 @@ macro_rules! holds {
 }
 
 mod addresses;
-mod clients;
 mod connecting;
 mod ends;
 mod listening;
-mod many;
 mod memory;
 mod scenes;
 mod serving;

@@ -74,30 +74,14 @@ pub(super) struct Meter {
     reads: AtomicU64,
     /// How many reads are refused memory, from the first on.
     refuses: u64,
-    /// Whether it has a rule that takes no clients.
-    is_deaf: bool,
 }
 
 impl Meter {
-    pub(super) fn new() -> Meter {
-        Meter::refusing(0)
-    }
-
     /// One that has memory only after so many reads.
     pub(super) fn refusing(refuses: u64) -> Meter {
         Meter {
             reads: AtomicU64::new(0),
             refuses,
-            is_deaf: false,
-        }
-    }
-
-    /// One with a rule that takes no clients.
-    pub(super) fn deaf() -> Meter {
-        Meter {
-            reads: AtomicU64::new(0),
-            refuses: 0,
-            is_deaf: true,
         }
     }
 }
@@ -108,12 +92,6 @@ impl Metered for Meter {
         figures.admin_sessions = before.saturating_add(1);
         if before < self.refuses {
             return Err(OutOfMemory);
-        }
-        if self.is_deaf {
-            let Some(rule) = unused() else {
-                return Err(OutOfMemory);
-            };
-            figures.rules.push(rule)?;
         }
         Ok(())
     }

@@ -10,7 +10,7 @@ use std::net::Net as Sockets;
 use std::process::Abort;
 use std::thread::Threads;
 use std::time::Instant;
-use std::{fs, io, thread};
+use std::{io, thread};
 
 /// What is done while the client waits for the end.
 #[derive(Clone, Copy)]
@@ -178,11 +178,6 @@ fn a_task_ends_as_a_row_says_and_leaves_nothing_open(rt: HostRuntime) {
     }
 }
 
-/// The number of this process's threads.
-fn threads(rt: &HostRuntime) -> Option<usize> {
-    Some(fs::read_dir(rt, "/proc/self/task").ok()?.count())
-}
-
 /// A service by so many loops.
 fn served_on<R>(rt: &R, net: &Net<R>, listener: Listener<R>, loops: usize) -> Service<R>
 where
@@ -190,19 +185,6 @@ where
 {
     net.serve(listener, loops, task_that(Does::Echoes(0)))
         .expect(rt, "served")
-}
-
-#[test]
-fn each_loop_is_a_thread_and_so_is_who_accepts(rt: HostRuntime) {
-    let net = Net::start(rt, rt.alloc()).expect(&rt, "net");
-    for (loops, started) in [(0, 2), (1, 2), (3, 4)] {
-        let listener = Listener::bind(&net, &tcp(0)).expect(&rt, "bound");
-        let before = threads(&rt).expect(&rt, "threads");
-        let service = served_on(&rt, &net, listener, loops);
-        holds!(rt; threads(&rt) == before.checked_add(started));
-        service.stop();
-    }
-    net.stop();
 }
 
 /// A client that has a round trip while the service goes on, and then closes its listener.

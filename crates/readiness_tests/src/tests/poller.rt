@@ -15,7 +15,6 @@ mod loop_stage;
 mod loop_steps;
 mod loop_threads;
 mod loops;
-mod many_clients;
 mod memory;
 mod open_files;
 mod paths;

@@ -1,5 +1,5 @@
 //! A watch over a test that waits for calls or threads: it ends the test as failed where that takes
-//! too long. `metrics_tests` and others have one too: no crate uses another's tests,
+//! too long. `conn_tests` and others have one too: no crate uses another's tests,
 //! and a crate for this alone would be proved in each gate.
 
 use super::comes;

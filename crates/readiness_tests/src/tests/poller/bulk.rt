@@ -1,19 +1,14 @@
-//! Many connections at once.
+//! A connection that is full.
 
 use super::paths::own_path;
 use super::watch::Watch;
-use super::{Turning, World, any_port, pause, share};
+use super::{Turning, World, pause};
 use fd_descriptor::{Fault, FdHandle};
 use readiness::{Addr, SockRes};
-use std::fs::Files;
-use std::net::Net;
 use std::process::Abort;
 use std::sync::Wait;
 use std::thread::{JoinHandle, Threads};
-use std::time::Clock;
 use std::{fs, thread};
-
-const CONNECTIONS: u64 = 64;
 
 const BYTES: u64 = 1_000_000;
 
@@ -23,23 +18,6 @@ const CHUNK: usize = 10_000;
 fn byte_at(connection: u64, place: u64) -> u8 {
     let mixed = place.wrapping_mul(31).wrapping_add(place >> 8);
     (mixed.wrapping_add(connection.wrapping_mul(7)) & 0xff) as u8
-}
-
-/// Echoes until the end, then shuts; says whether all went well.
-fn echoes<R: Wait>(rt: &R, handle: &mut FdHandle<SockRes>) -> bool {
-    let mut buf = [0; 4096];
-    for _ in rt.forever() {
-        match handle.read(rt, &mut buf) {
-            Ok(count) if count <= buf.len() => {
-                if handle.write(rt, &buf[..count]) != Ok(count) {
-                    return false;
-                }
-            }
-            Err(Fault::EndOfFile) => return handle.close_write(rt) == Ok(()),
-            _ => return false,
-        }
-    }
-    unreachable!()
 }
 
 /// Writes the stream, then shuts; says whether all went well.
@@ -89,22 +67,6 @@ fn reads_all<R: Wait>(rt: &R, handle: &mut FdHandle<SockRes>, connection: u64) -
     unreachable!()
 }
 
-/// A connection whose one end echoes, while the other sends its stream and reads it back.
-#[derive(Drop)]
-struct Echo {
-    echoing: JoinHandle<bool>,
-    sending: JoinHandle<bool>,
-    reading: JoinHandle<Option<u64>>,
-}
-
-fn start_echoing<R: Wait + Threads + Abort + Copy + Drop + Send + Sync + 'static>(
-    rt: R,
-    far: FdHandle<SockRes>,
-) -> JoinHandle<bool> {
-    let mut far = far;
-    thread::spawn(&rt, move || echoes(&rt, &mut far)).expect(&rt, "thread")
-}
-
 fn start_sending<R: Wait + Threads + Abort + Copy + Drop + Send + Sync + 'static>(
     rt: R,
     near: FdHandle<SockRes>,
@@ -112,52 +74,6 @@ fn start_sending<R: Wait + Threads + Abort + Copy + Drop + Send + Sync + 'static
 ) -> JoinHandle<bool> {
     let mut near = near;
     thread::spawn(&rt, move || sends(&rt, &mut near, connection)).expect(&rt, "thread")
-}
-
-fn start_reading<R: Wait + Threads + Abort + Copy + Drop + Send + Sync + 'static>(
-    rt: R,
-    near: FdHandle<SockRes>,
-    connection: u64,
-) -> JoinHandle<Option<u64>> {
-    let mut near = near;
-    thread::spawn(&rt, move || reads_all(&rt, &mut near, connection)).expect(&rt, "thread")
-}
-
-fn start<R: Wait + Threads + Net + Files + Clock + Abort + Copy + Drop + Send + Sync + 'static>(
-    world: &World<R>,
-    connection: u64,
-) -> Echo {
-    let rt = world.rt;
-    let (mut near, far) = world.pair(&any_port());
-    let writer = share(&rt, &mut near);
-    Echo {
-        echoing: start_echoing(rt, far),
-        sending: start_sending(rt, writer, connection),
-        reading: start_reading(rt, near, connection),
-    }
-}
-
-fn ends<R: Threads + Wait + Abort>(rt: &R, echo: Echo) {
-    holds!(*rt; echo.reading.join(rt) == Some(BYTES));
-    holds!(*rt; echo.sending.join(rt));
-    holds!(*rt; echo.echoing.join(rt));
-}
-
-#[test]
-fn sixty_four_connections_echo_a_megabyte_each(rt: HostRuntime) {
-    let watch = Watch::start(rt, rt.alloc());
-    let world = World::new(rt, rt.alloc());
-    let mut running = Vec::new(rt.alloc());
-    for connection in 0..CONNECTIONS {
-        let started = running.push(start(&world, connection));
-        holds!(rt; started.is_ok());
-    }
-    let turning = Turning::start(world);
-    for echo in running {
-        ends(&rt, echo);
-    }
-    turning.stop(&rt);
-    watch.end(&rt);
 }
 
 #[test]
