@@ -1,12 +1,16 @@
 """Tries the wrong bodies of `crates/NAME/wrong-bodies/*.edit`: each has to be refused at a goal of the function that it names.
 
-    python3 tests/gate/wrong_bodies.py [NAME..]        those of the named crates, or of all
+    python3 tests/gate/wrong_bodies.py [NAME..]            those of the named crates, or of all, that have no receipt, and a
+                                                           sample of those that have one (`tests/lib/receipts.py`)
+    python3 tests/gate/wrong_bodies.py --write [NAME..]    the same, and writes the receipts of what was refused
+    python3 tests/gate/wrong_bodies.py --all [NAME..]      every one, and writes their receipts anew
 
 An edit is written as those of `must-fail/`, with one line more, `refused: FUNCTION`, the name as a check prints it. Edits
 of different functions are tried in one check of the functions that they name. What isn't refused there is tried with fewer
-beside it, and alone at last. The last line is `N passed, M failed`.
+beside it, and alone at last. The last line is `N passed, M failed`, of those that were tried.
 """
 
+import argparse
 import os
 import re
 import sys
@@ -18,7 +22,7 @@ from concurrent.futures import ThreadPoolExecutor
 from functools import partial
 
 sys.path.insert(1, f"{sys.path[0]}/..")
-from lib import checker
+from lib import checker, receipts
 from lib.edits import applied_together, apply, bodies, edits_of, packed
 
 # What became of an edit: whether it was refused as it has to be, and what was said.
@@ -122,20 +126,27 @@ def try_batch(batch, check, read):
 
 
 class CrateRun:
-    """The edits of a crate: which were refused or failed, and the processor seconds so far."""
+    """The edits of a crate: which are to be tried, which were refused or failed, and the processor seconds so far."""
 
-    def __init__(self, crate):
+    def __init__(self, crate, standing):
         self.crate, self.edits = crate, edits_of(crate)
+        self.digests = {it: standing.of_body(crate, it.name) for it in self.edits}
+        self.to_try, self.sampled = self.edits, set()
         self.refused, self.failed, self.seconds = [], [], 0
 
     def read(self, path):
         with open(f"{self.crate.folder}/{path}", encoding="utf-8") as file:
             return file.read()
 
+    def with_receipt(self, known):
+        return [it for it in self.edits if known.get(f"{it.crate}/{it.name}") == self.digests[it]]
+
     def tell(self, edit, verdict, seconds=0):
         (self.refused if verdict.is_refused else self.failed).append(edit)
-        count = f"{len(self.refused) + len(self.failed)} of {len(self.edits)}"
+        count = f"{len(self.refused) + len(self.failed)} of {len(self.to_try)}"
         state = f"refused, {edit.refused}" if verdict.is_refused else "FAILED"
+        if not verdict.is_refused and edit in self.sampled:
+            state += ", though its receipt says that it is refused"
         minutes, rest = divmod(int(time.monotonic() - started), 60)
         with printing:
             where = f"{minutes}:{rest:02} {self.crate.name} {count}, {edit.name}"
@@ -148,7 +159,7 @@ class CrateRun:
         return run
 
     def try_all(self):
-        wrong = {it: apply(it, self.read)[1] for it in self.edits}
+        wrong = {it: apply(it, self.read)[1] for it in self.to_try}
         for edit, why in wrong.items():
             if why:
                 self.tell(edit, Verdict(False, f"it doesn't apply: {why}"))
@@ -158,32 +169,71 @@ class CrateRun:
                     self.tell(*told)
 
 
+def pass_over(runs, chosen_by):
+    """Takes out of each run what has a receipt, save the sample, and says how many have one and how many of these are tried."""
+    known = receipts.read()
+    stand = {run.crate.name: run.with_receipt(known) for run in runs}
+    batches = [batch for run in runs for batch in packed(stand[run.crate.name], run.read)]
+    sampled = set(receipts.sample(batches, chosen_by))
+    for run in runs:
+        passed_over = set(stand[run.crate.name]) - sampled
+        run.sampled = sampled & set(run.edits)
+        run.to_try = [it for it in run.edits if it not in passed_over]
+    return sum(map(len, stand.values())), len(sampled)
+
+
+def write_receipts(runs):
+    """Keeps the receipts of the other crates, and of these what was refused now or still stands."""
+    kept = receipts.read()
+    own = {run.crate.name for run in runs}
+    found = {body: it for body, it in kept.items() if body.partition("/")[0] not in own}
+    for run in runs:
+        passed_over = [it for it in run.with_receipt(kept) if it not in run.to_try]
+        found |= {f"{it.crate}/{it.name}": run.digests[it] for it in [*passed_over, *run.refused]}
+    receipts.write(found)
+
+
 def try_all(runs):
     """Tries the edits of all runs, the longest first. Says whether their crates are proved, without which none is tried."""
+    runs = [it for it in runs if it.to_try]
     if not all([checker.prove(it.crate) for it in runs]):
         return False
-    longest_first = sorted(runs, key=lambda it: -len(it.edits) * len(it.crate.below()))
+    longest_first = sorted(runs, key=lambda it: -len(it.to_try) * len(it.crate.below()))
     with ThreadPoolExecutor(checker.lanes()) as pool:
         for _ in pool.map(CrateRun.try_all, longest_first):
             pass
     for it in longest_first:
-        print(f"{it.crate.name}: {len(it.edits)} tried in {it.seconds:.0f} s of processor time")
+        print(f"{it.crate.name}: {len(it.to_try)} tried in {it.seconds:.0f} s of processor time")
     return True
 
 
-def main(names):
-    runs = [CrateRun(it) for it in checker.crates() if os.path.isdir(f"{it.folder}/wrong-bodies")]
-    unknown = set(names) - {it.crate.name for it in runs}
+def arguments(words):
+    found = argparse.ArgumentParser(description="Tries the wrong bodies of the named crates, or of all.")
+    found.add_argument("names", nargs="*", metavar="NAME")
+    found.add_argument("--all", action="store_true", help="every one, and write their receipts")
+    found.add_argument("--write", action="store_true", help="write the receipts of what was refused")
+    return found.parse_args(words)
+
+
+def main(words):
+    given, crates = arguments(words), checker.crates()
+    standing = receipts.Standing(receipts.judges())
+    chosen = [it for it in crates if os.path.isdir(f"{it.folder}/wrong-bodies")]
+    runs = [CrateRun(it, standing) for it in chosen if it.name in (given.names or [it.name])]
+    unknown = set(given.names) - {it.crate.name for it in runs}
     if unknown:
         print(f"no crate with wrong bodies: {', '.join(sorted(unknown))}")
         return 2
-    runs = [it for it in runs if it.crate.name in (names or [it.crate.name])]
+    stand, sampled = (0, 0) if given.all else pass_over(runs, receipts.seed(crates, standing))
     if not try_all(runs):
         print("a crate is not proved, so a refusal would say nothing of the edit\n0 passed, 1 failed")
         return 1
+    if given.all or given.write:
+        write_receipts(runs)
     failed = [f"{it.crate}/{it.name}" for run in runs for it in run.failed]
     if failed:
         print(f"FAILED: {' '.join(failed)}")
+    print(f"{stand - sampled} taken from receipts; of {stand} that have one, {sampled} were tried all the same")
     print(f"{sum(len(it.refused) for it in runs)} passed, {len(failed)} failed")
     return 1 if failed else 0
 
