@@ -1,7 +1,7 @@
 //! A relay, from its sockets to its end.
 
-ghost use Rattle.std.specs.Prelude.{◌≡◌, IfErr};
-ghost use Rattle.relay.specs.Server.{given_in};
+ghost use Rattle.std.specs.Prelude.{◌≡◌, IfErr, IfOk};
+ghost use Rattle.relay.specs.Server.{given_in, replaces_stale_in};
 ghost use Rattle.relay_admin.specs.ServeFault.{IsRunFault};
 ghost use Rattle.relay_admin.specs.declared.serve_fault.ServeFault.{ServeFault};
 
@@ -55,6 +55,7 @@ where
     /// A relay with its pollers and with the memory that its threads share: it has no socket and no
     /// thread yet, and has bound no path.
     pub fn new(rt: R, alloc: Global, config: Config) -> Result<Server<R>, ServeFault>
+        ensures stale { IfOk result (λ server. replaces_stale_in server ≡ config.safeguards.replaces_stale) }
         ensures faults { IfErr result (λ fault. IsRunFault fault) }
     {
         let Ok(start) = Instant::now(&rt) else {
@@ -80,6 +81,7 @@ where
     /// that a reload brings, and the admin socket take the one at their address, and leave its path.
     pub fn give(&mut self, listeners: Vec<GivenListener>)
         ensures given { given_in self.new ≡ listeners.items }
+        ensures stale { replaces_stale_in self.new ≡ replaces_stale_in self.old }
     {
         self.main.listeners.given = listeners;
     }
@@ -121,7 +123,9 @@ where
     }
 
     /// Whether a Unix socket at which nobody listens any more gives way to a listener.
-    pub fn replaces_stale(&self) -> bool {
+    pub fn replaces_stale(&self) -> bool
+        ensures stale { result ≡ replaces_stale_in self.now }
+    {
         self.main.listeners.replaces_stale
     }
 

@@ -2,6 +2,7 @@
 //! stops or has finished.
 
 ghost use Rattle.std.specs.Prelude.{◌≡◌, [], IfErr};
+ghost use Rattle.std.specs.Arc.{arc_value};
 ghost use Rattle.relay_admin.specs.ServeFault.{IsRunFault};
 ghost use Rattle.relay_admin.specs.declared.serve_fault.ServeFault.{ServeFault};
 
@@ -55,6 +56,7 @@ impl<R: Wait + Clock + Copy> MainLoop<R> {
     ) -> MainLoop<R>
         ensures given { result.listeners.given.items ≡ [] }
         ensures shared { result.host.shared ≡ shared }
+        ensures stale { result.listeners.replaces_stale ≡ (arc_value shared).safeguards.replaces_stale }
     {
         let replaces_stale = shared.safeguards.replaces_stale;
         MainLoop {

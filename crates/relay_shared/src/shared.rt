@@ -3,7 +3,8 @@
 //! Locks are held for a few steps, and taken in this order: the rules', the table's, an entry's, a
 //! rule's or a cell's, a remote's. The inboxes' are held alone.
 
-ghost use Rattle.std.specs.Prelude.{◌≡◌, IfErr};
+ghost use Rattle.std.specs.Prelude.{◌≡◌, IfErr, IfOk};
+ghost use Rattle.std.specs.Arc.{arc_value};
 ghost use Rattle.relay_admin.specs.declared.serve_fault.ServeFault.{ServeFault};
 
 use crate::close_wishes::{CloseWishes, MAX_SESSIONS};
@@ -65,6 +66,9 @@ pub fn shared_of(
     main: Arc<LoopRemote>,
     loops: Vec<LoopHandle>,
 ) -> Result<Arc<Shared>, ServeFault>
+    ensures safeguards { IfOk result (λ shared. (arc_value shared).safeguards ≡ config.safeguards) }
+    ensures limit { IfOk result (λ shared. (arc_value shared).limit ≡ config.capacity.pairs) }
+    ensures rules_path { IfOk result (λ shared. (arc_value shared).rules_path ≡ config.rules_path) }
     ensures faults { IfErr result (λ fault. fault ≡ ServeFault.Memory) }
 {
     let Config {
