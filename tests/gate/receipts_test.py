@@ -10,14 +10,7 @@ from unittest import mock
 
 import wrong_bodies
 from lib import checker, receipts
-
-# What a check says of a function that it refuses.
-SEARCHED = "no proof: expected answers in ./proofs/x/Answers.antt; `search` did not prove `returns`"
-
-
-def says(*lines, last="only=1 proved=0", status=1):
-    return checker.Run("\n".join([*lines, last]) + "\n", status, 6.0, {})
-
+from lib.played_checks import SEARCHED, says
 
 
 class Repository:

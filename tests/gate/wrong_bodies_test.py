@@ -3,8 +3,9 @@
 import unittest
 
 import wrong_bodies
-from lib import checker, edits
+from lib import edits
 from lib.edits import Edit
+from lib.played_checks import SEARCHED, says
 
 SOURCE = """\
 const LIMIT: u64 = 8;
@@ -34,17 +35,11 @@ HIGH = Edit("a", "high_adds", "a::Table::high", (("src/lib.rt", "low(x) + 1", "l
 OTHER = Edit("a", "other_adds", "a::Table::other", (("src/lib.rt", "low(2)", "low(3)"),))
 LIMITED = Edit("a", "limit_is_nine", "a::low", (("src/lib.rt", "LIMIT: u64 = 8", "LIMIT: u64 = 9"),))
 
-SEARCHED = "no proof: expected answers in ./proofs/x/Answers.antt; `search` did not prove `returns`"
-
 
 def read(path):
     if path != "src/lib.rt":
         raise FileNotFoundError(path)
     return SOURCE
-
-
-def says(*lines, last="only=1 proved=0", status=1):
-    return checker.Run("\n".join([*lines, last]) + "\n", status, 6.0, {})
 
 
 def tried(edits, check):
