@@ -76,10 +76,6 @@ ROWS = (
     ("links", README, END, "\n[here](docs/nowhere.md)\n", "links to docs/nowhere.md"),
     ("links", README, END, "\n`tests/metrics_storm.py`\n", "names `tests/metrics_storm.py`"),
     ("links", "docs/nowhere.md", END, "# Nowhere\n", "doesn't list nowhere.md"),
-    ("words", README, END, " word" * 901, "README.md: has "),
-    ("words", "crates/net/README.md", END, " word" * 251, "crates/net/README.md: has "),
-    ("words", "crates/net/README.md", END, " word" * 9_001, "crates/: its pages have "),
-    ("words", "docs/design.md", END, " word" * 30_001, "docs/: its pages have "),
     # What pages said once that wasn't so.
     ("stale", "packaging/debian/rules.sample", END, "# It is read at the start alone: systemctl restart pollrelay\n", "rules are read anew by `reload`"),
     ("stale", "docs/DECISIONS.md", END, "| What are `--` and `-- trace` on the command line? | Refused, though clap takes them |\n", "a `--` at the end is taken"),
