@@ -3,6 +3,7 @@
 limits, names, files, examples of code, lines of shell and samples.
 
     python3 tests/gate/pages.py [SUBJECT]..     all of it, or these subjects, which are modules of tests/lib/pages
+    python3 tests/gate/pages.py --reached       for each function that README.md and docs/guarantees.md name: which program calls it
 
 Facts are read from the sources as they are. Prints a line for each place that differs, with its page, and `N passed, M failed`.
 """
@@ -10,6 +11,7 @@ import importlib
 import sys
 
 sys.path.insert(1, f"{sys.path[0]}/..")
+from lib.pages import claims
 from lib.pages.tree import Told, Tree
 
 SUBJECTS = (
@@ -28,6 +30,9 @@ def told_of(tree, subjects):
 
 def main():
     named = sys.argv[1:]
+    if named == ["--reached"]:
+        print("\n".join(claims.reached(Tree())))
+        return 0
     unknown = [it for it in named if it not in SUBJECTS]
     if unknown:
         sys.exit(f"{unknown[0]} is none of {', '.join(SUBJECTS)}\n{__doc__}")
