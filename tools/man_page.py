@@ -64,7 +64,8 @@ def tag(text):
 
 
 def cells(line):
-    return [it.strip() for it in re.split(r"\s\|\s|\s\|$", re.sub(r"^\|\s|\s?\|$", "", line.strip()))]
+    """The cells of a row, those without a word too."""
+    return [it.strip() for it in re.split(r"(?<=\s)\|(?=\s)", f" {line.strip().strip('|')} ")]
 
 
 def table(lines):
@@ -72,6 +73,8 @@ def table(lines):
     heads, made = cells(lines[0]), [".Bl -tag -width Ds"]
     for line in lines[2:]:
         row = cells(line)
+        if len(row) != len(heads):
+            raise ValueError(f"a row of {len(row)} cells below {len(heads)} heads: {line}")
         texts = [ended(capital(row[1]))] if row[1] and len(row) == 2 else []
         if len(row) > 2:
             texts = [ended(f"{head}: {text}") for head, text in zip(heads[1:], row[1:]) if text]

@@ -18,6 +18,11 @@ def page(guide):
 
 
 def check(tree, told):
-    wanted, found = page(tree.text(GUIDE)).splitlines(), tree.text(MAN).splitlines()
+    try:
+        made = page(tree.text(GUIDE))
+    except ValueError as fault:
+        told.holds(False, GUIDE, f"{TOOL} can't read it: {fault}")
+        return
+    wanted, found = made.splitlines(), tree.text(MAN).splitlines()
     differ = next((at for at, pair in enumerate(zip(wanted, found), 1) if pair[0] != pair[1]), min(len(wanted), len(found)))
     told.holds(wanted == found, MAN, f"isn't what {TOOL} makes of {GUIDE}", differ)
