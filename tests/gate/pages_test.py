@@ -5,11 +5,10 @@ import unittest
 
 import pages
 from lib.pages.links import CHANGES
-from lib.pages.tree import GUIDE, HELP, MAN, Tree
+from lib.pages.tree import GUIDE, HELP, MAN, UNIT, Tree
 
 COMMAND_LINE, ADMIN = "crates/relay_command/src", "crates/relay_admin/src"
 TEXTFILE = "examples/prometheus/pollrelay_textfile.py"
-UNIT = "examples/systemd/pollrelay.service"
 MEASURED, FORMAT, README = "docs/performance.md", "docs/admin-protocol.md", "README.md"
 TABLE = "\n| Promise | Contract that carries it | How far |\n|---|---|---|\n"
 # The subject, the file, what stands there as a regular expression, what comes in its place, and what has to be told. Where nothing
@@ -69,6 +68,8 @@ ROWS = (
     ("shell_lines", GUIDE, END, "\n    curl http://127.0.0.1:9464/metrics\n", "no part of the tests tries `curl`"),
     ("shell_lines", "CONTRIBUTING.md", END, "\n    python3 tests/clauses.py\n", "there is no tests/clauses.py"),
     ("samples", "packaging/debian/rules.sample", END, "relay web tcp:0.0.0.0:80 never\n", "no rule"),
+    ("samples", "examples/rules/web.rules", END, "relay app unix:/tmp/app.sock tcp:127.0.0.1:80 never\n", "the unit hides /tmp"),
+    ("metrics", TEXTFILE, r"pollrelay_up and pollrelay_connections are", "pollrelay_up is", "its head says ['pollrelay_up']"),
     ("quotes", README, END, "\n```rust\nlet conn = listener.take()?;\n```\n", "no crate has the line"),
     ("claims", README, END, f"{TABLE}| It reads | `relay_admin::Rules::parse` `no_such_clause` | proved |\n", "nothing is called `no_such_clause`"),
     ("names", "docs/testing.md", END, "\n`a_close_ends_no_read_at_all`\n", "nothing is called `a_close_ends_no_read_at_all`"),

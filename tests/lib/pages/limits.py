@@ -6,7 +6,7 @@ import re
 from lib.pages.limit_words import N, SAID, value_of
 from lib.pages.markdown import bare, rows, section
 from lib.pages.rust import constants, grouped
-from lib.pages.tree import GUIDE, HELP
+from lib.pages.tree import GUIDE, HELP, UNIT
 
 # Where each constant stands. One whose name another has too has its crate ahead.
 FILES = {
@@ -45,7 +45,6 @@ ROWS = (
     ("a name, a Unix path", ("MAX_NAME_BYTES", "MAX_PATH_BYTES")), ("idle times and deadlines", ("DAY_MS",)),
     ("bytes of an admin line, lines of a session", ("MAX_LINE_BYTES", "MAX_LINES")), ("event loops", ("MAX_LOOPS",)),
 )
-UNIT = "examples/systemd/pollrelay.service"
 NEEDED = "crates/relay_command/src/descriptors.rt"
 # The threads of a relay beside those of loops.
 ABOUT_A_DOZEN = 12

@@ -1,6 +1,7 @@
 """The families of figures with their kinds, labels and values of labels, as `relay_metrics` writes them: the guide has
 each, and no page or sample has a figure or a label that the server doesn't give."""
 
+import os
 import re
 from collections import namedtuple
 
@@ -70,6 +71,8 @@ def check(tree, told):
     told.has_all(tree, GUIDE, places, "the path")
     for page in (*tree.pages(), *tree.samples()):
         figures_in(told, page, tree.text(page), known)
+    for page, own in OWN.items():
+        its_own(told, page, tree.text(page), own - {os.path.basename(page).split(".")[0]})
 
 
 def in_guide(told, known, table):
@@ -83,6 +86,13 @@ def in_guide(told, known, table):
             # (the values of a label that another family has just been told to have may be left out)
             least = set(family.labels) | (set() if {"rule", "way"} <= set(family.labels) else values)
             told.holds(least <= given <= {*family.labels, *values}, GUIDE, f"`{name}` has the labels {family.labels}", line)
+
+
+def its_own(told, page, text, own):
+    """A sample's head names the figures that the server doesn't give, and says so."""
+    said = re.search(r"([^.;]*) (?:is|are) this script's own", text)
+    named = set(re.findall(r"pollrelay_\w+", said[1])) if said else set()
+    told.holds(named == own, page, f"its own figures are {sorted(own)}, and its head says {sorted(named)}")
 
 
 def figures_in(told, page, text, known):

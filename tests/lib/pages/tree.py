@@ -12,6 +12,7 @@ from lib.places import ROOT
 LEFT_OUT = {".git", "out", "target", "__pycache__", "corpus", "vendor"}
 # The operator's guide, the man page that is made of it, and what the program says of itself.
 GUIDE, MAN = "docs/operations.md", "man/pollrelay.1"
+UNIT = "examples/systemd/pollrelay.service"
 # A page whose commands and code `own_program` follows as its reader does.
 FOLLOWED = "docs/your-own-program.md"
 HELP = "crates/relay_command/src/usage.rt"
