@@ -226,6 +226,15 @@ def tell(told, page, missing, seen):
     told.holds(seen, page, "names nothing in its tables")
 
 
+def quoted_promises(tree, told):
+    """What a page says that README.md promises, README.md does say."""
+    readme = " ".join(tree.text("README.md").split()).casefold()
+    for page in tree.pages():
+        for it in re.finditer(r"`(?:\.\./)?README\.md` says: ([^.]+)\.", tree.text(page)):
+            said = " ".join(it[1].split()).casefold()
+            told.holds(said in readme, page, f"README.md doesn't say: {it[1]}", tree.text(page).count("\n", 0, it.start()) + 1)
+
+
 def crates_of(tree):
     return {it: Crate(tree, it) for it in sorted({path.split("/")[1] for path in tree.paths(r"crates/\w+/src/.*\.rt")})}
 
@@ -237,5 +246,6 @@ def check(tree, told):
         tell(told, page, missing, seen)
         for number, it in unused:
             told.holds(False, page, f"whether a program calls `{it}` isn't as the row says: see `library calls:`", number)
+    quoted_promises(tree, told)
     page = "models/README.md"
     tell(told, page, *models(tree.text(page), steps_of(tree), tree.text))
