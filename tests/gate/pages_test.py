@@ -79,6 +79,8 @@ ROWS = (
     ("links", README, END, "\n[here](docs/nowhere.md)\n", "links to docs/nowhere.md"),
     ("links", README, END, "\n`tests/metrics_storm.py`\n", "names `tests/metrics_storm.py`"),
     ("links", "docs/nowhere.md", END, "# Nowhere\n", "doesn't list nowhere.md"),
+    ("packaged", GUIDE, END, "\nSee `../packaging/deb.sh`.\n", "names ../packaging/deb.sh, which the package hasn't"),
+    ("packaged", "packaging/deb.sh", r"git ls-files examples", "git ls-files examples/rules", "../examples/admin, which the package hasn't"),
     # What pages said once that wasn't so.
     ("stale", "packaging/debian/rules.sample", END, "# It is read at the start alone: systemctl restart pollrelay\n", "rules are read anew by `reload`"),
     ("stale", "docs/DECISIONS.md", END, "| What are `--` and `-- trace` on the command line? | Refused, though clap takes them |\n", "a `--` at the end is taken"),
