@@ -15,7 +15,7 @@ from lib.pages import claims
 from lib.pages.tree import Told, Tree
 
 SUBJECTS = (
-    "options", "admin", "replies", "faults", "trace", "metrics", "log_words", "limits", "version", "man", "shell_lines", "samples",
+    "options", "admin", "replies", "faults", "trace", "metrics", "log_words", "limits", "version", "kit", "man", "shell_lines", "samples",
     "quotes", "claims", "names", "links", "figures", "stale", "packaged",
 )
 
@@ -37,7 +37,7 @@ def main():
     if unknown:
         sys.exit(f"{unknown[0]} is none of {', '.join(SUBJECTS)}\n{__doc__}")
     told = told_of(Tree(), named or SUBJECTS)
-    for line in told.lines:
+    for line in [*told.notes, *told.lines]:
         print(line)
     print(f"{told.passed} passed, {len(told.lines)} failed")
     return 1 if told.lines or not told.passed else 0

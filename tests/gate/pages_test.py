@@ -2,10 +2,12 @@
 """Tests of pages.py: each row plants a text in a page or in the code, and the check has to tell it where it told nothing before."""
 import re
 import unittest
+from unittest import mock
 
 import pages
+from lib.pages import kit
 from lib.pages.links import CHANGES
-from lib.pages.tree import GUIDE, HELP, MAN, UNIT, Tree
+from lib.pages.tree import GUIDE, HELP, MAN, TRUSTED, UNIT, Tree
 
 COMMAND_LINE, ADMIN = "crates/relay_command/src", "crates/relay_admin/src"
 TEXTFILE = "examples/prometheus/pollrelay_textfile.py"
@@ -50,7 +52,9 @@ ROWS = (
     ("log_words", GUIDE, END, "\n    2026-11-24T15:21:47.123Z web 2 3 eof\n", "no line of a log"),
     ("log_words", "crates/relay_log/src/line.rt", r"    pub up: u64,", "    pub loop_place: u64,\n    pub up: u64,", "a line of the log has 11 fields"),
     ("version", HELP, r"pollrelay 0\.", "pollrelay 1.", "packaging/debian/changelog: the program says"),
-    ("version", README, END, "\nIt needs `rattle-kit-1`.\n", "asks for rattle-kit-1"),
+    ("kit", README, END, "\nIt was tried with `rattle-kit-1`.\n", "names rattle-kit-1, and the kits that were tried are"),
+    ("kit", README, END, "\nIt needs `logic 0123456789abcdef`.\n", "asks for logic 0123456789abcdef"),
+    ("kit", TRUSTED, r"logic [0-9a-f]{16}", "logic", "what tests/lib/pages/kit.py reads here isn't there any more"),
     ("admin", CHANGES, END, "- A socket: `list`, `totals`, `show ID`, `close ID`, `drain ID`, `deadline ID MS`.\n", "a list of commands lacks ['"),
     ("limits", HELP, r"1 to 2000", "1 to 3000", "2,000, as `MAX_PAIRS` is"),
     ("limits", f"{ADMIN}/rules/file.rt", r"MAX_RULES: usize = 64", "MAX_RULES: usize = 65", "its limit of rules isn't 65"),
@@ -137,6 +141,15 @@ class Planted(unittest.TestCase):
             with self.subTest(f"{subject}: {said}"):
                 told = set(pages.told_of(self.planted(path, old, new), [subject]).lines) - self.told_before(subject)
                 self.assertTrue(any(said in it for it in told), f"told instead: {sorted(told)}")
+
+    def test_a_kit_that_was_not_tried_is_told_and_fails_nothing(self):
+        for said, is_noted in (
+            ("rattle-kit-13b logic dac8208d650f15bf", False), ("rattle-kit-13f logic dac8208d650f15bf", False),
+            ("rattle-kit-99 logic dac8208d650f15bf", True), ("rattle-kit-13b logic 0123456789abcdef", True), ("", True),
+        ):
+            with self.subTest(said), mock.patch.object(kit, "version_here", return_value=said):
+                told = pages.told_of(self.tree, ["kit"])
+                self.assertEqual((told.lines, len(told.notes)), ([], int(is_noted)))
 
     def test_each_subject_has_a_row(self):
         self.assertEqual({it[0] for it in ROWS}, set(pages.SUBJECTS))

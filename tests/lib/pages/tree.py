@@ -16,6 +16,8 @@ UNIT = "examples/systemd/pollrelay.service"
 # Pages whose commands `own_program` and `quickstart` give as their reader does.
 FOLLOWED = ("docs/your-own-program.md", "docs/quickstart.md")
 HELP = "crates/relay_command/src/usage.rt"
+# The page that says what is trusted: the one room of the kit.
+TRUSTED = "docs/guarantees.md"
 
 
 def files_below(root):
@@ -71,10 +73,13 @@ class Tree:
 
 
 class Told:
-    """How much was looked at and holds, and a line for what doesn't."""
+    """How much was looked at and holds, a line for what doesn't, and notes on the machine, which fail nothing."""
 
     def __init__(self):
-        self.passed, self.lines = 0, []
+        self.passed, self.lines, self.notes = 0, [], []
+
+    def note(self, said):
+        self.notes.append(said)
 
     def holds(self, is_so, page, said, line=None):
         if is_so:
