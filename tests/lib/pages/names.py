@@ -19,7 +19,7 @@ PATTERNS = {"try_", "_io", "NAME_tests"}
 # The rows of this have names that aren't there.
 PLANTED = {"tests/gate/pages_test.py"}
 # A page of what was, and one that gives its reader code to write.
-LEFT_OUT = {"CHANGELOG.md", FOLLOWED}
+LEFT_OUT = {"CHANGELOG.md", *FOLLOWED}
 
 
 @functools.cache

@@ -13,8 +13,8 @@ LEFT_OUT = {".git", "out", "target", "__pycache__", "corpus", "vendor"}
 # The operator's guide, the man page that is made of it, and what the program says of itself.
 GUIDE, MAN = "docs/operations.md", "man/pollrelay.1"
 UNIT = "examples/systemd/pollrelay.service"
-# A page whose commands and code `own_program` follows as its reader does.
-FOLLOWED = "docs/your-own-program.md"
+# Pages whose commands `own_program` and `quickstart` give as their reader does.
+FOLLOWED = ("docs/your-own-program.md", "docs/quickstart.md")
 HELP = "crates/relay_command/src/usage.rt"
 # The page that says what is trusted: the one room of the kit.
 TRUSTED = "docs/guarantees.md"
