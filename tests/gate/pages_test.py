@@ -45,6 +45,8 @@ ROWS = (
     ("metrics", "crates/relay_log/src/ended.rt", r'b"unreachable", ', "", "`pollrelay_rule_no_target_total` has the labels"),
     ("faults", GUIDE, r"\n\| `cannot reach admin` ", "\n| `no such relay` | | |\n\\g<0>", "has a message `no such relay`"),
     ("metrics", README, END, "\n`pollrelay_turns`\n", "`pollrelay_turns` is no figure"),
+    ("metrics", "examples/prometheus/alerts.yml", r"pollrelay_up_seconds <", "pollrelay_uptime_seconds <", "`pollrelay_uptime_seconds` is no figure"),
+    ("metrics", "examples/grafana/pollrelay.json", r"pollrelay_turns_total\{instance", "pollrelay_turns_total{host", "has no label ['host']"),
     ("log_words", "crates/relay_log/src/ended.rt", r'b"drained"\)', 'b"emptied")', "log's word `emptied`"),
     ("log_words", "crates/relay_log/src/ended.rt", r'b"unreachable"', 'b"far"', "log's word `far`"),
     ("log_words", GUIDE, END, "\n    2026-11-24T15:21:47.123Z web 2 3 eof\n", "no line of a log"),

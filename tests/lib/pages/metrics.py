@@ -17,6 +17,8 @@ PLACES = "crates/relay_metrics/src/place.rt"
 Family = namedtuple("Family", "name kind labels")
 # Figures of another source than the server: each is of the sample that asks the admin socket.
 OWN = {"examples/prometheus/pollrelay_textfile.py": {"pollrelay_up", "pollrelay_connections", "pollrelay_textfile"}}
+# Labels that Prometheus gives each figure.
+BY_SCRAPER = {"job", "instance"}
 FIGURE = re.compile(r"\bpollrelay_[a-z]\w*(?!\w|\.|[\w.]*\.deb)(?:\{([^}]*)\})?")
 
 
@@ -101,7 +103,7 @@ def figures_in(told, page, text, known):
     for it in FIGURE.finditer(text):
         name, line = it[0].split("{")[0], text.count("\n", 0, it.start()) + 1
         if name in known:
-            given = set(re.findall(r"(\w+)=", it[1] or ""))
+            given = set(re.findall(r"(\w+)=", it[1] or "")) - BY_SCRAPER
             told.holds(given <= set(known[name].labels), page, f"`{name}` has no label {sorted(given - set(known[name].labels))}", line)
         else:
             told.holds(name in own or re.match(r"[.(]", text[it.end() : it.end() + 1]), page, f"`{name}` is no figure of the code", line)

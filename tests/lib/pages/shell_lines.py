@@ -22,7 +22,7 @@ UNIT = re.compile(r"^Exec\w+=[-+!]?(.*)$")
 RECIPE = re.compile(r"^(?:ENTRYPOINT|.*CMD) (\[.*\])$")
 HEAD = re.compile(r'(?:#!.*\n)?"""(.*?)"""', re.S)
 SAMPLES = (
-    r"(?:examples|packaging|tools|tests/(?:gate|system|packaging|fuzz))/.*\.(?:sh|py|rules|session|txt|cfg|service|sample)"
+    r"(?:examples|packaging|tools|tests/(?:gate|system|packaging|fuzz))/.*\.(?:sh|py|rules|session|txt|cfg|service|sample|yml|yaml)"
     r"|packaging/(?:pollrelay-run|container/Dockerfile)"
 )
 # What starts the program with a relay's words and some of its own.

@@ -21,6 +21,7 @@ CALLED = {
     "socat": "`rolling_restart`",
     "docker": "`container`",
     "curl": "`quickstart`",
+    "promtool": "`monitoring`",
     "kubectl": "`kubernetes_manifest`",
 }
 # Programs of the system that a page might call too. One that it does call comes into the table above.

@@ -69,7 +69,7 @@ class Tree:
 
     def samples(self):
         """What is given to operators to begin with."""
-        return self.paths(r"examples/.*\.(?:sh|py|rules|session|txt|cfg|service)|packaging/.*(?<!\.md)")
+        return self.paths(r"examples/.*\.(?:sh|py|rules|session|txt|cfg|service|yml|yaml|json)|packaging/.*(?<!\.md)")
 
 
 class Told:
