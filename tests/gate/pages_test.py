@@ -85,6 +85,7 @@ ROWS = (
     ("names", "crates/admin_tests/src/.*", r"fn lines_have_their_replies", "fn lines_have_replies", "nothing is called `lines_have_their_replies`"),
     ("links", README, END, "\n[here](docs/nowhere.md)\n", "links to docs/nowhere.md"),
     ("links", README, END, "\n`tests/metrics_storm.py`\n", "names `tests/metrics_storm.py`"),
+    ("names", "docs/rattle-for-rust.md", END, "\n`FROM_JAVA.md`\n", "nothing is called `FROM_JAVA`"),
     ("links", "docs/nowhere.md", END, "# Nowhere\n", "doesn't list nowhere.md"),
     ("net_page", "docs/net.md", r"Closes the connection for all who share it", "Closes this clone", "isn't what tools/net_reference.py makes of crates/net/src"),
     ("packaged", GUIDE, END, "\nSee `../packaging/deb.sh`.\n", "names ../packaging/deb.sh, which the package hasn't"),
