@@ -4,7 +4,7 @@
     python3 tools/man_page.py > man/pollrelay.1
 
 It knows the forms that the guide has: headings, paragraphs, indented commands, tables, lists, and words set off by
-backquotes or stars. The first cell of a table's row becomes a tag, and each cell after the second begins with its head. A
+backquotes or stars. The first cell of a table's row becomes a tag, and each cell after the second begins with its head, unless it says by itself what it is. A
 sentence is a line, as mdoc wants it. The page's date is that of the newest entry of packaging/debian/changelog.
 """
 import email.utils
@@ -16,6 +16,8 @@ ROOT = pathlib.Path(__file__).resolve().parent.parent
 GUIDE, CHANGES = ROOT / "docs/operations.md", ROOT / "packaging/debian/changelog"
 # Sections that a man page calls otherwise.
 NAMES = {"Messages": "DIAGNOSTICS"}
+# Heads of cells that say by themselves what they are.
+PLAIN = {"What it does", "What it is", "What it counts"}
 WIDTH = 78
 INLINE = re.compile(r"`([^`]+)`|\*\*([^*]+)\*\*")
 
@@ -82,7 +84,7 @@ def table(lines):
             raise ValueError(f"a row of {len(row)} cells below {len(heads)} heads: {line}")
         texts = [ended(capital(row[1]))] if row[1] and len(row) == 2 else []
         if len(row) > 2:
-            texts = [ended(f"{head}: {text}") for head, text in zip(heads[1:], row[1:]) if text]
+            texts = [ended(capital(text) if head in PLAIN else f"{head}: {text}") for head, text in zip(heads[1:], row[1:]) if text]
         made += [tag(row[0]), *(line for it in texts for line in running(it))]
     return [*made, ".El"]
 

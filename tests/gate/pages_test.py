@@ -61,6 +61,7 @@ ROWS = (
     ("limits", FORMAT, END, "\nA line of more than 80 bytes ends it.\n", "64, as `MAX_LINE_BYTES` is"),
     ("limits", f"{COMMAND_LINE}/descriptors.rt", r"SESSIONS: u64 = 32", "SESSIONS: u64 = 31", "`SESSIONS` isn't 32"),
     ("limits", GUIDE, r"loops \+ 64\) \+ 112", "loops + 64) + 96", "doesn't say that a relay needs 2 × (connections + loops + 64) + 112"),
+    ("limits", GUIDE, r"\| 512 \| 1 to 2,000 \|", "| 512 | 1 to 4,000 |", "the Range of --connections CONNECTIONS isn't 2,000"),
     ("limits", GUIDE, r"1,280 with", "1,216 with", "8 loops need 1280 descriptors"),
     ("limits", UNIT, r"(LimitNOFILE)=.*", r"\1=1024", "LimitNOFILE is 1024, below"),
     ("limits", UNIT, r"TasksMax=.*", "TasksMax=32", "TasksMax is 32, below 76"),

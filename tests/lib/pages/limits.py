@@ -45,6 +45,13 @@ ROWS = (
     ("a name, a Unix path", ("MAX_NAME_BYTES", "MAX_PATH_BYTES")), ("idle times and deadlines", ("DAY_MS",)),
     ("bytes of an admin line, lines of a session", ("MAX_LINE_BYTES", "MAX_LINES")), ("event loops", ("MAX_LOOPS",)),
 )
+# Which of them the guide's rows of options and of a rule's fields have, in the cells of these heads.
+CELLS = {
+    "--admin PATH": {"Range": ("MAX_PATH_BYTES",)}, "--loops LOOPS": {"Default": ("MOST_BY_DEFAULT",), "Range": ("MAX_LOOPS",)},
+    "--connections CONNECTIONS": {"Default": ("DEFAULT_PAIRS",), "Range": ("MAX_PAIRS",)}, "--connections-per-rule N": {"Range": ("MAX_PAIRS",)},
+    "--connect-timeout MS": {"Default": ("DEFAULT_CONNECT_MS",), "Range": ("MAX_CONNECT_MS",)}, "NAME": {"Form": ("MAX_NAME_BYTES",)},
+    "LISTEN": {"Form": ("MAX_PATH_BYTES",)}, "IDLE": {"Form": ("DAY_MS",)},
+}
 NEEDED = "crates/relay_command/src/descriptors.rt"
 # The threads of a relay beside those of loops.
 ABOUT_A_DOZEN = 12
@@ -61,6 +68,7 @@ def check(tree, told):
     known = values(tree)
     if all([told.reads(isinstance(it, int), FILES[name], __file__) for name, it in known.items()]):
         in_rows(told, tree.text(GUIDE), known)
+        in_cells(told, tree.text(GUIDE), known)
         in_sentences(tree, told, known)
         of_unit(tree, told, known, needed(tree, told, known))
 
@@ -73,6 +81,19 @@ def in_rows(told, text, known):
         if told.holds(said is not None, GUIDE, f"has no limit of: {label}"):
             for name in names:
                 told.holds(grouped(known[name]) in said, GUIDE, f"its limit of {label} isn't {grouped(known[name])}, as `{name}` is")
+
+
+def in_cells(told, text, known):
+    """The guide's options and a rule's fields have their limits in the cells of their heads."""
+    heads, found = [], {}
+    for _, cells in [*rows(section(text, "Commands")), *rows(section(text, "Rules"))]:
+        heads = cells if cells[0] in ("Option", "Field") else heads
+        found[bare(cells[0])] = dict(zip(heads, cells))
+    for row, wanted in CELLS.items():
+        for head, names in wanted.items():
+            said = re.findall(N, found.get(row, {}).get(head, ""))
+            for name in names:
+                told.holds(grouped(known[name]) in said, GUIDE, f"the {head} of {row} isn't {grouped(known[name])}, as `{name}` is")
 
 
 def in_sentences(tree, told, known):
