@@ -101,7 +101,7 @@ ROWS = (
     ("admin", GUIDE, END, "\nCommands are `list`, `totals`, `close ID`, `drain ID`, `deadline ID MS`, `quit`, `stop`.\n", "a list of commands lacks"),
     ("man", MAN, r"\.It \"\\fBshow ID[^\0]*?(?=\.It)", "", "isn't what tools/man_page.py makes of docs/operations.md"),
     ("man", MAN, r"Take the relay out of the balancer", "Say \\\\fBdeadline 1 0\\\\fP", "isn't what tools/man_page.py makes of docs/operations.md"),
-    ("man", MAN, r"What it counts: event loops", "Labels: | event loops", "isn't what tools/man_page.py makes of docs/operations.md"),
+    ("man", MAN, r"(?<=Kind: gauge\.\n)Event loops\.", "Labels: | event loops.", "isn't what tools/man_page.py makes of docs/operations.md"),
     ("man", GUIDE, r"`pollrelay_loops` \| gauge \| \|", "`pollrelay_loops` | gauge |", "a row of 3 cells below 4 heads"),
     ("man", GUIDE, r"\n1\. Take[^\n]*\n", r"\n", "isn't what tools/man_page.py makes of docs/operations.md"),
     ("admin", "examples/balancer/two_relays.cfg", r"(#     pollrelay ctl[^\n]* finish 30000\n)(#     \(wait[^\n]*ended[^\n]*\n)", r"\2\1", "a rolling restart goes"),
