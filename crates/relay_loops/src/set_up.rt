@@ -45,6 +45,7 @@ impl<R: Wait + Net + Clock + Copy> LoopContext<R> {
             alloc: self.alloc,
             clock: self.clock,
             table: &self.shared.table,
+            closes: &self.shared.closes,
             poller,
         }
     }
@@ -137,7 +138,7 @@ impl<U: Ledger, D: Ledger, R: Wait + Net + Clock + Copy> LoopHost<U, D, R> {
             Ok(connection) => connection,
             Err(how) => {
                 self.context.refuse(&acceptance, how);
-                self.context.shared.settle_gone(&self.context.rt);
+                self.context.shared.note_refused(counted);
                 return;
             }
         };

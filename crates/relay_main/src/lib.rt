@@ -4,6 +4,7 @@
 
 mod accepting;
 mod admin;
+mod asked_closes;
 mod desk;
 mod finishing;
 mod listening;

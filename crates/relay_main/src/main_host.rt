@@ -3,6 +3,7 @@
 ghost use Rattle.std.specs.Prelude.{◌≡◌, true, false, None};
 
 use crate::admin::Caller;
+use crate::asked_closes::AskedCloses;
 use crate::main_task::MainTask;
 use deadline_core::Dirs;
 use fd_descriptor::{Alarms, PollCell};
@@ -27,6 +28,8 @@ pub struct MainHost<R: Wait + Copy, C: Moments> {
     pub(crate) callers: Vec<Caller>,
     /// Which places have sessions that may go on between two turns.
     pub(crate) named: [bool; MAX_SESSIONS],
+    /// The closes that sessions have asked for.
+    pub(crate) asked: AskedCloses,
 }
 
 impl<R: Wait + Copy, C: Moments> MainHost<R, C> {
@@ -42,6 +45,7 @@ impl<R: Wait + Copy, C: Moments> MainHost<R, C> {
             unarmed: None,
             callers: Vec::new(alloc),
             named: [false; MAX_SESSIONS],
+            asked: AskedCloses::none(),
         }
     }
 

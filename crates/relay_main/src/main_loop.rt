@@ -144,8 +144,10 @@ impl<R: Wait + Net + Files + Clock + Copy> MainLoop<R> {
             if let Err(fault) = self.tasks.turn(&rt, now, &mut self.host) {
                 return Err(of_poller(fault));
             }
+            // What ended before was settled before: who waits for that is answered first.
+            let standing = self.host.shared.standing();
             sessions.serve(self);
-            if self.is_over() {
+            if self.is_over(standing, sessions.are_held()) {
                 return Ok(());
             }
             if self.host.takes_unarmed() {
@@ -155,10 +157,12 @@ impl<R: Wait + Net + Files + Clock + Copy> MainLoop<R> {
         unreachable!()
     }
 
-    // Whether no turn more is wanted.
-    fn is_over(&self) -> bool {
+    // Whether no turn more is wanted, where so many connections stood before the sessions were
+    // served: one of them may have let the last clients in.
+    fn is_over(&self, before: u64, is_held: bool) -> bool {
         let shared = &self.host.shared;
+        let standing = before.max(shared.standing());
         shared.is_stopped()
-            || has_finished(self.finish_at, self.host.clock.now(), shared.standing())
+            || has_finished(self.finish_at, self.host.clock.now(), standing, is_held)
     }
 }

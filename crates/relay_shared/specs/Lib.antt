@@ -1,4 +1,5 @@
 pub mod Addr
+pub mod Closing
 pub mod Fault
 pub mod Handle
 pub mod StalePath

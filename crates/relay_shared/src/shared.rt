@@ -7,10 +7,10 @@ ghost use Rattle.std.specs.Prelude.{◌≡◌, IfErr, IfOk};
 ghost use Rattle.std.specs.Arc.{arc_value};
 ghost use Rattle.relay_admin.specs.declared.serve_fault.ServeFault.{ServeFault};
 
-use crate::close_wishes::{CloseWishes, MAX_SESSIONS};
+use crate::close_wishes::CloseWishes;
 use crate::closing::{Closer, close_by_id};
 use crate::entry::Entry;
-use crate::loop_handle::LoopHandle;
+use crate::loop_handle::{Counted, LoopHandle};
 use crate::stopping::{StopFlag, Stopped};
 use arrayvec::ArrayVec;
 use conntable::ConnTable;
@@ -159,27 +159,22 @@ impl Shared {
         all
     }
 
-    /// Settles the wishes for entries that are in the table no more: after a set-up that was
-    /// refused, and took back what it had put there.
-    pub fn settle_gone<R: Wait>(&self, rt: &R) {
-        for place in 0..MAX_SESSIONS {
-            if let Some(id) = self.closes.wished(place) {
-                let is_gone = self.table.lock(rt).by_id(id).is_none();
-                if is_gone && self.closes.settle(id) {
-                    self.main.wake();
-                }
-            }
+    /// A connection has ended, whose client's side had this id, and the main thread is told, where
+    /// anybody there waits for it. It is counted until wishes for it are settled: a relay that
+    /// finishes ends once none is, and whoever waits for a close is to be answered before.
+    pub fn note_end(&self, connection: u64, counted: Counted) {
+        let is_wished = self.closes.settle(connection);
+        drop(counted);
+        if is_wished || self.is_finishing.load(Ordering::SeqCst) {
+            self.main.wake();
         }
     }
 
-    /// Tells the main thread of a connection that has ended, where anybody there waits for it. Its
-    /// sides had these ids.
-    pub fn note_end(&self, client: u64, target: u64) {
-        let client = self.closes.settle(client);
-        let target = self.closes.settle(target);
-        if client || target || self.is_finishing.load(Ordering::SeqCst) {
-            self.main.wake();
-        }
+    /// A set-up was refused, which has settled wishes for what it had put into the table: the main
+    /// thread is told.
+    pub fn note_refused(&self, counted: Counted) {
+        drop(counted);
+        self.main.wake();
     }
 
     /// Tells the main thread and all loops that no more turns are wanted.
