@@ -13,6 +13,7 @@ use crate::connection::{ConnSide, Connection, Flow};
 use crate::idle_time::IdleTime;
 use crate::new_side::{NewSide, new_side, subjects};
 use crate::reach::Reach;
+use crate::refused::Refused;
 use crate::task_gate::{Source, TaskGate};
 use base_types::Dir;
 use conntable::ConnTable;
@@ -181,19 +182,22 @@ impl<'a, R: Wait + Clock + Copy> SetUp<'a, R> {
         target: OwnedSock,
         facts: Arc<ConnectionFacts>,
         inserted: &mut InsertedSides,
-    ) -> Option<Connection<U, D, R>>
+    ) -> Result<Connection<U, D, R>, Refused>
         requires none_inserted { inserted.old ≡ [] }
-        ensures set_up { IfSome result (IsSetUp facts client.owner.token target.owner.token) }
+        ensures set_up { IfOk result (IsSetUp facts client.owner.token target.owner.token) }
     {
-        let (of_client, of_target) = subjects(&facts)?;
+        let Some((of_client, of_target)) = subjects(&facts) else {
+            return Err(Refused::Memory);
+        };
         let client = self.side(client, of_client)?;
         let target = self.side(target, of_target)?;
         self.join_sides(client, target, facts, inserted)
+            .ok_or(Refused::Memory)
     }
 
     // A side of a socket.
-    fn side(&self, owned: OwnedSock, subject: Subject) -> Option<NewSide<R>>
-        ensures cell { IfSome result (λ side.
+    fn side(&self, owned: OwnedSock, subject: Subject) -> Result<NewSide<R>, Refused>
+        ensures cell { IfOk result (λ side.
             key_of_cell (arc_value side.cell) ≡ owned.owner.token) }
     {
         let OwnedSock { sock, owner } = owned;
@@ -208,18 +212,20 @@ impl<'a, R: Wait + Clock + Copy> SetUp<'a, R> {
         target: OwnedSock,
         facts: Arc<ConnectionFacts>,
         inserted: &mut InsertedSides,
-    ) -> Option<Connection<U, D, R>>
+    ) -> Result<Connection<U, D, R>, Refused>
         requires none_inserted { inserted.old ≡ [] }
-        ensures set_up { IfSome result (IsSetUp facts client.owner.token target.owner.token) }
-        ensures up_share { IfSome result (λ _. OpensOne books.old.up.book books.new.up.book) }
-        ensures down_share { IfSome result (λ _.
+        ensures set_up { IfOk result (IsSetUp facts client.owner.token target.owner.token) }
+        ensures up_share { IfOk result (λ _. OpensOne books.old.up.book books.new.up.book) }
+        ensures down_share { IfOk result (λ _.
             OpensOne books.old.down.book books.new.down.book) }
     {
         let mut connection = self.sides(client, target, facts, inserted)?;
-        let (up, down) = books.open_shares()?;
+        let Some((up, down)) = books.open_shares() else {
+            return Err(Refused::Memory);
+        };
         connection.up.share = Some(up);
         connection.down.share = Some(down);
-        Some(connection)
+        Ok(connection)
     }
 
     // Takes out and closes what a set-up that failed had inserted, and settles the wishes for it: the
@@ -240,15 +246,15 @@ impl<'a, R: Wait + Clock + Copy> SetUp<'a, R> {
         client: OwnedSock,
         target: OwnedSock,
         facts: Arc<ConnectionFacts>,
-    ) -> Option<Connection<U, D, R>>
-        ensures set_up { IfSome result (IsSetUp facts client.owner.token target.owner.token) }
-        ensures up_share { IfSome result (λ _. OpensOne books.old.up.book books.new.up.book) }
-        ensures down_share { IfSome result (λ _.
+    ) -> Result<Connection<U, D, R>, Refused>
+        ensures set_up { IfOk result (IsSetUp facts client.owner.token target.owner.token) }
+        ensures up_share { IfOk result (λ _. OpensOne books.old.up.book books.new.up.book) }
+        ensures down_share { IfOk result (λ _.
             OpensOne books.old.down.book books.new.down.book) }
     {
         let mut inserted = InsertedSides::none();
         let made = self.with_shares(books, client, target, facts, &mut inserted);
-        if made.is_none() {
+        if made.is_err() {
             self.undo(inserted);
         }
         made

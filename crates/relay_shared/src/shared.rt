@@ -6,6 +6,7 @@
 ghost use Rattle.std.specs.Prelude.{◌≡◌, IfErr, IfOk};
 ghost use Rattle.std.specs.Arc.{arc_value};
 ghost use Rattle.relay_admin.specs.declared.serve_fault.ServeFault.{ServeFault};
+ghost use Rattle.relay_shared.specs.Drop.{IsDrop};
 
 use crate::close_wishes::CloseWishes;
 use crate::closing::{Closer, close_by_id};
@@ -111,24 +112,38 @@ impl Shared {
     }
 
     /// Delivers a socket that was accepted just now to the loop with the fewest connections. One
-    /// beyond the most pairs, of its rule or of all, is dropped. The main thread alone delivers.
+    /// beyond the most pairs, of its rule or of all, or for which memory is refused, is dropped. The
+    /// main thread alone delivers.
     pub fn deliver<R: Wait + Clock>(&self, rt: &R, sock: Sock, acceptance: Acceptance) {
         acceptance.served.note_accept(acceptance.at);
         let Some(told) = acceptance.try_clone() else {
             return;
         };
-        if self.safeguards.is_at_limit(told.served.standing()) {
-            told.served.counts.rule_full.add(1);
-            self.tell_refused(rt, &told, told.at, Ended::RuleFull);
-            return;
+        if let Err(how) = self.try_deliver(rt, sock, acceptance) {
+            told.served.counts.note_dropped(how);
+            self.tell_refused(rt, &told, told.at, how);
         }
-        let is_there = match self.place() {
-            Some(handle) => handle.deliver(rt, sock, acceptance),
-            None => false,
+    }
+
+    // The same, or why the socket is dropped.
+    fn try_deliver<R: Wait>(
+        &self,
+        rt: &R,
+        sock: Sock,
+        acceptance: Acceptance,
+    ) -> Result<(), Ended>
+        ensures why { IfErr result IsDrop }
+    {
+        if self.safeguards.is_at_limit(acceptance.served.standing()) {
+            return Err(Ended::RuleFull);
+        }
+        let Some(handle) = self.place() else {
+            return Err(Ended::Full);
         };
-        if !is_there {
-            told.served.counts.full.add(1);
-            self.tell_refused(rt, &told, told.at, Ended::Full);
+        if handle.deliver(rt, sock, acceptance) {
+            Ok(())
+        } else {
+            Err(Ended::NoMemory)
         }
     }
 
