@@ -37,7 +37,7 @@ fn answer_of_fault(fault: ServeFault) -> DeskAnswer
         ServeFault::RulesFile => DeskAnswer::CannotRead,
         ServeFault::Listen(name) => DeskAnswer::CannotListen(name),
         ServeFault::Memory => DeskAnswer::NoMemory,
-        _ => DeskAnswer::Closed,
+        _ => DeskAnswer::Device,
     }
 }
 
