@@ -3,6 +3,7 @@
 #![tactic(auto)]
 
 mod accepting;
+mod accounts;
 mod admin;
 mod asked_closes;
 mod desk;

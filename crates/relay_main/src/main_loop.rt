@@ -16,6 +16,7 @@ use readiness::{EventLoop, LoopDriver};
 use relay_admin::ServeFault;
 use relay_facts::bound_path::BoundPath;
 use relay_facts::clock::{Moments, RelayClock};
+use relay_facts::served_rule::ServedRule;
 use relay_shared::fault::of_poller;
 use relay_shared::shared::Shared;
 use std::alloc::Global;
@@ -31,6 +32,8 @@ pub struct MainLoop<R: Wait + Clock + Copy> {
     pub(crate) tasks: EventLoop<MainTask<R>>,
     pub host: MainHost<R, RelayClock<R>>,
     pub listeners: Listeners,
+    /// The accounts of rules that a reload left out, and of which connections stood then.
+    pub(crate) gone: Vec<Arc<ServedRule>>,
     /// The token of the admin socket's task; 0 before there is one.
     pub(crate) admin: u64,
     /// The moment at which the relay ends at the latest, where it finishes.
@@ -67,6 +70,7 @@ impl<R: Wait + Clock + Copy> MainLoop<R> {
                 given: Vec::new(alloc),
                 replaces_stale,
             },
+            gone: Vec::new(alloc),
             admin: 0,
             finish_at: None,
         }
@@ -79,6 +83,7 @@ impl<R: Wait + Clock + Copy> MainLoop<R> {
             tasks,
             host,
             listeners,
+            gone: _,
             admin: _,
             finish_at: _,
         } = self;
