@@ -5,6 +5,7 @@ pub mod Deadlines
 pub mod Desk
 pub mod Finishing
 pub mod Listening
+pub mod Pauses
 pub mod Reload
 pub mod Session
 pub mod Sessions
