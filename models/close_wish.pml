@@ -3,8 +3,8 @@
    The main thread serves SESSIONS sessions between two turns of its loop; each asks at any time to close one
    side of the only connection, by its id. The loop sets that connection up, which may be refused once both
    entries are in the table, and ends it when it finds a wish, or by itself at any time. Both loops sleep as
-   LoopRemote has it. In the end no session may wait: each has its reply, which is `ok` only once the entry is
-   out of the table. */
+   LoopRemote has it. In the end no session may wait: each has its reply, `ok` or that nothing stands there,
+   only once both entries are out of the table; and one at most is told `ok`. */
 #ifndef SESSIONS
 #define SESSIONS 2
 #endif
@@ -15,9 +15,12 @@
 #define LOOP 0
 #define MAIN 1
 
-byte wish[SESSIONS];                /* CloseWishes: NONE, an id or DONE */
+byte wish[SESSIONS];                /* CloseWishes: NONE, DONE or the connection, by its client's id */
 byte lines[SESSIONS];               /* lines that came, of which none is answered yet */
 bit held[SESSIONS];                 /* the reply waits for a close */
+bit second[SESSIONS];               /* another asked before: the reply will say that nothing stands there */
+bit is_asked = 0;                   /* MainHost::asked: a session has asked for the connection */
+byte oks = 0;                       /* sessions that were told `ok` */
 bit in_table[3];
 bit stands = 0;                     /* the loop has the connection's task */
 bit named = 0;                      /* the task stands in the list of names */
@@ -65,13 +68,24 @@ inline settle(id) {
   k = 0
 }
 
-/* `ok`: the entry is out of the table by now */
-inline reply_ok(id) { assert(!in_table[id]) }
+/* answer_once_gone: neither entry is in the table by now */
+inline reply_once_gone() {
+  assert(!in_table[CLIENT] && !in_table[TARGET]);
+#ifdef EACH_CLOSE_IS_TOLD_AS_DONE
+  oks++;
+#else
+  if :: second[p] -> skip :: else -> oks++ fi;
+#endif
+  assert(oks <= 1)
+}
+
+/* what stood under this id has gone */
+inline reply_unknown() { assert(!in_table[asks[p]]) }
 
 /* RelayDesk::withdrawn: the wish may have been settled meanwhile */
 inline withdraw() {
   atomic { is_done = wish[p] == DONE; wish[p] = NONE };
-  if :: is_done -> reply_ok(asks[p]) :: else -> skip fi;
+  if :: is_done -> reply_once_gone() :: else -> reply_unknown() fi;
   is_done = 0
 }
 
@@ -79,22 +93,42 @@ inline withdraw() {
 inline ask_close() {
   lines[p]--;
   if :: asks[p] = CLIENT :: asks[p] = TARGET fi;
-  is_wished = 0;
-  look_for_wish(asks[p]);
+  found = in_table[asks[p]];                             /* the entry says whose side it is */
   if
-  :: is_wished -> skip                                   /* another waits for this close */
+  :: !found -> skip                                      /* nothing stands there, or nothing yet */
   :: else ->
+#ifdef WISH_NAMES_THE_SIDE_THAT_WAS_ASKED_FOR
+     wanted = asks[p];
+#else
+     wanted = CLIENT;
+#endif
+#ifdef SECOND_IS_WHO_FINDS_A_WISH
+     is_wished = 0;
+     look_for_wish(wanted);
+     second[p] = is_wished;
+#else
+     second[p] = is_asked;
+     is_asked = 1;
+#endif
 #ifdef LOOP_IS_TOLD_BEFORE_THE_WISH_IS_LEFT
      found = in_table[asks[p]];
      if :: found -> tell_owner() :: else -> skip fi;
-     wish[p] = asks[p];
+     wish[p] = wanted;
      found = in_table[asks[p]];
      if :: found -> held[p] = 1 :: else -> withdraw() fi
 #elif defined(WISH_IS_LEFT_AFTER_THE_LOOK)
      found = in_table[asks[p]];
-     if :: found -> wish[p] = asks[p]; tell_owner(); held[p] = 1 :: else -> skip fi
+     if :: found -> wish[p] = wanted; tell_owner(); held[p] = 1 :: else -> reply_unknown() fi
+#elif defined(SECOND_CLOSE_IS_ANSWERED_AT_ONCE)
+     if
+     :: second[p] -> reply_unknown()
+     :: else ->
+        wish[p] = wanted;
+        found = in_table[asks[p]];
+        if :: found -> tell_owner(); held[p] = 1 :: else -> withdraw() fi
+     fi
 #else
-     wish[p] = asks[p];
+     wish[p] = wanted;
      found = in_table[asks[p]];
      if
      :: found ->
@@ -106,12 +140,12 @@ inline ask_close() {
      fi
 #endif
   fi;
-  found = 0; is_wished = 0
+  found = 0
 }
 
 /* Sessions::serve, between two turns of MainLoop::turn_until_stop */
 proctype Main() {
-  byte p = 0, k = 0, asks[SESSIONS]; bit was = 0, found = 0, is_done = 0, is_wished = 0;
+  byte p = 0, k = 0, wanted = NONE, asks[SESSIONS]; bit was = 0, found = 0, is_done = 0, is_wished = 0;
   do
   :: sleeps[MAIN] = 1;
      if
@@ -127,7 +161,7 @@ proctype Main() {
      do
      :: p < SESSIONS ->
         if
-        :: held[p] && wish[p] == DONE -> wish[p] = NONE; held[p] = 0; reply_ok(asks[p])
+        :: held[p] && wish[p] == DONE -> wish[p] = NONE; held[p] = 0; reply_once_gone()
         :: held[p] && wish[p] != DONE -> skip
         :: !held[p] && lines[p] > 0 -> ask_close()
         :: !held[p] && lines[p] == 0 -> skip
@@ -145,42 +179,28 @@ proctype Main() {
 inline note_end() {
   any = 0;
   settle(CLIENT);
-#ifndef WISH_FOR_A_TARGET_ISNT_SETTLED
-  settle(TARGET);
-#endif
 #ifndef NO_SESSION_IS_WOKEN
   if :: any -> wake(MAIN) :: else -> skip fi
 #endif
 }
 
-/* LoopHost::end: close_by_id takes an entry out and closes it, one side after the other */
+/* LoopHost::end: close_both takes both entries out at once, and closes them */
 inline end_connection() {
 #ifdef WISHES_ARE_SETTLED_BEFORE_THE_ENTRIES_ARE_OUT
   note_end();
   in_table[CLIENT] = 0;
   in_table[TARGET] = 0;
 #else
-  in_table[CLIENT] = 0;
-  in_table[TARGET] = 0;
+  atomic { in_table[CLIENT] = 0; in_table[TARGET] = 0 };
   note_end();
 #endif
   stands = 0
 }
 
-/* Shared::settle_gone: wishes for entries that aren't in the table */
-inline settle_gone() {
-  any = 0; q = 0;
-  do
-  :: q < SESSIONS ->
-     id = wish[q];
-     if
-     :: (id == CLIENT || id == TARGET) && !in_table[id] -> settle(id)
-     :: else -> skip
-     fi;
-     q++
-  :: else -> q = 0; id = 0; break
-  od;
-  if :: any -> wake(MAIN) :: else -> skip fi
+/* SetUp::undo settles the wishes for what it took back; Shared::note_refused */
+inline settle_refused() {
+  settle(CLIENT);
+  wake(MAIN)
 }
 
 /* LoopHost::set_up: both sides are put into the table; a refusal takes them back */
@@ -194,14 +214,14 @@ inline set_up() {
   :: in_table[TARGET] -> stands = 1
   :: true ->
 #ifdef REFUSED_SET_UP_SETTLES_BEFORE_ITS_ENTRIES_ARE_OUT
-     settle_gone();
+     settle_refused();
 #endif
-     in_table[CLIENT] = 0;
      in_table[TARGET] = 0;
+     in_table[CLIENT] = 0;
 #ifdef REFUSED_SET_UP_SETTLES_NOTHING
      skip
 #elif !defined(REFUSED_SET_UP_SETTLES_BEFORE_ITS_ENTRIES_ARE_OUT)
-     settle_gone()
+     settle_refused()
 #endif
   fi
 }
@@ -209,15 +229,12 @@ inline set_up() {
 /* LoopHost::is_to_close */
 inline look_for_wishes() {
   is_wished = 0;
-  look_for_wish(CLIENT);
-#ifndef TASK_LOOKS_FOR_ITS_CLIENT_ALONE
-  if :: is_wished -> skip :: else -> look_for_wish(TARGET) fi
-#endif
+  look_for_wish(CLIENT)
 }
 
 /* run_loop */
 proctype Loop() {
-  byte k = 0, q = 0, id = 0; bit was = 0, mine = 0, any = 0, is_wished = 0, is_told = 0;
+  byte k = 0; bit was = 0, mine = 0, any = 0, is_wished = 0, is_told = 0;
   set_up();
   do
   :: sleeps[LOOP] = 1;

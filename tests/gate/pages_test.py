@@ -28,7 +28,7 @@ ROWS = (
     ("replies", f"{ADMIN}/admin/reply_text.rt", r"error 409 busy", "error 410 gone", "the reply `error 410 gone`"),
     ("replies", f"{ADMIN}/admin/shown.rt", r'" quiet "', '" silent "', "a reply to `show` isn't"),
     ("replies", "examples/admin/first.session", END, "< error 418 no such thing\n", "`error 418 no such thing` is no reply"),
-    ("faults", f"{COMMAND_LINE}/fault.rt", r"cannot open log", "cannot write log", "the fault `cannot write log`"),
+    ("faults", "crates/relay_admin/src/serve_fault.rt", r"cannot open log", "cannot write log", "the fault `cannot write log`"),
     ("faults", "crates/pollrelay/src/main.rt", r'eprintln!\(rt; "{fault}"\)', 'eprintln!(rt; "it ends: {fault}")', "the line `it ends: {fault}`"),
     ("faults", f"{ADMIN}/rules/verdict.rt", r"bad rules: too long", "bad rules: too large", "the fault `bad rules: too large`"),
     ("faults", GUIDE, END, "\n`cannot find rules`\n", "`cannot find rules` is no line"),

@@ -212,8 +212,10 @@ finish
 # fails | close_wish | -DLOOP_IS_TOLD_BEFORE_THE_WISH_IS_LEFT | a session tells the loop before it leaves its wish
 # fails | close_wish | -DLOOP_ISNT_TOLD | a session leaves its wish and tells nobody
 # fails | close_wish | -DWISHES_ARE_SETTLED_BEFORE_THE_ENTRIES_ARE_OUT | a loop settles wishes before the entries are out of the table
-# fails | close_wish | -DWISH_FOR_A_TARGET_ISNT_SETTLED | a loop settles wishes for a client's side alone
-# fails | close_wish | -DTASK_LOOKS_FOR_ITS_CLIENT_ALONE | a task looks for wishes for its client's side alone
+# fails | close_wish | -DWISH_NAMES_THE_SIDE_THAT_WAS_ASKED_FOR | a session's wish names the side that it was asked for, and not the connection
+# fails | close_wish | -DSECOND_CLOSE_IS_ANSWERED_AT_ONCE | a second close is told that nothing stands there while it stands still
+# fails | close_wish | -DSECOND_IS_WHO_FINDS_A_WISH | a session takes a close that is being settled for one that nobody asked for
+# fails | close_wish | -DEACH_CLOSE_IS_TOLD_AS_DONE | two closes of one connection are both told as done
 # fails | close_wish | -DNO_SESSION_IS_WOKEN | a loop settles a wish and wakes no main thread
 # fails | close_wish | -DREFUSED_SET_UP_SETTLES_NOTHING | a set-up that was refused settles no wish
 # fails | close_wish | -DREFUSED_SET_UP_SETTLES_BEFORE_ITS_ENTRIES_ARE_OUT | a set-up that was refused settles wishes before it takes its entries back

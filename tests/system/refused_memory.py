@@ -140,6 +140,8 @@ class Watched(Run):
             text = file.read()
         lines, lost, broken = read_log(text)
         rest = text.rpartition("\n")[2]
+        if full := [line for line in lines if line["how"] in ("full", "rule full")]:
+            self.wrong.append(f"the log says that as many stand as may, where few do: {full}")
         if broken or rest or len(lines) + lost < self.stood:
             self.wrong.append(f"the log has {len(lines)} lines, lost {lost}, of {self.stood} connections; not whole: {broken} {rest!r}")
 

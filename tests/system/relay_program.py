@@ -238,14 +238,43 @@ def start_faults(checks, folder):
     checks.expect("start: a path that was there stays", True, os.path.isfile(admin))
 
 
+# The faults at a start that words and paths bring about, in their order, with the status and what they change of the words.
+START_ORDER = (
+    ("bad command line", 2, {"--loops": "0"}),
+    ("cannot read rules", 3, {"--rules": "{folder}/none"}),
+    ("bad rules: line 1", 1, {"--rules": "{folder}/bad"}),
+    ("cannot listen one", 3, {"--rules": "{folder}/unheard"}),
+    ("cannot listen admin", 3, {"--admin": "{folder}/taken"}),
+    ("cannot open log", 3, {"--log": "{folder}/none/log"}),
+    ("cannot listen metrics", 3, {"--metrics": "unix:{folder}/taken"}),
+)
+
+
+def start_pairs(checks, folder):
+    """Of each two faults at the start the one that comes first in the order is told, and no path is left."""
+    unheard = f"relay one unix:{folder}/taken unix:/x never\n"
+    for name, text in (("good", f"relay one unix:{folder}/one unix:/x never\n"), ("unheard", unheard), ("bad", f"frob\n{unheard}"), ("taken", "")):
+        write(f"{folder}/{name}", text)
+    left = sorted(os.listdir(folder))
+    for at, (first, status, changes) in enumerate(START_ORDER):
+        for second, _, others in START_ORDER[at:]:
+            words = {"--rules": "{folder}/good", "--admin": "{folder}/admin", "--loops": "1", **others, **changes}
+            said = run(["serve", *(part.format(folder=folder) for word in words.items() for part in word)])
+            checks.expect(f"start: {first} ahead of {second}", (status, b"", f"{first}\n".encode()), said)
+            checks.expect(f"start: what is left by {first} and {second}", left, sorted(os.listdir(folder)))
+
+
 def poller_fault(checks, folder):
     """With one descriptor more at a time the faults come in their order, the poller's between rules and listeners."""
     rules = write(f"{folder}/poller-rules", RULE.format("one", free_port()) + RULE.format("two", free_port()))
-    order = ["cannot read rules", "relay fault: device", "cannot listen one", "cannot listen two", "cannot listen admin"]
-    seen = []
+    order = [
+        "cannot read rules", "relay fault: device", "cannot listen one", "cannot listen two", "cannot listen admin", "cannot open log",
+        "cannot listen metrics",
+    ]
+    seen, bad, taken = [], write(f"{folder}/poller-bad", "frob\n"), write(f"{folder}/poller-taken", "")
     # The loader takes the fourth.
-    for most in range(4, 40):
-        words = [PROGRAM, "serve", "--rules", rules, "--admin", f"{folder}/{most}.sock"]
+    for most in range(4, 60):
+        words = [PROGRAM, "serve", "--rules", rules, "--admin", f"{folder}/{most}.sock", "--log", f"{folder}/log", "--metrics", f"unix:{folder}/m"]
         limit = lambda: resource.setrlimit(resource.RLIMIT_NOFILE, (most, most))
         process = subprocess.Popen(words, stdout=subprocess.PIPE, stderr=subprocess.PIPE, preexec_fn=limit)
         serves = process.stdout.readline() != b""
@@ -257,6 +286,11 @@ def poller_fault(checks, folder):
         # (the line ahead of it says that they are few)
         seen.append(said.splitlines()[-1] if said else said)
         checks.expect(f"start with {most} descriptors: status", 3, process.returncode)
+        if seen[-1] == "relay fault: device":
+            for more, wanted in ((("--rules", bad), "bad rules: line 1"), (("--admin", taken), seen[-1]), (("--log", f"{folder}/none/log"), seen[-1])):
+                words = ["serve", *(word for pair in {"--rules": rules, "--admin": f"{folder}/a", more[0]: more[1]}.items() for word in pair)]
+                told = run(words, before=limit)[2].decode().splitlines()[-1:]
+                checks.expect(f"start with {most} descriptors and {more[0]} of {wanted}", [wanted], told)
     places = [order.index(it) if it in order else -1 for it in seen]
     checks.holds("start: faults by descriptors, in their order", places == sorted(places) and -1 not in places, f"{seen}")
     checks.holds("start: the poller's fault", "relay fault: device" in seen, f"{seen}")
@@ -627,7 +661,7 @@ def many_sessions(checks, _):
 
 
 STAGES = {it.__name__: it for it in (
-    command_lines, traces, verdicts, outputs, start_faults, poller_fault, refused_paths, admin_sessions, listings, stopped_and_gone,
+    command_lines, traces, verdicts, outputs, start_faults, start_pairs, poller_fault, refused_paths, admin_sessions, listings, stopped_and_gone,
     no_rule, sample_rules, sample_sessions, sample_metrics, metrics_at_a_path, spread,
     asked_pairs, silent_sessions, many_sessions, control, own_texts,
 )}

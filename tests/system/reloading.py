@@ -7,18 +7,26 @@ rules    a rule that has gone leaves its connection and a new one serves; one wi
 refused  a reload of bad rules, of a port that is taken or of no file changes nothing.
 paths    a path that has gone is removed, and a new one serves.
 renewed  a reload renews an idle time, and a listener that a session has closed.
+account  what a rule has of its limit and its counts outlives its listener, and its place in the file.
+poller   a reload whose listener the poller refuses says so and changes nothing.
 prompt   reloads that follow each other are answered at once.
 """
+import errno
 import os
 import sys
 import time
 
 sys.path.insert(1, f"{sys.path[0]}/..")
+from lib.c_code import library
 from lib.checks import Checks
-from lib.relay import allow_descriptors
-from lib.sockets import connect, listener
+from lib.metrics import scrape
+from lib.places import LIB
+from lib.relay import StartFault, allow_descriptors
+from lib.sockets import connect, listener, some_address
 from lib.stages import options, run_stages
+from lib.talk import has_ended
 from lib.tried import WAIT_SECONDS, Ends, Tried, is_refused
+from lib.waiting import comes
 
 ONE = "relay a {0} {target} {idle}\n"
 AT_PATH = "relay a unix:{folder}/%s {target} never\n"
@@ -118,6 +126,76 @@ def renewed(checks, _):
         it.stop("listening 1\nup 10 down 4\n")
 
 
+# More calls than a relay makes until it has reloaded.
+MOST_CALLS = 40
+LIMIT = 2
+FIGURES = (
+    'pollrelay_rule_connections{{rule="a"}} {}', 'pollrelay_rule_accepted_total{{rule="a"}} {}',
+    'pollrelay_rule_refused_total{{rule="a",cause="rule_full"}} {}', 'pollrelay_rule_bytes_total{{rule="a",way="up"}} {}',
+)
+
+
+def account(checks, _):
+    metrics = some_address()
+    with Tried(checks, "account", rules=ONE, options=("--connections-per-rule", str(LIMIT), "--metrics", metrics)) as it:
+        stand = [it.talking() for _ in range(LIMIT)]
+        is_full(it, metrics, "before", 3, 1)
+        it.answers("close 1\nreload\n", "ok\nrules 1\n")
+        is_full(it, metrics, "after a close of its listener", 4, 2)
+        it.now_rules("relay b {1} {target} never\n")
+        it.answers("reload\n", "rules 1\n")
+        it.now_rules(ONE)
+        it.answers("reload\n", "rules 1\n")
+        is_full(it, metrics, "after it had gone from the file", 5, 3)
+        it.holds("one ends", stand.pop().finish(), "it doesn't")
+        tells(it, metrics, FIGURES[0].format(LIMIT - 1))
+        it.holds("another has its place", it.talking().pass_both(), "no bytes pass")
+        tells(it, metrics, FIGURES[1].format(6))
+        it.holds("one that stood before", stand[0].pass_both(), "no bytes pass")
+        it.stop()
+
+
+def tells(it, metrics, line):
+    found = []
+    it.holds(f"{line} is told", comes(lambda: found.clear() or found.append(scrape(metrics)[1]) or f"\n{line}\n" in found[0], 200), found)
+
+
+def is_full(it, metrics, when, accepted, dropped):
+    """Sees that a rule takes no client more, and what it has counted."""
+    it.holds(f"{when}: one more is dropped", has_ended(it.client()), "it stays")
+    for line, count in zip(FIGURES, (LIMIT, accepted, dropped, LIMIT)):
+        tells(it, metrics, line.format(count))
+
+
+def poller(checks, folder):
+    shim, said = library(f"{LIB}/fail_nth.c", f"{folder}/fail_nth.so"), []
+    for at in range(1, MOST_CALLS):
+        env = {"LD_PRELOAD": shim, "FAIL_CALL": "epoll_ctl", "FAIL_AT": str(at), "FAIL_WITH": str(errno.ENOSPC)}
+        try:
+            it = Tried(checks, "poller", rules=ONE, loops=1, env=env)
+        except StartFault:
+            continue
+        with it:
+            it.now_rules(ONE + "relay b {1} {target} never\n")
+            said.append(reloaded(it))
+            if said[-1] != "" and it.relay.errors().endswith("[failed]\n"):
+                it.expect("its reply", "error 503 device\n", said[-1])
+                it.holds("nobody listens for the new rule", is_refused(it.listens[1]), "somebody does")
+                it.answers("list\nreload\n", "ids 1\nrules 2\n")
+                it.holds("both serve", it.talking(0).pass_both() and it.talking(1).pass_both(), "no bytes pass")
+                it.stop()
+                break
+    checks.holds("poller: it refuses a session, and then the reload", said[-2:] == ["", "error 503 device\n"], said)
+
+
+def reloaded(it):
+    """The reply to a reload; none where the session is dropped."""
+    try:
+        return it.answer("reload\n")
+    except OSError:
+        return ""
+
+
 def prompt(checks, _):
     with Tried(checks, "prompt", loops=1) as it:
         rounds = []
@@ -130,7 +208,7 @@ def prompt(checks, _):
         it.stop("listening 1\nup 0 down 0\n")
 
 
-STAGES = {it.__name__: it for it in (rules, refused, paths, renewed, prompt)}
+STAGES = {it.__name__: it for it in (rules, refused, paths, renewed, account, poller, prompt)}
 
 
 def main():

@@ -8,8 +8,10 @@ causes           the log and the metrics tell why a target wasn't reached.
 per_rule         a rule has as many connections as it may, whatever other rules have.
 stale_paths      a socket at which nobody answers gives way, where it is asked for; nothing else does.
 accept_faults    a rule whose accepts failed 1,025 times in a row serves again, and is told to be ill until then.
+refused_by_poller  a client whose sockets the poller doesn't take is told as that, and not as one too many.
 few_descriptors  too few descriptors are said at the start.
 """
+import errno
 import os
 import resource
 import socket
@@ -32,6 +34,8 @@ from lib.talk import both_ways, seconds_until_end
 from lib.waiting import wait_until
 
 TIMEOUT_MS = 400
+# More calls than a relay makes until a client is served.
+MOST_CALLS = 40
 
 
 def hows(path, count):
@@ -251,6 +255,29 @@ def accept_faults(checks, folder):
         checks.expect("faults: well after it", (200, "ok\n"), scrape(metrics, "/healthz"))
 
 
+REFUSED = 'pollrelay_rule_refused_total{{rule="r0",cause="{}"}}'
+
+
+def refused_by_poller(checks, folder):
+    """Each registration of a socket fails in turn: those of a client and of its target refuse the client."""
+    shim, said = library(f"{LIB}/fail_nth.c", f"{folder}/fail_nth.so"), []
+    for at in range(1, MOST_CALLS):
+        log, metrics = f"{folder}/poller-{at}.log", f"tcp:127.0.0.1:{free_port()}"
+        env = {"LD_PRELOAD": shim, "FAIL_CALL": "epoll_ctl", "FAIL_AT": str(at), "FAIL_WITH": str(errno.ENOSPC)}
+        try:
+            served = Served("never", options=("--loops", "1", "--log", log, "--metrics", metrics), env=env)
+        except StartFault:
+            continue
+        with served:
+            if not both_ways(*served.open()):
+                said += hows(log, 1)
+                tells(checks, metrics, REFUSED.format("descriptors"), 1)
+                tells(checks, metrics, REFUSED.format("full"), 0)
+            elif said:
+                break
+    checks.expect("poller: lines", [("r0", "descriptors")] * 2, said)
+
+
 def few_descriptors(checks, _):
     """A relay that may have too few descriptors says so with both numbers, and starts; one that has enough says nothing."""
     options = ("--connections", "100", "--loops", "2")
@@ -260,7 +287,7 @@ def few_descriptors(checks, _):
             checks.expect(f"few: status, {allowed}", 0, relay.stop()[0])
 
 
-STAGES = {it.__name__: it for it in (dead_target, causes, per_rule, stale_paths, accept_faults, few_descriptors)}
+STAGES = {it.__name__: it for it in (dead_target, causes, per_rule, stale_paths, accept_faults, refused_by_poller, few_descriptors)}
 
 
 def main():

@@ -190,6 +190,8 @@ def sleep(checks, _):
 def stalled_close(checks, _):
     with Tried(checks, "stalled close", loops=1) as it:
         ends = it.ends()
+        # The target accepts before both sides have their ids.
+        it.comes_to("list\n", "ids 1 2 3\n")
         ends.client.setblocking(False)
         try:
             for _ in range(PIECES):

@@ -1,9 +1,10 @@
 -- Where the seat of a task's half is: free where no call is under way, and else in the half's lock.
-use Rattle.std.specs.Prelude.{◌≡◌, ℕ, Bool, true, false, Option, Some, None}
+use Rattle.std.specs.Prelude.{◌≡◌, ℕ, Bool, true, false, Option, Some, None, List, []}
+use Rattle.lockword_core.specs.declared.stake.Op.{Op}
 use Rattle.lockword.specs.declared.directions.Direction.{Ghosts}
 use Rattle.lockword.specs.declared.directions.Guards as guards
 use Rattle.lockword.specs.declared.holders.LockWord.{LockWord}
-use Rattle.lockword.specs.Marks.{WordId, Place, word_of, marks_of as marks_at}
+use Rattle.lockword.specs.Marks.{WordId, Place, word_of, deeds, marks_of as marks_at}
 use Rattle.lockword.specs.Places.{seat_place, lock_place}
 use Rattle.lockword.specs.TransitionOutcomes.{word_id}
 use Rattle.fdmutex.specs.Deeds.{closes, destroys, drains}
@@ -27,6 +28,11 @@ module _ {D R W G : Type 0} {kept : guards.Ghosts D R W G} {way : Ghosts D} wher
   abbrev pub marks_held : Option (HalfState D R W G kept way) → Marks
   marks_held None = record { closed = false; done = false; draining = false }
   marks_held (Some it) = marks_at (place_of it)
+
+  -- the operations that the seat has made, in order
+  abbrev pub operations_held : Option (HalfState D R W G kept way) → List Op
+  operations_held None = []
+  operations_held (Some it) = deeds (place_of it)
 
   -- how many closes the seat has made
   abbrev pub closes_held : Option (HalfState D R W G kept way) → ℕ

@@ -10,7 +10,8 @@ use Rattle.fd_descriptor.specs.declared.descriptor.FdHandle.{FdHandle}
 use Rattle.fd_descriptor.specs.declared.task_half.TaskHalf.{TaskHalf}
 use Rattle.fd_descriptor.specs.FdHandle.{descriptor_of, marks_of, closes_of, destroys_of, drains_of}
 use Rattle.fd_descriptor.specs.HalfState.{is_calling, marks_held, MayCall}
-use Rattle.fd_descriptor.specs.HalfState.{closes_held, destroys_held, drains_held}
+use Rattle.fd_descriptor.specs.HalfState.{operations_held, closes_held, destroys_held, drains_held}
+use Rattle.lockword_core.specs.declared.stake.Op.{Op}
 use Rattle.fd_descriptor.specs.HandleCalls.{Call, IsLockFault, IsOwnFault, IsRefusedEntry}
 use Rattle.fd_descriptor.specs.Marks.{Marks, KeepsMarks}
 use Rattle.fd_descriptor.specs.Polled.{IsTriedOrRefused}
@@ -27,6 +28,10 @@ module _ {D X R W G T A : Type 0} {kept : guards.Ghosts D R W G} {way : Ghosts D
   -- what its task has seen of the descriptor
   abbrev pub marks_of_half : TaskHalf D X T A G R W kept way → Marks
   marks_of_half half = marks_held half.state
+
+  -- the operations that its task has made on the descriptor's lock word, in order
+  abbrev pub operations_of_half : TaskHalf D X T A G R W kept way → List Op
+  operations_of_half half = operations_held half.state
 
   -- how many closes, destroys and drains its task has made
   abbrev pub closes_of_half : TaskHalf D X T A G R W kept way → ℕ

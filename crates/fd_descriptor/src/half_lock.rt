@@ -1,13 +1,14 @@
 //! The lock of a task's half, as each call takes it and leaves it: a call that is over gives it
 //! back, and one that would wait keeps it.
 
-ghost use Rattle.std.specs.Prelude.{◌≡◌, true, false, Some, None, Err, IfOk, IfErr};
-ghost use Rattle.lockword.specs.Marks.{marks_of as marks_at};
-ghost use Rattle.lockword.specs.Places.{lock_place};
+ghost use Rattle.std.specs.Prelude.{◌≡◌, true, false, Some, None, [], Err, IfOk, IfErr};
+ghost use Rattle.lockword.specs.Marks.{deeds, marks_of as marks_at};
+ghost use Rattle.lockword.specs.Places.{seat_place, lock_place};
 ghost use Rattle.lockword.specs.TransitionOutcomes.{IsSeatOf};
 ghost use Rattle.fdmutex.specs.Deeds.{closes, destroys, drains};
 ghost use Rattle.fd_descriptor.specs.HalfState.{IsAtWord, MayCall, is_calling, marks_held};
-ghost use Rattle.fd_descriptor.specs.HalfState.{closes_held, destroys_held, drains_held};
+ghost use Rattle.fd_descriptor.specs.HalfState.{operations_held, closes_held, destroys_held};
+ghost use Rattle.fd_descriptor.specs.HalfState.{drains_held};
 ghost use Rattle.fd_descriptor.specs.HandleCalls.{IsLockFault, IsRefusedEntry};
 ghost use Rattle.fd_descriptor.specs.Marks.{KeepsMarks};
 
@@ -16,7 +17,7 @@ use crate::leave::{leave, lock_fault};
 use crate::resource::Resource;
 use crate::task_half::HalfState;
 use fdmutex::{lock, unlock};
-use lockword::{Guards, Held};
+use lockword::{Guards, Held, LockWord, Seat};
 use rwloops::Fault;
 use std::alloc::Allocator;
 use std::sync::Wait;
@@ -101,5 +102,39 @@ pub(crate) fn rest<D: Guards<X::R, X::W>, X: Resource, T: Wait, A: Allocator>(
         put(state, HalfState::Idle(left));
     } else {
         put(state, HalfState::UnderWay(held));
+    }
+}
+
+/// Another seat, which has seen the same; a call that is under way keeps its lock.
+pub(crate) fn another<D: Guards<R, W>, R: Drop, W: Drop>(
+    word: &LockWord<R, W>,
+    state: &mut Option<HalfState<D, R, W>>,
+) -> Seat<R, W>
+    requires { IsAtWord word.now state.old }
+    ensures seat { IsAtWord word.now state.new }
+    ensures calling { is_calling state.new ≡ is_calling state.old }
+    ensures marks { marks_held state.new ≡ marks_held state.old }
+    ensures operations { operations_held state.new ≡ operations_held state.old }
+    ensures no_close { closes_held state.new ≡ closes_held state.old }
+    ensures no_destroy { destroys_held state.new ≡ destroys_held state.old }
+    ensures no_drain { drains_held state.new ≡ drains_held state.old }
+    ensures word { IsSeatOf word.now (seat_place result) }
+    ensures seen { marks_at (seat_place result) ≡ marks_held state.old }
+    ensures idle { deeds (seat_place result) ≡ [] }
+{
+    let Some(now) = state.take() else {
+        unreachable!()
+    };
+    match now {
+        HalfState::Idle(seat) => {
+            let (mine, other) = word.split(seat);
+            put(state, HalfState::Idle(mine));
+            other
+        }
+        HalfState::UnderWay(held) => {
+            let (mine, other) = word.split_held(held);
+            put(state, HalfState::UnderWay(mine));
+            other
+        }
     }
 }

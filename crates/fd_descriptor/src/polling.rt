@@ -15,11 +15,13 @@ ghost use Rattle.fd_descriptor.specs.HandleCalls.{SetsDeadline, IfFailed};
 ghost use Rattle.fd_descriptor.specs.Polled.{fails_by, write_fails_by, is_over};
 ghost use Rattle.fd_descriptor.specs.TaskHalf.{IsHalfOf, IsHandleOf, IsHalfEntry, IsPolled};
 ghost use Rattle.fd_descriptor.specs.TaskHalf.{KeepsHalf, StaysUnderWay, IsKeptOut, MayTellHalf};
-ghost use Rattle.fd_descriptor.specs.TaskHalf.{is_under_way, destroys_of_half};
+ghost use Rattle.fd_descriptor.specs.TaskHalf.{is_under_way, descriptor_of_half, marks_of_half};
+ghost use Rattle.fd_descriptor.specs.TaskHalf.{operations_of_half, destroys_of_half};
+ghost use Rattle.fd_descriptor.specs.FdHandle.{descriptor_of, marks_of, DidNothing};
 
 use crate::deadlines::Setting;
 use crate::descriptor::{Fd, FdHandle};
-use crate::half_lock::{hold, put, rest};
+use crate::half_lock::{another, hold, put, rest};
 use crate::half_use::{accept_now_in, prepare_read, read_now_in, shut_now_in, write_now_in};
 use crate::resource::{Alarms, HalfClose, Resource};
 use crate::task_half::{HalfState, TaskHalf};
@@ -27,7 +29,7 @@ use base_types::Dir;
 use lockword::{Guards, Reading, Writing};
 use rwloops::{Fault, Progress, TryAccept, TryRead, TryWrite, WriteFault};
 use std::alloc::Allocator;
-use std::sync::Wait;
+use std::sync::{Arc, Wait};
 
 impl<D: Guards<X::R, X::W>, X: Resource, T: Wait + Copy, A: Allocator> TaskHalf<D, X, T, A> {
     /// A half of this handle's descriptor, of which no call is under way.
@@ -49,6 +51,30 @@ impl<D: Guards<X::R, X::W>, X: Resource, T: Wait + Copy, A: Allocator> TaskHalf<
         let (fd, left) = self.end();
         let seat = Some(left);
         FdHandle { fd, seat }
+    }
+
+    /// A handle on this half's descriptor, which has seen the same. A call that is under way keeps
+    /// its lock. What is done by the handle is done to the descriptor: a drain lets the call go on,
+    /// a deadline holds for it, and a close waits for its end, so a task that has the call must not
+    /// close by this handle. It takes no memory; refused is only a descriptor that is held too
+    /// often.
+    pub fn share(&mut self) -> Result<FdHandle<X, A>, Fault>
+        ensures keeps { KeepsHalf self.old self.new }
+        ensures under_way { is_under_way self.new ≡ is_under_way self.old }
+        ensures kept { marks_of_half self.new ≡ marks_of_half self.old }
+        ensures operations { operations_of_half self.new ≡ operations_of_half self.old }
+        ensures no_destroy { destroys_of_half self.new ≡ destroys_of_half self.old }
+        ensures shared { IfOk result (λ handle. descriptor_of handle
+            ≡ descriptor_of_half self.old) }
+        ensures seen { IfOk result (λ handle. marks_of handle ≡ marks_of_half self.old) }
+        ensures idle { IfOk result DidNothing }
+        ensures refused { IfErr result (λ fault. fault ≡ Fault.OutOfMemory) }
+    {
+        let Ok(fd) = Arc::try_clone(&self.fd) else {
+            return Err(Fault::OutOfMemory);
+        };
+        let seat = Some(another(&self.fd.word, &mut self.state));
+        Ok(FdHandle { fd, seat })
     }
 
     /// Whether a call is under way.

@@ -3,10 +3,12 @@
 ghost use Rattle.std.specs.Prelude.{◌≡◌, false, [], IfOk};
 ghost use Rattle.lockword.specs.Marks.{saw_closed, saw_draining, saw_done, deeds, heard_by};
 ghost use Rattle.lockword.specs.Marks.{SameMarks, SameDeeds, SameHeard};
-ghost use Rattle.lockword.specs.Places.{seat_place};
+ghost use Rattle.lockword.specs.Places.{seat_place, lock_place};
+ghost use Rattle.lockword.specs.Lent.{SameHalf};
 ghost use Rattle.lockword.specs.TransitionOutcomes.{IsSeatOf};
 
-use crate::holders::{LockWord, Seat};
+use crate::directions::Guards;
+use crate::holders::{Held, LockWord, Seat};
 use crate::shared_rule::Half;
 use crate::transitions::Another;
 use atomic_table::Table;
@@ -53,5 +55,22 @@ impl<R: Drop, W: Drop> LockWord<R, W> {
         let Seat { mut place } = seat;
         let other = self.table.shared.split_seat::<Another>(&mut place);
         (Seat { place }, Seat { place: other })
+    }
+
+    /// The lock of a direction, which stays held, and another seat, which has nothing and has seen
+    /// the same.
+    pub fn split_held<D: Guards<R, W>>(&self, held: Held<D, R, W>) -> (Held<D, R, W>, Seat<R, W>)
+        requires { IsSeatOf self.now (lock_place held) }
+        ensures first { SameMarks (lock_place held) (lock_place result.0) }
+        ensures second { SameMarks (lock_place held) (seat_place result.1) }
+        ensures same_deeds { SameDeeds (lock_place held) (lock_place result.0) }
+        ensures no_deeds { deeds (seat_place result.1) ≡ [] }
+        ensures first_heard { SameHeard (lock_place held) (lock_place result.0) }
+        ensures second_heard { SameHeard (lock_place held) (seat_place result.1) }
+        ensures half { SameHalf held result.0 }
+    {
+        let Held { mut place, half } = held;
+        let other = self.table.shared.split_seat::<Another>(&mut place);
+        (Held { place, half }, Seat { place: other })
     }
 }

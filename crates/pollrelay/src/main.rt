@@ -4,14 +4,14 @@
 
 use base_types::OutOfMemory;
 use listen_fds::{GivenSocket, ListenFds, MAX_SOCKETS, Unfit};
-use log_writer::{LogFile, open_log};
+use log_writer::open_log;
 use relay::{Capacity, GivenListener, Loops, PairLimit, Safeguards, text_of};
 use relay_admin::{Addr, Command, check_status};
 use relay_command::{
     Fault, HELP, Job, NO_MEMORY, VERSION, descriptors_allowed, descriptors_needed, job_of,
     reply_status, trace_status,
 };
-use relay_serve::{Given, Outlets, serve};
+use relay_serve::{Given, LogPath, Outlets, serve};
 use relay_shared::address::rule_address;
 use std::alloc::Global;
 use std::env::VarError;
@@ -54,20 +54,6 @@ fn run_trace(rt: &HostRuntime) -> ExitCode {
     let (mut input, mut output, mut errors) = (rt.stdin(), rt.stdout(), rt.stderr());
     let status = trace_status(rt.alloc(), &mut input, &mut output, &mut errors);
     ExitCode::from(status)
-}
-
-/// Opens the log at a path, if one is asked for.
-fn log_at<R>(rt: &R, path: Option<String>) -> Result<Option<LogFile<File, R>>, Fault>
-where
-    R: Files<File = File> + Eprint + Copy,
-{
-    let Some(path) = path else {
-        return Ok(None);
-    };
-    match open_log(rt, path.as_str()) {
-        Ok(file) => Ok(Some(file)),
-        Err(_) => Err(Fault::Log),
-    }
 }
 
 /// Says on standard error where the process may have fewer descriptors than its relay may need. The
@@ -166,9 +152,9 @@ where
         + Sync
         + 'static,
 {
-    let log = match log_at(&rt, log) {
-        Ok(log) => log,
-        Err(fault) => return told(&rt, fault),
+    let log = match log {
+        Some(path) => Some(LogPath { rt, path }),
+        None => None,
     };
     warn_of_descriptors(&rt, capacity);
     let errors = open_log(&rt, "-").ok();

@@ -5,7 +5,7 @@ ghost use Rattle.relay_admin.specs.declared.admin.command.TheConstants.{MAX_DEAD
 ghost use Rattle.relay_admin.specs.declared.admin.dialogue.TheConstants.{MAX_LINES, MAX_LINE_BYTES};
 ghost use Rattle.relay_admin.specs.declared.admin.reply_text.TheConstants.{BAD_COMMAND, BUSY};
 ghost use Rattle.relay_admin.specs.declared.admin.reply_text.TheConstants.{CANNOT_LISTEN, CLOSED};
-ghost use Rattle.relay_admin.specs.declared.admin.reply_text.TheConstants.{CANNOT_READ};
+ghost use Rattle.relay_admin.specs.declared.admin.reply_text.TheConstants.{CANNOT_READ, DEVICE};
 ghost use Rattle.relay_admin.specs.declared.admin.reply_text.TheConstants.{DONE, DRAINING};
 ghost use Rattle.relay_admin.specs.declared.admin.reply_text.TheConstants.{NO_SUCH_CONNECTION};
 ghost use Rattle.relay_admin.specs.declared.admin.reply_text.TheConstants.{OUT_OF_MEMORY, SHOWN_ALL};
@@ -86,6 +86,7 @@ pub fn the_fixed_replies_in_words()
     ensures closed { CLOSED.now ≡ codes "error 409 closed" ++ 10 ∷ [] }
     ensures draining { DRAINING.now ≡ codes "error 409 draining" ++ 10 ∷ [] }
     ensures busy { BUSY.now ≡ codes "error 409 busy" ++ 10 ∷ [] }
+    ensures device { DEVICE.now ≡ codes "error 503 device" ++ 10 ∷ [] }
     ensures no_memory { OUT_OF_MEMORY.now ≡ codes "error 507 out of memory" ++ 10 ∷ [] }
     ensures cannot_read { CANNOT_READ.now ≡ codes "cannot read rules" ++ 10 ∷ [] }
     ensures cannot_listen { CANNOT_LISTEN.now ≡ codes "cannot listen " }

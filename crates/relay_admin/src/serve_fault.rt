@@ -25,6 +25,9 @@ pub enum ServeFault {
     /// The admin socket can't be opened.
     #[error("cannot listen admin")]
     Admin,
+    /// The log can't be opened.
+    #[error("cannot open log")]
+    Log,
     /// The address of the metrics can't be listened on.
     #[error("cannot listen metrics")]
     Metrics,

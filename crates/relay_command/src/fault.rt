@@ -18,9 +18,6 @@ pub enum Fault {
     TraceWrite,
     #[error("trace fault: memory")]
     TraceMemory,
-    /// The log can't be opened.
-    #[error("cannot open log")]
-    Log,
     /// No relay answers at an admin socket in time, or not with a whole reply.
     #[error("cannot reach admin")]
     Reach,
@@ -43,7 +40,7 @@ impl Fault {
         match self {
             Fault::BadCommandLine => 2,
             Fault::TraceRead | Fault::TraceWrite | Fault::TraceMemory => 3,
-            Fault::Log | Fault::Reach | Fault::Print => 3,
+            Fault::Reach | Fault::Print => 3,
             Fault::Relay(ServeFault::BadRules(_)) => 1,
             Fault::Relay(_) => 3,
         }

@@ -2,4 +2,5 @@ pub mod Connection
 pub mod Deadlines
 pub mod Ending
 pub mod Reach
+pub mod Refused
 pub mod SetUp

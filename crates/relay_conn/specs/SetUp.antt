@@ -1,5 +1,5 @@
 -- A connection right after its set-up.
-use Rattle.std.specs.Prelude.{◌≡◌, ℕ, None}
+use Rattle.std.specs.Prelude.{◌≡◌, ◌+◌, ℕ, None}
 use Rattle.std.specs.Arc.{arc_value}
 use Rattle.std.specs.declared.alloc.Global.{Global}
 use Rattle.std.specs.declared.sync.Arc.{Arc}
@@ -11,7 +11,8 @@ use Rattle.relay_facts.specs.declared.connection_facts.ConnectionFacts.{Connecti
 
 module _ {U D R : Type 0} where
   -- the connection of which these facts are known, whose sides' descriptors have these keys: it has
-  -- the idle time that its rule had at the accept, both its reads are under way, and nothing failed
+  -- the idle time that its rule had at the accept, both its reads are under way, nothing failed, and
+  -- the id of its target's side comes right after that of its client's
   pub record IsSetUp (known : Arc ConnectionFacts Global) (client_key target_key : ℕ)
       (connection : Connection U D R) : Type 0 where
     pub facts : connection.facts ≡ known
@@ -20,5 +21,6 @@ module _ {U D R : Type 0} where
     pub up_reads : connection.tasks.up ≡ Waits Read
     pub down_reads : connection.tasks.down ≡ Waits Read
     pub unfailed : connection.failure ≡ None
+    pub follows : connection.target.id ≡ connection.client.id + 1
     pub client : key_of_cell (arc_value connection.client.cell) ≡ client_key
     pub target : key_of_cell (arc_value connection.target.cell) ≡ target_key

@@ -8,5 +8,6 @@ pub mod giving_up;
 pub mod idle_time;
 mod new_side;
 pub mod reach;
+pub mod refused;
 pub mod set_up;
 mod task_gate;

@@ -1,6 +1,6 @@
 //! A side of a connection that isn't in the table yet.
 
-ghost use Rattle.std.specs.Prelude.{◌≡◌, IfSome};
+ghost use Rattle.std.specs.Prelude.{◌≡◌, IfOk, IfSome};
 ghost use Rattle.std.specs.Arc.{arc_value};
 ghost use Rattle.fd_descriptor.specs.CellKey.{key_of_cell};
 ghost use Rattle.fd_descriptor.specs.FdHandle.{key_of};
@@ -9,6 +9,7 @@ ghost use Rattle.relay_core.specs.SourceState.{unknown_source};
 ghost use Rattle.relay_admin.specs.declared.admin.shown.ShownSide.{ShownSide};
 ghost use Rattle.relay_shared.specs.Subject.{IsSideOf};
 
+use crate::refused::Refused;
 use crate::task_gate::Source;
 use fd_descriptor::{FdHandle, PollCell};
 use readiness::{Poller, RemoteAlarms, Sock, SockRes};
@@ -39,12 +40,29 @@ struct NewHandles {
     handle: FdHandle<SockRes>,
 }
 
-fn new_handles(alloc: Global, poller: &Poller, sock: Sock, token: u64) -> Option<NewHandles>
-    ensures key { IfSome result (λ made. key_of made.reader ≡ token) }
-    ensures writer { IfSome result (λ made. key_of made.writer ≡ token) }
-    ensures cell { IfSome result (λ made. key_of_cell (arc_value made.cell) ≡ token) }
+fn new_handles(
+    alloc: Global,
+    poller: &Poller,
+    sock: Sock,
+    token: u64,
+) -> Result<NewHandles, Refused>
+    ensures key { IfOk result (λ made. key_of made.reader ≡ token) }
+    ensures writer { IfOk result (λ made. key_of made.writer ≡ token) }
+    ensures cell { IfOk result (λ made. key_of_cell (arc_value made.cell) ≡ token) }
 {
-    let mut reader = poller.open(alloc, sock, token).ok()?;
+    match poller.open(alloc, sock, token) {
+        Ok(reader) => shared_handles(reader).ok_or(Refused::Memory),
+        Err(fault) => Err(Refused::of_hold(fault)),
+    }
+}
+
+// The handles that share this one's descriptor, with it.
+fn shared_handles(reader: FdHandle<SockRes>) -> Option<NewHandles>
+    ensures key { IfSome result (λ made. key_of made.reader ≡ key_of reader) }
+    ensures writer { IfSome result (λ made. key_of made.writer ≡ key_of reader) }
+    ensures cell { IfSome result (λ made. key_of_cell (arc_value made.cell) ≡ key_of reader) }
+{
+    let mut reader = reader;
     let cell = reader.cell().ok()?;
     let writer = reader.share().ok()?;
     let handle = reader.share().ok()?;
@@ -64,17 +82,17 @@ pub(crate) fn new_side<R: Wait + Copy>(
     sock: Sock,
     owner: Owner,
     subject: Subject,
-) -> Option<NewSide<R>>
-    ensures key { IfSome result (λ side. key_of side.source.handle ≡ owner.token) }
-    ensures source { IfSome result (λ side. side.source.state ≡ unknown_source (is_tcp sock)) }
-    ensures writer { IfSome result (λ side. key_of side.writer ≡ owner.token) }
-    ensures cell { IfSome result (λ side. key_of_cell (arc_value side.cell) ≡ owner.token) }
-    ensures owner { IfSome result (λ side. side.entry.owner ≡ owner) }
-    ensures subject { IfSome result (λ side. side.entry.subject ≡ subject) }
+) -> Result<NewSide<R>, Refused>
+    ensures key { IfOk result (λ side. key_of side.source.handle ≡ owner.token) }
+    ensures source { IfOk result (λ side. side.source.state ≡ unknown_source (is_tcp sock)) }
+    ensures writer { IfOk result (λ side. key_of side.writer ≡ owner.token) }
+    ensures cell { IfOk result (λ side. key_of_cell (arc_value side.cell) ≡ owner.token) }
+    ensures owner { IfOk result (λ side. side.entry.owner ≡ owner) }
+    ensures subject { IfOk result (λ side. side.entry.subject ≡ subject) }
 {
     let state = SourceState::new(sock.is_tcp());
     let made = new_handles(alloc, poller, sock, owner.token)?;
-    let alarms = owner.alarms(rt)?;
+    let alarms = owner.alarms(rt).ok_or(Refused::Memory)?;
     let NewHandles {
         cell,
         reader,
@@ -82,7 +100,7 @@ pub(crate) fn new_side<R: Wait + Copy>(
         handle,
     } = made;
     let entry = Entry::new(Handle::Conn(handle), owner, subject);
-    Some(NewSide {
+    Ok(NewSide {
         cell,
         source: Source {
             handle: reader,

@@ -1,6 +1,6 @@
 //! Setting a connection up between two sockets.
 
-ghost use Rattle.std.specs.Prelude.{◌≡◌, ◌<◌, [], ◌∷◌, ◌++◌, length, Some, IfSome};
+ghost use Rattle.std.specs.Prelude.{◌≡◌, ◌<◌, ◌+◌, [], ◌∷◌, ◌++◌, length, Some, IfOk, IfSome};
 ghost use Rattle.std.specs.Arc.{arc_value};
 ghost use Rattle.base_types.specs.declared.direction.Dir.{Dir};
 ghost use Rattle.fd_descriptor.specs.CellKey.{key_of_cell};
@@ -13,6 +13,7 @@ use crate::connection::{ConnSide, Connection, Flow};
 use crate::idle_time::IdleTime;
 use crate::new_side::{NewSide, new_side, subjects};
 use crate::reach::Reach;
+use crate::refused::Refused;
 use crate::task_gate::{Source, TaskGate};
 use base_types::Dir;
 use conntable::ConnTable;
@@ -22,6 +23,7 @@ use relay_core::{Copying, InsertedSides, PairTasks, Step, Way};
 use relay_facts::books::LoopBooks;
 use relay_facts::clock::RelayClock;
 use relay_facts::connection_facts::ConnectionFacts;
+use relay_shared::close_wishes::CloseWishes;
 use relay_shared::closing::{Closer, close_by_id};
 use relay_shared::entry::{Entry, Owner, Subject};
 use std::alloc::Global;
@@ -36,14 +38,15 @@ pub struct OwnedSock {
     pub owner: Owner,
 }
 
-/// What a loop sets its connections up by: the relay's table, and the poller of its own that tells
-/// of their sockets.
+/// What a loop sets its connections up by: the relay's table and what sessions want closed there, and
+/// the poller of its own that tells of their sockets.
 #[derive(Clone, Copy)]
 pub struct SetUp<'a, R: Wait + Clock + Copy> {
     pub rt: R,
     pub alloc: Global,
     pub clock: RelayClock<R>,
     pub table: &'a Mutex<ConnTable<Entry>>,
+    pub closes: &'a CloseWishes,
     pub poller: &'a Poller,
 }
 
@@ -67,6 +70,8 @@ fn insert_side(
 ) -> Option<u64>
     requires room { length inserted.old < 2 }
     ensures noted { IfSome result (λ id. inserted.new ≡ inserted.old ++ id ∷ []) }
+    ensures id { IfSome result (λ id. id ≡ table.old.next_id) }
+    ensures next { IfSome result (λ _. table.new.next_id ≡ table.old.next_id + 1) }
 {
     let (id, _) = table.insert(side).ok()?;
     inserted.insert(id);
@@ -82,6 +87,7 @@ fn insert_sides(
 ) -> Option<(u64, u64)>
     requires none_inserted { inserted.old ≡ [] }
     ensures both { IfSome result (λ _. length inserted.new ≡ 2) }
+    ensures follows { IfSome result (λ ids. ids.1 ≡ ids.0 + 1) }
 {
     let client = insert_side(table, client, inserted)?;
     let target = insert_side(table, target, inserted)?;
@@ -176,19 +182,22 @@ impl<'a, R: Wait + Clock + Copy> SetUp<'a, R> {
         target: OwnedSock,
         facts: Arc<ConnectionFacts>,
         inserted: &mut InsertedSides,
-    ) -> Option<Connection<U, D, R>>
+    ) -> Result<Connection<U, D, R>, Refused>
         requires none_inserted { inserted.old ≡ [] }
-        ensures set_up { IfSome result (IsSetUp facts client.owner.token target.owner.token) }
+        ensures set_up { IfOk result (IsSetUp facts client.owner.token target.owner.token) }
     {
-        let (of_client, of_target) = subjects(&facts)?;
+        let Some((of_client, of_target)) = subjects(&facts) else {
+            return Err(Refused::Memory);
+        };
         let client = self.side(client, of_client)?;
         let target = self.side(target, of_target)?;
         self.join_sides(client, target, facts, inserted)
+            .ok_or(Refused::Memory)
     }
 
     // A side of a socket.
-    fn side(&self, owned: OwnedSock, subject: Subject) -> Option<NewSide<R>>
-        ensures cell { IfSome result (λ side.
+    fn side(&self, owned: OwnedSock, subject: Subject) -> Result<NewSide<R>, Refused>
+        ensures cell { IfOk result (λ side.
             key_of_cell (arc_value side.cell) ≡ owned.owner.token) }
     {
         let OwnedSock { sock, owner } = owned;
@@ -203,45 +212,49 @@ impl<'a, R: Wait + Clock + Copy> SetUp<'a, R> {
         target: OwnedSock,
         facts: Arc<ConnectionFacts>,
         inserted: &mut InsertedSides,
-    ) -> Option<Connection<U, D, R>>
+    ) -> Result<Connection<U, D, R>, Refused>
         requires none_inserted { inserted.old ≡ [] }
-        ensures set_up { IfSome result (IsSetUp facts client.owner.token target.owner.token) }
-        ensures up_share { IfSome result (λ _. OpensOne books.old.up.book books.new.up.book) }
-        ensures down_share { IfSome result (λ _.
+        ensures set_up { IfOk result (IsSetUp facts client.owner.token target.owner.token) }
+        ensures up_share { IfOk result (λ _. OpensOne books.old.up.book books.new.up.book) }
+        ensures down_share { IfOk result (λ _.
             OpensOne books.old.down.book books.new.down.book) }
     {
         let mut connection = self.sides(client, target, facts, inserted)?;
-        let (up, down) = books.open_shares()?;
+        let Some((up, down)) = books.open_shares() else {
+            return Err(Refused::Memory);
+        };
         connection.up.share = Some(up);
         connection.down.share = Some(down);
-        Some(connection)
+        Ok(connection)
     }
 
-    // Takes out and closes what a set-up that failed had inserted.
+    // Takes out and closes what a set-up that failed had inserted, and settles the wishes for it: the
+    // client's side, by which they name it, comes last.
     fn undo(&self, inserted: InsertedSides) {
         let mut inserted = inserted;
         while let Some(id) = inserted.undo() {
             close_by_id(&self.rt, self.table, id, Closer::ItsLoop);
+            self.closes.settle(id);
         }
     }
 
-    /// A connection of both sockets, with a share of each book. Where it is refused the sockets are
-    /// dropped, and nothing is left of it.
+    /// A connection of both sockets, with a share of each book; or what refused it, and then the
+    /// sockets are dropped, and nothing is left of it.
     pub fn connection<U: Ledger, D: Ledger>(
         &self,
         books: &mut LoopBooks<U, D>,
         client: OwnedSock,
         target: OwnedSock,
         facts: Arc<ConnectionFacts>,
-    ) -> Option<Connection<U, D, R>>
-        ensures set_up { IfSome result (IsSetUp facts client.owner.token target.owner.token) }
-        ensures up_share { IfSome result (λ _. OpensOne books.old.up.book books.new.up.book) }
-        ensures down_share { IfSome result (λ _.
+    ) -> Result<Connection<U, D, R>, Refused>
+        ensures set_up { IfOk result (IsSetUp facts client.owner.token target.owner.token) }
+        ensures up_share { IfOk result (λ _. OpensOne books.old.up.book books.new.up.book) }
+        ensures down_share { IfOk result (λ _.
             OpensOne books.old.down.book books.new.down.book) }
     {
         let mut inserted = InsertedSides::none();
         let made = self.with_shares(books, client, target, facts, &mut inserted);
-        if made.is_none() {
+        if made.is_err() {
             self.undo(inserted);
         }
         made

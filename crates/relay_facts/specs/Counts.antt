@@ -21,10 +21,19 @@ count_of how = count_behind (end_place how)
 abbrev pub cause_count_of : Cause → ℕ × ℕ → ℕ × ℕ
 cause_count_of cause = count_behind (cause_place cause)
 
--- the count in `LoopCounts` of the clients that weren't served so, for want of a target or of room
+-- the count in `LoopCounts` of the clients that weren't served so, for want of a target, of room at
+-- the poller, or of memory
 abbrev pub refusal_of : Ended → ℕ × ℕ → ℕ × ℕ
 refusal_of (how.NoTarget why) = count_behind 3
+refusal_of how.Descriptors = count_behind 5
 refusal_of other = count_behind 4
+
+-- the count in `RuleCounts` of the clients that were dropped so: since as many connections stood as
+-- may, of the rule or on the whole, or for want of memory
+abbrev pub drop_of : Ended → ℕ × ℕ → ℕ × ℕ
+drop_of how.RuleFull = count_behind 2
+drop_of how.NoMemory = count_behind 3
+drop_of other = count_behind 1
 
 -- how many loops count for a rule
 abbrev pub loops_of : RuleCounts → ℕ

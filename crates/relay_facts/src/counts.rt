@@ -108,9 +108,11 @@ pub struct LoopCounts {
     begun: Counter,
     pub up: Counter,
     pub down: Counter,
-    /// The connections that weren't, since there is no target, or no room.
+    /// The connections that weren't, since there is no target, no memory, or no room at the system's
+    /// poller.
     pub no_target: Counter,
-    pub no_room: Counter,
+    pub no_memory: Counter,
+    pub no_descriptors: Counter,
     pub ends: EndCounts,
     pub causes: CauseCounts,
 }
@@ -124,7 +126,8 @@ impl LoopCounts {
             up: Counter::new(),
             down: Counter::new(),
             no_target: Counter::new(),
-            no_room: Counter::new(),
+            no_memory: Counter::new(),
+            no_descriptors: Counter::new(),
             ends: EndCounts::new(),
             causes: CauseCounts::new(),
         }
@@ -141,7 +144,7 @@ impl LoopCounts {
         self.causes.note(how);
     }
 
-    /// A client wasn't served, since there is no target, or no room.
+    /// A client wasn't served, since there is no target, or memory or the poller refused.
     pub fn note_refused(&self, how: Ended) {
         self.refusals(how).add(1);
         self.causes.note(how);
@@ -153,7 +156,8 @@ impl LoopCounts {
     {
         match how {
             Ended::NoTarget(_) => &self.no_target,
-            _ => &self.no_room,
+            Ended::Descriptors => &self.no_descriptors,
+            _ => &self.no_memory,
         }
     }
 
@@ -169,10 +173,11 @@ impl LoopCounts {
 #[derive(Drop)]
 pub struct RuleCounts {
     /// The clients that were accepted, and of those the ones that were dropped, since as many
-    /// connections stood as may, on the whole or of the rule.
+    /// connections stood as may, on the whole or of the rule, or memory was refused.
     pub accepted: Counter,
     pub full: Counter,
     pub rule_full: Counter,
+    pub no_memory: Counter,
     /// The rows of accepts that failed one after the other.
     pub accept_faults: Counter,
     pub(crate) by_loop: Vec<LoopCounts>,
@@ -194,9 +199,26 @@ impl RuleCounts {
             accepted: Counter::new(),
             full: Counter::new(),
             rule_full: Counter::new(),
+            no_memory: Counter::new(),
             accept_faults: Counter::new(),
             by_loop,
         })
+    }
+
+    /// A client was dropped as it was accepted.
+    pub fn note_dropped(&self, how: Ended) {
+        self.drops(how).add(1);
+    }
+
+    // The count of the clients that were dropped so, told as in `EndCounts::of`.
+    fn drops(&self, how: Ended) -> &Counter
+        ensures { result.ref_ptr ≡ spec.drop_of how self.entry.ref_ptr }
+    {
+        match how {
+            Ended::RuleFull => &self.rule_full,
+            Ended::NoMemory => &self.no_memory,
+            _ => &self.full,
+        }
     }
 
     /// The bytes that all connections of the rule have passed up and down.

@@ -37,12 +37,14 @@ fn sums(counts: &RuleCounts) -> (u64, CarriedBytes, Refusals) {
     let mut refused = Refusals::default();
     add(&mut refused.full, &counts.full);
     add(&mut refused.rule_full, &counts.rule_full);
+    add(&mut refused.no_memory, &counts.no_memory);
     for counted in counts.loops() {
         connections = connections.saturating_add(counted.standing());
         add(&mut bytes.up, &counted.up);
         add(&mut bytes.down, &counted.down);
-        add(&mut refused.full, &counted.no_room);
         add(&mut refused.no_target, &counted.no_target);
+        add(&mut refused.no_memory, &counted.no_memory);
+        add(&mut refused.descriptors, &counted.no_descriptors);
     }
     (connections, bytes, refused)
 }

@@ -13,9 +13,9 @@ use std::fs::Files;
 use std::sync::atomic::{AtomicBool, AtomicU64, Ordering};
 use std::sync::{Arc, Mutex, Wait};
 
-/// What stands of a rule as long as it has its listening address: what the rule says now, its
-/// listener, and what was counted. The rule's name, target and idle time change with a reload; a
-/// connection goes on by what they were when it was accepted.
+/// The account of a rule, by its listening address: what the rule says now, its listener, where it
+/// has one, and what was counted. It outlives its listener. The rule's name, target and idle time
+/// change with a reload; a connection goes on by what they were when it was accepted.
 #[derive(Drop)]
 pub struct ServedRule {
     pub listen: Addr,

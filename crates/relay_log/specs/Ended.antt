@@ -33,6 +33,8 @@ ended_text (ended.Read why) = codes "read " ++ reason_text why
 ended_text (ended.Write why) = codes "write " ++ reason_text why
 ended_text ended.Full = codes "full"
 ended_text ended.RuleFull = codes "rule full"
+ended_text ended.NoMemory = codes "no memory"
+ended_text ended.Descriptors = codes "descriptors"
 ended_text (ended.NoTarget why) = codes "no target " ++ cause_text why
 ended_text (ended.Accept why) = codes "accept " ++ reason_text why
 

@@ -94,8 +94,9 @@ impl Cause {
     }
 }
 
-/// How a connection ended, or what else a line tells. `Full` and `RuleFull` are of clients that
-/// were refused, `NoTarget` of those and of connections whose targets weren't reached later.
+/// How a connection ended, or what else a line tells. `Full`, `RuleFull`, `NoMemory` and
+/// `Descriptors` are of clients that were refused, `NoTarget` of those and of connections whose
+/// targets weren't reached later.
 #[derive(Clone, Copy, Debug, PartialEq, Eq, Drop)]
 pub enum Ended {
     /// Both ends of file were passed on.
@@ -114,6 +115,10 @@ pub enum Ended {
     Full,
     /// As many connections of its rule stood as may.
     RuleFull,
+    /// Memory was refused for the connection.
+    NoMemory,
+    /// The system's poller took none of its descriptors.
+    Descriptors,
     /// The target wasn't reached.
     NoTarget(Cause),
     /// No connection: an accept failed, the first in a row.
@@ -129,7 +134,8 @@ impl Ended {
         match self {
             Ended::Eof => 0,
             Ended::Idle => 1,
-            Ended::Closed | Ended::Full | Ended::RuleFull | Ended::Accept(_) => 2,
+            Ended::Closed | Ended::Full | Ended::RuleFull => 2,
+            Ended::NoMemory | Ended::Descriptors | Ended::Accept(_) => 2,
             Ended::Drained => 3,
             Ended::Read(_) => 4,
             Ended::Write(_) => 5,
@@ -158,6 +164,8 @@ impl Ended {
             Ended::Write(why) => write_failed(into, b"write ", why),
             Ended::Full => into.extend_from_slice(b"full"),
             Ended::RuleFull => into.extend_from_slice(b"rule full"),
+            Ended::NoMemory => into.extend_from_slice(b"no memory"),
+            Ended::Descriptors => into.extend_from_slice(b"descriptors"),
             Ended::NoTarget(cause) => write_both(into, b"no target ", cause.word()),
             Ended::Accept(why) => write_failed(into, b"accept ", why),
         }

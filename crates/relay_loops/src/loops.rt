@@ -133,23 +133,21 @@ impl<U: Ledger, D: Ledger, R: Wait + Clock + Copy> LoopHost<U, D, R> {
 
     // Whether a session wants a connection closed.
     fn is_to_close(&self, connection: &Connection<U, D, R>) -> bool {
-        let (client, target) = connection.ids();
-        let closes = &self.context.shared.closes;
-        closes.is_wished(client) || closes.is_wished(target)
+        self.context.shared.closes.is_wished(connection.id())
     }
 
-    /// Ends a connection, which is counted until it has ended; then who waits for that is told.
+    /// Ends a connection, which is counted until it has ended and who waits for that is told.
     pub(crate) fn end(&mut self, task: ConnTask<U, D, R>) {
-        let (client, target) = task.connection.ids();
-        self.close(task);
-        self.context.shared.note_end(client, target);
-    }
-
-    fn close(&mut self, task: ConnTask<U, D, R>) {
         let ConnTask {
             connection,
-            counted: _counted,
+            counted,
         } = task;
+        let id = connection.id();
+        self.close(connection);
+        self.context.shared.note_end(id, counted);
+    }
+
+    fn close(&mut self, connection: Connection<U, D, R>) {
         let now = self.context.clock.now();
         let shared = &self.context.shared;
         connection.end(

@@ -9,6 +9,7 @@ use readiness::{Poller, Sock, connect_io};
 use relay_admin::Addr;
 use relay_conn::connection::Connection;
 use relay_conn::reach::{Reach, cause_of_connect};
+use relay_conn::refused::Refused;
 use relay_conn::set_up::{OwnedSock, SetUp};
 use relay_facts::clock::Moments;
 use relay_facts::connection_facts::{Acceptance, ConnectionFacts};
@@ -45,6 +46,7 @@ impl<R: Wait + Net + Clock + Copy> LoopContext<R> {
             alloc: self.alloc,
             clock: self.clock,
             table: &self.shared.table,
+            closes: &self.shared.closes,
             poller,
         }
     }
@@ -64,7 +66,7 @@ impl<R: Wait + Net + Clock + Copy> LoopContext<R> {
         Reach::at(is_tcp, self.clock.now(), self.shared.safeguards.connect_ms)
     }
 
-    // A client isn't served, since there is no target, or no room.
+    // A client isn't served, since there is no target, or what it takes was refused.
     fn refuse(&self, acceptance: &Acceptance, how: How) {
         if let Some(counts) = acceptance.served.counts.of_loop(self.place) {
             counts.note_refused(how);
@@ -82,15 +84,17 @@ impl<R: Wait + Net + Clock + Copy> LoopContext<R> {
 }
 
 impl<U: Ledger, D: Ledger, R: Wait + Net + Clock + Copy> LoopHost<U, D, R> {
-    // A connection of both sockets, where there is room.
+    // A connection of both sockets; or what refused it.
     fn join(
         &mut self,
         tasks: &mut ConnLoop<U, D, R>,
         client: Sock,
         target: Sock,
         facts: Arc<ConnectionFacts>,
-    ) -> Option<Connection<U, D, R>> {
-        let (first, second) = owners(tasks)?;
+    ) -> Result<Connection<U, D, R>, Refused> {
+        let Some((first, second)) = owners(tasks) else {
+            return Err(Refused::Memory);
+        };
         let client = OwnedSock {
             sock: client,
             owner: first,
@@ -112,7 +116,7 @@ impl<U: Ledger, D: Ledger, R: Wait + Net + Clock + Copy> LoopHost<U, D, R> {
         acceptance: &Acceptance,
     ) -> Result<Connection<U, D, R>, How> {
         let Some(facts) = self.context.facts(acceptance) else {
-            return Err(How::Full);
+            return Err(How::NoMemory);
         };
         let address = socket_address(&acceptance.rule.target);
         let target = match connect_io(&self.context.rt, &address) {
@@ -120,8 +124,8 @@ impl<U: Ledger, D: Ledger, R: Wait + Net + Clock + Copy> LoopHost<U, D, R> {
             Err(error) => return Err(How::NoTarget(cause_of_connect(&error))),
         };
         match self.join(tasks, sock, target, facts) {
-            Some(connection) => Ok(connection),
-            None => Err(How::Full),
+            Ok(connection) => Ok(connection),
+            Err(refused) => Err(refused.how()),
         }
     }
 
@@ -137,7 +141,7 @@ impl<U: Ledger, D: Ledger, R: Wait + Net + Clock + Copy> LoopHost<U, D, R> {
             Ok(connection) => connection,
             Err(how) => {
                 self.context.refuse(&acceptance, how);
-                self.context.shared.settle_gone(&self.context.rt);
+                self.context.shared.note_refused(counted);
                 return;
             }
         };

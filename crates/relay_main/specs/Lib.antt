@@ -1,8 +1,11 @@
 pub mod Accepting
+pub mod Accounts
+pub mod AskedCloses
 pub mod Deadlines
 pub mod Desk
 pub mod Finishing
 pub mod Listening
+pub mod Pauses
 pub mod Reload
 pub mod Session
 pub mod Sessions

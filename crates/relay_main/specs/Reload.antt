@@ -1,13 +1,13 @@
 -- What a session is answered where a reload is refused.
 use Rattle.relay_admin.specs.declared.admin.desk.DeskAnswer.{DeskAnswer}
 use Rattle.relay_admin.specs.declared.admin.desk.DeskAnswer.TheVariants.{CannotRead, CannotListen}
-use Rattle.relay_admin.specs.declared.admin.desk.DeskAnswer.TheVariants.{NoMemory, Closed}
+use Rattle.relay_admin.specs.declared.admin.desk.DeskAnswer.TheVariants.{NoMemory, Device}
 use Rattle.relay_admin.specs.declared.serve_fault.ServeFault.{ServeFault}
 use Rattle.relay_admin.specs.declared.serve_fault.ServeFault.TheVariants as fault
 
--- the file or an address as at a start; where the relay is ending, or its poller fails, it is closed
+-- the file or an address as at a start; of what else may come to a reload, the poller alone is left
 abbrev pub answer_of_fault : ServeFault → DeskAnswer
 answer_of_fault fault.RulesFile = CannotRead
 answer_of_fault (fault.Listen name) = CannotListen name
 answer_of_fault fault.Memory = NoMemory
-answer_of_fault other = Closed
+answer_of_fault other = Device

@@ -1,5 +1,5 @@
 -- Which admin session gives its place up to another.
-use Rattle.std.specs.Prelude.{◌≡◌, ◌<◌, ◌≤◌, ℕ, List, Option, Some, false, length, slice_get}
+use Rattle.std.specs.Prelude.{◌≡◌, ◌<◌, ◌≤◌, ℕ, List, Option, Some, None, Bool, false, any, length, slice_get}
 use Rattle.std.specs.Box.{box_value}
 use Rattle.std.specs.Global.{Box}
 use Rattle.relay_main.specs.declared.sessions.Seated.{Seated}
@@ -31,3 +31,12 @@ IsQuietest places place session = IsQuietestOf places (length places) place sess
 abbrev pub NoneMayLeave : List (Option (Box Seated)) → ℕ → Type 0
 NoneMayLeave places count =
     (k : ℕ) (session : Box Seated) → k < count → MayLeave places k session → ⊥
+
+-- the reply of the session at this place waits for a close
+abbrev pub is_held_at : Option (Box Seated) → Bool
+is_held_at (Some session) = (box_value session).is_held
+is_held_at None = false
+
+-- the reply of one of them does
+abbrev pub are_held : List (Option (Box Seated)) → Bool
+are_held places = any is_held_at places

@@ -47,7 +47,7 @@ fn begins_row(pause_ms: u64) -> bool
 impl<R: Wait + Clock + Copy, C: Moments> MainHost<R, C> {
     /// Has a rule's task go on.
     pub(crate) fn resume_rule(&mut self, task: &mut RuleTask<R>) -> Turn {
-        if self.is_paused(&mut task.paused_until) {
+        if self.is_paused(task.place, &mut task.paused_until) {
             return Turn::Waits;
         }
         let (step, fault) = accept_on(self.rt, &self.clock, &*self.shared, task);
@@ -117,7 +117,7 @@ impl<R: Wait + Clock + Copy, C: Moments> MainHost<R, C> {
 
     /// Accepts sessions. However many faults come in a row, it goes on.
     pub(crate) fn accept_sessions(&mut self, task: &mut AdminTask) -> Turn {
-        if self.is_paused(&mut task.paused_until) {
+        if self.is_paused(task.place, &mut task.paused_until) {
             return Turn::Waits;
         }
         let step = task.accepting.resume(&mut task.door);

@@ -1,13 +1,13 @@
 //! What an admin session asks, over the relay's table and books.
 
-ghost use Rattle.std.specs.Prelude.{◌≡◌, None, IfSome, IfNone, true, false};
+ghost use Rattle.std.specs.Prelude.{◌≡◌, None, IfSome, IfNone, Bool, true, false};
 ghost use Rattle.relay_admin.specs.declared.admin.command.Command.TheVariants as commands;
 ghost use Rattle.relay_admin.specs.admin.Reply.{HasAskedId};
 ghost use Rattle.relay_admin.specs.admin.Reply as replies;
 ghost use Rattle.relay_admin.specs.declared.admin.desk.DeskAnswer.{DeskAnswer};
 ghost use Rattle.deadline_core.specs.declared.deadline.Dirs.{Dirs};
 ghost use Rattle.relay_main.specs.Deadlines.{asked_deadline};
-ghost use Rattle.relay_main.specs.Desk.{desk_answer};
+ghost use Rattle.relay_main.specs.Desk.{answer_once_gone, desk_answer};
 
 use crate::main_loop::MainLoop;
 use deadline_core::{Deadline, Dirs};
@@ -56,6 +56,18 @@ fn answer_of_close(done: Option<Result<(), Fault>>) -> DeskAnswer
     match done {
         Some(done) => answer_of(done),
         None => DeskAnswer::Unknown,
+    }
+}
+
+// The answer to a close of a connection, once that has gone, where another session has asked for it
+// before, or none has.
+fn answer_once_gone(is_second: bool) -> DeskAnswer
+    ensures { result ≡ answer_once_gone is_second }
+{
+    if is_second {
+        DeskAnswer::Unknown
+    } else {
+        DeskAnswer::Fine
     }
 }
 
@@ -147,42 +159,51 @@ impl<'a, R: Wait + Clock + Copy> RelayDesk<'a, R> {
         answer
     }
 
-    // Has the task that has the connection with this id look at what is wished of it.
-    fn tell_owner(&self, id: u64) -> Result<(), DeskAnswer> {
-        match self.handle(id) {
-            Ok((_, owner)) => {
-                owner.tell(&self.main.host.rt);
-                Ok(())
-            }
-            Err(answer) => Err(answer),
-        }
+    // The connection that has this id on one of its sides, by its own id, and who has it.
+    fn connection(&self, id: u64) -> Result<(u64, Owner), DeskAnswer> {
+        let rt = self.main.host.rt;
+        let table = self.main.host.shared.table.lock(&rt);
+        let Some(entry) = table.by_id(id) else {
+            return Err(DeskAnswer::Unknown);
+        };
+        entry.connection(id).ok_or(DeskAnswer::NoMemory)
     }
 
     // Takes the wish back. Its loop may have closed the connection by it meanwhile, where it had
     // another reason to look.
-    fn withdrawn(&self, answer: DeskAnswer) -> DeskAnswer {
+    fn withdrawn(&self, is_second: bool, answer: DeskAnswer) -> DeskAnswer {
         if self.main.host.shared.closes.take_back(self.place) {
-            return DeskAnswer::Fine;
+            return answer_once_gone(is_second);
         }
         answer
     }
 
-    // Asks the loop of the connection with this id on one of its sides to close it. The reply waits
-    // until it has.
+    // Leaves the wish to close this connection, which has this id on one of its sides, and tells its
+    // loop. The reply waits until it has gone.
+    fn wish_close(&mut self, connection: u64, id: u64) -> DeskAnswer
+        ensures held { self.old.is_held ≡ false → self.new.is_held ≡ true
+            → (is_second : Bool) × (result ≡ answer_once_gone is_second) }
+    {
+        let is_second = self.main.host.asked.note(self.place, connection);
+        self.main.host.shared.closes.leave(self.place, connection);
+        match self.connection(id) {
+            Ok((_, owner)) => {
+                owner.tell(&self.main.host.rt);
+                self.is_held = true;
+                answer_once_gone(is_second)
+            }
+            Err(answer) => self.withdrawn(is_second, answer),
+        }
+    }
+
+    // Asks the loop of the connection with this id on one of its sides to close it.
     fn ask_close(&mut self, id: u64) -> DeskAnswer
         ensures held { self.old.is_held ≡ false → self.new.is_held ≡ true
-            → result ≡ DeskAnswer.Fine }
+            → (is_second : Bool) × (result ≡ answer_once_gone is_second) }
     {
-        if self.main.host.shared.closes.is_wished(id) {
-            return DeskAnswer::Unknown;
-        }
-        self.main.host.shared.closes.leave(self.place, id);
-        match self.tell_owner(id) {
-            Ok(()) => {
-                self.is_held = true;
-                DeskAnswer::Fine
-            }
-            Err(answer) => self.withdrawn(answer),
+        match self.connection(id) {
+            Ok((connection, _)) => self.wish_close(connection, id),
+            Err(answer) => answer,
         }
     }
 }

@@ -22,12 +22,17 @@ use std::time::Clock;
 const FINISH_KEY: u64 = 0;
 
 /// Whether a relay has finished that finishes at this moment at the latest, or doesn't at all, where
-/// so many connections stand.
-pub(crate) fn has_finished(finish_at: Option<u64>, now: u64, standing: u64) -> bool
-    ensures { result ≡ true ↔ HasFinished finish_at now standing }
+/// so many connections stand, and sessions' replies wait for closes or don't.
+pub(crate) fn has_finished(
+    finish_at: Option<u64>,
+    now: u64,
+    standing: u64,
+    is_held: bool,
+) -> bool
+    ensures { result ≡ true ↔ HasFinished finish_at now standing is_held }
 {
     match finish_at {
-        Some(at) => at <= now || standing == 0,
+        Some(at) => at <= now || (standing == 0 && !is_held),
         None => false,
     }
 }
@@ -45,6 +50,8 @@ impl<R: Wait + Net + Files + Clock + Copy> MainLoop<R> {
         // Where that is refused, it is looked at once a second.
         let _ = self.host.arm(FINISH_KEY, at);
         self.finish_at = Some(at);
+        // The last connection may have ended before its end told anybody.
+        self.host.shared.main.wake();
     }
 
     // Lets the last clients of all rules in, and closes their listeners.

@@ -3,7 +3,9 @@
 #![tactic(auto)]
 
 mod accepting;
+mod accounts;
 mod admin;
+mod asked_closes;
 mod desk;
 mod finishing;
 mod listening;

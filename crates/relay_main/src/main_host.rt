@@ -1,8 +1,10 @@
 //! What the main thread's loop resumes its tasks with.
 
-ghost use Rattle.std.specs.Prelude.{◌≡◌, true, false, None};
+ghost use Rattle.std.specs.Prelude.{◌≡◌, ℕ, true, false, Some, None, IfSome};
+ghost use Rattle.relay_main.specs.Pauses.{StaysOrIsNoted, earliest};
 
 use crate::admin::Caller;
+use crate::asked_closes::AskedCloses;
 use crate::main_task::MainTask;
 use deadline_core::Dirs;
 use fd_descriptor::{Alarms, PollCell};
@@ -15,18 +17,31 @@ use std::alloc::Global;
 use std::sync::{Arc, Wait};
 use std::time::Clock;
 
+// The earlier of a moment that was noted, if one was, and another.
+fn earliest(noted: Option<u64>, at: u64) -> u64
+    ensures { result ≡ earliest noted at }
+{
+    match noted {
+        Some(noted) => noted.min(at),
+        None => at,
+    }
+}
+
 /// What the main thread has beside its tasks.
 #[derive(Drop)]
 pub struct MainHost<R: Wait + Copy, C: Moments> {
     pub rt: R,
     pub clock: C,
     pub shared: Arc<Shared>,
-    /// A moment to which no alarm could be armed, since memory was refused.
+    /// The earliest end of a pause to which no alarm could be armed, since memory was refused. Then
+    /// all tasks are resumed, and those that pause still arm theirs anew.
     pub(crate) unarmed: Option<u64>,
     /// The sockets that were accepted for sessions, which are begun between two turns.
     pub(crate) callers: Vec<Caller>,
     /// Which places have sessions that may go on between two turns.
     pub(crate) named: [bool; MAX_SESSIONS],
+    /// The closes that sessions have asked for.
+    pub(crate) asked: AskedCloses,
 }
 
 impl<R: Wait + Copy, C: Moments> MainHost<R, C> {
@@ -42,6 +57,7 @@ impl<R: Wait + Copy, C: Moments> MainHost<R, C> {
             unarmed: None,
             callers: Vec::new(alloc),
             named: [false; MAX_SESSIONS],
+            asked: AskedCloses::none(),
         }
     }
 
@@ -63,23 +79,41 @@ impl<R: Wait + Copy, C: Moments> MainHost<R, C> {
         }
     }
 
-    /// Has a task pause: its timer has the second token of its place, which no descriptor has.
-    pub(crate) fn pause(&mut self, place: Place, paused_until: &mut Option<u64>, ms: u64) {
+    /// Has a task pause.
+    pub(crate) fn pause(&mut self, place: Place, paused_until: &mut Option<u64>, ms: u64)
+        ensures pauses { (until : ℕ) × (paused_until.new ≡ Some until)
+            × StaysOrIsNoted self.old.unarmed self.new.unarmed until }
+    {
         let until = pause_end(self.clock.now(), ms);
         *paused_until = Some(until);
+        self.resume_at(place, until);
+    }
+
+    // Has a task resumed at this moment: its timer has the second token of its place, which no
+    // descriptor has.
+    fn resume_at(&mut self, place: Place, until: u64)
+        ensures { StaysOrIsNoted self.old.unarmed self.new.unarmed until }
+    {
         if !self.arm(place.second, until) {
-            self.unarmed = Some(until);
+            self.unarmed = Some(earliest(self.unarmed, until));
         }
     }
 
-    /// Whether a task is in its pause still, which ends at this moment, if there is one.
-    pub(crate) fn is_paused(&self, paused_until: &mut Option<u64>) -> bool
+    /// Whether a task is in its pause still, which ends at this moment, if there is one: then it is
+    /// resumed once more at its end.
+    pub(crate) fn is_paused(&mut self, place: Place, paused_until: &mut Option<u64>) -> bool
         ensures over { result ≡ false → paused_until.new ≡ None }
         ensures kept { result ≡ true → paused_until.new ≡ paused_until.old }
         ensures pauses { paused_until.old ≡ None → result ≡ false }
+        ensures noted { IfSome paused_until.old (λ until.
+            StaysOrIsNoted self.old.unarmed self.new.unarmed until) }
+        ensures none { paused_until.old ≡ None → self.new.unarmed ≡ self.old.unarmed }
     {
-        if paused_until.is_some() && !has_come(*paused_until, self.clock.now()) {
-            return true;
+        if let Some(until) = *paused_until {
+            if !has_come(Some(until), self.clock.now()) {
+                self.resume_at(place, until);
+                return true;
+            }
         }
         *paused_until = None;
         false

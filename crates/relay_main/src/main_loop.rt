@@ -16,6 +16,7 @@ use readiness::{EventLoop, LoopDriver};
 use relay_admin::ServeFault;
 use relay_facts::bound_path::BoundPath;
 use relay_facts::clock::{Moments, RelayClock};
+use relay_facts::served_rule::ServedRule;
 use relay_shared::fault::of_poller;
 use relay_shared::shared::Shared;
 use std::alloc::Global;
@@ -31,6 +32,8 @@ pub struct MainLoop<R: Wait + Clock + Copy> {
     pub(crate) tasks: EventLoop<MainTask<R>>,
     pub host: MainHost<R, RelayClock<R>>,
     pub listeners: Listeners,
+    /// The accounts of rules that a reload left out, and of which connections stood then.
+    pub(crate) gone: Vec<Arc<ServedRule>>,
     /// The token of the admin socket's task; 0 before there is one.
     pub(crate) admin: u64,
     /// The moment at which the relay ends at the latest, where it finishes.
@@ -67,6 +70,7 @@ impl<R: Wait + Clock + Copy> MainLoop<R> {
                 given: Vec::new(alloc),
                 replaces_stale,
             },
+            gone: Vec::new(alloc),
             admin: 0,
             finish_at: None,
         }
@@ -79,6 +83,7 @@ impl<R: Wait + Clock + Copy> MainLoop<R> {
             tasks,
             host,
             listeners,
+            gone: _,
             admin: _,
             finish_at: _,
         } = self;
@@ -144,8 +149,10 @@ impl<R: Wait + Net + Files + Clock + Copy> MainLoop<R> {
             if let Err(fault) = self.tasks.turn(&rt, now, &mut self.host) {
                 return Err(of_poller(fault));
             }
+            // What ended before was settled before: who waits for that is answered first.
+            let standing = self.host.shared.standing();
             sessions.serve(self);
-            if self.is_over() {
+            if self.is_over(standing, sessions.are_held()) {
                 return Ok(());
             }
             if self.host.takes_unarmed() {
@@ -155,10 +162,12 @@ impl<R: Wait + Net + Files + Clock + Copy> MainLoop<R> {
         unreachable!()
     }
 
-    // Whether no turn more is wanted.
-    fn is_over(&self) -> bool {
+    // Whether no turn more is wanted, where so many connections stood before the sessions were
+    // served: one of them may have let the last clients in.
+    fn is_over(&self, before: u64, is_held: bool) -> bool {
         let shared = &self.host.shared;
+        let standing = before.max(shared.standing());
         shared.is_stopped()
-            || has_finished(self.finish_at, self.host.clock.now(), shared.standing())
+            || has_finished(self.finish_at, self.host.clock.now(), standing, is_held)
     }
 }

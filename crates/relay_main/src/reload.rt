@@ -1,21 +1,21 @@
 //! New rules for a relay that runs. The main thread, whose loop accepts, reads them and binds the
-//! addresses that are new; then it has the rules that stay say what is new, and closes the
-//! listeners of those that have gone.
+//! addresses at which nobody listens; then it has the rules that stay say what is new, and closes
+//! the listeners of those that have gone.
 
 ghost use Rattle.std.specs.Prelude.{◌≡◌, ◌≢◌, None};
 ghost use Rattle.relay_admin.specs.declared.admin.desk.DeskAnswer.{DeskAnswer};
 ghost use Rattle.relay_main.specs.Reload.{answer_of_fault};
 
+use crate::accounts::{account_of, without_rules};
 use crate::main_loop::MainLoop;
 use crate::opening::listen_by;
-use relay_admin::{Addr, DeskAnswer, Rule, Rules, ServeFault, Verdict};
+use relay_admin::{DeskAnswer, Rule, Rules, ServeFault, Verdict};
 use relay_facts::rules_file::text_of;
 use relay_facts::served_rule::ServedRule;
 use relay_shared::closing::Closer;
 use rwloops::Fault;
 use std::alloc::Global;
 use std::fs::Files;
-use std::mem;
 use std::net::Net;
 use std::sync::{Arc, Wait};
 use std::time::Clock;
@@ -24,8 +24,9 @@ use std::time::Clock;
 #[derive(Drop)]
 struct Planned {
     rule: Rule,
+    /// Its account.
     served: Arc<ServedRule>,
-    /// Its address is to be bound.
+    /// Its address is to be bound: it has no listener, or none any more.
     is_new: bool,
 }
 
@@ -37,18 +38,8 @@ fn answer_of_fault(fault: ServeFault) -> DeskAnswer
         ServeFault::RulesFile => DeskAnswer::CannotRead,
         ServeFault::Listen(name) => DeskAnswer::CannotListen(name),
         ServeFault::Memory => DeskAnswer::NoMemory,
-        _ => DeskAnswer::Closed,
+        _ => DeskAnswer::Device,
     }
-}
-
-// Whether a rule listens at this address.
-fn is_listened_at(rules: &[Rule], addr: &Addr) -> bool {
-    for rule in rules {
-        if rule.listen == *addr {
-            return true;
-        }
-    }
-    false
 }
 
 // A list of the same rules.
@@ -61,42 +52,44 @@ fn listed(alloc: Global, planned: &[Planned]) -> Result<Vec<Arc<ServedRule>>, Se
 }
 
 impl<R: Wait + Net + Files + Clock + Copy> MainLoop<R> {
-    // The rule with this listening address, if its listener stands. Of one whose listener has gone
-    // the path goes too, so that another can be bound.
-    fn standing(&self, rt: &R, listen: &Addr) -> Option<Arc<ServedRule>> {
-        let rules = self.host.shared.rules.lock(rt);
-        for served in rules.iter() {
-            if served.listen == *listen {
-                if self.host.shared.table.lock(rt).by_id(served.id()).is_some() {
-                    return Arc::try_clone(served).ok();
-                }
-                served.remove_path(rt);
-            }
+    // All accounts: of the rules in force, and of those that have gone and had connections still.
+    fn accounts(&self, rt: &R) -> Result<Vec<Arc<ServedRule>>, ServeFault> {
+        let mut all = Vec::new(self.alloc);
+        for served in self.host.shared.rules.lock(rt).iter() {
+            all.push(Arc::try_clone(served)?)?;
         }
-        None
+        for served in self.gone.iter() {
+            all.push(Arc::try_clone(served)?)?;
+        }
+        Ok(all)
     }
 
-    // A rule of the file, as it is to be served.
-    fn planned(&self, rt: &R, rule: &Rule) -> Result<Planned, ServeFault> {
-        if let Some(served) = self.standing(rt, &rule.listen) {
-            return Ok(Planned {
-                rule: *rule,
-                served,
-                is_new: false,
-            });
+    // Whether a rule's listener stands. Of one whose listener has gone the path goes too, so that
+    // another can be bound.
+    fn listens(&self, rt: &R, served: &ServedRule) -> bool {
+        let stands = self.host.shared.table.lock(rt).by_id(served.id()).is_some();
+        if !stands {
+            served.remove_path(rt);
         }
-        Ok(Planned {
-            rule: *rule,
-            served: ServedRule::new(self.alloc, rule, self.host.shared.loops.len())?,
-            is_new: true,
-        })
+        stands
     }
 
     // The rules of the file, as they are to be served.
-    fn all_planned(&self, rt: &R, rules: &[Rule]) -> Result<Vec<Planned>, ServeFault> {
+    fn all_planned(
+        &self,
+        rt: &R,
+        accounts: &[Arc<ServedRule>],
+        rules: &[Rule],
+    ) -> Result<Vec<Planned>, ServeFault> {
         let mut all = Vec::new(self.alloc);
         for rule in rules {
-            all.push(self.planned(rt, rule)?)?;
+            let served = account_of(self.alloc, accounts, rule, self.host.shared.loops.len())?;
+            let is_new = !self.listens(rt, &served);
+            all.push(Planned {
+                rule: *rule,
+                served,
+                is_new,
+            })?;
         }
         Ok(all)
     }
@@ -130,7 +123,7 @@ impl<R: Wait + Net + Files + Clock + Copy> MainLoop<R> {
         None
     }
 
-    // Listens for a rule that is new.
+    // Listens for a rule that has no listener.
     fn listen_by(&mut self, rt: &R, served: &Arc<ServedRule>, now: u64) -> Result<(), ServeFault> {
         let MainLoop {
             alloc,
@@ -150,7 +143,7 @@ impl<R: Wait + Net + Files + Clock + Copy> MainLoop<R> {
         )
     }
 
-    // Listens for all rules that are new, or for none.
+    // Listens for all rules that have no listener, or for none.
     fn listen_for(&mut self, rt: &R, planned: &[Planned], now: u64) -> Result<(), ServeFault> {
         let mut listened = Ok(());
         for one in planned {
@@ -170,18 +163,20 @@ impl<R: Wait + Net + Files + Clock + Copy> MainLoop<R> {
 
     // Serves these rules from now on; or, after a fault, those of before.
     fn serve_rules(&mut self, rt: &R, rules: &[Rule], now: u64) -> Result<(), ServeFault> {
-        let planned = self.all_planned(rt, rules)?;
+        let accounts = self.accounts(rt)?;
+        let planned = self.all_planned(rt, accounts.as_slice(), rules)?;
         let list = listed(self.alloc, planned.as_slice())?;
+        let mut gone = without_rules(accounts, rules);
         self.listen_for(rt, planned.as_slice(), now)?;
         for one in planned.iter() {
             one.served.change(rt, &one.rule);
         }
-        let before = mem::replace(&mut *self.host.shared.rules.lock(rt), list);
-        for served in before.iter() {
-            if !is_listened_at(rules, &served.listen) {
-                self.end_listener(rt, served);
-            }
+        *self.host.shared.rules.lock(rt) = list;
+        for served in gone.iter() {
+            self.end_listener(rt, served);
         }
+        gone.retain(|served| served.standing() > 0);
+        self.gone = gone;
         self.host.shared.reloads.add(1);
         Ok(())
     }

@@ -4,7 +4,7 @@
 
 ghost use Rattle.std.specs.Prelude.{◌≡◌, ◌<◌, ◌↔◌, true, Some, None, length, slice_get};
 ghost use Rattle.std.specs.Prelude.{IfErr, IfSome, IfNone};
-ghost use Rattle.relay_main.specs.Sessions.{IsQuietest, NoneMayLeave, patience};
+ghost use Rattle.relay_main.specs.Sessions.{IsQuietest, NoneMayLeave, are_held, is_held_at, patience};
 ghost use Rattle.relay_admin.specs.declared.serve_fault.ServeFault.{ServeFault};
 
 use crate::desk::RelayDesk;
@@ -96,6 +96,16 @@ fn is_quieter(session: &Box<Seated>, found: Option<(usize, &Box<Seated>)>) -> bo
     match found {
         Some((_, before)) => session.until < before.until,
         None => true,
+    }
+}
+
+// Whether the reply of the session at a place waits for a close.
+fn is_held(seat: &Option<Box<Seated>>) -> bool
+    ensures { result ≡ is_held_at seat.now }
+{
+    match seat {
+        Some(session) => session.is_held,
+        None => false,
     }
 }
 
@@ -197,6 +207,13 @@ impl Sessions {
         wishes.take_back(place);
         seated.is_held = false;
         true
+    }
+
+    /// Whether the reply of one of them waits for a close.
+    pub(crate) fn are_held(&self) -> bool
+        ensures { result ≡ are_held self.now.places.items }
+    {
+        self.places.iter().any(|seat| is_held(seat))
     }
 
     // Has the session at this place go on, and ends it where it has ended.

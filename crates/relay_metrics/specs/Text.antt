@@ -44,11 +44,17 @@ rule_bytes_text rule bytes =
 unfoldable pub cause_text : Family → List ℕ → List ℕ → ℕ → List ℕ
 cause_text f rule cause n = rule_sample_text f rule (codes "cause") cause n
 
+-- a rule's connections that were refused for want of what the system gives, for each cause
+unfoldable pub shortage_text : List ℕ → Refusals → List ℕ
+shortage_text rule refused = cause_text family.RuleRefused rule (codes "no_memory") refused.no_memory
+    ++ cause_text family.RuleRefused rule (codes "descriptors") refused.descriptors
+
 -- a rule's refused connections, for each cause
 unfoldable pub refused_text : List ℕ → Refusals → List ℕ
 refused_text rule refused = cause_text family.RuleRefused rule (codes "full") refused.full
     ++ (cause_text family.RuleRefused rule (codes "no_target") refused.no_target
-    ++ cause_text family.RuleRefused rule (codes "rule_full") refused.rule_full)
+    ++ (cause_text family.RuleRefused rule (codes "rule_full") refused.rule_full
+    ++ shortage_text rule refused))
 
 -- a rule's figure for a cause with its count
 abbrev pub counted_text : Family → List ℕ → List ℕ × ℕ → List ℕ

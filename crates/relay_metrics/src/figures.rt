@@ -24,6 +24,10 @@ pub struct Refusals {
     pub no_target: u64,
     /// As many of the rule stood as may.
     pub rule_full: u64,
+    /// Memory was refused for them.
+    pub no_memory: u64,
+    /// The system's poller took none of their descriptors.
+    pub descriptors: u64,
 }
 
 /// What is told of a rule. Its name stands in the text as it is, between quotation marks: neither

@@ -3,7 +3,7 @@
 ghost use Rattle.std.specs.Prelude.{◌≡◌, ◌++◌, OnOk, map};
 ghost use Rattle.relay_metrics.specs.Text.{cause_text, causes_text, defence_text, flag, of_rule};
 ghost use Rattle.relay_metrics.specs.Text.{refused_text, rule_bytes_text, rule_family_text};
-ghost use Rattle.relay_metrics.specs.Text.{rules_text};
+ghost use Rattle.relay_metrics.specs.Text.{rules_text, shortage_text};
 
 use crate::family::Family;
 use crate::figures::{CarriedBytes, Refusals, RuleFigures};
@@ -136,6 +136,32 @@ fn write_refused<A: Allocator>(
         rule,
         b"rule_full",
         refused.rule_full,
+    )?;
+    write_shortages(into, rule, refused)
+}
+
+// Those for want of what the system gives.
+#[tactic(auto, unfolding(crate::specs::Text::shortage_text))]
+fn write_shortages<A: Allocator>(
+    into: &mut Vec<u8, A>,
+    rule: &[u8],
+    refused: Refusals,
+) -> Result<(), OutOfMemory>
+    ensures { OnOk result (into.new.items ≡ into.old.items ++ shortage_text rule.now refused) }
+{
+    write_cause(
+        into,
+        Family::RuleRefused,
+        rule,
+        b"no_memory",
+        refused.no_memory,
+    )?;
+    write_cause(
+        into,
+        Family::RuleRefused,
+        rule,
+        b"descriptors",
+        refused.descriptors,
     )
 }
 

@@ -1,10 +1,10 @@
 //! Where a relay tells of itself, beside standard output and its admin socket.
 
 ghost use Rattle.std.specs.Prelude.{◌≡◌, IfErr};
-ghost use Rattle.relay_admin.specs.declared.serve_fault.ServeFault.{ServeFault};
-ghost use Rattle.relay_serve.specs.Fault.{metrics_fault};
+ghost use Rattle.relay_serve.specs.Fault.{IsLogFault, metrics_fault};
 
 use crate::bounds::ServeRuntime;
+use crate::log_source::OpensLog;
 use log_writer::LogThread;
 use metrics_server::{LIMIT_NS, MetricsServer, Running};
 use relay::{RelayFigures, ServeFault, Server};
@@ -20,11 +20,11 @@ use std::sync::Wait;
 use std::thread::Threads;
 use std::time::Clock;
 
-/// What a relay's log is written to, if it has one, and where its metrics are asked for, if they
+/// What a relay's log is opened from, if it has one, and where its metrics are asked for, if they
 /// are.
 #[derive(Drop)]
-pub struct Outlets<L> {
-    pub log: Option<L>,
+pub struct Outlets<O> {
+    pub log: Option<O>,
     pub metrics: Option<Addr>,
 }
 
@@ -76,19 +76,23 @@ impl StartedOutlets {
         }
     }
 
-    /// Starts the thread of a relay's log, where it has one.
-    pub(crate) fn start_log<L, R>(
+    /// Opens a relay's log and starts its thread, where it has one.
+    pub(crate) fn start_log<L, O, R>(
         &mut self,
         rt: R,
         server: &Server<R>,
-        writer: Option<L>,
+        source: Option<O>,
     ) -> Result<(), ServeFault>
     where
         L: Write + Drop + Send + 'static,
+        O: OpensLog<Log = L> + Drop,
         R: ServeRuntime + Files,
-        ensures faults { IfErr result (λ fault. fault ≡ ServeFault.Memory) }
+        ensures faults { IfErr result IsLogFault }
     {
-        if let (Some(writer), Some(log)) = (writer, server.log()?) {
+        if let (Some(source), Some(log)) = (source, server.log()?) {
+            let Some(writer) = source.open() else {
+                return Err(ServeFault::Log);
+            };
             self.log = Some(LogThread::start(rt, log, writer)?);
         }
         Ok(())

@@ -6,6 +6,7 @@ ghost use Rattle.relay_admin.specs.ServeFault.{IsRunFault};
 
 use crate::bounds::ServeRuntime;
 use crate::given::{Given, tell_unused};
+use crate::log_source::OpensLog;
 use crate::outlets::{Outlets, StartedOutlets};
 use crate::output::{write_listening, write_totals};
 use relay::{Capacity, Config, Safeguards, ServeFault, Server};
@@ -20,28 +21,29 @@ use std::time::Clock;
 
 // Opens all, says that the relay listens, and turns until an admin session says stop, until it has
 // finished, or until something fails. The threads are started before, so that nothing which is
-// refused after the line ends it.
-fn run<L, R, W: Write>(
+// refused after the line ends it. The steps stand in the order of the faults that `serve` promises.
+fn run<L, O, R, W: Write>(
     rt: R,
     alloc: Global,
     server: &mut Server<R>,
     started: &mut StartedOutlets,
     admin: &str,
     errors: Option<L>,
-    outlets: Outlets<L>,
+    outlets: Outlets<O>,
     writer: &mut W,
 ) -> Result<(), ServeFault>
 where
     L: Write + Drop + Send + 'static,
+    O: OpensLog<Log = L> + Drop,
     R: ServeRuntime + Files,
     ensures said { OnOk result (SaysItListens (W.contents writer.old) (W.contents writer.new)) }
     ensures unwritten { IfErr result (λ fault. IsRunFault fault
         ⊎ (W.contents writer.new ≡ W.contents writer.old)) }
 {
     let Outlets { log, metrics } = outlets;
-    started.start_log(rt, server, log)?;
     server.open(admin)?;
     tell_unused(errors, server.unused());
+    started.start_log(rt, server, log)?;
     started.serve_metrics(rt, alloc, server, &metrics)?;
     server.start()?;
     write_listening(writer, server.rules())?;
@@ -54,22 +56,23 @@ where
 /// `Server::give` says. It writes `listening N` once all sockets are open, and at the end
 /// `up U down D`, the bytes copied to the targets and to the clients. A fault at the start is the
 /// first of: the rules file can't be read, its rules are bad, the poller, the listeners in the
-/// rules' order, the admin socket, the metrics' address. Whatever comes, no thread, no socket and
-/// no path that it bound is left.
+/// rules' order, the admin socket, the log, the metrics' address. Whatever comes, no thread, no
+/// socket and no path that it bound is left.
 // (its bounds are spelt out: a program that calls it over `ServeRuntime` isn't covered by the
 // prover)
-pub fn serve<L, R, W: Write>(
+pub fn serve<L, O, R, W: Write>(
     rt: R,
     rules: &String,
     admin: &String,
     capacity: Capacity,
     safeguards: Safeguards,
     given: Given<L>,
-    outlets: Outlets<L>,
+    outlets: Outlets<O>,
     writer: &mut W,
 ) -> Result<(), ServeFault>
 where
     L: Write + Drop + Send + 'static,
+    O: OpensLog<Log = L> + Drop,
     R: Wait
         + Threads
         + Net<Listener = TcpListener, Stream = TcpStream>

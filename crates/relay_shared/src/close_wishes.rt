@@ -1,13 +1,10 @@
 //! Closes of connections that sessions have asked for, which the connections' loops carry out.
 //!
-//! A session first leaves its wish, then looks for the entry in the table, and then tells the loop
-//! that has the connection. A loop takes both entries out of the table when it ends a connection,
-//! and settles the wishes for them after that. So a wish whose entry was found is settled, also
-//! where the connection ends by itself meanwhile. A set-up that is refused takes its entries back
-//! without that, so its loop then settles the wishes for all entries that have gone.
-
-ghost use Rattle.std.specs.Prelude.{◌≢◌, IfSome};
-ghost use Rattle.relay_shared.specs.declared.close_wishes.TheConstants.{DONE, NONE};
+//! A wish names a connection by the id of its client's side, whichever side was asked for. A session
+//! first leaves its wish, then looks for the entry in the table, and then tells the loop that has the
+//! connection. A loop takes both entries out of the table when it ends a connection, and settles the
+//! wishes for it after that, while it is counted still. So a wish whose entry was found is settled,
+//! also where the connection ends by itself meanwhile, or its set-up is refused.
 
 use base_types::OutOfMemory;
 use std::alloc::Global;
@@ -16,13 +13,13 @@ use std::sync::atomic::{AtomicU64, Ordering};
 /// The most sessions at once.
 pub const MAX_SESSIONS: usize = 32;
 
-/// A session has no wish. No entry has this id.
+/// A session has no wish. No connection has this id.
 const NONE: u64 = 0;
 
-/// What it wished for is closed. No entry has this id.
+/// What it wished for is closed. No connection has this id.
 const DONE: u64 = u64::MAX;
 
-/// For each place of a session the id of the entry that it wants closed, `NONE` or `DONE`. The main
+/// For each place of a session the id of the connection that it wants closed, `NONE` or `DONE`. The main
 /// thread alone leaves wishes and takes them back, and a loop alone changes an id into `DONE`.
 #[derive(Drop)]
 pub struct CloseWishes {
@@ -39,7 +36,7 @@ impl CloseWishes {
         Ok(CloseWishes { wishes })
     }
 
-    /// Whether a session waits for the close of this entry.
+    /// Whether a session waits for the close of this connection.
     pub fn is_wished(&self, id: u64) -> bool {
         for wish in self.wishes.iter() {
             if wish.load(Ordering::SeqCst) == id {
@@ -49,17 +46,6 @@ impl CloseWishes {
         false
     }
 
-    /// What the session at this place waits for, where it isn't settled.
-    pub fn wished(&self, place: usize) -> Option<u64>
-        ensures stands { IfSome result (λ id. (id ≢ NONE) × (id ≢ DONE)) }
-    {
-        let wish = self.wishes.get(place)?.load(Ordering::SeqCst);
-        if wish == NONE || wish == DONE {
-            return None;
-        }
-        Some(wish)
-    }
-
     /// Leaves the wish of the session at this place.
     pub fn leave(&self, place: usize, id: u64) {
         if let Some(wish) = self.wishes.get(place) {
@@ -67,7 +53,7 @@ impl CloseWishes {
         }
     }
 
-    /// This entry is closed by now. It says whether a session has waited for it.
+    /// This connection is closed by now. It says whether a session has waited for it.
     pub fn settle(&self, id: u64) -> bool {
         let mut is_wished = false;
         for wish in self.wishes.iter() {

@@ -1,9 +1,10 @@
 //! Closing what stands in the relay's table.
 
 ghost use Rattle.std.specs.Prelude.{Result, IfSome};
+ghost use Rattle.relay_shared.specs.Closing.{TakesBoth};
 ghost use Rattle.rwloops.specs.declared.fault.Fault.{Fault};
 
-use conntable::ConnTable;
+use conntable::{ConnTable, Refusal};
 use rwloops::Fault;
 use std::sync::{Mutex, Wait};
 
@@ -30,11 +31,22 @@ pub trait Closes {
     fn disarm<R: Wait + Copy>(self, rt: &R);
 }
 
+// Closes what was taken out of the table, and gives its answer: then no alarm is armed for it any
+// more.
+fn close_taken<T: Closes, R: Wait + Copy>(rt: &R, entry: T, by: Closer) -> Result<(), Fault>
+    ensures { T.tells entry result }
+{
+    let mut entry = entry;
+    let answer = entry.close(rt, by);
+    entry.disarm(rt);
+    answer
+}
+
 /// Closes the connection or listener with this id, and gives its answer; `None` says that another
 /// did.
 ///
 /// First its entry is taken out, so that nobody else finds it; then it is closed, with the table's
-/// lock given back, since a close waits for the last user; then no alarm is armed for it any more.
+/// lock given back, since a close waits for the last user.
 pub fn close_by_id<T: Closes, R: Wait + Copy>(
     rt: &R,
     table: &Mutex<ConnTable<T>>,
@@ -48,8 +60,36 @@ pub fn close_by_id<T: Closes, R: Wait + Copy>(
     let Ok(entry) = removed else {
         return None;
     };
-    let mut entry = entry;
-    let answer = entry.close(rt, by);
-    entry.disarm(rt);
-    Some(answer)
+    Some(close_taken(rt, entry, by))
+}
+
+/// Closes what stands under both ids: first both entries are taken out at once, so that nobody finds
+/// one of them without the other.
+pub fn close_both<T: Closes, R: Wait + Copy>(
+    rt: &R,
+    table: &Mutex<ConnTable<T>>,
+    first: u64,
+    second: u64,
+    by: Closer,
+) {
+    let (first, second) = taken_both(&mut *table.lock(rt), first, second);
+    if let Ok(entry) = first {
+        let _ = close_taken(rt, entry, by);
+    }
+    if let Ok(entry) = second {
+        let _ = close_taken(rt, entry, by);
+    }
+}
+
+// Takes both out, one after the other.
+fn taken_both<T>(
+    table: &mut ConnTable<T>,
+    first: u64,
+    second: u64,
+) -> (Result<T, Refusal>, Result<T, Refusal>)
+    ensures { TakesBoth table.old table.new first second result }
+{
+    let first = table.remove(first);
+    let second = table.remove(second);
+    (first, second)
 }

@@ -6,6 +6,7 @@ ghost use Rattle.deadline_core.specs.declared.deadline.Dirs.{Dirs};
 ghost use Rattle.fd_descriptor.specs.HandleCalls.{TellsWhoClosed, TellsWhoDrained};
 ghost use Rattle.readiness.specs.EventLoop.{remote_of};
 ghost use Rattle.relay_shared.specs.Handle.{closes_of, drains_of};
+ghost use Rattle.relay_shared.specs.Subject.{connection_of};
 
 use crate::closing::{Closer, Closes};
 use crate::setting::set_by;
@@ -146,6 +147,16 @@ pub enum Subject {
 }
 
 impl Subject {
+    // The id of the connection that it is a side of, which stands under this id.
+    fn connection(&self, id: u64) -> u64
+        ensures { result ≡ connection_of self.now id }
+    {
+        match self {
+            Subject::Side(_, ShownSide::Target) => id.saturating_sub(1),
+            _ => id,
+        }
+    }
+
     // What is shown of it, which has this id, at this moment.
     fn shown<R: Wait>(&self, rt: &R, id: u64, now: u64) -> Shown
         ensures { result.id ≡ id }
@@ -183,6 +194,16 @@ impl Entry {
         ensures { result.id ≡ id }
     {
         self.subject.shown(rt, id, now)
+    }
+
+    /// The id of the connection that it is a side of, which stands under this id, and whose task is to
+    /// be told of what is wished of it.
+    pub fn connection(&self, id: u64) -> Option<(u64, Owner)>
+        ensures id { IfSome result (λ found. found.0 ≡ connection_of self.now.subject id) }
+        ensures owner { IfSome result (λ found. found.1.token ≡ self.now.owner.token) }
+    {
+        let owner = self.owner.try_clone()?;
+        Some((self.subject.connection(id), owner))
     }
 
     /// A handle of its own, and whose task is to be told of what is done by it.

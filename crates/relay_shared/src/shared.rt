@@ -6,11 +6,12 @@
 ghost use Rattle.std.specs.Prelude.{◌≡◌, IfErr, IfOk};
 ghost use Rattle.std.specs.Arc.{arc_value};
 ghost use Rattle.relay_admin.specs.declared.serve_fault.ServeFault.{ServeFault};
+ghost use Rattle.relay_shared.specs.Drop.{IsDrop};
 
-use crate::close_wishes::{CloseWishes, MAX_SESSIONS};
+use crate::close_wishes::CloseWishes;
 use crate::closing::{Closer, close_by_id};
 use crate::entry::Entry;
-use crate::loop_handle::LoopHandle;
+use crate::loop_handle::{Counted, LoopHandle};
 use crate::stopping::{StopFlag, Stopped};
 use arrayvec::ArrayVec;
 use conntable::ConnTable;
@@ -111,24 +112,38 @@ impl Shared {
     }
 
     /// Delivers a socket that was accepted just now to the loop with the fewest connections. One
-    /// beyond the most pairs, of its rule or of all, is dropped. The main thread alone delivers.
+    /// beyond the most pairs, of its rule or of all, or for which memory is refused, is dropped. The
+    /// main thread alone delivers.
     pub fn deliver<R: Wait + Clock>(&self, rt: &R, sock: Sock, acceptance: Acceptance) {
         acceptance.served.note_accept(acceptance.at);
         let Some(told) = acceptance.try_clone() else {
             return;
         };
-        if self.safeguards.is_at_limit(told.served.standing()) {
-            told.served.counts.rule_full.add(1);
-            self.tell_refused(rt, &told, told.at, Ended::RuleFull);
-            return;
+        if let Err(how) = self.try_deliver(rt, sock, acceptance) {
+            told.served.counts.note_dropped(how);
+            self.tell_refused(rt, &told, told.at, how);
         }
-        let is_there = match self.place() {
-            Some(handle) => handle.deliver(rt, sock, acceptance),
-            None => false,
+    }
+
+    // The same, or why the socket is dropped.
+    fn try_deliver<R: Wait>(
+        &self,
+        rt: &R,
+        sock: Sock,
+        acceptance: Acceptance,
+    ) -> Result<(), Ended>
+        ensures why { IfErr result IsDrop }
+    {
+        if self.safeguards.is_at_limit(acceptance.served.standing()) {
+            return Err(Ended::RuleFull);
+        }
+        let Some(handle) = self.place() else {
+            return Err(Ended::Full);
         };
-        if !is_there {
-            told.served.counts.full.add(1);
-            self.tell_refused(rt, &told, told.at, Ended::Full);
+        if handle.deliver(rt, sock, acceptance) {
+            Ok(())
+        } else {
+            Err(Ended::NoMemory)
         }
     }
 
@@ -159,27 +174,22 @@ impl Shared {
         all
     }
 
-    /// Settles the wishes for entries that are in the table no more: after a set-up that was
-    /// refused, and took back what it had put there.
-    pub fn settle_gone<R: Wait>(&self, rt: &R) {
-        for place in 0..MAX_SESSIONS {
-            if let Some(id) = self.closes.wished(place) {
-                let is_gone = self.table.lock(rt).by_id(id).is_none();
-                if is_gone && self.closes.settle(id) {
-                    self.main.wake();
-                }
-            }
+    /// A connection has ended, whose client's side had this id, and the main thread is told, where
+    /// anybody there waits for it. It is counted until wishes for it are settled: a relay that
+    /// finishes ends once none is, and whoever waits for a close is to be answered before.
+    pub fn note_end(&self, connection: u64, counted: Counted) {
+        let is_wished = self.closes.settle(connection);
+        drop(counted);
+        if is_wished || self.is_finishing.load(Ordering::SeqCst) {
+            self.main.wake();
         }
     }
 
-    /// Tells the main thread of a connection that has ended, where anybody there waits for it. Its
-    /// sides had these ids.
-    pub fn note_end(&self, client: u64, target: u64) {
-        let client = self.closes.settle(client);
-        let target = self.closes.settle(target);
-        if client || target || self.is_finishing.load(Ordering::SeqCst) {
-            self.main.wake();
-        }
+    /// A set-up was refused, which has settled wishes for what it had put into the table: the main
+    /// thread is told.
+    pub fn note_refused(&self, counted: Counted) {
+        drop(counted);
+        self.main.wake();
     }
 
     /// Tells the main thread and all loops that no more turns are wanted.

@@ -34,6 +34,7 @@ enum Said {
     Bad(RulesFault),
     CannotRead,
     CannotListen(&'static str),
+    Device,
 }
 
 fn shown_of(sight: Sight) -> Shown {
@@ -69,6 +70,7 @@ fn answer_of(alloc: Global, said: Said) -> DeskAnswer {
         Said::Bad(fault) => DeskAnswer::Verdict(Verdict::Bad(fault)),
         Said::CannotRead => DeskAnswer::CannotRead,
         Said::CannotListen(rule) => DeskAnswer::CannotListen(held(rule)),
+        Said::Device => DeskAnswer::Device,
     }
 }
 
@@ -167,6 +169,7 @@ const REPLIES: &[(Command, Said, &str)] = &[
         Said::CannotListen("abcdefghijklmnop"),
         "cannot listen abcdefghijklmnop\n",
     ),
+    (Reload, Said::Device, "error 503 device\n"),
 ];
 
 fn is_replied(alloc: Global, command: &Command, said: Said, want: &str) -> bool {
@@ -197,6 +200,7 @@ const REFUSED: &[(Said, &str)] = &[
     (Said::CannotRead, "cannot read rules\n"),
     (Said::CannotListen("web"), "cannot listen web\n"),
     (Said::Unknown, "error 404 no such connection\n"),
+    (Said::Device, "error 503 device\n"),
 ];
 
 /// Whether an answer's reply is this one, or none where the heap has no room for it.

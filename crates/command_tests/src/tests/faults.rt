@@ -26,7 +26,7 @@ fn each_fault_has_its_line_and_status(rt: HostRuntime) {
         (Fault::TraceRead, "trace fault: read", 3),
         (Fault::TraceWrite, "trace fault: write", 3),
         (Fault::TraceMemory, "trace fault: memory", 3),
-        (Fault::Log, "cannot open log", 3),
+        (Fault::Relay(ServeFault::Log), "cannot open log", 3),
         (Fault::Reach, "cannot reach admin", 3),
         (Fault::Print, "cannot print reply", 3),
         (Fault::Relay(ServeFault::RulesFile), "cannot read rules", 3),

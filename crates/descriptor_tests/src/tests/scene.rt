@@ -81,6 +81,8 @@ pub(super) enum Task {
     Shut(Option<Result<(), Fault>>),
     /// Of what is read: a deadline for these directions, at this moment.
     Set(Dirs, Deadline, u64, Result<(), Fault>),
+    /// Has one share a handle; it is the last then.
+    Share(Dir),
     /// Makes a handle of one; it is the last then.
     End(Dir),
     /// Lets go of one.

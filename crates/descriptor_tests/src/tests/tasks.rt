@@ -123,6 +123,14 @@ impl<T: Wait + Clock + Copy + Drop> Stage<T> {
         }
     }
 
+    fn shares(&mut self, tasks: &mut Tasks<T>, dir: Dir) -> bool {
+        let handle = match dir {
+            Dir::Read => tasks.0.as_mut().and_then(|half| half.share().ok()),
+            Dir::Write => tasks.1.as_mut().and_then(|half| half.share().ok()),
+        };
+        self.keep(handle)
+    }
+
     fn ends(&mut self, tasks: &mut Tasks<T>, dir: Dir) -> bool {
         let handle = match dir {
             Dir::Read => tasks.0.take().map(|half| half.into_handle()),
@@ -149,6 +157,7 @@ impl<T: Wait + Clock + Copy + Drop> Stage<T> {
                 None => false,
             },
             Task::Set(dirs, at, now, want) => self.sets(tasks, dirs, at, now) == Some(want),
+            Task::Share(dir) => self.shares(tasks, dir),
             Task::End(dir) => self.ends(tasks, dir),
             Task::Drop(dir) => drops(tasks, dir),
         }

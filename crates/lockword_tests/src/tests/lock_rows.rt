@@ -45,6 +45,28 @@ const ROWS: &[Row] = &[
         ],
     ),
     Row(
+        "a seat that is split off a lock leaves it with its holder",
+        3,
+        &[
+            Step::ShowsBeside(1, 0),
+            Step::Does(1, Op::LockRead, Answer::Held),
+            Step::SetHalf(1, 8),
+            Step::ShowsBeside(1, 0xa),
+            Step::Does(2, Op::LockWrite, Answer::Held),
+            Step::SetHalf(2, 3),
+            Step::ShowsBeside(2, 0x16),
+            Step::Half(1, 8),
+            Step::Half(2, 3),
+            Step::Does(0, Op::Close, Answer::Held),
+            Step::Does(0, Op::Leave, Answer::Kept),
+            Step::ShowsBeside(1, 0x17),
+            Step::Does(1, Op::Unlock, Answer::Kept),
+            Step::ShowsBeside(2, 0xd),
+            Step::Does(2, Op::Unlock, Answer::Last),
+            Step::Destroys(2, 8, 3),
+        ],
+    ),
+    Row(
         "a closer signals the queued reader",
         4,
         &[

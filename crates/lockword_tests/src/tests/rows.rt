@@ -49,6 +49,8 @@ pub(super) enum Step {
     Does(usize, Op, Answer),
     /// Whoever looks through it sees this word.
     Shows(usize, u64),
+    /// A seat that is split off it sees this word, and goes.
+    ShowsBeside(usize, u64),
     /// A closer or a drainer owes so many signals to readers and to writers.
     Owed(usize, u32, u32),
     /// The half under its lock is this one.
@@ -121,6 +123,28 @@ fn seen(has: &mut Has<'_>) -> Option<u64> {
     })
 }
 
+/// The word, to a seat that is split off this one.
+fn seen_beside(has: Has<'_>) -> (Has<'_>, Option<u64>) {
+    match has {
+        Slot::Free(At { word, held }) => {
+            let (held, mut other) = word.split(held);
+            let found = pack(word.look(&mut other));
+            (Slot::Free(At { word, held }), Some(found))
+        }
+        Slot::Reads(At { word, held }) => {
+            let (held, mut other) = word.split_held(held);
+            let found = pack(word.look(&mut other));
+            (Slot::Reads(At { word, held }), Some(found))
+        }
+        Slot::Writes(At { word, held }) => {
+            let (held, mut other) = word.split_held(held);
+            let found = pack(word.look(&mut other));
+            (Slot::Writes(At { word, held }), Some(found))
+        }
+        other => (other, None),
+    }
+}
+
 fn owed(has: &Has<'_>) -> Option<(u32, u32)> {
     match has {
         Slot::Closes(at) => Some((at.held.owed(Dir::Read), at.held.owed(Dir::Write))),
@@ -188,6 +212,11 @@ fn goes<'a, R: Wait + Abort>(rt: &R, slot: &mut Has<'a>, step: Step) -> bool {
             halves == Some((read, write))
         }
         Step::Shows(_, want) => seen(slot) == Some(want),
+        Step::ShowsBeside(_, want) => {
+            let (has, found) = seen_beside(mem::replace(slot, Slot::Away));
+            put(rt, slot, has);
+            found == Some(want)
+        }
         Step::Owed(_, read, write) => owed(slot) == Some((read, write)),
         Step::Half(_, want) => half(slot) == Some(want),
         Step::SetHalf(_, value) => set_half(slot, value),
@@ -200,6 +229,7 @@ fn seat_of(step: Step) -> usize {
     match step {
         Step::Does(at, _, _)
         | Step::Shows(at, _)
+        | Step::ShowsBeside(at, _)
         | Step::Owed(at, _, _)
         | Step::Half(at, _)
         | Step::SetHalf(at, _)

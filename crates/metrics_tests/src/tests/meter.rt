@@ -21,6 +21,8 @@ fn web() -> Option<RuleFigures> {
             full: 5,
             no_target: 6,
             rule_full: 7,
+            no_memory: 8,
+            descriptors: 9,
         },
         ends: [20, 21, 22, 23, 24, 25, 26],
         unreached: [30, 31, 32, 33],

@@ -26,3 +26,4 @@ replies_tell (answers.verdict (Bad (faults.SameName line))) = refl
 replies_tell (answers.verdict (Bad (faults.SameListen line))) = refl
 replies_tell answers.cannot_read = refl
 replies_tell (answers.cannot_listen name) = refl
+replies_tell answers.device = refl

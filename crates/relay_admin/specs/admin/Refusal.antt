@@ -43,6 +43,7 @@ refuses answers.busy = true
 refuses answers.no_memory = true
 refuses answers.cannot_read = true
 refuses (answers.cannot_listen name) = true
+refuses answers.device = true
 
 -- a reply is a refusal exactly where its answer refuses
 abbrev pub RepliesTellRefusals : Type 0

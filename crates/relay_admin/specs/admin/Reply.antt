@@ -10,7 +10,7 @@ use Rattle.relay_admin.specs.declared.admin.command.Command.TheVariants as comma
 use Rattle.relay_admin.specs.declared.admin.reply_text.TheConstants.{DONE, BAD_COMMAND}
 use Rattle.relay_admin.specs.declared.admin.reply_text.TheConstants.{NO_SUCH_CONNECTION, CLOSED}
 use Rattle.relay_admin.specs.declared.admin.reply_text.TheConstants.{DRAINING, BUSY, OUT_OF_MEMORY}
-use Rattle.relay_admin.specs.declared.admin.reply_text.TheConstants.{CANNOT_READ, CANNOT_LISTEN}
+use Rattle.relay_admin.specs.declared.admin.reply_text.TheConstants.{CANNOT_READ, CANNOT_LISTEN, DEVICE}
 use Rattle.relay_admin.specs.declared.rules.verdict.Verdict.{Verdict}
 use Rattle.relay_admin.specs.declared.admin.desk.DeskAnswer.{DeskAnswer}
 use Rattle.relay_admin.specs.declared.admin.desk.DeskAnswer.TheVariants as variant
@@ -29,6 +29,7 @@ pub data Answer : Type 0 where
   verdict : Verdict → Answer
   cannot_read : Answer
   cannot_listen : List ℕ → Answer
+  device : Answer
 
 -- what an answer of the program says
 abbrev pub answer_of : DeskAnswer → Answer
@@ -44,6 +45,7 @@ answer_of (variant.Shown sight) = shown (particulars_of sight)
 answer_of (variant.Verdict said) = verdict said
 answer_of variant.CannotRead = cannot_read
 answer_of (variant.CannotListen name) = cannot_listen name.bytes
+answer_of variant.Device = device
 
 -- the reply to an answer, with its line feed; `ids` and `totals` stand in `src/admin/reply.rt` as
 -- formats, which are no constants that could be cited, so their words are spelled here too
@@ -61,6 +63,7 @@ reply_text (shown particulars) = shown_text particulars
 reply_text (verdict said) = verdict_line said
 reply_text cannot_read = CANNOT_READ.now
 reply_text (cannot_listen name) = CANNOT_LISTEN.now ++ (name ++ 10 ∷ [])
+reply_text device = DEVICE.now
 
 -- the reply to a line that is no command
 abbrev pub bad_command : List ℕ

@@ -40,6 +40,8 @@ pub enum DeskAnswer {
     CannotRead,
     /// The rule of this name can't be listened for.
     CannotListen(ArrayString<MAX_NAME_BYTES>),
+    /// The system's poller took no socket more.
+    Device,
 }
 
 /// What a session asks: once for each `List`, `Totals`, `CloseConn`, `DrainConn`, `DeadlineOf`,
@@ -95,7 +97,7 @@ pub trait Desk {
         ensures asked { IfSome result (λ seen. seen.id ≡ id) };
 
     /// Puts the rules in force that their file has now: `Verdict`, `CannotRead`, `CannotListen`,
-    /// `NoMemory`, or `Closed` where the relay is stopping. Nothing changes but by
+    /// `NoMemory`, `Device`, or `Closed` where the relay finishes. Nothing changes but by
     /// `Verdict::Rules`.
     fn reload(&mut self, alloc: Global) -> DeskAnswer
         ensures { Exchanges (exchanges self.old) (exchanges self.new)

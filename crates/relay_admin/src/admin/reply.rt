@@ -9,7 +9,8 @@ use crate::admin::command::Command;
 use crate::admin::desk::DeskAnswer;
 use crate::admin::reply_bytes::Reply;
 use crate::admin::reply_text::{
-    BUSY, CANNOT_LISTEN, CANNOT_READ, CLOSED, DONE, DRAINING, NO_SUCH_CONNECTION, OUT_OF_MEMORY,
+    BUSY, CANNOT_LISTEN, CANNOT_READ, CLOSED, DEVICE, DONE, DRAINING, NO_SUCH_CONNECTION,
+    OUT_OF_MEMORY,
 };
 use crate::rules::rule::MAX_NAME_BYTES;
 use arrayvec::ArrayString;
@@ -55,6 +56,7 @@ pub fn reply_in<A: Allocator + Copy>(
             alloc,
             cannot_listen_line(name).as_bytes(),
         ),
+        DeskAnswer::Device => Vec::from_slice(alloc, DEVICE),
     }
 }
 
@@ -100,6 +102,7 @@ pub(crate) fn reply_to<A: Allocator + Copy>(alloc: A, answer: &DeskAnswer) -> Re
         DeskAnswer::Verdict(verdict) => Reply::Held(verdict.line()),
         DeskAnswer::CannotRead => Reply::Fixed(CANNOT_READ),
         DeskAnswer::CannotListen(name) => Reply::Held(cannot_listen_line(name)),
+        DeskAnswer::Device => Reply::Fixed(DEVICE),
     }
 }
 

@@ -22,6 +22,9 @@ pub const DRAINING: &[u8] = b"error 409 draining\n";
 /// The connection has as many references as it may.
 pub const BUSY: &[u8] = b"error 409 busy\n";
 
+/// The system's poller took no socket more.
+pub const DEVICE: &[u8] = b"error 503 device\n";
+
 /// Memory was refused.
 pub const OUT_OF_MEMORY: &[u8] = b"error 507 out of memory\n";
 

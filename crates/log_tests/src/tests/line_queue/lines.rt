@@ -68,6 +68,8 @@ const ENDS: &[(Ended, &str)] = &[
     (Ended::Write(Reason::Other), "write other\n"),
     (Ended::Full, "full\n"),
     (Ended::RuleFull, "rule full\n"),
+    (Ended::NoMemory, "no memory\n"),
+    (Ended::Descriptors, "descriptors\n"),
     (Ended::NoTarget(Cause::Refused), "no target refused\n"),
     (
         Ended::NoTarget(Cause::Unreachable),

@@ -1,0 +1,25 @@
+-- The accounts of rules.
+use Rattle.std.specs.Prelude.{Bool, List, Option, any, filter, find, not}
+use Rattle.std.specs.Arc.{arc_value}
+use Rattle.std.specs.declared.alloc.Global.{Global}
+use Rattle.std.specs.declared.sync.Arc.{Arc}
+use Rattle.relay_admin.specs.declared.rules.addr.Addr.{Addr}
+use Rattle.relay_admin.specs.declared.rules.rule.Rule.{Rule}
+use Rattle.relay_admin.specs.rules.Addr.{address_of, same_address}
+use Rattle.relay_facts.specs.declared.served_rule.ServedRule.{ServedRule}
+
+-- the account is of this address
+abbrev pub is_account_of : Addr → Arc ServedRule Global → Bool
+is_account_of addr account = same_address (address_of (arc_value account).listen) (address_of addr)
+
+-- the first account of this address
+abbrev pub account_at : Addr → List (Arc ServedRule Global) → Option (Arc ServedRule Global)
+account_at addr accounts = find (is_account_of addr) accounts
+
+-- a rule of these listens at this address
+abbrev pub is_listened_at : Addr → List Rule → Bool
+is_listened_at addr rules = any (λ rule. same_address (address_of rule.listen) (address_of addr)) rules
+
+-- the accounts at whose addresses no rule of these listens
+abbrev pub without_rules : List Rule → List (Arc ServedRule Global) → List (Arc ServedRule Global)
+without_rules rules accounts = filter (λ account. not (is_listened_at (arc_value account).listen rules)) accounts

@@ -1,0 +1,16 @@
+-- Taking out of the table what is to be closed.
+use Rattle.std.specs.Prelude.{◌≡◌, ℕ, Result, Ok, Err}
+use Rattle.conntable.specs.ConnTable.{Table, Removes, HasNoId}
+use Rattle.conntable.specs.declared.table.Refusal.{Refusal}
+
+module _ {T : Type 0} where
+  -- the entry of this id was taken out, or there was none
+  abbrev pub TakesOut : Table T → Table T → ℕ → Result T Refusal → Type 0
+  TakesOut old new id (Ok value) = Removes old new id value
+  TakesOut old new id (Err refusal) = (new ≡ old) × HasNoId id old.entries
+
+  -- the entries of both ids were
+  abbrev pub TakesBoth : Table T → Table T → (first second : ℕ)
+      → Result T Refusal × Result T Refusal → Type 0
+  TakesBoth old new first second taken =
+      (between : Table T) × TakesOut old between first taken.0 × TakesOut between new second taken.1
