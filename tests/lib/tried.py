@@ -49,13 +49,13 @@ class Tried:
     """A relay of so many loops, by one rule `a` with an idle time; or by rules in which {target} is the target's address, {0} to {3} are
     addresses that nobody has, and {folder} is the relay's own folder."""
 
-    def __init__(self, checks, name, idle="never", rules="relay a {0} {target} {idle}\n", loops=2, options=()):
+    def __init__(self, checks, name, idle="never", rules="relay a {0} {target} {idle}\n", loops=2, options=(), env=None):
         self.checks, self.name, self.opened = checks, name, []
         self.accepts, self.target = listener()
         self.accepts.settimeout(WAIT_SECONDS)
         self.listens = [some_address() for _ in range(4)]
         text = self.rules_text(rules, idle)
-        self.relay = Relay(text, options=("--loops", str(loops), *options))
+        self.relay = Relay(text, options=("--loops", str(loops), *options), env=env)
         self.admin = f"unix:{self.relay.admin}"
 
     def rules_text(self, rules, idle="never"):
