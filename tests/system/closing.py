@@ -15,7 +15,7 @@ import time
 
 sys.path.insert(1, f"{sys.path[0]}/..")
 from lib.checks import Checks
-from lib.relay import Session, allow_descriptors
+from lib.relay import LEAST_PRIORITY, Session, allow_descriptors
 from lib.sockets import connect, read_to_end
 from lib.stages import options, run_stages
 from lib.talk import hears, says
@@ -27,7 +27,7 @@ CLOSES, BUSY_LINES = 30, 500
 BESIDE, OTHERS = 6, 4
 # Closes that come while the loop is about to sleep: so many at most, or as many as come in so many seconds. A loop that isn't told wakes a
 # second later; the longest that a close may take, and on a machine that is full of other work some rounds have a longer one.
-WOKEN, AT_ONCE, SECONDS, LONGEST, ROUNDS = 3_000, 50, 6, 0.7, 3
+WOKEN, AT_ONCE, SECONDS, LONGEST, ROUNDS = 3_000, 50, 10, 0.7, 3
 # Connections with two names each, more than a loop is told one by one also where it takes some of them out meanwhile; and closes behind these.
 NAMED, BEHIND = 450, 6
 
@@ -163,7 +163,7 @@ def many_names(checks, _):
         session.sock.settimeout(WAIT_SECONDS)
         stay = [it.talking() for _ in range(NAMED)]
         names = "".join(f"deadline {id} never\n" for id in range(2, 2 + 2 * NAMED))
-        it.relay.have_loops_go_last()
+        it.relay.have_loops_go_last(LEAST_PRIORITY)
         with Bulk(it.ends()):
             behind = [it.talking() for _ in range(BEHIND)]
             first = 2 + 2 * (NAMED + 1)
