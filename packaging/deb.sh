@@ -53,11 +53,9 @@ docs=usr/share/doc/pollrelay
 put 644 packaging/debian/copyright $docs/copyright
 put_zipped $changes $docs/changelog.Debian
 put_zipped CHANGELOG.md $docs/changelog
-for page in operations rules-file admin-protocol trace-script; do put 644 docs/$page.md $docs/$page.md; done
-for file in $(git ls-files examples/admin examples/balancer examples/prometheus examples/rules examples/scripts \
-    examples/systemd/pollrelay.socket); do
-    put 644 "$file" $docs/$file
-done
+for page in quickstart operations from-haproxy-nginx-socat rules-file admin-protocol trace-script; do put 644 docs/$page.md $docs/$page.md; done
+# (what pages and samples name as a sample is there: tests/lib/pages/packaged.py)
+for file in $(git ls-files examples); do put 644 "$file" $docs/$file; done
 
 mkdir "$root/DEBIAN" "$scratch/debian"
 for script in postinst prerm postrm; do put 755 packaging/debian/$script DEBIAN/$script; done

@@ -4,7 +4,7 @@
     python3 tools/man_page.py > man/pollrelay.1
 
 It knows the forms that the guide has: headings, paragraphs, indented commands, tables, lists, and words set off by
-backquotes or stars. The first cell of a table's row becomes a tag, and each cell after the second begins with its head. A
+backquotes or stars. The first cell of a table's row becomes a tag, and each cell after the second begins with its head, unless it says by itself what it is. A
 sentence is a line, as mdoc wants it. The page's date is that of the newest entry of packaging/debian/changelog.
 """
 import email.utils
@@ -16,6 +16,8 @@ ROOT = pathlib.Path(__file__).resolve().parent.parent
 GUIDE, CHANGES = ROOT / "docs/operations.md", ROOT / "packaging/debian/changelog"
 # Sections that a man page calls otherwise.
 NAMES = {"Messages": "DIAGNOSTICS"}
+# Heads of cells that say by themselves what they are.
+PLAIN = {"What it does", "What it is", "What it counts"}
 WIDTH = 78
 INLINE = re.compile(r"`([^`]+)`|\*\*([^*]+)\*\*")
 
@@ -33,11 +35,16 @@ def inline(text):
     return "".join(parts) + text[at:].replace("\\", "\\e")
 
 
+def width(text):
+    """How long a text is for man, which reads a letter beyond ASCII as its number."""
+    return len(re.sub(r"[^\x00-\x7f]", r"\\[u0000]", text))
+
+
 def broken(sentence):
     """A sentence in lines, none of which begins as a request does."""
     lines = [""]
     for word in sentence.split(" "):
-        if lines[-1] and len(lines[-1]) + 1 + len(word) > WIDTH:
+        if lines[-1] and width(lines[-1]) + 1 + width(word) > WIDTH:
             lines.append("")
         lines[-1] += f" {word}" if lines[-1] else word
     return [f"\\&{it}" if it[:1] in (".", "'") else it for it in lines]
@@ -64,7 +71,8 @@ def tag(text):
 
 
 def cells(line):
-    return [it.strip() for it in re.split(r"\s\|\s|\s\|$", re.sub(r"^\|\s|\s?\|$", "", line.strip()))]
+    """The cells of a row, those without a word too."""
+    return [it.strip() for it in re.split(r"(?<=\s)\|(?=\s)", f" {line.strip().strip('|')} ")]
 
 
 def table(lines):
@@ -72,9 +80,11 @@ def table(lines):
     heads, made = cells(lines[0]), [".Bl -tag -width Ds"]
     for line in lines[2:]:
         row = cells(line)
+        if len(row) != len(heads):
+            raise ValueError(f"a row of {len(row)} cells below {len(heads)} heads: {line}")
         texts = [ended(capital(row[1]))] if row[1] and len(row) == 2 else []
         if len(row) > 2:
-            texts = [ended(f"{head}: {text}") for head, text in zip(heads[1:], row[1:]) if text]
+            texts = [ended(capital(text) if head in PLAIN else f"{head}: {text}") for head, text in zip(heads[1:], row[1:]) if text]
         made += [tag(row[0]), *(line for it in texts for line in running(it))]
     return [*made, ".El"]
 

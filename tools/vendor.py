@@ -136,8 +136,8 @@ def vendor(names, dest):
     own = BLOCK.sub("", text_of(dest / "crates.txt"))
     block = "".join([f"{BEGIN}\n", *(lines[it] for it in wanted), f"{END}\n"])
     (dest / "crates.txt").write_text(block + own, encoding="utf-8")
-    kit = re.search(r"rattle-kit-\w+", text_of(ROOT / "README.md"))
-    head = f"# Crates of Hobrintza, revision {revision()}, proved with {kit[0] if kit else 'an unknown kit'}.\n"
+    logic = re.search(r"logic [0-9a-f]{16}", text_of(ROOT / "README.md"))
+    head = f"# Crates of Hobrintza, revision {revision()}, proved by {logic[0] if logic else 'an unknown logic'}.\n"
     (dest / RECORD).write_text(head + "".join(digests), encoding="utf-8")
     print(f"copied: {' '.join(wanted)}")
     lacking = lacking_handles(wanted, dest)

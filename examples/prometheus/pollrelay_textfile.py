@@ -6,8 +6,8 @@ admin socket for `totals` and `show`, in a session of its own, and ends.
         --output /var/lib/prometheus/node-exporter/pollrelay.prom
 
 Run it every 15 seconds or so, as by a timer, as a user that may use the admin socket. Where the relay doesn't answer within
-5 seconds, pollrelay_up is 0 and the other values are left out. Names and labels are those of `--metrics`, which needs no such
-script.
+5 seconds, pollrelay_up is 0 and the other values are left out. pollrelay_bytes_total is the same figure as in `--metrics`, which
+needs no such script; pollrelay_up and pollrelay_connections are this script's own.
 """
 import argparse
 import os

@@ -57,12 +57,15 @@ class Claims(unittest.TestCase):
         with tempfile.TemporaryDirectory() as room:
             texts = (("timing/src/lib.rt", SOURCE), ("timing/src/laws.rt", LAWS), ("timing/specs/Facts.antt", FACTS),
                      ("pollrelay/src/main.rt", PROGRAM))
+            (pathlib.Path(room) / "crates.txt").write_text("timing:\npollrelay: timing\n")
             for name, text in texts:
                 file = pathlib.Path(room) / "crates" / name
                 file.parent.mkdir(parents=True, exist_ok=True)
                 file.write_text(text)
             self.tree = Tree(room)
             self.crates = {it: claims.Crate(self.tree, it) for it in ("timing", "pollrelay")}
+            # (a tree reads each file once)
+            self.tree.text("crates.txt")
 
     def checked(self, cell, promise="it arms"):
         text = f"## Timers (`timing`)\n\n| Promise | Function and clause |\n|---|---|\n| {promise} | {cell} |\n"
@@ -71,7 +74,7 @@ class Claims(unittest.TestCase):
     def missing(self, cell):
         return [name for _, name in self.checked(cell)[0]]
 
-    def lines_of_no_use(self, *row):
+    def not_as_said(self, *row):
         return self.checked(*row)[2]
 
     def test_names_that_are_there_pass(self):
@@ -91,19 +94,26 @@ class Claims(unittest.TestCase):
         self.assertEqual(self.missing("`next` (`armed_at`)"), [])
 
     def test_a_function_that_a_program_comes_to_is_of_use(self):
-        self.assertEqual(self.lines_of_no_use("`next` `least`"), [])
-        self.assertEqual(self.lines_of_no_use("`unused` `field_of_none`; `Timers::arm` `armed`"), [])
+        self.assertEqual(self.not_as_said("`next` `least`; `Timers::arm` `armed`"), [])
 
-    def test_a_row_of_functions_that_no_program_comes_to_is_told(self):
-        self.assertEqual(self.lines_of_no_use("`unused` `field_of_none`"), [5])
+    def test_each_function_that_no_program_comes_to_is_told(self):
+        self.assertEqual(self.not_as_said("`unused` `field_of_none`"), [(5, "unused")])
+        self.assertEqual(self.not_as_said("`Timers::arm` `armed`; `unused` `field_of_none`"), [(5, "unused")])
 
     def test_a_row_of_definitions_alone_is_told(self):
-        self.assertEqual(self.lines_of_no_use("`IsArmed`"), [5])
+        self.assertEqual(self.not_as_said("`IsArmed`"), [(5, "any function")])
+
+    def test_a_call_of_a_crate_that_is_not_below_the_program_is_told(self):
+        self.tree = self.tree.having("crates.txt", "timing:\npollrelay:\n")
+        self.assertEqual(self.not_as_said("`Timers::arm` `armed`"), [(5, "arm")])
 
     def test_a_law_and_a_library_call_say_what_they_are(self):
-        self.assertEqual(self.lines_of_no_use("`laws::time_passes` `later`"), [])
-        self.assertEqual(self.lines_of_no_use("`time_passes` `later`"), [])
-        self.assertEqual(self.lines_of_no_use("`unused` `field_of_none`", "it arms (a library call)"), [])
+        self.assertEqual(self.not_as_said("`laws::time_passes` `later`"), [])
+        self.assertEqual(self.not_as_said("`time_passes` `later`"), [])
+        self.assertEqual(self.not_as_said("`unused` `field_of_none`", "it arms (library call: `unused`)"), [])
+
+    def test_a_call_of_a_program_that_is_said_to_be_none_is_told(self):
+        self.assertEqual(self.not_as_said("`next` `least`", "it arms (library calls: `next`)"), [(5, "next")])
 
     def test_a_definition_that_is_not_there_is_told(self):
         self.assertEqual(self.missing("`next` `least` (`IsLeast`, `field`)"), ["IsLeast", "field"])

@@ -5,8 +5,8 @@
 
 A line of `ctl` goes to a relay with two rules and a connection, one of `serve` starts a relay on rules of this script's own and is
 stopped, and the others are given as they stand; paths and what stands for the reader's own words are put in. A line ends with
-status 0, or with 1 where what it asks for is refused, and never as a bad command line. What a page shows below a line behind `$`
-has to come.
+status 0, or with 1 where what it asks for is refused, and never as a bad command line. What a page shows below a line behind `$`,
+and of the first connection, has to come.
 """
 import os
 import re
@@ -25,6 +25,8 @@ from lib.sockets import connect, free_port, listener
 from lib.waiting import wait_until
 
 SECONDS = 20
+FIRST = "examples/first_connection.sh"
+PORT = re.compile(r":\d{4,5}\b")
 # What stands for the reader's own words: the ids are those of a relay with two listeners and a connection.
 PLACES = {"ID": "3", "T": "4", "MS": "60000", "NAME": "web", "LOOPS": "2", "CONNECTIONS": "9", "LOG": "-"}
 
@@ -69,12 +71,13 @@ def asks(checks, line, words):
 
 def serves(checks, line, words):
     """A line of `serve`: the options behind its rules and its admin socket, which are this script's own."""
-    given = with_paths(words, "", "")
+    given = with_paths(shell_lines.redirected(words)[0], "", "")
     while "--rules" in given:
         del given[given.index("--rules") : given.index("--rules") + 2]
     while "--admin" in given:
         del given[given.index("--admin") : given.index("--admin") + 2]
-    given = [f"tcp:127.0.0.1:{free_port()}" if it == "ADDRESS" else it for it in given[1:]]
+    own = {"--metrics": f"tcp:127.0.0.1:{free_port()}", "--log": "-"}
+    given = [own.get(option, it) for option, it in zip(given, given[1:])]
     with Relay(f"relay web tcp:127.0.0.1:{free_port()} tcp:127.0.0.1:9 never\n", options=given) as relay:
         is_taken(checks, line, (relay.stop()[0], "", ""))
 
@@ -102,6 +105,17 @@ def shown(checks, tree, folder):
                 checks.expect(f"{page}:{at}: {line}", wanted, ran.stdout.splitlines())
 
 
+def first_connections(checks, tree):
+    """What pages show of the first connection is what the script prints, but for the ports."""
+    env = {**os.environ, "POLLRELAY": PROGRAM}
+    ran = subprocess.run(["sh", FIRST], cwd=ROOT, env=env, capture_output=True, text=True, timeout=SECONDS, check=False)
+    printed = [PORT.sub(":PORT", it) for it in ran.stdout.splitlines()]
+    for page in ("README.md", "examples/README.md"):
+        found = [PORT.sub(":PORT", it) for _, it in indented(tree.text(page))]
+        begin = found.index(printed[0]) if printed and printed[0] in found else 0
+        checks.expect(f"{page}: what {FIRST} prints", printed, found[begin : begin + len(printed)])
+
+
 def main():
     checks, tree, seen = Checks(), Tree(), set()
     with tempfile.TemporaryDirectory(prefix="page-lines-") as folder:
@@ -117,6 +131,7 @@ def main():
                 else:
                     others(checks, line, words, folder)
         shown(checks, tree, folder)
+    first_connections(checks, tree)
     return checks.end()
 
 

@@ -2,14 +2,15 @@
 """Tests of pages.py: each row plants a text in a page or in the code, and the check has to tell it where it told nothing before."""
 import re
 import unittest
+from unittest import mock
 
 import pages
+from lib.pages import kit
 from lib.pages.links import CHANGES
-from lib.pages.tree import GUIDE, HELP, MAN, Tree
+from lib.pages.tree import GUIDE, HELP, MAN, TRUSTED, UNIT, Tree
 
 COMMAND_LINE, ADMIN = "crates/relay_command/src", "crates/relay_admin/src"
 TEXTFILE = "examples/prometheus/pollrelay_textfile.py"
-UNIT = "examples/systemd/pollrelay.service"
 MEASURED, FORMAT, README = "docs/performance.md", "docs/admin-protocol.md", "README.md"
 TABLE = "\n| Promise | Contract that carries it | How far |\n|---|---|---|\n"
 # The subject, the file, what stands there as a regular expression, what comes in its place, and what has to be told. Where nothing
@@ -20,6 +21,7 @@ ROWS = (
     ("options", f"{COMMAND_LINE}/grammar.rt", r'optional\(alloc, "log"\)', 'optional(alloc, "log"))?.arg(optional(alloc, "burst")', "the option `--burst`"),
     ("options", f"{COMMAND_LINE}/grammar.rt", r'"loops"', '"threads"', "lacks or has too much: ['loops', 'threads']"),
     ("options", GUIDE, END, "\nSay `serve --burst 9`.\n", "an option `--burst`, which the code has not"),
+    ("options", "docs/crates.md", r"`ctl`, ", "", "the program's row lacks or has too much: ['ctl']"),
     ("options", HELP, r"--metrics", "--figures", "the option `--metrics`"),
     ("admin", f"{ADMIN}/admin/command.rt", r'b"stop"', 'b"halt"', "the admin command `halt`"),
     ("admin", FORMAT, END, "\n`close ID MS`\n", "the command takes 1 words"),
@@ -43,17 +45,23 @@ ROWS = (
     ("metrics", "crates/relay_log/src/ended.rt", r'b"unreachable", ', "", "`pollrelay_rule_no_target_total` has the labels"),
     ("faults", GUIDE, r"\n\| `cannot reach admin` ", "\n| `no such relay` | | |\n\\g<0>", "has a message `no such relay`"),
     ("metrics", README, END, "\n`pollrelay_turns`\n", "`pollrelay_turns` is no figure"),
+    ("metrics", "examples/prometheus/alerts.yml", r"pollrelay_up_seconds <", "pollrelay_uptime_seconds <", "`pollrelay_uptime_seconds` is no figure"),
+    ("metrics", "examples/grafana/pollrelay.json", r"pollrelay_turns_total\{instance", "pollrelay_turns_total{host", "has no label ['host']"),
     ("log_words", "crates/relay_log/src/ended.rt", r'b"drained"\)', 'b"emptied")', "log's word `emptied`"),
     ("log_words", "crates/relay_log/src/ended.rt", r'b"unreachable"', 'b"far"', "log's word `far`"),
     ("log_words", GUIDE, END, "\n    2026-11-24T15:21:47.123Z web 2 3 eof\n", "no line of a log"),
     ("log_words", "crates/relay_log/src/line.rt", r"    pub up: u64,", "    pub loop_place: u64,\n    pub up: u64,", "a line of the log has 11 fields"),
     ("version", HELP, r"pollrelay 0\.", "pollrelay 1.", "packaging/debian/changelog: the program says"),
-    ("version", README, END, "\nIt needs `rattle-kit-1`.\n", "asks for rattle-kit-1"),
+    ("kit", README, END, "\nIt was tried with `rattle-kit-1`.\n", "names rattle-kit-1, and the kits that were tried are"),
+    ("kit", README, END, "\nIt needs `logic 0123456789abcdef`.\n", "asks for logic 0123456789abcdef"),
+    ("kit", TRUSTED, r"logic [0-9a-f]{16}", "logic", "what tests/lib/pages/kit.py reads here isn't there any more"),
     ("admin", CHANGES, END, "- A socket: `list`, `totals`, `show ID`, `close ID`, `drain ID`, `deadline ID MS`.\n", "a list of commands lacks ['"),
     ("limits", HELP, r"1 to 2000", "1 to 3000", "2,000, as `MAX_PAIRS` is"),
     ("limits", f"{ADMIN}/rules/file.rt", r"MAX_RULES: usize = 64", "MAX_RULES: usize = 65", "its limit of rules isn't 65"),
     ("limits", FORMAT, END, "\nA line of more than 80 bytes ends it.\n", "64, as `MAX_LINE_BYTES` is"),
     ("limits", f"{COMMAND_LINE}/descriptors.rt", r"SESSIONS: u64 = 32", "SESSIONS: u64 = 31", "`SESSIONS` isn't 32"),
+    ("limits", GUIDE, r"loops \+ 64\) \+ 112", "loops + 64) + 96", "doesn't say that a relay needs 2 × (connections + loops + 64) + 112"),
+    ("limits", GUIDE, r"\| 512 \| 1 to 2,000 \|", "| 512 | 1 to 4,000 |", "the Range of --connections CONNECTIONS isn't 2,000"),
     ("limits", GUIDE, r"1,280 with", "1,216 with", "8 loops need 1280 descriptors"),
     ("limits", UNIT, r"(LimitNOFILE)=.*", r"\1=1024", "LimitNOFILE is 1024, below"),
     ("limits", UNIT, r"TasksMax=.*", "TasksMax=32", "TasksMax is 32, below 76"),
@@ -66,41 +74,51 @@ ROWS = (
     ("shell_lines", README, END, "\n    sh examples/first_connection.sh --prove-all\n", "has no option --prove-all"),
     ("shell_lines", UNIT, END, "ExecStart=/usr/bin/pollrelay-run --end 9 --rules /a --admin /b\n", "has no option `--end`"),
     ("shell_lines", UNIT, END, "ExecReload=/usr/local/bin/pollrelay ctl --admin /a relaod\n", "`relaod` is no admin command"),
-    ("shell_lines", GUIDE, END, "\n    curl http://127.0.0.1:9464/metrics\n", "no part of the tests tries `curl`"),
+    ("shell_lines", GUIDE, END, "\n    wget http://127.0.0.1:9464/metrics\n", "no part of the tests tries `wget`"),
     ("shell_lines", "CONTRIBUTING.md", END, "\n    python3 tests/clauses.py\n", "there is no tests/clauses.py"),
     ("samples", "packaging/debian/rules.sample", END, "relay web tcp:0.0.0.0:80 never\n", "no rule"),
+    ("samples", "examples/rules/web.rules", END, "relay app unix:/tmp/app.sock tcp:127.0.0.1:80 never\n", "the unit hides /tmp"),
+    ("metrics", TEXTFILE, r"pollrelay_up and pollrelay_connections are", "pollrelay_up is", "its head says ['pollrelay_up']"),
     ("quotes", README, END, "\n```rust\nlet conn = listener.take()?;\n```\n", "no crate has the line"),
     ("claims", README, END, f"{TABLE}| It reads | `relay_admin::Rules::parse` `no_such_clause` | proved |\n", "nothing is called `no_such_clause`"),
+    ("claims", README, r"the duty to destroy comes at most once", "the descriptor is closed once", "docs/lock-word.md:"),
     ("names", "docs/testing.md", END, "\n`a_close_ends_no_read_at_all`\n", "nothing is called `a_close_ends_no_read_at_all`"),
     ("names", "crates/admin_tests/src/.*", r"fn lines_have_their_replies", "fn lines_have_replies", "nothing is called `lines_have_their_replies`"),
     ("links", README, END, "\n[here](docs/nowhere.md)\n", "links to docs/nowhere.md"),
     ("links", README, END, "\n`tests/metrics_storm.py`\n", "names `tests/metrics_storm.py`"),
+    ("names", "docs/rattle-for-rust.md", END, "\n`FROM_JAVA.md`\n", "nothing is called `FROM_JAVA`"),
     ("links", "docs/nowhere.md", END, "# Nowhere\n", "doesn't list nowhere.md"),
-    ("words", README, END, " word" * 901, "README.md: has "),
-    ("words", "crates/net/README.md", END, " word" * 251, "crates/net/README.md: has "),
-    ("words", "crates/net/README.md", END, " word" * 9_001, "crates/: its pages have "),
-    ("words", "docs/design.md", END, " word" * 30_001, "docs/: its pages have "),
+    ("net_page", "docs/net.md", r"Closes the connection for all who share it", "Closes this clone", "isn't what tools/net_reference.py makes of crates/net/src"),
+    ("packaged", GUIDE, END, "\nSee `../packaging/deb.sh`.\n", "names ../packaging/deb.sh, which the package hasn't"),
+    ("packaged", "packaging/deb.sh", r"git ls-files examples", "git ls-files examples/rules", "../examples/admin, which the package hasn't"),
     # What pages said once that wasn't so.
     ("stale", "packaging/debian/rules.sample", END, "# It is read at the start alone: systemctl restart pollrelay\n", "rules are read anew by `reload`"),
     ("stale", "docs/DECISIONS.md", END, "| What are `--` and `-- trace` on the command line? | Refused, though clap takes them |\n", "a `--` at the end is taken"),
     ("stale", CHANGES, END, "- One call (`Poller::hold`), and an entry for it (`Held`).\n", "the entry of a table is `HeldSocket`"),
+    ("stale", "docs/wake-ups.md", END, "\nA loop, the admin thread and the main thread.\n", "admin sessions are tasks of the main thread"),
     ("limits", CHANGES, END, "- A read takes up to 16,384 bytes from the first on.\n", "65,536, as `LOOP_BUFFER_BYTES` is"),
     ("figures", CHANGES, END, "- `--loops` of serve: loops.\n- `--loops` of serve: how many loops.\n", "tells `--loops` twice"),
     ("admin", GUIDE, END, "\nCommands are `list`, `totals`, `close ID`, `drain ID`, `deadline ID MS`, `quit`, `stop`.\n", "a list of commands lacks"),
     ("man", MAN, r"\.It \"\\fBshow ID[^\0]*?(?=\.It)", "", "isn't what tools/man_page.py makes of docs/operations.md"),
     ("man", MAN, r"Take the relay out of the balancer", "Say \\\\fBdeadline 1 0\\\\fP", "isn't what tools/man_page.py makes of docs/operations.md"),
+    ("man", MAN, r"(?<=Kind: gauge\.\n)Event loops\.", "Labels: | event loops.", "isn't what tools/man_page.py makes of docs/operations.md"),
+    ("man", GUIDE, r"`pollrelay_loops` \| gauge \| \|", "`pollrelay_loops` | gauge |", "a row of 3 cells below 4 heads"),
     ("man", GUIDE, r"\n1\. Take[^\n]*\n", r"\n", "isn't what tools/man_page.py makes of docs/operations.md"),
-    ("admin", "examples/balancer/two_relays.cfg", r"(?s)(#     pollrelay ctl[^\n]*deadline 1 0\n)(#     pollrelay ctl[^\n]*drain 1\n)", r"\2\1", "a rolling restart goes"),
+    ("admin", "examples/balancer/two_relays.cfg", r"(#     pollrelay ctl[^\n]* finish 30000\n)(#     \(wait[^\n]*ended[^\n]*\n)", r"\2\1", "a rolling restart goes"),
+    ("admin", GUIDE, r"Say `pollrelay ctl --admin PATH finish 30000`", "Say `drain 1`", "a rolling restart goes"),
     ("metrics", TEXTFILE, r"way=", "direction=", "has no label ['direction']"),
     ("samples", TEXTFILE, r"connections = sum\(.*\)", "connections = (len(shown) + 1) // 2", "2 connections stand"),
     ("limits", UNIT, END, "# 9,000 pairs take 18,216 at most.\n", "below what a remark in the unit asks for: 18216"),
     ("figures", MEASURED, END, "| bytes (A) | 10 | nginx 20 | 0.75 |\n", "is 0.50, not 0.75"),
     ("figures", README, END, "\nIt has 0.33 of the memory of HAProxy.\n", "has the ratio 0.33"),
     ("figures", README, END, "\n| bytes | 2,267 | nginx 161,752 | 0.97 |\n", "has the figures [0.97, 2267.0, 161752.0]"),
+    ("figures", README, r"\| 1,638 \| 2,163 \| 2,228 \|", "| 1,638 | 2,163 |", "of all relays"),
+    ("figures", README, r"\| 3,666 \| 4,341 \| 6,105 \|", "| 3,666 | 4,341 | 4,105 |", "of all relays"),
     ("figures", MEASURED, END, "\n| bytes (Y) | 10 | nginx 10 | 1.00 |\n", "of the run Y, of which nothing is said"),
     ("figures", MEASURED, END, "\n| Y | lately | `python3 bench/relay/run.py` |\n", "the run Y has no date"),
     ("figures", "docs/GATE.md", END, "\nIt tries 1,234 wrong bodies of 77 crates.\n", "1,234 wrong bodies: there are"),
     ("figures", "docs/GATE.md", END, "\nIt tries 1,234 wrong bodies of 77 crates.\n", "77 crates: there are"),
+    ("plants", "docs/testing.md", r"\| finish takes no last clients \|", "| finish takes clients |", "aren't those of `tests/plants`"),
     ("figures", "examples/first_connection.sh", END, "# Proving takes three quarters of an hour.\n", "proving takes three quarters of an hour here"),
 )
 
@@ -128,6 +146,15 @@ class Planted(unittest.TestCase):
             with self.subTest(f"{subject}: {said}"):
                 told = set(pages.told_of(self.planted(path, old, new), [subject]).lines) - self.told_before(subject)
                 self.assertTrue(any(said in it for it in told), f"told instead: {sorted(told)}")
+
+    def test_a_kit_that_was_not_tried_is_told_and_fails_nothing(self):
+        for said, is_noted in (
+            ("rattle-kit-13b logic dac8208d650f15bf", False), ("rattle-kit-13f logic dac8208d650f15bf", False),
+            ("rattle-kit-99 logic dac8208d650f15bf", True), ("rattle-kit-13b logic 0123456789abcdef", True), ("", True),
+        ):
+            with self.subTest(said), mock.patch.object(kit, "version_here", return_value=said):
+                told = pages.told_of(self.tree, ["kit"])
+                self.assertEqual((told.lines, len(told.notes)), ([], int(is_noted)))
 
     def test_each_subject_has_a_row(self):
         self.assertEqual({it[0] for it in ROWS}, set(pages.SUBJECTS))

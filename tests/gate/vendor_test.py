@@ -22,7 +22,7 @@ class Vendors(MadeFolder):
         super().setUp()
         self.here, self.there = pathlib.Path(self.folder) / "here", pathlib.Path(self.folder) / "there"
         self.there.mkdir()
-        for path, text in {"crates.txt": CRATES, "LICENSE": "a licence\n", "README.md": "It needs rattle-kit-9.\n"}.items():
+        for path, text in {"crates.txt": CRATES, "LICENSE": "a licence\n", "README.md": "It needs logic 0123456789abcdef.\n"}.items():
             self.write(f"here/{path}", text)
         for name, text in SOURCES.items():
             self.write(f"here/crates/{name}/src/lib.rt", text)
@@ -45,7 +45,7 @@ class Vendors(MadeFolder):
         self.assertEqual(self.ran("left")[0], 0)
         parts = ("LICENSE", "README.md", "proofs/f/Proof.antt", "specs/Lib.antt", "src/lib.rt")
         self.assertEqual(self.files(), ["crates.txt", *(f"crates/{name}/{it}" for name in ("base", "left") for it in parts), "hobrintza.sha256"])
-        self.assertIn("rattle-kit-9", self.text("hobrintza.sha256"))
+        self.assertIn("proved by logic 0123456789abcdef.", self.text("hobrintza.sha256"))
 
     def test_the_lines_of_crates_txt_come_with_their_comments_and_the_readers_own_stay(self):
         self.write("there/crates.txt", OWN)

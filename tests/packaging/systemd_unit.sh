@@ -76,6 +76,29 @@ holds "it ends by TERM" test $? = 0
 none "what it doesn't use" "$(grep 'unused socket' "$scratch/told")"
 holds "it leaves their paths" test -S "$scratch/one.sock" -a -S "$scratch/given.sock"
 
+# The file system as ProtectSystem=strict shows it, in a mount namespace of its own: only the unit's folders can be written. There the
+# program takes a log in LogsDirectory, and none elsewhere.
+folder=/var/log/$(sed -n 's/^LogsDirectory=//p' $unit)
+cat >"$scratch/strict" <<'END'
+log=$1 folder=$2 program=$3 rules=$4
+mount -t tmpfs tmpfs /run && mkdir -p /run/pollrelay && mount -t tmpfs tmpfs /var/log && mkdir -p "$folder" || exit 9
+mount --bind "$folder" "$folder" && mount -o remount,ro,bind /var/log && mount -o remount,ro,bind / || exit 9
+"$program" serve --rules "$rules" --admin /run/pollrelay/admin.sock --log "$log" &
+relay=$!
+until "$program" ctl --admin /run/pollrelay/admin.sock stop 2>/dev/null; do kill -0 $relay 2>/dev/null || break; sleep 0.01; done
+wait $relay || exit
+[ -f "$log" ]
+END
+# strict LOG: whether a relay under these mounts starts, with its log there.
+strict() {
+    unshare -m sh "$scratch/strict" "$1" "$folder" "$program" "$scratch/rules" >"$scratch/printed" 2>"$scratch/told"
+}
+: >"$scratch/rules"
+holds "a log in the unit's LogsDirectory" strict "$folder/relay.log"
+strict /var/log/relay.log
+holds "a log elsewhere is a fault" grep -qx 'cannot open log' "$scratch/told"
+holds "the guide has that folder" grep -q -e "--log $folder/relay.log" docs/operations.md
+
 sed -n 's/^[0-9]* *\(<\.\.\. \)\{0,1\}\([a-z_0-9]*\)[( ].*/\2/p' "$scratch"/log.* | sort -u >"$scratch/used"
 none "calls outside the unit's filter" "$(comm -13 "$scratch/allowed" "$scratch/used" | grep -v '^execve$')"
 none "address families" "$(grep -h 'socket(' "$scratch"/log.* | grep -Ev "$families")"

@@ -2,9 +2,9 @@
 """Two relays behind HAProxy, by the sample examples/balancer/two_relays.cfg, are restarted in turn while clients send requests.
 
 A request is a line that has to come back as it was sent, over a connection of its own or one that is kept for a few. Each
-restart takes the relay out of the balancer, waits until that has no connection to it, says `deadline 1 0` and `drain 1`,
-waits until `list` answers `ids` alone, says `stop`, and starts it anew. No request may fail, and the relays' totals have to
-add up to the bytes of all requests.
+restart takes the relay out of the balancer, waits until that has no connection to it, says `finish 30000`, waits until the relay
+has ended, and starts it anew. No request may fail, and the relays' totals have to add up to the bytes of all requests: the
+balancer's checks reach no target.
 
     python3 tests/system/rolling_restart.py [--requests 50000]
 
@@ -21,7 +21,7 @@ from lib.checks import Checks
 from lib.echoes import target
 from lib.packages import install
 from lib.places import ROOT
-from lib.relay import Relay
+from lib.relay import Relay, totals_of
 from lib.sockets import connect, free_port
 from lib.stages import options
 from lib.waiting import wait_until
@@ -29,6 +29,8 @@ from lib.waiting import wait_until
 CLIENTS = 4
 KEPT_FOR = 10
 SETTLE_SECONDS = 20
+# The names of the relays by their ports in the sample.
+SERVERS = {"8001": "one", "8002": "two"}
 
 
 def requests_over(port, lines):
@@ -61,12 +63,14 @@ def client(port, number, count, answered):
 class Balancer:
     """HAProxy by the sample, with addresses and an admin socket of this run's own."""
 
-    def __init__(self, folder, port, relays):
+    def __init__(self, folder, port, relays, checked):
         self.admin = f"{folder}/balancer.sock"
         with open(f"{ROOT}/examples/balancer/two_relays.cfg", encoding="ascii") as sample:
             text = sample.read().replace("/run/haproxy/admin.sock", self.admin).replace("127.0.0.1:8000", f"127.0.0.1:{port}")
         for name, relay in zip(("8001", "8002"), relays):
-            text = text.replace(f"127.0.0.1:{name}", f"127.0.0.1:{relay}")
+            text = text.replace(f"server {SERVERS[name]} 127.0.0.1:{name}", f"server {SERVERS[name]} 127.0.0.1:{relay}")
+        for name, relay in zip(("8011", "8012"), checked):
+            text = text.replace(f"check port {name}", f"check port {relay}")
         with open(f"{folder}/haproxy.cfg", "w", encoding="ascii") as file:
             file.write(text)
         self.process = subprocess.Popen(["haproxy", "-db", "-f", f"{folder}/haproxy.cfg"], stderr=subprocess.DEVNULL)
@@ -88,7 +92,7 @@ class Balancer:
     def is_up(self, name):
         return self.server(name).get("status") == "UP"
 
-    # A relay that is taken out is given no connection more, so none is for good.
+    # A relay that is taken out is given no connection more, so that none stays so.
     def has_left(self, name):
         return self.server(name).get("scur") == "0"
 
@@ -98,16 +102,22 @@ class Balancer:
 
 
 class Restarts:
-    """The two relays, and what their lives so far have counted."""
+    """The two relays, each by its rules and the port of its metrics, and what their lives so far have counted."""
 
     def __init__(self, checks, balancer, rules):
         self.checks, self.balancer, self.rules = checks, balancer, rules
-        self.relays = {name: Relay(text) for name, text in rules.items()}
+        self.relays = {name: self.started(name) for name in rules}
         self.up = self.down = self.made = 0
 
-    def count(self, relay):
-        status, (up, down), _ = relay.stop()
-        self.checks.expect("a relay that was stopped ends with status 0", 0, status)
+    def started(self, name):
+        rules, port = self.rules[name]
+        return Relay(rules, options=("--metrics", f"tcp:127.0.0.1:{port}"))
+
+    def finish(self, relay):
+        self.checks.expect("finish is carried out", "ok", relay.ask("finish 30000"))
+        last, _ = relay.process.communicate(timeout=SETTLE_SECONDS)
+        self.checks.expect("a relay that finishes ends with status 0", 0, relay.process.returncode)
+        up, down = totals_of(last.decode())
         self.up, self.down = self.up + up, self.down + down
         relay.close()
 
@@ -116,18 +126,15 @@ class Restarts:
         self.balancer.ask(f"set server relays/{name} state drain")
         left = wait_until(lambda: self.balancer.has_left(name), SETTLE_SECONDS)
         self.checks.holds("the balancer leaves a relay that it takes out", left, self.balancer.server(name))
-        for line in ("deadline 1 0", "drain 1"):
-            self.checks.expect(f"{line} is carried out", "ok", relay.ask(line))
-        self.checks.holds("a drained relay becomes empty", wait_until(lambda: not relay.ids(), SETTLE_SECONDS), relay.ids())
-        self.count(relay)
-        self.relays[name] = Relay(self.rules[name])
+        self.finish(relay)
+        self.relays[name] = self.started(name)
         self.balancer.ask(f"set server relays/{name} state ready")
         self.checks.holds("a new relay is up", wait_until(lambda: self.balancer.is_up(name), SETTLE_SECONDS), name)
         self.made += 1
 
     def end(self):
         for relay in self.relays.values():
-            self.count(relay)
+            self.finish(relay)
 
 
 def under_load(checks, restarts, port, requests):
@@ -152,10 +159,12 @@ def under_load(checks, restarts, port, requests):
 def main():
     checks, given = Checks(), options(__doc__, requests=50_000)
     install("haproxy:haproxy")
-    ports, (_, to) = [free_port() for _ in range(3)], target()
-    rules = {name: f"relay web tcp:127.0.0.1:{port} {to} never\n" for name, port in zip(("one", "two"), ports[1:])}
+    ports, (_, to) = [free_port() for _ in range(5)], target()
+    served, checked = ports[1:3], ports[3:]
+    rules = {name: (f"relay web tcp:127.0.0.1:{port} {to} never\n", its)
+             for name, port, its in zip(SERVERS.values(), served, checked)}
     with tempfile.TemporaryDirectory(prefix="balancer-") as folder:
-        balancer = Balancer(folder, ports[0], ports[1:])
+        balancer = Balancer(folder, ports[0], served, checked)
         try:
             restarts = Restarts(checks, balancer, rules)
             checks.holds("both relays are up", wait_until(lambda: balancer.is_up("one") and balancer.is_up("two"), SETTLE_SECONDS), "no")

@@ -83,8 +83,8 @@ def followed(told, page, text, known):
 
 def steps(text):
     """The steps of a rolling restart in their order, each where it comes first."""
-    words = re.findall(r"set server|balancer|deadline|drain\b(?!')|list|stop", text)
-    return list(dict.fromkeys("balancer" if it == "set server" else it for it in words))
+    words = re.findall(r"state drain|show stat|deadline \S|drain \d|`?list`?|finish(?= \d)|\bstop\b|has ended|state ready", text)
+    return list(dict.fromkeys(words))
 
 
 def restarts(tree, told):
@@ -92,6 +92,7 @@ def restarts(tree, told):
     found = re.search(r"rolling restart.*?(?=^1\. )(.*?)(?=^## )", tree.text(GUIDE), re.S | re.M | re.I)
     wanted = steps(found[1]) if found else []
     told.holds(len(wanted) > 3, GUIDE, "has no rolling restart")
+    told.holds("finish" in wanted, GUIDE, "its rolling restart loses what `finish` wouldn't")
     remarks = re.search(r"^#.*?(?=^[^#])", tree.text(BALANCER), re.S | re.M)
     given = steps(remarks[0]) if remarks else []
     told.holds(given == wanted, BALANCER, f"a rolling restart goes {given}, and in {GUIDE} {wanted}")

@@ -6,10 +6,9 @@ has, as `Timers::arm`, `arm_both` `armed`, `unchanged`; items are parted by semi
 cites stands in brackets. The crates are those of the heading above, or of the paths. After a function each plain word is a
 clause that this function has, or another function; a definition isn't taken for one.
 
-What is promised is to be of use: a row names a function that a program's `main` comes to by calls, or one of a module
-`laws`, or else says `library call`, or in its last cell that it is tested. Calls are found by name, so that a name which
-two functions share counts for both.
-
+What is promised is said of what runs: each function that a row names is one that a program's `main` comes to by calls, or
+one of a module `laws`; any other is named in the row as one of its `library calls: ..`. A row without a function says in its
+last cell that it is tested. Calls are found by name, so that a name which two functions share counts for both.
 """
 
 import os
@@ -18,7 +17,11 @@ import re
 from lib.clause_texts import HEAD, owner_of
 
 HEADS = ("Function and clause", "Contract that carries it", "Clause")
+PAGES = ("README.md", "docs/guarantees.md")
 PROGRAMS = ("pollrelay", "echo_server", "page_server", "loop_echo_server")
+# What crates of the kit call: a service's `call`, by `http_server`.
+BY_KIT = {"call"}
+LIBRARY = re.compile(r"library calls?: ((?:`\w+`(?:, | and )?)+)")
 WORD = re.compile(r"[A-Za-z_]\w*")
 ITEM = re.compile(r"^\s*(?:pub(?:\([a-z]+\))? )?(?:struct|enum|trait|const|type|mod) (\w+)", re.M)
 # (a definition; an indented line without one of these words is a field of a record)
@@ -29,7 +32,7 @@ class Crate:
     """The functions of a crate, each with the names of its clauses, and its other names."""
 
     def __init__(self, tree, name):
-        self.functions, self.names, self.laws, self.calls = {}, set(), set(), {}
+        self.name, self.functions, self.names, self.laws, self.calls = name, {}, set(), set(), {}
         for path in tree.paths(rf"crates/{name}/src/.*\.rt"):
             stem = os.path.basename(path)[:-3]
             if "tests" not in path.split("/")[3:-1] and stem != "tests":
@@ -72,18 +75,28 @@ def rows_of(text):
                 yield number, named, cells
 
 
-def called_by_programs(crates):
-    """The names of all functions that the programs' `main` comes to."""
-    known = {}
-    for crate in crates.values():
+def below(tree, name):
+    """A crate with all crates below it, by crates.txt."""
+    lines = dict(re.findall(r"^(\w+)[^:\n#]*:(.*)$", tree.text("crates.txt"), re.M))
+    ahead, found = [name], set()
+    while ahead:
+        found.add(ahead[-1])
+        ahead += set(lines.get(ahead.pop(), "").split()) - found
+    return found
+
+
+def called_by(tree, crates, program):
+    """All functions, each with its crate, that the `main` of a program comes to."""
+    known, own = {}, [crates[it] for it in below(tree, program) if it in crates]
+    for crate in own:
         for name, body in crate.calls.items():
             known.setdefault(name, set()).update(body)
-    ahead, found = [crates[it].calls.get("main", set()) for it in PROGRAMS if it in crates], set()
+    ahead, found = [known.get("main", set()) | BY_KIT], set()
     while ahead:
         fresh = {it for it in ahead.pop() if it in known} - found
         found |= fresh
         ahead += [known[it] for it in fresh]
-    return found
+    return {(crate.name, name) for crate in own for name in crate.calls if name in found}
 
 
 class Row:
@@ -91,7 +104,7 @@ class Row:
 
     def __init__(self, tree, crates, named):
         self.tree, self.all, self.crates = tree, crates, [crates[it] for it in named if it in crates] or list(crates.values())
-        self.missing, self.seen, self.functions = [], 0, set()
+        self.missing, self.seen, self.functions, self.holders = [], 0, set(), []
 
     def read(self, cell):
         for item in re.split(r";", cell):
@@ -107,8 +120,9 @@ class Row:
     def read_item(self, tokens):
         group, after_clause = [], False
         for token in tokens:
-            self.functions |= {"laws"} & set(token.split("::"))
             found = self.bodies(token)
+            if "laws" in token.split("::"):
+                self.functions |= {(it.name, "laws") for it in self.crates}
             # (what begins an item is a function, where one of the crates has that name)
             if self.is_clause(token, group) and (group or not found):
                 after_clause = True
@@ -117,7 +131,7 @@ class Row:
             if found is None or not found and group and re.fullmatch(r"[a-z_0-9]+", token):
                 self.missing.append(token)
             elif found:
-                self.functions.add(token.split("::")[-1])
+                self.functions |= {(it.name, token.split("::")[-1]) for it in self.holders}
                 group = found if after_clause else group + found
                 after_clause = False
 
@@ -136,24 +150,53 @@ class Row:
         name = "::".join(it for it in parts if it not in ("laws",)) or "laws"
         # (a method may be of a lower crate's type)
         holders = [it for it in self.crates if it.has(name)] or [it for it in self.all.values() if "::" in name and it.has(name)]
+        self.holders = [it for it in holders if name in it.functions]
         if not holders:
             # (a fact may be a lower crate's)
             return [] if any(name in it.names for it in self.all.values()) else None
         return [same for it in holders for same in [it.functions.get(name)] if same]
 
 
+def library_calls(row_text):
+    """The functions that a row says to be called by no program."""
+    return {it for said in LIBRARY.findall(" ".join(row_text)) for it in re.findall(r"`(\w+)`", said)}
+
+
+def uncalled(functions, called):
+    """The names of those functions of which no crate's was called."""
+    return {name for _, name in functions} - {name for of, name in functions if (of, name) in called}
+
+
+def laws_of(crates):
+    return {(it.name, name) for it in crates.values() for name in (*it.laws, "laws")}
+
+
 def promises(text, tree, crates):
-    """The missing names, each with its line, how many names were looked up, and the lines of rows that no program keeps."""
+    """The missing names, each with its line, how many names were looked up, and what rows say of that no program runs, or say
+    wrongly that none runs it."""
     missing, seen, unused = [], 0, []
-    useful = called_by_programs(crates).union(*(it.laws for it in crates.values()), {"laws"})
+    useful = laws_of(crates).union(*(called_by(tree, crates, it) for it in PROGRAMS))
     for number, named, row_text in rows_of(text):
         row = Row(tree, crates, named).read(row_text[1])
         seen += row.seen
         missing += [(number, it) for it in row.missing]
         is_tested = row_text[-1].startswith("tested") and row.seen
-        if not row.functions & useful and "library call" not in " ".join(row_text) and not is_tested:
-            unused.append(number)
+        unused += [(number, it) for it in sorted(uncalled(row.functions, useful) ^ library_calls(row_text))]
+        if not row.functions and not is_tested:
+            unused.append((number, "any function"))
     return missing, seen, unused
+
+
+def reached(tree):
+    """A line for each function that the pages name, with the first of the programs that comes to it."""
+    crates = crates_of(tree)
+    kinds = {"a law": laws_of(crates), **{it: called_by(tree, crates, it) for it in PROGRAMS}}
+    for page in PAGES:
+        for number, named, row_text in rows_of(tree.text(page)):
+            functions = Row(tree, crates, named).read(row_text[1]).functions
+            for it in sorted({name for _, name in functions}):
+                by = (kind for kind, called in kinds.items() if it not in uncalled(functions, called))
+                yield f"{page}:{number}: `{it}`: {next(by, 'no program')}"
 
 
 def steps_of(tree):
@@ -183,12 +226,26 @@ def tell(told, page, missing, seen):
     told.holds(seen, page, "names nothing in its tables")
 
 
+def quoted_promises(tree, told):
+    """What a page says that README.md promises, README.md does say."""
+    readme = " ".join(tree.text("README.md").split()).casefold()
+    for page in tree.pages():
+        for it in re.finditer(r"`(?:\.\./)?README\.md` says: ([^.]+)\.", tree.text(page)):
+            said = " ".join(it[1].split()).casefold()
+            told.holds(said in readme, page, f"README.md doesn't say: {it[1]}", tree.text(page).count("\n", 0, it.start()) + 1)
+
+
+def crates_of(tree):
+    return {it: Crate(tree, it) for it in sorted({path.split("/")[1] for path in tree.paths(r"crates/\w+/src/.*\.rt")})}
+
+
 def check(tree, told):
-    crates = {it: Crate(tree, it) for it in sorted({path.split("/")[1] for path in tree.paths(r"crates/\w+/src/.*\.rt")})}
-    for page in ("README.md", "docs/guarantees.md"):
+    crates = crates_of(tree)
+    for page in PAGES:
         missing, seen, unused = promises(tree.text(page), tree, crates)
         tell(told, page, missing, seen)
-        for number in unused:
-            told.holds(False, page, "names no function that a program calls, and no law, and doesn't say `library call`", number)
+        for number, it in unused:
+            told.holds(False, page, f"whether a program calls `{it}` isn't as the row says: see `library calls:`", number)
+    quoted_promises(tree, told)
     page = "models/README.md"
     tell(told, page, *models(tree.text(page), steps_of(tree), tree.text))

@@ -5,7 +5,7 @@ import re
 
 from lib.pages.markdown import bare, rows, section, spans
 from lib.pages.rust import ERROR, functions, texts
-from lib.pages.tree import GUIDE, HELP
+from lib.pages.tree import GUIDE, HELP, UNIT
 
 FAULTS = ("crates/relay_command/src/fault.rt", "crates/relay_admin/src/serve_fault.rt")
 VERDICTS = "crates/relay_admin/src/rules/verdict.rt"
@@ -13,7 +13,6 @@ FORMATS = {"docs/rules-file.md": r"bad rules", "docs/trace-script.md": r"trace f
 BAD_LINE = "crates/lockword_script/src/printed_line.rt"
 HEADS = re.compile(r"(?:bad (?:rules|command|line)|cannot \w+|relay fault|trace fault)\b")
 MAIN = "crates/pollrelay/src/main.rt"
-UNIT = "examples/systemd/pollrelay.service"
 
 
 def lines(tree):

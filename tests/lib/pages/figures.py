@@ -9,6 +9,8 @@ from lib.pages.markdown import bare, rows, spans
 README, MEASURED, CHANGES = "README.md", "docs/performance.md", "CHANGELOG.md"
 NUMBER = re.compile(r"(?<![\w.,])\d{1,3}(?:,\d{3})+(?!\d)|(?<![\w.,])\d+(?:\.\d+)?(?![\w,])")
 RATIO = re.compile(r"(?<![\d.,v])\d\.\d\d(?![\d.])")
+# How many relays a row beside the peers has.
+RELAYS = 6
 PEERS = re.compile(r"HAProxy|nginx|socat|\bGo\b")
 # Where the first build and its time are spoken of, and how.
 BUILDS = ("README.md", "examples/README.md", "examples/first_connection.sh", "docs/operations.md", "CONTRIBUTING.md")
@@ -34,20 +36,25 @@ def check(tree, told):
 def made_of_their_figures(told, table):
     """The last cell of a row is the ratio of the two before, or a median of such, which may be some hundredths off."""
     for line, cells in table:
-        ours, beside = (numbers(re.sub(r"\([^)]*\)", "", it)) for it in (cells[-3:-1] if len(cells) > 3 else ("", "")))
+        ours, beside = (numbers(re.sub(r"\([^)]*\)", "", it)) for it in (cells[-3:-1] if len(cells) == 4 else ("", "")))
         if RATIO.fullmatch(cells[-1]) and ours and beside and beside[-1]:
             ratio, said = ours[0] / beside[-1], float(cells[-1])
             told.holds(abs(ratio - said) <= 0.006 + 0.03 * said, MEASURED, f"{ours[0]:g} beside {beside[-1]:g} is {ratio:.2f}, not {said}", line)
 
 
 def quoted(told, text, table):
-    """A row of figures in the README is one of the measured rows, and so is each ratio beside a peer's name."""
+    """A row of figures in the README is one of the measured rows, with all peers that were measured, in their order, and so is each
+    ratio beside a peer's name."""
+    beside = [numbers(" ".join(cells[1:])) for _, cells in table if len(cells) == RELAYS + 1]
     measured = [set(numbers(" ".join(cells))) for _, cells in table]
     every = set().union(*measured) if measured else set()
     for line, cells in rows(text):
         if RATIO.fullmatch(bare(cells[-1])):
             wanted = set(numbers(bare(" ".join(cells[1:]))))
             told.holds(any(wanted <= it for it in measured), README, f"no row of {MEASURED} has the figures {sorted(wanted)}", line)
+        elif len(cells) > 3 and all(NUMBER.fullmatch(it) for it in cells[1:]):
+            figures = numbers(" ".join(cells[1:]))
+            told.holds(figures in beside, README, f"no row of {MEASURED} has the figures {figures} of all relays", line)
     for line, said in enumerate(text.splitlines(), 1):
         if PEERS.search(said) and not said.startswith("|"):
             for it in RATIO.findall(said):

@@ -6,7 +6,7 @@ import re
 from lib.pages.limit_words import N, SAID, value_of
 from lib.pages.markdown import bare, rows, section
 from lib.pages.rust import constants, grouped
-from lib.pages.tree import GUIDE, HELP
+from lib.pages.tree import GUIDE, HELP, UNIT
 
 # Where each constant stands. One whose name another has too has its crate ahead.
 FILES = {
@@ -45,7 +45,13 @@ ROWS = (
     ("a name, a Unix path", ("MAX_NAME_BYTES", "MAX_PATH_BYTES")), ("idle times and deadlines", ("DAY_MS",)),
     ("bytes of an admin line, lines of a session", ("MAX_LINE_BYTES", "MAX_LINES")), ("event loops", ("MAX_LOOPS",)),
 )
-UNIT = "examples/systemd/pollrelay.service"
+# Which of them the guide's rows of options and of a rule's fields have, in the cells of these heads.
+CELLS = {
+    "--admin PATH": {"Range": ("MAX_PATH_BYTES",)}, "--loops LOOPS": {"Default": ("MOST_BY_DEFAULT",), "Range": ("MAX_LOOPS",)},
+    "--connections CONNECTIONS": {"Default": ("DEFAULT_PAIRS",), "Range": ("MAX_PAIRS",)}, "--connections-per-rule N": {"Range": ("MAX_PAIRS",)},
+    "--connect-timeout MS": {"Default": ("DEFAULT_CONNECT_MS",), "Range": ("MAX_CONNECT_MS",)}, "NAME": {"Form": ("MAX_NAME_BYTES",)},
+    "LISTEN": {"Form": ("MAX_PATH_BYTES",)}, "IDLE": {"Form": ("DAY_MS",)},
+}
 NEEDED = "crates/relay_command/src/descriptors.rt"
 # The threads of a relay beside those of loops.
 ABOUT_A_DOZEN = 12
@@ -62,6 +68,7 @@ def check(tree, told):
     known = values(tree)
     if all([told.reads(isinstance(it, int), FILES[name], __file__) for name, it in known.items()]):
         in_rows(told, tree.text(GUIDE), known)
+        in_cells(told, tree.text(GUIDE), known)
         in_sentences(tree, told, known)
         of_unit(tree, told, known, needed(tree, told, known))
 
@@ -74,6 +81,19 @@ def in_rows(told, text, known):
         if told.holds(said is not None, GUIDE, f"has no limit of: {label}"):
             for name in names:
                 told.holds(grouped(known[name]) in said, GUIDE, f"its limit of {label} isn't {grouped(known[name])}, as `{name}` is")
+
+
+def in_cells(told, text, known):
+    """The guide's options and a rule's fields have their limits in the cells of their heads."""
+    heads, found = [], {}
+    for _, cells in [*rows(section(text, "Commands")), *rows(section(text, "Rules"))]:
+        heads = cells if cells[0] in ("Option", "Field") else heads
+        found[bare(cells[0])] = dict(zip(heads, cells))
+    for row, wanted in CELLS.items():
+        for head, names in wanted.items():
+            said = re.findall(N, found.get(row, {}).get(head, ""))
+            for name in names:
+                told.holds(grouped(known[name]) in said, GUIDE, f"the {head} of {row} isn't {grouped(known[name])}, as `{name}` is")
 
 
 def in_sentences(tree, told, known):
@@ -98,6 +118,8 @@ def needed(tree, told, known):
     for name, limit in (("SESSIONS", "MAX_SESSIONS"), ("METRICS_CLIENTS", "MOST_CLIENTS")):
         told.holds(own.get(name) == known[limit], NEEDED, f"`{name}` isn't {known[limit]}, as `{limit}` is")
     others = 2 * known["MAX_RULES"] + sum(own.get(it) or 0 for it in ("SESSIONS", "METRICS_CLIENTS", "OTHERS"))
+    formula = f"2 × (connections + loops + {known['MAX_RULES']}) + {others - 2 * known['MAX_RULES']}"
+    told.holds(formula in tree.text(GUIDE), GUIDE, f"doesn't say that a relay needs {formula} descriptors")
     for pairs, loops in (("DEFAULT_PAIRS", "MOST_BY_DEFAULT"), ("MAX_PAIRS", "MAX_LOOPS")):
         most = 2 * known[pairs] + 2 * known[loops] + others
         said = rf"{grouped(most)} with {grouped(known[pairs])}( connections)? on {known[loops]}\b"

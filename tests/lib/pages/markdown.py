@@ -51,7 +51,7 @@ def rows(text):
     """The cells of each row of each table, with its line."""
     for at, line in enumerate(text.splitlines(), 1):
         if line.startswith("|") and not set(line) <= set("|- :"):
-            yield at, [it.strip() for it in line.strip().strip("|").split(" | ")]
+            yield at, [it.strip() for it in re.split(r"(?<= )\|(?= )", f" {line.strip().strip('|')} ")]
 
 
 def bare(text):

@@ -1,6 +1,7 @@
 """The families of figures with their kinds, labels and values of labels, as `relay_metrics` writes them: the guide has
 each, and no page or sample has a figure or a label that the server doesn't give."""
 
+import os
 import re
 from collections import namedtuple
 
@@ -16,6 +17,8 @@ PLACES = "crates/relay_metrics/src/place.rt"
 Family = namedtuple("Family", "name kind labels")
 # Figures of another source than the server: each is of the sample that asks the admin socket.
 OWN = {"examples/prometheus/pollrelay_textfile.py": {"pollrelay_up", "pollrelay_connections", "pollrelay_textfile"}}
+# Labels that Prometheus gives each figure.
+BY_SCRAPER = {"job", "instance"}
 FIGURE = re.compile(r"\bpollrelay_[a-z]\w*(?!\w|\.|[\w.]*\.deb)(?:\{([^}]*)\})?")
 
 
@@ -70,6 +73,8 @@ def check(tree, told):
     told.has_all(tree, GUIDE, places, "the path")
     for page in (*tree.pages(), *tree.samples()):
         figures_in(told, page, tree.text(page), known)
+    for page, own in OWN.items():
+        its_own(told, page, tree.text(page), own - {os.path.basename(page).split(".")[0]})
 
 
 def in_guide(told, known, table):
@@ -85,13 +90,20 @@ def in_guide(told, known, table):
             told.holds(least <= given <= {*family.labels, *values}, GUIDE, f"`{name}` has the labels {family.labels}", line)
 
 
+def its_own(told, page, text, own):
+    """A sample's head names the figures that the server doesn't give, and says so."""
+    said = re.search(r"([^.;]*) (?:is|are) this script's own", text)
+    named = set(re.findall(r"pollrelay_\w+", said[1])) if said else set()
+    told.holds(named == own, page, f"its own figures are {sorted(own)}, and its head says {sorted(named)}")
+
+
 def figures_in(told, page, text, known):
     """Each figure that a page or a sample names is one of the server's, with labels that it has, or the sample's own."""
     own = {it for of in OWN.values() for it in of}
     for it in FIGURE.finditer(text):
         name, line = it[0].split("{")[0], text.count("\n", 0, it.start()) + 1
         if name in known:
-            given = set(re.findall(r"(\w+)=", it[1] or ""))
+            given = set(re.findall(r"(\w+)=", it[1] or "")) - BY_SCRAPER
             told.holds(given <= set(known[name].labels), page, f"`{name}` has no label {sorted(given - set(known[name].labels))}", line)
         else:
             told.holds(name in own or re.match(r"[.(]", text[it.end() : it.end() + 1]), page, f"`{name}` is no figure of the code", line)

@@ -8,6 +8,7 @@ from lib.pages.rust import functions
 from lib.pages.tree import GUIDE, HELP
 
 GRAMMAR = "crates/relay_command/src/grammar.rt"
+CRATES = "docs/crates.md"
 PROGRAM = "pollrelay"
 # A command: each option with whether it has to be there and whether it has a value, and how few and how many words follow.
 Command = namedtuple("Command", "options least most")
@@ -62,6 +63,9 @@ def synopsis(text, command):
 
 def check(tree, told):
     found = commands(tree)
+    row = re.search(rf"^\| `{PROGRAM}` \|.*$", tree.text(CRATES), re.M)
+    named = set(re.findall(r"`(\w+)`", row[0])) - {PROGRAM} if row else set()
+    told.holds(named == set(found), CRATES, f"the program's row lacks or has too much: {sorted(named ^ set(found))}")
     known = {it for command in found.values() for it in command.options}
     told.reads(known and "serve" in found, GRAMMAR, __file__)
     for page in (GUIDE, HELP):

@@ -29,7 +29,7 @@ def missing(text, lines):
 
 def check(tree, told):
     lines = lines_of(tree)
-    for page in set(tree.pages()) - {FOLLOWED}:
+    for page in set(tree.pages()) - set(FOLLOWED):
         lacking, seen = missing(tree.text(page), lines)
         told.passed += seen - len(lacking)
         for line, said in lacking:

@@ -8,7 +8,7 @@ import sys
 import tempfile
 import threading
 
-from lib.pages.tree import HELP
+from lib.pages.tree import HELP, UNIT
 
 TEXTFILE = "examples/prometheus/pollrelay_textfile.py"
 RULE = re.compile(r"^\s*(?:#\s+)?relay [\w-]+ (?:tcp|unix):")
@@ -26,11 +26,13 @@ SECONDS = 10
 
 
 def check(tree, told):
+    hides_tmp = "\nPrivateTmp=yes" in tree.text(UNIT)
     for page in (*tree.pages(), *tree.samples(), HELP):
         for line, said in enumerate(tree.text(page).splitlines(), 1):
             if RULE.match(said) and "$" not in said:
                 words = said.split("#")[-1].split()
                 told.holds(len(words) == 5 and re.fullmatch(r"never|[1-9]\d*|[A-Z]+", words[4]), page, f"no rule: {said.strip()}", line)
+                told.holds(not hides_tmp or "unix:/tmp/" not in said, page, f"the unit hides /tmp: {said.strip()}", line)
     if tree.has(TEXTFILE):
         figures(tree, told)
 

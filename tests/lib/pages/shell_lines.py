@@ -14,6 +14,7 @@ from lib.pages.tree import FOLLOWED
 # The page, the line in it, the simple command's words, and whether it stands in running text, where it may be a name alone.
 Line = namedtuple("Line", "page line words is_name")
 PROMPT = re.compile(r"^\$ ")
+JOINED = re.compile(r"\d?>&\d")
 REMARK = re.compile(r"\s{2,}\S.*$|\s+# .*$")
 # Remarks of samples and heads of scripts that give a command, and what a unit and a container's recipe start.
 GIVEN = re.compile(r"^# *(?:Check this file|Serve it|Try it|Look at it|Check it): (.*)$|^# {4,5}(\S.*)$")
@@ -21,7 +22,7 @@ UNIT = re.compile(r"^Exec\w+=[-+!]?(.*)$")
 RECIPE = re.compile(r"^(?:ENTRYPOINT|.*CMD) (\[.*\])$")
 HEAD = re.compile(r'(?:#!.*\n)?"""(.*?)"""', re.S)
 SAMPLES = (
-    r"(?:examples|packaging|tools|tests/(?:gate|system|packaging|fuzz))/.*\.(?:sh|py|rules|session|txt|cfg|service|sample)"
+    r"(?:examples|packaging|tools|tests/(?:gate|system|packaging|fuzz))/.*\.(?:sh|py|rules|session|txt|cfg|service|sample|yml|yaml)"
     r"|packaging/(?:pollrelay-run|container/Dockerfile)"
 )
 # What starts the program with a relay's words and some of its own.
@@ -36,8 +37,10 @@ PLACE = re.compile(r"[A-Z][A-Z_]*(?:\.\.)?|\d+|never|[<$/{].*|.*/.*")
 
 def simple_commands(text):
     """The words of each simple command of a line."""
-    lexer = shlex.shlex(REMARK.sub("", PROMPT.sub("", text)), posix=True, punctuation_chars="();<>|&")
+    lexer = shlex.shlex(JOINED.sub("", REMARK.sub("", PROMPT.sub("", text))), posix=True, punctuation_chars="();<>|&")
     lexer.commenters = ""
+    # (an address is one word)
+    lexer.wordchars += ":"
     try:
         words = list(lexer)
     except ValueError:
@@ -99,7 +102,7 @@ def check(tree, told):
             said = wrong(tree, it, found, known)
         elif it.words[0] == WRAPPER:
             said = wrong(tree, it._replace(words=[WRAPPER, "serve", *it.words[1:]]), wrapped, known)
-        elif it.page != FOLLOWED or it.words[0] not in tools.OTHERS:
+        elif it.page not in FOLLOWED or it.words[0] not in tools.OTHERS:
             said = scripts.wrong(it.words, it.page)
         told.holds(not said, it.page, f"`{' '.join(it.words)}`: {said}", it.line)
     told.reads(count > 50, "README.md", __file__)

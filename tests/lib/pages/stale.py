@@ -7,6 +7,8 @@ ROWS = (
     ("crates/relay_admin/src/admin/command.rt", r'b"reload"', r"read at the start alone|systemctl restart pollrelay", "rules are read anew by `reload`"),
     ("crates/relay_command/src/job.rt", r'== "--" =>', r"`--`[^|.\n]*\| ?Refused|`--` is refused", "a `--` at the end is taken"),
     ("crates/readiness/src/holding.rt", r"pub struct HeldSocket", r"entry for it \(`Held`\)", "the entry of a table is `HeldSocket`"),
+    # (an author who looks for that thread's locks finds none)
+    ("crates/relay_main/src/admin.rt", r"pub struct AdminTask", r"the admin thread", "admin sessions are tasks of the main thread"),
     # (a listener that came by a reload has a greater id than connections that stand)
     ("crates/relay_admin/src/admin/command.rt", r'b"reload"', r"whose ids come first", "after a reload a listener may have any id"),
 )

@@ -20,9 +20,12 @@ CALLED = {
     "ulimit": "is the shell's own",
     "socat": "`rolling_restart`",
     "docker": "`container`",
+    "curl": "`quickstart`",
+    "promtool": "`monitoring`",
+    "kubectl": "`kubernetes_manifest`",
 }
 # Programs of the system that a page might call too. One that it does call comes into the table above.
-OTHERS = set("apt-get cat chmod chown chroot cp curl dash dpkg git groupadd iptables journalctl kill logrotate ls make mkdir mv nc "
+OTHERS = set("apt-get cat chmod chown chroot cp dash dpkg git groupadd iptables journalctl kill logrotate ls make mkdir mv nc "
              "openssl pkill podman prlimit redis-cli rm sed service setsid ss sudo tail tar timeout tmux unshare useradd watch wget".split())
 # Scripts that no part runs as a page says it, each with the part that tries it or with why none does.
 UNTRIED = {
@@ -33,6 +36,7 @@ UNTRIED = {
     "examples/prometheus/pollrelay_textfile.py": "`relay_program`",
     "tools/build.py": "`build_test`",
     "tools/man_page.py": "`man_page`",
+    "tools/net_reference.py": "`pages`",
     "tools/unproved.py": "`first_connection`",
     "tools/vendor.py": "`vendor_test`",
     "tools/clauses.py": "`clauses_test`",
@@ -70,7 +74,7 @@ class Scripts:
         if first in OTHERS:
             return f"no part of the tests tries `{first}`, and tests/lib/pages/tools.py has no reason for it"
         if first in ("sh", "python3"):
-            return self.wrong_script(rest, os.path.dirname(page)) if rest and rest[0] not in ("-", "-c") else None
+            return self.wrong_script(rest, os.path.dirname(page)) if rest and rest[0] not in ("-", "-c", "-m") else None
         if first == "rt":
             return self.wrong_of_kit(rest)
         if first == "install":

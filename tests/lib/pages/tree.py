@@ -12,9 +12,14 @@ from lib.places import ROOT
 LEFT_OUT = {".git", "out", "target", "__pycache__", "corpus", "vendor"}
 # The operator's guide, the man page that is made of it, and what the program says of itself.
 GUIDE, MAN = "docs/operations.md", "man/pollrelay.1"
-# A page whose commands and code `own_program` follows as its reader does.
-FOLLOWED = "docs/your-own-program.md"
+UNIT = "examples/systemd/pollrelay.service"
+# Pages whose commands `own_program` and `quickstart` give as their reader does.
+FOLLOWED = ("docs/your-own-program.md", "docs/quickstart.md")
 HELP = "crates/relay_command/src/usage.rt"
+# A page that names pages of the kit beside the repository's own.
+ON_KIT = "docs/rattle-for-rust.md"
+# The page that says what is trusted: the one room of the kit.
+TRUSTED = "docs/guarantees.md"
 
 
 def files_below(root):
@@ -66,14 +71,17 @@ class Tree:
 
     def samples(self):
         """What is given to operators to begin with."""
-        return self.paths(r"examples/.*\.(?:sh|py|rules|session|txt|cfg|service)|packaging/.*(?<!\.md)")
+        return self.paths(r"examples/.*\.(?:sh|py|rules|session|txt|cfg|service|yml|yaml|json)|packaging/.*(?<!\.md)")
 
 
 class Told:
-    """How much was looked at and holds, and a line for what doesn't."""
+    """How much was looked at and holds, a line for what doesn't, and notes on the machine, which fail nothing."""
 
     def __init__(self):
-        self.passed, self.lines = 0, []
+        self.passed, self.lines, self.notes = 0, [], []
+
+    def note(self, said):
+        self.notes.append(said)
 
     def holds(self, is_so, page, said, line=None):
         if is_so:
