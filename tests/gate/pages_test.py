@@ -118,6 +118,7 @@ ROWS = (
     ("figures", MEASURED, END, "\n| Y | lately | `python3 bench/relay/run.py` |\n", "the run Y has no date"),
     ("figures", "docs/GATE.md", END, "\nIt tries 1,234 wrong bodies of 77 crates.\n", "1,234 wrong bodies: there are"),
     ("figures", "docs/GATE.md", END, "\nIt tries 1,234 wrong bodies of 77 crates.\n", "77 crates: there are"),
+    ("plants", "docs/testing.md", r"\| finish takes no last clients \|", "| finish takes clients |", "aren't those of `tests/plants`"),
     ("figures", "examples/first_connection.sh", END, "# Proving takes three quarters of an hour.\n", "proving takes three quarters of an hour here"),
 )
 

@@ -4,7 +4,8 @@
 //   FAIL_AT     the number of its first call that fails, from 1; the calls of all threads are counted together
 //   FAIL_TIMES  how many fail from there on (1 if it isn't set)
 //   FAIL_PERIOD if it isn't 0, each thread counts its own calls, and of each so many the first FAIL_TIMES fail
-//   FAIL_WITH   the error's number; 0 has a read or a write take one byte alone; -1 is a lie: nothing is done, and all of it told
+//   FAIL_WITH   the error's number; 0 has a read or a write take one byte alone; -1 is a lie: nothing is done, and all of it told; -2 has a
+//               read or a write take all but its last byte, and the next one of that socket find nothing ready
 //
 // "[failed]" on standard error says that a call failed, once. A call that fails as if nothing were ready (EAGAIN, ENOTCONN) has the poller told
 // of the socket once more, as the system tells of what becomes ready later: a poller of edges would wait for ever else.
@@ -28,6 +29,7 @@
 #include <unistd.h>
 
 #define MOST_SOCKETS 4096
+#define ALL_BUT_THE_LAST -2
 // What a waker writes and reads, which the system takes whole or not at all.
 #define EVENT_BYTES 8
 
@@ -41,6 +43,9 @@ static struct {
     int poller;
     struct epoll_event event;
 } told_of[MOST_SOCKETS];
+
+// Of which sockets a call took all but the last byte, and the next one hasn't come yet.
+static atomic_int was_cut[MOST_SOCKETS];
 
 static long number_of(const char *name, long otherwise) {
     const char *text = getenv(name);
@@ -91,12 +96,28 @@ static void tell_again(int fd) {
 }
 
 static int fail(int fd) {
-    if (error < 0)
+    if (error == -1)
         return 0;
     if (error == EAGAIN || error == ENOTCONN)
         tell_again(fd);
     errno = (int)error;
     return -1;
+}
+
+// Whether a call of so many bytes at a socket finds nothing ready, since the one before took all but the last byte; else how many it takes.
+static int is_cut_off(int fd, size_t *count) {
+    if (fd < 0 || fd >= MOST_SOCKETS)
+        return 0;
+    if (atomic_exchange(&was_cut[fd], 0)) {
+        errno = EAGAIN;
+        tell_again(fd);
+        return 1;
+    }
+    if (*count > 1 && *count != EVENT_BYTES) {
+        atomic_store(&was_cut[fd], 1);
+        *count -= 1;
+    }
+    return 0;
 }
 
 #define CALLER __builtin_return_address(0)
@@ -117,6 +138,8 @@ static int fail(int fd) {
         if (it == NULL)                                                                                                \
             it = real(#name);                                                                                          \
         if (is_failed(#name, CALLER)) {                                                                                \
+            if (error == ALL_BUT_THE_LAST)                                                                             \
+                return is_cut_off(fd, &count) ? -1 : it(__VA_ARGS__);                                                  \
             if (error != 0)                                                                                            \
                 return error < 0 ? (ssize_t)count : fail(fd);                                                          \
             if (count > 1 && count != EVENT_BYTES) {                                                                   \

@@ -1,5 +1,7 @@
 """A relay as a process: starts it, asks its admin socket, and looks at its threads, descriptors and memory."""
+import contextlib
 import os
+import random
 import resource
 import shutil
 import signal
@@ -12,6 +14,8 @@ from lib.activation import started_with
 from lib.places import PROGRAM
 from lib.sockets import REPLY_SECONDS, connect
 
+# Of threads that go last, as `nice` counts: on a machine that is full of other work the least, 19, leaves them next to nothing.
+LOW_PRIORITY, LEAST_PRIORITY = 10, 19
 # 2,000 pairs and 64 listeners take more descriptors than the 1,024 that a shell often gives.
 DESCRIPTORS = 8192
 
@@ -158,6 +162,24 @@ class Relay:
         path = f"/proc/{self.process.pid}/task/{self.process.pid}/children"
         with open(path, encoding="ascii") as file:
             return [int(word) for word in file.read().split()]
+
+    def have_loops_go_last(self, priority=LOW_PRIORITY):
+        """Has all its threads share a processor, of which the loops have what the main thread leaves: so what a loop is told to do isn't
+        done by the time that the main thread goes on."""
+        processor = {random.choice(sorted(os.sched_getaffinity(0)))}
+        for thread in map(int, os.listdir(f"/proc/{self.process.pid}/task")):
+            os.sched_setaffinity(thread, processor)
+            if thread != self.process.pid:
+                os.setpriority(os.PRIO_PROCESS, thread, priority)
+
+    @contextlib.contextmanager
+    def stopped(self):
+        """While it is stopped, so that it finds all at once that is done meanwhile."""
+        self.process.send_signal(signal.SIGSTOP)
+        try:
+            yield
+        finally:
+            self.process.send_signal(signal.SIGCONT)
 
     def close(self):
         if self.process.poll() is None:

@@ -33,6 +33,7 @@ STOPPED = ("a", "5", "2", "closed")
 FIGURES = """
 pollrelay_loops 2
 pollrelay_admin_sessions_total 7
+pollrelay_admin_dropped_sessions_total 0
 pollrelay_connections_limit 34
 pollrelay_reloads_total 2
 pollrelay_bytes_total{way="down"} 106

@@ -10,6 +10,7 @@ at_once     clients that came at once, while nobody was accepted, are all served
 most_pairs  the next after the most pairs is dropped, until one ends: of all, of the default's 512, of a rule.
 late_reads  what both ends send and read late comes whole.
 stalls      a write that stalls ends its pair after the idle time, or at a session's deadline.
+parts       pieces of which a write takes all but the last byte come whole.
 """
 import os
 import socket
@@ -18,8 +19,10 @@ import threading
 import time
 
 sys.path.insert(1, f"{sys.path[0]}/..")
+from lib.c_code import library
 from lib.checks import Checks
 from lib.echoes import target
+from lib.places import LIB
 from lib.relay import allow_descriptors
 from lib.sockets import connect, read_to_end
 from lib.stages import options, run_stages
@@ -42,6 +45,8 @@ MOST = (
 # More pieces than the sockets of a pair hold of what nobody reads.
 PIECES, PIECE = 1_000, bytes([7]) * 16_000
 BULK = bytes([7]) * 65_536
+# Pieces that a copy keeps in room of its own, and one that it doesn't.
+SMALL = [bytes(at % 251 for at in range(size)) for size in (2, 3, 255, 256, 257)]
 # Longer than it takes until nothing more is taken, the idle time of a rule, and the most bytes that a peer says who reads nothing.
 UNTIL_IT_STALLS, IDLE, MOST_SAID = 0.3, 0.2, 250
 
@@ -235,7 +240,21 @@ def stalls(checks, _):
         it.stop()
 
 
-STAGES = {it.__name__: it for it in (echoes, half_ends, bulk, at_once, most_pairs, late_reads, stalls)}
+def parts(checks, folder):
+    """Small pieces, of which each write takes all but the last byte; that is taken later."""
+    shim = library(f"{LIB}/fail_nth.c", f"{folder}/fail_nth.so")
+    env = {"LD_PRELOAD": shim, "FAIL_CALL": "send", "FAIL_WITH": "-2", "FAIL_TIMES": "1000000"}
+    with Tried(checks, "parts", loops=1, env=env) as it:
+        ends, sent = it.ends(), sum(map(len, SMALL))
+        # (the first that doesn't come is enough, since who waits for it waits long)
+        lost = next((len(it) for it in SMALL if not (passes(ends.client, ends.peer, it) and passes(ends.peer, ends.client, it))), None)
+        it.expect("each byte comes, or of which piece one doesn't", None, lost)
+        it.expect("writes were cut", "[failed]\n", it.relay.errors())
+        it.answer("stop\n")
+        it.end(f"listening 1\nup {sent} down {sent}\n")
+
+
+STAGES = {it.__name__: it for it in (echoes, half_ends, bulk, at_once, most_pairs, late_reads, stalls, parts)}
 
 
 def main():

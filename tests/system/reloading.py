@@ -10,9 +10,12 @@ renewed  a reload renews an idle time, and a listener that a session has closed.
 account  what a rule has of its limit and its counts outlives its listener, and its place in the file.
 poller   a reload whose listener the poller refuses says so and changes nothing.
 prompt   reloads that follow each other are answered at once.
+whole    a reload that is refused leaves the target of a rule that stays, and isn't counted.
+closed   a listener at a path that a session has closed is back after a reload.
 """
 import errno
 import os
+import select
 import sys
 import time
 
@@ -208,7 +211,37 @@ def prompt(checks, _):
         it.stop("listening 1\nup 0 down 0\n")
 
 
-STAGES = {it.__name__: it for it in (rules, refused, paths, renewed, account, poller, prompt)}
+def who_is_reached(it, *accepts):
+    """The place of the first of these at which a new client comes out, if one does."""
+    it.client()
+    came, _, _ = select.select(accepts, [], [], WAIT_SECONDS)
+    return [accepts.index(sock) for sock in came]
+
+
+def whole(checks, _):
+    metrics, (accepts, second) = some_address(), listener()
+    with accepts, Tried(checks, "whole", options=("--metrics", metrics)) as it:
+        it.now_rules(f"relay a {{0}} {second} never\nrelay b {{target}} unix:/x never\n")
+        it.answers("reload\n", "cannot listen b\n")
+        it.expect("the target of the rule that stays", [0], who_is_reached(it, it.accepts, accepts))
+        it.holds("it isn't counted", "pollrelay_reloads_total 0" in scrape(metrics)[1].splitlines(), "it is")
+        it.now_rules(f"relay a {{0}} {second} never\n")
+        it.answers("reload\n", "rules 1\n")
+        it.holds("one that isn't refused is", "pollrelay_reloads_total 1" in scrape(metrics)[1].splitlines(), "it isn't")
+        it.stop()
+
+
+def closed(checks, _):
+    with Tried(checks, "closed", rules=AT_PATH % "path") as it:
+        path = f"{it.relay.folder}/path"
+        it.answers("close 1\nlist\n", "ok\nids\n")
+        it.answers("reload\nlist\n", "rules 1\nids 2\n")
+        if os.path.exists(path):
+            byte_at(it, path)
+        it.stop("listening 1\nup 1 down 0\n")
+
+
+STAGES = {it.__name__: it for it in (rules, refused, paths, renewed, account, poller, prompt, whole, closed)}
 
 
 def main():

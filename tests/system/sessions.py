@@ -6,19 +6,23 @@
 delays    a session that is silent, reads nothing or waits delays no other.
 most      one session more has the place of the one that was silent for longest, and of no other.
 stopped   a stop is answered behind more sessions that say nothing than may be.
+counted   each session that gave way to another is counted.
 """
 import sys
 
 sys.path.insert(1, f"{sys.path[0]}/..")
 from lib.checks import Checks
+from lib.metrics import scrape
 from lib.relay import allow_descriptors
-from lib.sockets import connect
+from lib.sockets import connect, some_address
 from lib.stages import options, run_stages
 from lib.talk import has_ended, hears, says
 from lib.tried import WAIT_SECONDS, Tried
 
 # The most sessions at once, and so many that say nothing as are more than may be.
 MOST, SILENT = 32, 300
+# So many beyond the most, each of which takes the place of another.
+MORE = 3
 # So many replies are more than a socket holds.
 UNREAD = 20_000
 # What a session says that delays nobody, and how often.
@@ -82,7 +86,22 @@ def stopped(checks, _):
         it.end("listening 1\nup 0 down 0\n")
 
 
-STAGES = {it.__name__: it for it in (delays, most, stopped)}
+def counted(checks, _):
+    metrics = some_address()
+    with Tried(checks, "counted", loops=1, options=("--metrics", metrics)) as it:
+        every = [connect(it.admin, WAIT_SECONDS) for _ in range(MOST + MORE)]
+        it.expect("those that gave way", [True] * MORE, [has_ended(one) for one in every[:MORE]])
+        it.expect("the others are answered", [True] * MOST, [told_totals(one) for one in every[MORE:]])
+        lines = scrape(metrics)[1].splitlines()
+        for name, count in (("sessions", MOST + MORE), ("dropped_sessions", MORE)):
+            it.holds(f"{name}, {count}", f"pollrelay_admin_{name}_total {count}" in lines, lines)
+        for sock in every:
+            sock.close()
+        it.comes_to("stop\n", "ok\n")
+        it.end("listening 1\nup 0 down 0\n")
+
+
+STAGES = {it.__name__: it for it in (delays, most, stopped, counted)}
 
 
 def main():

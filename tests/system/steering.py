@@ -12,6 +12,9 @@ sleep          closes and deadlines reach a loop that sleeps.
 stalled_close  a close of a connection that stalls is done when it is answered.
 stop           a stop ends pairs that stand, and 64 loops that sleep.
 finish         a relay that finishes ends with its last connection, at its moment, or by a stop.
+finish_rules   a relay that finishes listens for none of its rules, and leaves none of their paths.
+finish_last    it ends with the last of two connections, as soon as that has ended or its moment has come.
+finish_queue   who waits in a rule's queue when it is told to finish is served.
 """
 import os
 import sys
@@ -23,8 +26,8 @@ from lib.relay import allow_descriptors
 from lib.sockets import connect, is_served
 from lib.stages import options, run_stages
 from lib.talk import hears
-from lib.tried import Tried, is_refused
-from lib.waiting import TURNS
+from lib.tried import WAIT_SECONDS, Tried, is_refused
+from lib.waiting import TURNS, comes
 
 NOBODY = "relay a {0} {3} never\n"
 UNKNOWN = "error 404 no such connection\n"
@@ -254,7 +257,82 @@ def finish(checks, _):
         silent.close()
 
 
-STAGES = {it.__name__: it for it in (close, deadline, silence, drain, pause, sleep, stalled_close, stop, finish)}
+# Rules of which one that finishes listens for none any more: two at ports, and two at paths.
+FOUR = "relay a {0} {target} never\nrelay b {1} {target} never\nrelay c unix:{folder}/third {target} never\nrelay d unix:{folder}/fourth {target} never\n"
+# The longest from a last end, or from the moment of a finish, to the end of the relay: where nobody wakes the main thread's loop, it looks a
+# second after its last turn. On a machine that is full of other work some rounds take longer.
+LONGEST_END, LAST_ROUNDS = 0.6, 5
+# More clients than a relay accepts in the two turns that it takes until it knows that it finishes, and in one beyond them.
+QUEUED = 320
+
+
+def finish_rules(checks, _):
+    with Tried(checks, "finish of four rules", rules=FOUR) as it:
+        ends = it.talking(1)
+        it.answers("finish 86400000\n", "ok\n")
+        for at in (0, 1):
+            it.holds(f"nobody listens for rule {at + 1}", is_refused(it.listens[at]), "somebody does")
+        it.expect("its paths", [], [name for name in ("third", "fourth") if os.path.lexists(f"{it.relay.folder}/{name}")])
+        it.holds("its connection ends", ends.finish(), "it doesn't")
+        it.end()
+
+
+def answered(it, lines):
+    """What a session answers, or nothing where the relay has ended."""
+    try:
+        return it.answer(lines)
+    except OSError:
+        return ""
+
+
+def ends_soon(it, began):
+    """Whether the relay ends so soon after a moment that its main loop was woken."""
+    return it.relay.ends_within(WAIT_SECONDS) and time.monotonic() - began < LONGEST_END
+
+
+def last_end(checks):
+    """Of two connections the first ends, and then the second; and whether the relay ended soon after that."""
+    with Tried(checks, "finish with two connections", loops=1) as it:
+        first, second = it.talking(), it.talking()
+        it.answers("finish 86400000\n", "ok\n")
+        it.holds("the first ends", first.finish(), "it doesn't")
+        comes(lambda: answered(it, "list\n") in ("ids 4 5\n", ""))
+        it.holds("the second goes on", second.pass_both(), "it doesn't")
+        time.sleep(UNTIL_IT_SLEEPS)
+        began = time.monotonic()
+        it.holds("the second ends", second.finish(), "it doesn't")
+        return ends_soon(it, began)
+
+
+def moment(checks):
+    """Whether a relay ended soon after its moment had come."""
+    with Tried(checks, "finish at a moment", loops=1) as it:
+        it.talking()
+        it.answers("finish 50\n", "ok\n")
+        return ends_soon(it, time.monotonic())
+
+
+def finish_last(checks, _):
+    for name, is_soon in (("finish: the last end wakes it", last_end), ("finish: its moment wakes it", moment)):
+        is_woken = any(is_soon(checks) for _ in range(LAST_ROUNDS))
+        checks.holds(name, is_woken, f"of {LAST_ROUNDS} none ended within {LONGEST_END} s")
+
+
+def finish_queue(checks, _):
+    with Tried(checks, "finish before a queue") as it, connect(it.admin) as session:
+        with it.relay.stopped():
+            queued = [it.client() for _ in range(QUEUED)]
+            session.sendall(b"finish 86400000\n")
+        it.holds("it is told to finish", hears(session, b"ok\n"), "it isn't")
+        stand = comes(lambda: len(it.relay.ids()) == 2 * len(queued), 2_000)
+        it.holds("each client is served", stand, f"{len(it.relay.ids()) // 2} of {len(queued)} are")
+        it.answers("stop\n", "ok\n")
+        it.end()
+
+
+STAGES = {it.__name__: it for it in (
+    close, deadline, silence, drain, pause, sleep, stalled_close, stop, finish, finish_rules, finish_last, finish_queue,
+)}
 
 
 def main():

@@ -22,6 +22,7 @@ impl<R: Wait + Clock + Copy> RelayFigures<R> {
         let shared = &self.shared;
         figures.up_ms = self.clock.now() / 1_000_000;
         figures.admin_sessions = shared.sessions.get();
+        figures.admin_dropped_sessions = shared.dropped_sessions.get();
         figures.connections_limit = shared.limit.count as u64;
         figures.reloads = shared.reloads.get();
         let totals = totals_of(shared.loops.as_slice());

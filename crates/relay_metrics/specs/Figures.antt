@@ -13,6 +13,7 @@ pub record IsBlank (f : Figures) : Type 0 where
   pub up_ms : f.up_ms ≡ 0
   pub turns : f.turns.items ≡ []
   pub admin_sessions : f.admin_sessions ≡ 0
+  pub admin_dropped_sessions : f.admin_dropped_sessions ≡ 0
   pub connections_limit : f.connections_limit ≡ 0
   pub reloads : f.reloads ≡ 0
   pub bytes : IsNone f.bytes

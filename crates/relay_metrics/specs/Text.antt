@@ -93,8 +93,9 @@ rule_family_text f rules = head_text f ++ flat_map (of_rule f) rules
 unfoldable pub relay_text : Figures → List ℕ
 relay_text f = up_text f.up_ms ++ (single_text family.Loops (length f.turns.items)
     ++ (turns_text f.turns.items ++ (single_text family.AdminSessions f.admin_sessions
+    ++ (single_text family.AdminDroppedSessions f.admin_dropped_sessions
     ++ (single_text family.ConnectionsLimit f.connections_limit
-    ++ single_text family.Reloads f.reloads))))
+    ++ single_text family.Reloads f.reloads)))))
 
 -- the families of all that it carried and said
 unfoldable pub totals_text : Figures → List ℕ

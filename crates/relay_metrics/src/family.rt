@@ -14,6 +14,7 @@ pub(crate) enum Family {
     Loops,
     Turns,
     AdminSessions,
+    AdminDroppedSessions,
     ConnectionsLimit,
     Reloads,
     Bytes,
@@ -39,6 +40,7 @@ impl Family {
             Family::Loops => b"pollrelay_loops",
             Family::Turns => b"pollrelay_turns_total",
             Family::AdminSessions => b"pollrelay_admin_sessions_total",
+            Family::AdminDroppedSessions => b"pollrelay_admin_dropped_sessions_total",
             Family::ConnectionsLimit => b"pollrelay_connections_limit",
             Family::Reloads => b"pollrelay_reloads_total",
             Family::Bytes => b"pollrelay_bytes_total",
@@ -64,6 +66,9 @@ impl Family {
             Family::Loops => b"Event loops.",
             Family::Turns => b"Turns of each event loop.",
             Family::AdminSessions => b"Admin sessions that began.",
+            Family::AdminDroppedSessions => {
+                b"Admin sessions that gave way to another, or for which there was no memory."
+            }
             Family::ConnectionsLimit => b"The most connections that may stand at once.",
             Family::Reloads => b"Times that the rules were put in force anew.",
             Family::Bytes => b"Bytes written to targets (up) and to clients (down).",

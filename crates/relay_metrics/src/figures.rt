@@ -59,6 +59,8 @@ pub struct Figures {
     /// The turns of each loop, by its place.
     pub turns: Vec<u64>,
     pub admin_sessions: u64,
+    /// Those that gave way to another, or for which there was no memory.
+    pub admin_dropped_sessions: u64,
     /// The most connections that may stand at once.
     pub connections_limit: u64,
     pub reloads: u64,
@@ -79,6 +81,7 @@ impl Figures {
             up_ms: 0,
             turns: Vec::new(alloc),
             admin_sessions: 0,
+            admin_dropped_sessions: 0,
             connections_limit: 0,
             reloads: 0,
             bytes: CarriedBytes { up: 0, down: 0 },

@@ -51,6 +51,7 @@ fn fill(figures: &mut Figures) -> Option<()> {
     figures.turns.push(1_000).ok()?;
     figures.turns.push(7).ok()?;
     figures.admin_sessions = 2;
+    figures.admin_dropped_sessions = 1;
     figures.connections_limit = 512;
     figures.reloads = 1;
     figures.bytes = CarriedBytes { up: 202, down: 303 };

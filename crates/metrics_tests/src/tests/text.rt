@@ -19,6 +19,9 @@ pollrelay_turns_total{loop=\"1\"} 7\n\
 # HELP pollrelay_admin_sessions_total Admin sessions that began.\n\
 # TYPE pollrelay_admin_sessions_total counter\n\
 pollrelay_admin_sessions_total 2\n\
+# HELP pollrelay_admin_dropped_sessions_total Admin sessions that gave way to another, or for which there was no memory.\n\
+# TYPE pollrelay_admin_dropped_sessions_total counter\n\
+pollrelay_admin_dropped_sessions_total 1\n\
 # HELP pollrelay_connections_limit The most connections that may stand at once.\n\
 # TYPE pollrelay_connections_limit gauge\n\
 pollrelay_connections_limit 512\n\
@@ -98,10 +101,11 @@ pollrelay_rule_listening{rule=\"db-0123456789abc\"} 0\n";
 
 /// What stands in the text of a snapshot without a loop and without a rule: lines that say what the
 /// figures are, and those figures that have neither loop nor rule.
-const NOTHING_YET: [&str; 9] = [
+const NOTHING_YET: [&str; 10] = [
     "pollrelay_up_seconds 0.000",
     "pollrelay_loops 0",
     "pollrelay_admin_sessions_total 0",
+    "pollrelay_admin_dropped_sessions_total 0",
     "pollrelay_connections_limit 0",
     "pollrelay_reloads_total 0",
     "pollrelay_bytes_total{way=\"up\"} 0",

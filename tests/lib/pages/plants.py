@@ -1,0 +1,26 @@
+"""The table of plants in docs/testing.md: each plant, with the check that sees it."""
+
+import re
+
+from lib.planted import plants
+
+PAGE = "docs/testing.md"
+HEAD = "| Plant | Script and stage | Check that fails |\n|---|---|---|\n"
+TABLE = re.compile(rf"^{re.escape(HEAD)}(?:\|.*\n)*", re.M)
+
+
+def table():
+    rows = (f"| {it.name.replace('_', ' ')} | {it.script} {it.stage} | {it.check} |\n" for it in plants())
+    return HEAD + "".join(rows)
+
+
+def with_table(text):
+    """The page with the table as it has to be."""
+    return TABLE.sub(lambda _: table(), text)
+
+
+def check(tree, told):
+    text = tree.text(PAGE)
+    found = TABLE.search(text)
+    if told.reads(found, PAGE, __file__):
+        told.holds(found[0] == table(), PAGE, "its plants aren't those of `tests/plants`: `python3 tests/gate/plants.py --write`")

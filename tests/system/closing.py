@@ -1,0 +1,201 @@
+#!/usr/bin/env python3
+"""Closes by admin sessions, where loops are slow, busy, or about to sleep: each is done once it is answered, and closes nothing else.
+
+    python3 tests/system/closing.py [STAGE]..
+
+done        an answered close is done, also where the main thread is faster than the loop, or has other sessions to serve.
+others      a close ends no other connection that a session does something to at the same time.
+woken       a close reaches a loop that is about to sleep.
+many_names  a close behind more commands than a loop is told one by one reaches one that is busy.
+"""
+import random
+import sys
+import threading
+import time
+
+sys.path.insert(1, f"{sys.path[0]}/..")
+from lib.checks import Checks
+from lib.relay import LEAST_PRIORITY, Session, allow_descriptors
+from lib.sockets import connect, read_to_end
+from lib.stages import options, run_stages
+from lib.talk import hears, says
+from lib.tried import WAIT_SECONDS, Tried
+
+# Closes in a row, beside nothing and beside a session that has lines of its own answered all the time.
+CLOSES, BUSY_LINES = 30, 500
+# Rounds of a close beside commands on so many other connections.
+BESIDE, OTHERS = 6, 4
+# Closes that come while the loop is about to sleep: so many at most, or as many as come in so many seconds. A loop that isn't told wakes a
+# second later; the longest that a close may take, and on a machine that is full of other work some rounds have a longer one.
+WOKEN, AT_ONCE, SECONDS, LONGEST, ROUNDS = 3_000, 50, 10, 0.7, 3
+# Connections with two names each, more than a loop is told one by one also where it takes some of them out meanwhile; and closes behind these.
+NAMED, BEHIND = 450, 6
+
+
+class Busy(threading.Thread):
+    """A session that asks for the totals all the time, so that the main thread never waits."""
+
+    def __init__(self, admin):
+        super().__init__(daemon=True)
+        self.admin, self.is_over = admin, threading.Event()
+
+    def run(self):
+        while not self.is_over.is_set():
+            with connect(self.admin, WAIT_SECONDS) as session:
+                session.sendall(b"totals\n" * BUSY_LINES + b"quit\n")
+                read_to_end(session)
+
+    def __enter__(self):
+        self.start()
+        return self
+
+    def __exit__(self, *_):
+        self.is_over.set()
+        self.join()
+
+
+def closes(it, first):
+    """The answers to so many closes, each with what the list says right after it."""
+    for client in range(first, first + 2 * CLOSES, 2):
+        ends = it.talking()
+        yield it.answer(f"close {client}\nlist\n")
+        ends.close()
+
+
+def done(checks, _):
+    with Tried(checks, "done", loops=1) as it:
+        it.relay.have_loops_go_last()
+        it.expect("a close is done once it is answered", {"ok\nids 1\n"}, set(closes(it, 2)))
+        with Busy(it.admin):
+            it.expect("so it is beside a busy session", {"ok\nids 1\n"}, set(closes(it, 2 + 2 * CLOSES)))
+        it.stop()
+
+
+def others(checks, _):
+    with Tried(checks, "others", loops=1) as it:
+        it.relay.have_loops_go_last()
+        stay = [it.talking() for _ in range(OTHERS)]
+        lines = "".join(f"deadline {id} never\n" for id in range(2, 2 + 2 * OTHERS))
+        for turn in range(BESIDE):
+            ends, id = it.talking(), 2 + 2 * (OTHERS + turn)
+            with connect(it.admin, WAIT_SECONDS) as one, connect(it.admin, WAIT_SECONDS) as other:
+                said = [(one, f"close {id}\n"), (other, lines)]
+                it.holds("both sessions begin", all(says(sock, b"list\n") and hears(sock, b"ids 1 2") for sock in (one, other)), "they don't")
+                with it.relay.stopped():
+                    for sock, line in said[:: 1 if turn % 2 else -1]:
+                        sock.sendall(line.encode())
+                it.are_over(ends.client, ends.peer)
+        it.expect("each that isn't closed goes on", [True] * OTHERS, [one.pass_both() for one in stay])
+        it.stop()
+
+
+def close_turning(it, session, stays, client):
+    """How long a close takes that comes while the loop turns for a byte or for other commands."""
+    before = random.randrange(4)
+    began = time.monotonic()
+    stays.client.sendall(b"x")
+    session.sock.sendall(b"deadline 2 never\n" * before + f"close {client}\n".encode())
+    said = [session.line("close") for _ in range(before + 1)]
+    if said != ["ok"] * (before + 1):
+        it.expect("a close is answered", ["ok"] * (before + 1), said)
+    return time.monotonic() - began
+
+
+def longest_close(it, session, stays, first):
+    """How long the longest of many closes takes, from this id on, up to the first that takes too long; and the next id."""
+    end = time.monotonic() + SECONDS
+    for client in range(first, first + 2 * WOKEN, 2 * AT_ONCE):
+        ends = [it.talking() for _ in range(AT_ONCE)]
+        took = max(close_turning(it, session, stays, client + 2 * at) for at in range(AT_ONCE))
+        for one in ends:
+            one.close()
+        if took >= LONGEST or time.monotonic() > end:
+            break
+    return took, client + 2 * AT_ONCE
+
+
+def woken(checks, _):
+    with Tried(checks, "woken", loops=1) as it, Session(it.relay.admin) as session:
+        stays, took, next = it.talking(), [], 4
+        while len(took) < ROUNDS and (not took or took[-1] >= LONGEST):
+            longest, next = longest_close(it, session, stays, next)
+            took.append(longest)
+        it.holds("no close waits for a loop that sleeps", took[-1] < LONGEST, f"one of each {WOKEN} took {took} s")
+        it.stop()
+
+
+class Bulk:
+    """A connection over which bytes go up as fast as they can."""
+
+    def __init__(self, ends):
+        self.ends = ends
+        self.threads = [threading.Thread(target=it, daemon=True) for it in (self.send, self.take)]
+
+    def send(self):
+        while says(self.ends.client, bytes(1 << 18)):
+            pass
+
+    def take(self):
+        read_to_end_of(self.ends.peer)
+
+    def __enter__(self):
+        for it in self.threads:
+            it.start()
+        return self
+
+    def __exit__(self, *_):
+        self.ends.close()
+        for it in self.threads:
+            it.join()
+
+
+def read_to_end_of(sock):
+    """Reads until nothing more comes, and keeps nothing."""
+    try:
+        while sock.recv(1 << 18):
+            pass
+    except OSError:
+        pass
+
+
+def many_names(checks, _):
+    with Tried(checks, "many names", loops=1, options=("--connections", "1000")) as it, Session(it.relay.admin) as session:
+        session.sock.settimeout(WAIT_SECONDS)
+        stay = [it.talking() for _ in range(NAMED)]
+        names = "".join(f"deadline {id} never\n" for id in range(2, 2 + 2 * NAMED))
+        it.relay.have_loops_go_last(LEAST_PRIORITY)
+        with Bulk(it.ends()):
+            behind = [it.talking() for _ in range(BEHIND)]
+            first = 2 + 2 * (NAMED + 1)
+            for client in range(first, first + 2 * BEHIND, 2):
+                session.sock.sendall(f"{names}close {client}\n".encode())
+                if not answered(session, 2 * NAMED + 1):
+                    it.holds("a close behind them is done", False, f"that of {client} isn't")
+                    break
+            else:
+                it.are_over(*(one.client for one in behind), what="a close behind them is done")
+        it.holds("the others go on", all(one.pass_both() for one in stay), "one doesn't")
+        it.answers("stop\n", "ok\n")
+        it.end()
+
+
+def answered(session, count):
+    """Whether so many commands are well."""
+    try:
+        return all(session.line("a command") == "ok" for _ in range(count))
+    except (OSError, EOFError):
+        return False
+
+
+STAGES = {it.__name__: it for it in (done, others, woken, many_names)}
+
+
+def main():
+    given, checks = options(__doc__, STAGES), Checks()
+    allow_descriptors()
+    run_stages(checks, STAGES, given.stages)
+    return checks.end()
+
+
+if __name__ == "__main__":
+    sys.exit(main())
