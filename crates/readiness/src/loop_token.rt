@@ -80,7 +80,7 @@ pub(crate) fn serial_of(token: u64) -> u64
 }
 
 /// The side in a token.
-pub(crate) fn side_of(token: u64) -> Side
+pub fn side_of(token: u64) -> Side
     ensures { result ≡ side_in token }
 {
     if token % SIDES == 0 {

@@ -6,8 +6,8 @@ use super::counting::Heard::{Back, Due, Ended, Told};
 use super::loop_steps::Event::{Any, Both, Second};
 use super::loop_steps::Step;
 use super::loop_steps::Step::{
-    Again, Arm, ArmNobody, Comes, EndAll, Leave, Len, Lift, Open, Put, PutEnding, ReadIsLate,
-    Ready, Rests, SamePlace, Set, Sleeps, Take, Tell, TellNobody, Turn, Turns, Wake,
+    Again, Arm, ArmNobody, Change, Comes, EndAll, Leave, Len, Lift, Names, Open, Put, PutEnding,
+    ReadIsLate, Ready, Rests, SamePlace, Set, Sleeps, Take, Tell, TellNobody, Turn, Turns, Wake,
 };
 use super::playing::{AHEAD, LATER};
 use fd_descriptor::{Deadline, Dir, Dirs};
@@ -32,6 +32,38 @@ pub(super) const ROWS: &[(&str, &[Step])] = &[
             Turn(0, &[Back(0)]),
             Arm(1, Side::First, Dirs::Read, AHEAD),
             Sleeps(0, AHEAD, NOTHING),
+        ],
+    ),
+    (
+        "a task that is changed between two turns goes on so, and nobody else",
+        &[
+            Put(0),
+            Put(0),
+            Change(1, Side::Second, 1),
+            Again(0),
+            Again(1),
+            Turn(0, &[Back(0), Back(1)]),
+            Turn(0, &[Back(1)]),
+            Arm(0, Side::First, Dirs::Read, AHEAD),
+            Sleeps(0, AHEAD, NOTHING),
+        ],
+    ),
+    (
+        "a token names its own task on both sides, and none once that has ended",
+        &[
+            PutEnding,
+            Put(0),
+            Names(0, Side::First, Some(0)),
+            Names(0, Side::Second, Some(0)),
+            Names(1, Side::First, Some(1)),
+            Tell(0, Side::First),
+            Turn(0, &[Told(0), Ended(0)]),
+            Names(0, Side::First, None),
+            Names(1, Side::Second, Some(1)),
+            Put(0),
+            SamePlace(0, 2),
+            Names(0, Side::Second, None),
+            Names(2, Side::Second, Some(2)),
         ],
     ),
     (

@@ -75,6 +75,8 @@ impl<R: Wait + Clock + Copy + Drop> Stage<R> {
             Step::Open => self.opens(),
             Step::Leave => self.far.take().is_some(),
             Step::Again(task) => self.has_come(task),
+            Step::Names(task, side, want) => self.named(task, side) == want,
+            Step::Change(task, side, yields) => self.changes(task, side, yields),
             Step::Tell(task, side) => self.tells(self.token(task, side)),
             Step::TellNobody(count) => self.tells_nobody(count),
             Step::Wake => self.wakes(),
@@ -147,6 +149,20 @@ impl<R: Wait + Clock + Copy + Drop> Stage<R> {
     fn has_come(&mut self, task: usize) -> bool {
         let token = self.token(task, Side::First);
         self.tasks.again(token);
+        true
+    }
+
+    fn named(&self, task: usize, side: Side) -> Option<usize> {
+        let token = self.token(task, side);
+        Some(self.tasks.task(token)?.number)
+    }
+
+    fn changes(&mut self, task: usize, side: Side, yields: u32) -> bool {
+        let token = self.token(task, side);
+        let Some(named) = self.tasks.task_mut(token) else {
+            return false;
+        };
+        named.yields = yields;
         true
     }
 

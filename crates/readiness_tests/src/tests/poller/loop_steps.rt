@@ -16,6 +16,10 @@ pub(super) enum Step {
     /// The far end is closed.
     Leave,
     Again(usize),
+    /// A token names this task, or none.
+    Names(usize, Side, Option<usize>),
+    /// The task that a token names gives way so often from now on.
+    Change(usize, Side, u32),
     Tell(usize, Side),
     /// So many names that are nobody's.
     TellNobody(u64),
