@@ -110,8 +110,8 @@ def make_tree(folder, texts):
 def stamp(all_plants):
     """What tells a program of other sources, plants or tools."""
     relay = next(it for it in checker.crates() if it.name == "pollrelay")
-    scripts = [text_at(f"tests/lib/{SWITCH}.{it}") for it in ("py", "c")]
-    return hashlib.sha256("\0".join([relay.stamp(), repr(all_plants), *scripts]).encode()).hexdigest()
+    edits = repr([(it.number, it.edit.pairs) for it in all_plants])
+    return hashlib.sha256("\0".join([relay.stamp(), edits, SWITCH_TEXT, text_at(f"tests/lib/{SWITCH}.c")]).encode()).hexdigest()
 
 
 def program(all_plants):
