@@ -1,4 +1,4 @@
-"""Edits of `crates/NAME/wrong-bodies/` and `tests/plants/`: what they say, what they change, and which can be tried in one check."""
+"""Edits of `crates/NAME/wrong-bodies/`: what they say, what they change, and which can be tried in one check."""
 
 import os
 import re
@@ -7,8 +7,8 @@ from collections import namedtuple
 Edit = namedtuple("Edit", "crate name refused pairs")
 
 
-def read_edit(crate_name, path, verdict="refused"):
-    """Reads an edit: its verdict, and its pairs of a file's path, the text that stands there once, and the text that takes its place."""
+def read_edit(crate_name, path):
+    """Reads an edit: its pairs of a file's path, the text that stands there once, and the text that takes its place."""
     refused, pairs, file, old = "", [], "", None
     with open(path, encoding="utf-8") as text:
         for line in text.read().split("\n"):
@@ -18,7 +18,7 @@ def read_edit(crate_name, path, verdict="refused"):
                 old = None
             elif key == "file":
                 file = said.strip()
-            elif key == verdict:
+            elif key == "refused":
                 refused = said.strip()
             elif key == "old":
                 old = said.removeprefix(" ")
@@ -34,7 +34,7 @@ def apply(edit, read):
     """The texts with the edit, by path, where `read` gives a file's text; or a reason why it doesn't apply."""
     texts = {}
     if not edit.pairs or not edit.refused:
-        return None, "it has no pair of `old:` and `new:`, or no line with its verdict"
+        return None, "it has no pair of `old:` and `new:`, or no line `refused:`"
     for path, old, new in edit.pairs:
         try:
             text = texts[path] if path in texts else read(path)

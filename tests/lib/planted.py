@@ -32,7 +32,7 @@ pub fn is_on(number: u32) -> bool {{
     {SWITCH}_number() == number
 }}
 """
-SEEN = re.compile(r"(\w+) (\w+): (.+)")
+SEEN = re.compile(r"^seen: (\w+) (\w+): (.+)$", re.M)
 
 # A plant: its name and number, the edit, and the script, the stage and the beginning of the check that has to see it.
 Plant = namedtuple("Plant", "name number edit script stage check")
@@ -48,14 +48,15 @@ def text_at(path):
 
 
 def read_plant(path, number):
-    edit = read_edit("", path, verdict="seen")
-    seen = SEEN.fullmatch(edit.refused)
+    edit = read_edit("", path)
+    with open(path, encoding="utf-8") as file:
+        seen = SEEN.search(file.read())
     if not seen:
         raise PlantFault(f"{edit.name}: its line `seen:` isn't `SCRIPT STAGE: CHECK`")
     pairs = tuple((file, old, re.sub(rf"\b{SWITCH}\b", f"{SWITCH}::is_on({number})", new)) for file, old, new in edit.pairs)
     if any(new == before for (_, _, new), (_, _, before) in zip(pairs, edit.pairs)):
         raise PlantFault(f"{edit.name}: a line `new:` doesn't ask whether it is `{SWITCH}`")
-    return Plant(edit.name, number, edit._replace(pairs=pairs), *seen.groups())
+    return Plant(edit.name, number, edit._replace(pairs=pairs, refused=seen[0]), *seen.groups())
 
 
 def plants():
@@ -110,8 +111,8 @@ def make_tree(folder, texts):
 def stamp(all_plants):
     """What tells a program of other sources, plants or tools."""
     relay = next(it for it in checker.crates() if it.name == "pollrelay")
-    scripts = [text_at(f"tests/lib/{SWITCH}.{it}") for it in ("py", "c")]
-    return hashlib.sha256("\0".join([relay.stamp(), repr(all_plants), *scripts]).encode()).hexdigest()
+    edits = repr([(it.number, it.edit.pairs) for it in all_plants])
+    return hashlib.sha256("\0".join([relay.stamp(), edits, SWITCH_TEXT, text_at(f"tests/lib/{SWITCH}.c")]).encode()).hexdigest()
 
 
 def program(all_plants):

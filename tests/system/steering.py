@@ -258,7 +258,7 @@ def finish(checks, _):
 
 
 # Rules of which one that finishes listens for none any more: two at ports, and two at paths.
-FOUR = "relay a {0} {target} never\nrelay b {1} {target} never\nrelay c unix:{folder}/third {target} never\nrelay d unix:{folder}/fourth {target} never\n"
+FOUR = "".join(f"relay {name} {at} {{target}} never\n" for name, at in zip("abcd", ("{0}", "{1}", "unix:{folder}/third", "unix:{folder}/fourth")))
 # The longest from a last end, or from the moment of a finish, to the end of the relay: where nobody wakes the main thread's loop, it looks a
 # second after its last turn. On a machine that is full of other work some rounds take longer.
 LONGEST_END, LAST_ROUNDS = 0.6, 5
