@@ -1,7 +1,7 @@
 //! The end of what a relay's threads share, once all of them have ended.
 
 use crate::threads::Joined;
-use relay_shared::closing::Closer;
+use relay_shared::inbox::Inbox;
 use relay_shared::shared::Shared;
 use std::alloc::Global;
 use std::fs::Files;
@@ -15,7 +15,7 @@ pub(crate) fn close_listeners<R: Wait + Files + Copy>(rt: &R, shared: &Shared, _
         let Some(id) = first else {
             break;
         };
-        shared.close(rt, id, Closer::ItsLoop);
+        shared.close(rt, id);
     }
     for served in shared.rules.lock(rt).iter() {
         served.remove_path(rt);
@@ -25,6 +25,6 @@ pub(crate) fn close_listeners<R: Wait + Files + Copy>(rt: &R, shared: &Shared, _
 /// Drops the sockets that no loop has set up.
 pub(crate) fn empty_inboxes<R: Wait>(rt: &R, alloc: Global, shared: &Shared, _joined: &Joined) {
     for handle in shared.loops.iter() {
-        handle.give_all(rt, &mut Vec::new(alloc));
+        handle.give_all(rt, &mut Inbox::empty(alloc));
     }
 }

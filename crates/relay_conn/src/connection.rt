@@ -27,7 +27,7 @@ use relay_facts::connection_facts::ConnectionFacts;
 use relay_facts::log_lines::tell_end;
 use relay_ledger::CarriedShare;
 use relay_log::ended::Ended as How;
-use relay_shared::closing::{Closer, close_both};
+use relay_shared::closing::close_both;
 use relay_shared::entry::Entry;
 use std::sync::ledger::Ledger;
 use std::sync::{Arc, Mutex, Wait};
@@ -133,13 +133,6 @@ impl<U: Ledger, D: Ledger, R: Wait + Clock + Copy> Connection<U, D, R> {
             Side::First => &self.client.cell,
             Side::Second => &self.target.cell,
         }
-    }
-
-    /// Its id: that of its client's side in the table.
-    pub fn id(&self) -> u64
-        ensures { result ≡ self.now.client.id }
-    {
-        self.client.id
     }
 
     // Which ways go on by what its loop heard.
@@ -268,7 +261,7 @@ impl<U: Ledger, D: Ledger, R: Wait + Clock + Copy> Connection<U, D, R> {
             failure: _,
         } = self;
         let (up, down) = (up.leave(), down.leave());
-        close_both(rt, table, client.id, target.id, Closer::ItsLoop);
+        close_both(rt, table, client.id, target.id);
         books.up.settle(up);
         books.down.settle(down);
         if let Some(counts) = facts.counts() {

@@ -2,6 +2,7 @@
 //! their books, and how far it came to its target.
 #![tactic(auto)]
 
+mod asked;
 pub mod connection;
 mod ending;
 pub mod giving_up;

@@ -23,8 +23,7 @@ use relay_core::{Copying, InsertedSides, PairTasks, Step, Way};
 use relay_facts::books::LoopBooks;
 use relay_facts::clock::RelayClock;
 use relay_facts::connection_facts::ConnectionFacts;
-use relay_shared::close_wishes::CloseWishes;
-use relay_shared::closing::{Closer, close_by_id};
+use relay_shared::closing::close_by_id;
 use relay_shared::entry::{Entry, Owner, Subject};
 use std::alloc::Global;
 use std::sync::ledger::Ledger;
@@ -38,15 +37,14 @@ pub struct OwnedSock {
     pub owner: Owner,
 }
 
-/// What a loop sets its connections up by: the relay's table and what sessions want closed there, and
-/// the poller of its own that tells of their sockets.
+/// What a loop sets its connections up by: the relay's table, and the poller of its own that tells
+/// of their sockets.
 #[derive(Clone, Copy)]
 pub struct SetUp<'a, R: Wait + Clock + Copy> {
     pub rt: R,
     pub alloc: Global,
     pub clock: RelayClock<R>,
     pub table: &'a Mutex<ConnTable<Entry>>,
-    pub closes: &'a CloseWishes,
     pub poller: &'a Poller,
 }
 
@@ -228,13 +226,11 @@ impl<'a, R: Wait + Clock + Copy> SetUp<'a, R> {
         Ok(connection)
     }
 
-    // Takes out and closes what a set-up that failed had inserted, and settles the wishes for it: the
-    // client's side, by which they name it, comes last.
+    // Takes out and closes what a set-up that failed had inserted.
     fn undo(&self, inserted: InsertedSides) {
         let mut inserted = inserted;
         while let Some(id) = inserted.undo() {
-            close_by_id(&self.rt, self.table, id, Closer::ItsLoop);
-            self.closes.settle(id);
+            close_by_id(&self.rt, self.table, id);
         }
     }
 

@@ -3,10 +3,13 @@
 
 ghost use Rattle.std.specs.Prelude.{◌≡◌, ◌≤◌, ◌<◌, ◌↔◌, ⊤, length, true, false};
 ghost use Rattle.std.specs.Prelude.{OnOk, IfOk, IfSome, IfNone};
-ghost use Rattle.fd_descriptor.specs.TaskHalf.{IsHalfOf, is_under_way};
+ghost use Rattle.fd_descriptor.specs.TaskHalf.{IsHalfOf, KeepsHalf, is_under_way};
+ghost use Rattle.fd_descriptor.specs.TaskHalf.{descriptor_of_half};
+ghost use Rattle.relay_shared.specs.Drained.{WasDrained};
 ghost use Rattle.relay_core.specs.SourceState.{resumed, ReadsAll};
 
 use crate::idle_time::IdleTime;
+use deadline_core::Deadline;
 use fd_descriptor::{Alarms, FdHandle, TaskReader, TaskWriter};
 use readiness::SockRes;
 use relay_core::{PollGate, SourceState};
@@ -68,6 +71,30 @@ impl<R: Wait + Copy, C: Moments, A: Alarms> TaskGate<R, C, A> {
         ensures target { self.new.target ≡ self.old.target }
     {
         self.source_state.resume(stop_ahead);
+    }
+
+    /// Drains the source's side: the read and the write that are under way there go on, and none
+    /// begins. `Draining` says that it was drained before.
+    pub(crate) fn drain_source(&mut self, rt: &R) -> Result<(), Fault>
+        ensures source { KeepsHalf self.old.source self.new.source }
+        ensures under_way { is_under_way self.new.source ≡ is_under_way self.old.source }
+        ensures state { self.new.source_state ≡ self.old.source_state }
+        ensures target { self.new.target ≡ self.old.target }
+        ensures drained { OnOk result (WasDrained (descriptor_of_half self.old.source)) }
+    {
+        let mut handle = self.source.share()?;
+        handle.drain(rt)
+    }
+
+    /// Sets the deadline of both directions of the source's side, unless it is drained or closed.
+    pub(crate) fn set_source(&mut self, rt: &R, deadline: Deadline, now: u64) -> Result<(), Fault>
+        ensures source { KeepsHalf self.old.source self.new.source }
+        ensures under_way { is_under_way self.new.source ≡ is_under_way self.old.source }
+        ensures state { self.new.source_state ≡ self.old.source_state }
+        ensures target { self.new.target ≡ self.old.target }
+    {
+        let mut handle = self.source.share()?;
+        handle.set_deadline(rt, deadline, now, &self.alarms)
     }
 
     /// Begins a read, where none is under way.

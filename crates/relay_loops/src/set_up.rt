@@ -16,7 +16,7 @@ use relay_facts::connection_facts::{Acceptance, ConnectionFacts};
 use relay_log::ended::Ended as How;
 use relay_shared::address::socket_address;
 use relay_shared::entry::Owner;
-use relay_shared::loop_handle::Accepted;
+use relay_shared::inbox::Accepted;
 use std::net::Net;
 use std::sync::ledger::Ledger;
 use std::sync::{Arc, Wait};
@@ -46,7 +46,6 @@ impl<R: Wait + Net + Clock + Copy> LoopContext<R> {
             alloc: self.alloc,
             clock: self.clock,
             table: &self.shared.table,
-            closes: &self.shared.closes,
             poller,
         }
     }
@@ -141,7 +140,8 @@ impl<U: Ledger, D: Ledger, R: Wait + Net + Clock + Copy> LoopHost<U, D, R> {
             Ok(connection) => connection,
             Err(how) => {
                 self.context.refuse(&acceptance, how);
-                self.context.shared.note_refused(counted);
+                drop(counted);
+                self.context.shared.note_end();
                 return;
             }
         };

@@ -1,6 +1,5 @@
 pub mod Accepting
 pub mod Accounts
-pub mod AskedCloses
 pub mod Deadlines
 pub mod Desk
 pub mod Finishing

@@ -13,7 +13,7 @@ use relay_facts::clock::Moments;
 use relay_facts::how_ended::reason_of_fault;
 use relay_facts::log_lines::tell_accept_fault;
 use relay_facts::served_rule::ServedRule;
-use relay_shared::closing::{Closer, Closes};
+use relay_shared::closing::Closes;
 use rwloops::Fault;
 use std::sync::Wait;
 use std::time::Clock;
@@ -91,7 +91,7 @@ impl<R: Wait + Clock + Copy, C: Moments> MainHost<R, C> {
     // would come for them.
     fn end(&self, listener: &RuleListener<R>, ended: AcceptEnded) {
         if ended.leaves_a_listener_to_close() {
-            self.shared.close(&self.rt, listener.id, Closer::ItsLoop);
+            self.shared.close(&self.rt, listener.id);
         }
     }
 
@@ -150,7 +150,7 @@ impl<R: Wait + Clock + Copy, C: Moments> MainHost<R, C> {
         drop(task);
         if let Ok(entry) = removed {
             let mut entry = entry;
-            let _ = entry.close(&self.rt, Closer::ItsLoop);
+            let _ = entry.close(&self.rt);
             entry.disarm(&self.rt);
         }
     }

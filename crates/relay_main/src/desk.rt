@@ -1,22 +1,20 @@
 //! What an admin session asks, over the relay's table and books.
 
-ghost use Rattle.std.specs.Prelude.{◌≡◌, None, IfSome, IfNone, Bool, true, false};
+ghost use Rattle.std.specs.Prelude.{◌≡◌, Some, None, IfSome, IfNone, true, false};
 ghost use Rattle.relay_admin.specs.declared.admin.command.Command.TheVariants as commands;
 ghost use Rattle.relay_admin.specs.admin.Reply.{HasAskedId};
 ghost use Rattle.relay_admin.specs.admin.Reply as replies;
 ghost use Rattle.relay_admin.specs.declared.admin.desk.DeskAnswer.{DeskAnswer};
-ghost use Rattle.deadline_core.specs.declared.deadline.Dirs.{Dirs};
 ghost use Rattle.relay_main.specs.Deadlines.{asked_deadline};
-ghost use Rattle.relay_main.specs.Desk.{answer_once_gone, desk_answer};
+ghost use Rattle.relay_main.specs.Desk.{desk_answer, known_answer, loop_answer};
 
 use crate::main_loop::MainLoop;
-use deadline_core::{Deadline, Dirs};
-use fd_descriptor::Setting;
+use deadline_core::Deadline;
 use relay_admin::{Desk, DeskAnswer, Shown};
 use relay_core::idle_deadline;
 use relay_facts::clock::Moments;
-use relay_shared::entry::{Handle, Owner};
 use relay_shared::loop_handle::totals_of;
+use relay_shared::requests::{Answer, Asks, Question};
 use rwloops::Fault;
 use std::alloc::Global;
 use std::fs::Files;
@@ -30,8 +28,10 @@ pub(crate) struct RelayDesk<'a, R: Wait + Clock + Copy> {
     main: &'a mut MainLoop<R>,
     /// The session's place.
     place: usize,
-    /// The reply to the last question waits for a close.
+    /// The reply to the last question waits for the answer of a loop.
     pub(crate) is_held: bool,
+    /// The answer of a loop, where it is there.
+    late: Option<DeskAnswer>,
 }
 
 // What a close, a drain or a deadline that ended so is to the session. A device's fault while the
@@ -48,10 +48,9 @@ fn answer_of(done: Result<(), Fault>) -> DeskAnswer
     }
 }
 
-// The same of a close by an id, which is unknown where another took its entry out.
-fn answer_of_close(done: Option<Result<(), Fault>>) -> DeskAnswer
-    ensures known { IfSome done (λ answer. result ≡ desk_answer answer) }
-    ensures unknown { IfNone done (result ≡ DeskAnswer.Unknown) }
+// The same of a listener, which is unknown where it has gone.
+fn answer_if_known(done: Option<Result<(), Fault>>) -> DeskAnswer
+    ensures { result ≡ known_answer done }
 {
     match done {
         Some(done) => answer_of(done),
@@ -59,30 +58,25 @@ fn answer_of_close(done: Option<Result<(), Fault>>) -> DeskAnswer
     }
 }
 
-// The answer to a close of a connection, once that has gone, where another session has asked for it
-// before, or none has.
-fn answer_once_gone(is_second: bool) -> DeskAnswer
-    ensures { result ≡ answer_once_gone is_second }
+// What the answer of a loop is to the session.
+fn answer_of_loop(answer: Answer) -> DeskAnswer
+    ensures { result ≡ loop_answer answer }
 {
-    if is_second {
-        DeskAnswer::Unknown
-    } else {
-        DeskAnswer::Fine
+    match answer {
+        Answer::Close(true) => DeskAnswer::Fine,
+        Answer::Close(false) => DeskAnswer::Unknown,
+        Answer::Drain(done) | Answer::Deadline(done) => answer_if_known(done),
     }
 }
 
-// What a session asks a descriptor for: a deadline in both directions, so many milliseconds from
-// now, or none.
-fn asked_setting(now: u64, after_ms: Option<u32>) -> Setting
-    ensures both { result.dirs ≡ Dirs.Both }
-    ensures deadline { result.deadline ≡ asked_deadline now after_ms }
-    ensures now { result.now ≡ now }
+// The deadline that a session asks for: so many milliseconds from now, or none.
+fn asked_deadline(now: u64, after_ms: Option<u32>) -> Deadline
+    ensures { result ≡ asked_deadline now after_ms }
 {
-    let deadline = match after_ms {
+    match after_ms {
         Some(ms) => Deadline::At(idle_deadline(now, ms)),
         None => Deadline::Never,
-    };
-    Setting::new(Dirs::Both, deadline, now)
+    }
 }
 
 impl<'a, R: Wait + Clock + Copy> RelayDesk<'a, R> {
@@ -95,21 +89,22 @@ impl<'a, R: Wait + Clock + Copy> RelayDesk<'a, R> {
             main,
             place,
             is_held: false,
+            late: None,
         }
     }
 
-    // A handle of its own on the connection or listener with this id, with whose it is, so that the
-    // table's lock is given back before a deadline is set or it is drained.
-    fn handle(&self, id: u64) -> Result<(Handle, Owner), DeskAnswer> {
-        let rt = self.main.host.rt;
-        let table = self.main.host.shared.table.lock(&rt);
-        let Some(entry) = table.by_id(id) else {
-            return Err(DeskAnswer::Unknown);
-        };
-        match entry.share(&rt) {
-            Ok(shared) => Ok(shared),
-            Err(fault) => Err(answer_of(Err(fault))),
-        }
+    /// The same, which answers so once.
+    pub(crate) fn answering(
+        main: &'a mut MainLoop<R>,
+        place: usize,
+        answer: Answer,
+    ) -> RelayDesk<'a, R>
+        ensures late { result.late ≡ Some (loop_answer answer) }
+        ensures place { result.place ≡ place }
+    {
+        let mut desk = RelayDesk::of(main, place);
+        desk.late = Some(answer_of_loop(answer));
+        desk
     }
 
     fn all_ids(&self, alloc: Global) -> DeskAnswer {
@@ -142,68 +137,31 @@ impl<'a, R: Wait + Clock + Copy> RelayDesk<'a, R> {
         }
     }
 
-    // Sets a deadline, and has the task that waits for the descriptor look at it.
-    fn set_deadline(
-        &self,
-        handle: &mut Handle,
-        owner: &Owner,
-        after_ms: Option<u32>,
-    ) -> DeskAnswer {
-        let rt = self.main.host.rt;
-        let Some(alarms) = owner.alarms(rt) else {
-            return DeskAnswer::NoMemory;
-        };
-        let setting = asked_setting(self.main.host.clock.now(), after_ms);
-        let answer = answer_of(handle.set(&rt, &alarms, setting));
-        owner.tell(&rt);
-        answer
-    }
-
-    // The connection that has this id on one of its sides, by its own id, and who has it.
-    fn connection(&self, id: u64) -> Result<(u64, Owner), DeskAnswer> {
+    // The place of the loop that has the connection with this id on one of its sides, and the token
+    // of its task on that side.
+    fn whereabouts(&self, id: u64) -> Option<(usize, u64)> {
         let rt = self.main.host.rt;
         let table = self.main.host.shared.table.lock(&rt);
-        let Some(entry) = table.by_id(id) else {
-            return Err(DeskAnswer::Unknown);
+        table.by_id(id)?.whereabouts()
+    }
+
+    // Asks the loop of the connection with this id. The reply waits for its answer; what is told
+    // here is replied only where there is none to wait for.
+    fn ask(&mut self, id: u64, asks: Asks) -> DeskAnswer
+        ensures held { self.old.is_held ≡ false → self.new.is_held ≡ true
+            → (is_second : Bool) × (result ≡ answer_once_gone is_second) }
+    {
+        let Some((loop_place, token)) = self.whereabouts(id) else {
+            return DeskAnswer::Unknown;
         };
-        entry.connection(id).ok_or(DeskAnswer::NoMemory)
-    }
-
-    // Takes the wish back. Its loop may have closed the connection by it meanwhile, where it had
-    // another reason to look.
-    fn withdrawn(&self, is_second: bool, answer: DeskAnswer) -> DeskAnswer {
-        if self.main.host.shared.closes.take_back(self.place) {
-            return answer_once_gone(is_second);
-        }
-        answer
-    }
-
-    // Leaves the wish to close this connection, which has this id on one of its sides, and tells its
-    // loop. The reply waits until it has gone.
-    fn wish_close(&mut self, connection: u64, id: u64) -> DeskAnswer
-        ensures held { self.old.is_held ≡ false → self.new.is_held ≡ true
-            → (is_second : Bool) × (result ≡ answer_once_gone is_second) }
-    {
-        let is_second = self.main.host.asked.note(self.place, connection);
-        self.main.host.shared.closes.leave(self.place, connection);
-        match self.connection(id) {
-            Ok((_, owner)) => {
-                owner.tell(&self.main.host.rt);
+        let question = Question { id, token, asks };
+        let host = &self.main.host;
+        match host.shared.ask(&host.rt, self.place, loop_place, question) {
+            Ok(()) => {
                 self.is_held = true;
-                answer_once_gone(is_second)
+                DeskAnswer::Fine
             }
-            Err(answer) => self.withdrawn(is_second, answer),
-        }
-    }
-
-    // Asks the loop of the connection with this id on one of its sides to close it.
-    fn ask_close(&mut self, id: u64) -> DeskAnswer
-        ensures held { self.old.is_held ≡ false → self.new.is_held ≡ true
-            → (is_second : Bool) × (result ≡ answer_once_gone is_second) }
-    {
-        match self.connection(id) {
-            Ok((connection, _)) => self.wish_close(connection, id),
-            Err(answer) => answer,
+            Err(_) => DeskAnswer::NoMemory,
         }
     }
 }
@@ -223,26 +181,33 @@ where
         totals_of(self.main.host.shared.loops.as_slice()).answer()
     }
 
-    // The main thread closes a listener by itself, whose task it has.
+    // What is asked of a listener the main thread does by itself, whose task it has; so also below.
     fn close(&mut self, id: u64) -> DeskAnswer {
+        if let Some(answer) = self.late.take() {
+            return answer;
+        }
         let rt = self.main.host.rt;
         match self.main.listener_token(&rt, id) {
-            Some(token) => answer_of_close(self.main.close_listener(&rt, id, token)),
-            None => self.ask_close(id),
+            Some(token) => answer_if_known(self.main.close_listener(&rt, id, token)),
+            None => self.ask(id, Asks::Close),
         }
     }
 
     fn drain(&mut self, id: u64) -> DeskAnswer {
-        match self.handle(id) {
-            Ok((mut handle, _)) => answer_of(handle.drain(&self.main.host.rt)),
-            Err(answer) => answer,
+        let rt = self.main.host.rt;
+        match self.main.listener_token(&rt, id) {
+            Some(token) => answer_if_known(self.main.drain_listener(token)),
+            None => self.ask(id, Asks::Drain),
         }
     }
 
     fn deadline(&mut self, _alloc: Global, id: u64, after_ms: Option<u32>) -> DeskAnswer {
-        match self.handle(id) {
-            Ok((mut handle, owner)) => self.set_deadline(&mut handle, &owner, after_ms),
-            Err(answer) => answer,
+        let rt = self.main.host.rt;
+        let now = self.main.host.clock.now();
+        let deadline = asked_deadline(now, after_ms);
+        match self.main.listener_token(&rt, id) {
+            Some(token) => answer_if_known(self.main.set_listener_deadline(token, deadline, now)),
+            None => self.ask(id, Asks::Deadline { deadline, now }),
         }
     }
 

@@ -5,7 +5,6 @@
 mod accepting;
 mod accounts;
 mod admin;
-mod asked_closes;
 mod desk;
 mod finishing;
 mod listening;

@@ -1,17 +1,18 @@
 //! What the main thread's loop resumes its tasks with.
 
 ghost use Rattle.std.specs.Prelude.{◌≡◌, ℕ, true, false, Some, None, IfSome};
+ghost use Rattle.std.specs.Arc.{arc_value};
+ghost use Rattle.readiness.specs.EventLoop.{remote_of};
 ghost use Rattle.relay_main.specs.Pauses.{StaysOrIsNoted, earliest};
 
 use crate::admin::Caller;
-use crate::asked_closes::AskedCloses;
 use crate::main_task::MainTask;
 use deadline_core::Dirs;
 use fd_descriptor::{Alarms, PollCell};
 use readiness::{Host, Place, RemoteAlarms, Side, Turn, Why};
 use relay_core::{has_come, pause_end};
 use relay_facts::clock::Moments;
-use relay_shared::close_wishes::MAX_SESSIONS;
+use relay_shared::requests::MAX_SESSIONS;
 use relay_shared::shared::Shared;
 use std::alloc::Global;
 use std::sync::{Arc, Wait};
@@ -40,8 +41,6 @@ pub struct MainHost<R: Wait + Copy, C: Moments> {
     pub(crate) callers: Vec<Caller>,
     /// Which places have sessions that may go on between two turns.
     pub(crate) named: [bool; MAX_SESSIONS],
-    /// The closes that sessions have asked for.
-    pub(crate) asked: AskedCloses,
 }
 
 impl<R: Wait + Copy, C: Moments> MainHost<R, C> {
@@ -57,25 +56,31 @@ impl<R: Wait + Copy, C: Moments> MainHost<R, C> {
             unarmed: None,
             callers: Vec::new(alloc),
             named: [false; MAX_SESSIONS],
-            asked: AskedCloses::none(),
         }
+    }
+
+    /// The alarms of the main thread's loop. It takes no memory.
+    pub(crate) fn alarms(&self) -> Option<RemoteAlarms<R>>
+        ensures own { IfSome result (λ alarms.
+            remote_of alarms ≡ arc_value (arc_value self.now.shared).main) }
+    {
+        let remote = Arc::try_clone(&self.shared.main).ok()?;
+        Some(RemoteAlarms::new(self.rt, remote))
     }
 
     /// Has the loop resume a task at this moment, by one of its tokens; or says that memory was
     /// refused for it.
     pub(crate) fn arm(&self, token: u64, at: u64) -> bool {
-        match Arc::try_clone(&self.shared.main) {
-            Ok(remote) => RemoteAlarms::new(self.rt, remote)
-                .arm(token, Dirs::Read, at)
-                .is_ok(),
-            Err(_) => false,
+        match self.alarms() {
+            Some(alarms) => alarms.arm(token, Dirs::Read, at).is_ok(),
+            None => false,
         }
     }
 
     /// Takes back what was armed by this token.
     pub(crate) fn disarm(&self, token: u64) {
-        if let Ok(remote) = Arc::try_clone(&self.shared.main) {
-            RemoteAlarms::new(self.rt, remote).disarm(token, Dirs::Read);
+        if let Some(alarms) = self.alarms() {
+            alarms.disarm(token, Dirs::Read);
         }
     }
 

@@ -149,10 +149,8 @@ impl<R: Wait + Net + Files + Clock + Copy> MainLoop<R> {
             if let Err(fault) = self.tasks.turn(&rt, now, &mut self.host) {
                 return Err(of_poller(fault));
             }
-            // What ended before was settled before: who waits for that is answered first.
-            let standing = self.host.shared.standing();
             sessions.serve(self);
-            if self.is_over(standing, sessions.are_held()) {
+            if self.is_over(sessions.are_held()) {
                 return Ok(());
             }
             if self.host.takes_unarmed() {
@@ -162,12 +160,10 @@ impl<R: Wait + Net + Files + Clock + Copy> MainLoop<R> {
         unreachable!()
     }
 
-    // Whether no turn more is wanted, where so many connections stood before the sessions were
-    // served: one of them may have let the last clients in.
-    fn is_over(&self, before: u64, is_held: bool) -> bool {
+    // Whether no turn more is wanted, where sessions' replies wait for answers or don't.
+    fn is_over(&self, is_held: bool) -> bool {
         let shared = &self.host.shared;
-        let standing = before.max(shared.standing());
-        shared.is_stopped()
-            || has_finished(self.finish_at, self.host.clock.now(), standing, is_held)
+        let now = self.host.clock.now();
+        shared.is_stopped() || has_finished(self.finish_at, now, shared.standing(), is_held)
     }
 }

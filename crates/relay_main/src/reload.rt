@@ -12,7 +12,6 @@ use crate::opening::listen_by;
 use relay_admin::{DeskAnswer, Rule, Rules, ServeFault, Verdict};
 use relay_facts::rules_file::text_of;
 use relay_facts::served_rule::ServedRule;
-use relay_shared::closing::Closer;
 use rwloops::Fault;
 use std::alloc::Global;
 use std::fs::Files;
@@ -110,7 +109,7 @@ impl<R: Wait + Net + Files + Clock + Copy> MainLoop<R> {
     ) -> Option<Result<(), Fault>> {
         let task = self.tasks.take(token);
         drop(task);
-        self.host.shared.close(rt, id, Closer::ItsLoop)
+        self.host.shared.close(rt, id)
     }
 
     /// The token of the task whose listener stands under this id.

@@ -15,6 +15,10 @@ use std::mem;
 /// The most bytes of one read.
 const CHUNK_BYTES: usize = 1_024;
 
+/// A line whose reply is that of any other to the same answer: which question is asked again, once
+/// the desk has its answer, makes no difference.
+const LATE_LINE: &[u8] = b"close 1\n";
+
 /// What a step of a session came to.
 #[derive(Clone, Copy, Debug, PartialEq, Eq, Drop)]
 pub(crate) enum SessionStep {
@@ -230,6 +234,18 @@ impl Session {
                 SessionStep::Again
             }
             Heard::Failed => SessionStep::Over,
+        }
+    }
+
+    /// The reply that is owed is the one to the answer that this desk has now, for which it has
+    /// waited. It takes no memory.
+    pub(crate) fn settle<D: Desk>(&mut self, alloc: Global, desk: &mut D) {
+        let mut line = AdminSession::new();
+        let _ = line.take(LATE_LINE);
+        if let Some((LineReply::Whole(reply), _)) = line.next_reply(alloc, alloc, desk) {
+            if let Some(owed) = &mut self.owed {
+                owed.reply = reply;
+            }
         }
     }
 

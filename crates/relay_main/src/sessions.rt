@@ -15,7 +15,7 @@ use readiness::Sock;
 use relay_admin::ServeFault;
 use relay_core::{has_come, silence_end};
 use relay_facts::clock::Moments;
-use relay_shared::close_wishes::{CloseWishes, MAX_SESSIONS};
+use relay_shared::requests::MAX_SESSIONS;
 use std::alloc::Global;
 use std::fs::Files;
 use std::mem;
@@ -35,7 +35,7 @@ struct Seated {
     token: u64,
     /// When it is ended, unless it gets on before.
     until: u64,
-    /// Its reply waits for a close that it has asked for.
+    /// Its reply waits for the answer of a loop.
     is_held: bool,
 }
 
@@ -133,8 +133,8 @@ impl Sessions {
         None
     }
 
-    // The session that has got nowhere for longest, with its place. One whose reply waits for a
-    // close isn't asked.
+    // The session that has got nowhere for longest, with its place. One whose reply waits for an
+    // answer isn't asked.
     fn quietest(&self) -> Option<(usize, &Box<Seated>)>
         ensures longest { IfSome result (λ found.
             IsQuietest self.now.places.items found.0 found.1.now) }
@@ -192,19 +192,25 @@ impl Sessions {
         main.host.callers = came;
     }
 
-    // Whether the session at this place may go on: one whose reply waits for a close, once that is
-    // done; any other, where it was named.
-    fn may_go_on(&mut self, place: usize, is_named: bool, wishes: &CloseWishes) -> bool {
+    // Whether the session at this place may go on: one whose reply waits for an answer, once that is
+    // there; any other, where it was named.
+    fn may_go_on<R>(&mut self, main: &mut MainLoop<R>, place: usize, is_named: bool) -> bool
+    where
+        R: Wait + Net + Files + Clock + Copy,
+    {
         let Some(Some(seated)) = self.places.get_mut(place) else {
             return false;
         };
         if !seated.is_held {
             return is_named;
         }
-        if !wishes.is_settled(place) {
+        let answer = main.host.shared.slots.lock(&main.host.rt).take(place);
+        let Some(answer) = answer else {
             return false;
-        }
-        wishes.take_back(place);
+        };
+        let alloc = main.alloc;
+        let mut desk = RelayDesk::answering(main, place, answer);
+        seated.session.settle(alloc, &mut desk);
         seated.is_held = false;
         true
     }
@@ -242,6 +248,7 @@ impl Sessions {
     {
         drop(main.tasks.take(token));
         main.host.disarm(token);
+        main.host.shared.slots.lock(&main.host.rt).withdraw(place);
         if let Some(seat) = self.places.get_mut(place) {
             *seat = None;
         }
@@ -255,7 +262,7 @@ impl Sessions {
         self.begin_all(main);
         let named = mem::replace(&mut main.host.named, [false; MAX_SESSIONS]);
         for place in 0..MAX_SESSIONS {
-            if self.may_go_on(place, named[place], &main.host.shared.closes) {
+            if self.may_go_on(main, place, named[place]) {
                 self.go_on(main, place);
             }
         }

@@ -1,4 +1,5 @@
-//! Closing what stands in the relay's table.
+//! Closing what stands in the relay's table: by the thread of the loop that has it, of which no
+//! call is under way by then, since the close would wait for that.
 
 ghost use Rattle.std.specs.Prelude.{Result, IfSome};
 ghost use Rattle.relay_shared.specs.Closing.{TakesBoth};
@@ -8,23 +9,13 @@ use conntable::{ConnTable, Refusal};
 use rwloops::Fault;
 use std::sync::{Mutex, Wait};
 
-/// Who closes a descriptor.
-#[derive(Clone, Copy, Debug, PartialEq, Eq, Drop)]
-pub enum Closer {
-    /// The thread of the loop that has it. No call of its own is under way by then, since it would
-    /// wait for itself.
-    ItsLoop,
-    /// Another thread: the loop is told, and ends the calls that are under way.
-    Another,
-}
-
 /// What closes once it is taken out of the table.
 pub trait Closes {
     /// This answer is told: that of its close.
     ghost tells: { Self → Result (Unit {0}) Fault → Type 0 };
 
     /// Closes, and waits until the last user has left.
-    fn close<R: Wait + Copy>(&mut self, rt: &R, by: Closer) -> Result<(), Fault>
+    fn close<R: Wait + Copy>(&mut self, rt: &R) -> Result<(), Fault>
         ensures told { tells self.old result };
 
     /// Takes back the alarms of what is closed by now.
@@ -33,11 +24,11 @@ pub trait Closes {
 
 // Closes what was taken out of the table, and gives its answer: then no alarm is armed for it any
 // more.
-fn close_taken<T: Closes, R: Wait + Copy>(rt: &R, entry: T, by: Closer) -> Result<(), Fault>
+fn close_taken<T: Closes, R: Wait + Copy>(rt: &R, entry: T) -> Result<(), Fault>
     ensures { T.tells entry result }
 {
     let mut entry = entry;
-    let answer = entry.close(rt, by);
+    let answer = entry.close(rt);
     entry.disarm(rt);
     answer
 }
@@ -51,7 +42,6 @@ pub fn close_by_id<T: Closes, R: Wait + Copy>(
     rt: &R,
     table: &Mutex<ConnTable<T>>,
     id: u64,
-    by: Closer,
 ) -> Option<Result<(), Fault>>
     // What the table has can't be told, since it is shared.
     ensures { IfSome result (λ answer. (entry : T) × T.tells entry answer) }
@@ -60,7 +50,7 @@ pub fn close_by_id<T: Closes, R: Wait + Copy>(
     let Ok(entry) = removed else {
         return None;
     };
-    Some(close_taken(rt, entry, by))
+    Some(close_taken(rt, entry))
 }
 
 /// Closes what stands under both ids: first both entries are taken out at once, so that nobody finds
@@ -70,14 +60,13 @@ pub fn close_both<T: Closes, R: Wait + Copy>(
     table: &Mutex<ConnTable<T>>,
     first: u64,
     second: u64,
-    by: Closer,
 ) {
     let (first, second) = taken_both(&mut *table.lock(rt), first, second);
     if let Ok(entry) = first {
-        let _ = close_taken(rt, entry, by);
+        let _ = close_taken(rt, entry);
     }
     if let Ok(entry) = second {
-        let _ = close_taken(rt, entry, by);
+        let _ = close_taken(rt, entry);
     }
 }
 

@@ -1,24 +1,23 @@
 //! What stands in the relay's table.
 
-ghost use Rattle.std.specs.Prelude.{◌≡◌, ⊤, IfSome, IfOk};
+ghost use Rattle.std.specs.Prelude.{◌≡◌, ⊤, IfSome};
 ghost use Rattle.std.specs.Arc.{arc_value};
 ghost use Rattle.deadline_core.specs.declared.deadline.Dirs.{Dirs};
-ghost use Rattle.fd_descriptor.specs.HandleCalls.{TellsWhoClosed, TellsWhoDrained};
+ghost use Rattle.fd_descriptor.specs.HandleCalls.{TellsWhoClosed};
 ghost use Rattle.readiness.specs.EventLoop.{remote_of};
 ghost use Rattle.relay_shared.specs.Handle.{closes_of, drains_of};
-ghost use Rattle.relay_shared.specs.Subject.{connection_of};
+ghost use Rattle.relay_shared.specs.Subject.{IsWhere};
 
-use crate::closing::{Closer, Closes};
-use crate::setting::set_by;
+use crate::closing::Closes;
 use deadline_core::Dirs;
-use fd_descriptor::{Alarms, AtEviction, FdHandle, Nobody, Setting};
+use fd_descriptor::{Alarms, FdHandle};
 use readiness::{ListenRes, LoopRemote, RemoteAlarms, SockRes};
 use relay_admin::{Shown, ShownSide};
 use relay_facts::connection_facts::ConnectionFacts;
 use relay_facts::served_rule::ServedRule;
 use relay_facts::shown::{shown_listener, shown_side};
 use rwloops::Fault;
-use std::sync::{Arc, Mutex, Wait};
+use std::sync::{Arc, Wait};
 
 /// A handle of a connection or of a listener.
 #[derive(Drop)]
@@ -28,46 +27,13 @@ pub enum Handle {
 }
 
 impl Handle {
-    fn share(&mut self) -> Result<Handle, Fault> {
-        match self {
-            Handle::Conn(handle) => Ok(Handle::Conn(handle.share()?)),
-            Handle::Listener(handle) => Ok(Handle::Listener(handle.share()?)),
-        }
-    }
-
-    fn close<R: Wait, E: AtEviction>(&mut self, rt: &R, told: &E) -> Result<(), Fault>
+    fn close<R: Wait>(&mut self, rt: &R) -> Result<(), Fault>
         ensures closer { TellsWhoClosed result (closes_of self.old) (closes_of self.new) }
         ensures no_drain { drains_of self.new ≡ drains_of self.old }
     {
         match self {
-            Handle::Conn(handle) => handle.close_telling(rt, told),
-            Handle::Listener(handle) => handle.close_telling(rt, told),
-        }
-    }
-
-    /// Drains it, and leaves it open.
-    pub fn drain<R: Wait>(&mut self, rt: &R) -> Result<(), Fault>
-        ensures drainer { TellsWhoDrained result (drains_of self.old) (drains_of self.new) }
-        ensures no_close { closes_of self.new ≡ closes_of self.old }
-    {
-        match self {
-            Handle::Conn(handle) => handle.drain(rt),
-            Handle::Listener(handle) => handle.drain(rt),
-        }
-    }
-
-    pub fn set<R: Wait, A: Alarms>(
-        &mut self,
-        rt: &R,
-        alarms: &A,
-        setting: Setting,
-    ) -> Result<(), Fault>
-        ensures no_close { closes_of self.new ≡ closes_of self.old }
-        ensures no_drain { drains_of self.new ≡ drains_of self.old }
-    {
-        match self {
-            Handle::Conn(handle) => set_by(rt, handle, alarms, setting),
-            Handle::Listener(handle) => set_by(rt, handle, alarms, setting),
+            Handle::Conn(handle) => handle.close(rt),
+            Handle::Listener(handle) => handle.close(rt),
         }
     }
 }
@@ -88,22 +54,6 @@ pub struct Owner {
 }
 
 impl Owner {
-    /// Has the task look at its descriptor: what it is to see is there before.
-    pub fn tell<R: Wait>(&self, rt: &R) {
-        self.remote.tell(rt, self.token);
-    }
-
-    /// The same once more. It takes no memory.
-    pub fn try_clone(&self) -> Option<Owner>
-        ensures token { IfSome result (λ other. other.token ≡ self.now.token) }
-        ensures remote { IfSome result (λ other. arc_value other.remote
-            ≡ arc_value self.now.remote) }
-    {
-        let remote = Arc::try_clone(&self.remote).ok()?;
-        let token = self.token;
-        Some(Owner { remote, token })
-    }
-
     /// The alarms that its descriptor may have.
     fn armed(&self) -> Armed
         ensures key { result.key ≡ self.now.token }
@@ -124,19 +74,6 @@ impl Owner {
     }
 }
 
-/// Tells the task that its descriptor is closing.
-#[derive(Clone, Copy)]
-struct Telling<'a, R: Wait> {
-    rt: &'a R,
-    owner: &'a Owner,
-}
-
-impl<'a, R: Wait> AtEviction for Telling<'a, R> {
-    fn evicted(&self) {
-        self.owner.tell(self.rt);
-    }
-}
-
 /// What an entry is of.
 #[derive(Drop)]
 pub enum Subject {
@@ -147,16 +84,6 @@ pub enum Subject {
 }
 
 impl Subject {
-    // The id of the connection that it is a side of, which stands under this id.
-    fn connection(&self, id: u64) -> u64
-        ensures { result ≡ connection_of self.now id }
-    {
-        match self {
-            Subject::Side(_, ShownSide::Target) => id.saturating_sub(1),
-            _ => id,
-        }
-    }
-
     // What is shown of it, which has this id, at this moment.
     fn shown<R: Wait>(&self, rt: &R, id: u64, now: u64) -> Shown
         ensures { result.id ≡ id }
@@ -168,24 +95,37 @@ impl Subject {
     }
 }
 
-/// A connection's side or a listener: whose it is, and a handle that the desk takes shares of and
-/// that whoever takes the entry out closes.
+/// A connection's side or a listener: whose it is, and a handle that whoever takes the entry out
+/// closes.
 #[derive(Drop)]
 pub struct Entry {
-    handle: Mutex<Handle>,
+    handle: Handle,
     owner: Owner,
     subject: Subject,
 }
 
 impl Entry {
     pub fn new(handle: Handle, owner: Owner, subject: Subject) -> Entry
+        ensures handle { result.handle ≡ handle }
         ensures owner { result.owner ≡ owner }
         ensures subject { result.subject ≡ subject }
     {
         Entry {
-            handle: Mutex::new(handle),
+            handle,
             owner,
             subject,
+        }
+    }
+
+    /// The place of the loop that has it, and the token of its task there, where it is a side of a
+    /// connection.
+    pub fn whereabouts(&self) -> Option<(usize, u64)>
+        ensures token { IfSome result (λ at. at.1 ≡ self.now.owner.token) }
+        ensures own { IsWhere self.now.subject result }
+    {
+        match &self.subject {
+            Subject::Side(facts, _) => Some((facts.loop_place, self.owner.token)),
+            Subject::Listener(_) => None,
         }
     }
 
@@ -195,42 +135,17 @@ impl Entry {
     {
         self.subject.shown(rt, id, now)
     }
-
-    /// The id of the connection that it is a side of, which stands under this id, and whose task is to
-    /// be told of what is wished of it.
-    pub fn connection(&self, id: u64) -> Option<(u64, Owner)>
-        ensures id { IfSome result (λ found. found.0 ≡ connection_of self.now.subject id) }
-        ensures owner { IfSome result (λ found. found.1.token ≡ self.now.owner.token) }
-    {
-        let owner = self.owner.try_clone()?;
-        Some((self.subject.connection(id), owner))
-    }
-
-    /// A handle of its own, and whose task is to be told of what is done by it.
-    pub fn share<R: Wait>(&self, rt: &R) -> Result<(Handle, Owner), Fault>
-        ensures owner { IfOk result (λ shared. shared.1.token ≡ self.now.owner.token) }
-    {
-        let Some(owner) = self.owner.try_clone() else {
-            return Err(Fault::OutOfMemory);
-        };
-        Ok((self.handle.lock(rt).share()?, owner))
-    }
 }
 
 impl Closes for Entry {
     // What other threads did to the handle before isn't known.
     ghost tells = { λ _ _. ⊤ };
 
-    fn close<R: Wait + Copy>(&mut self, rt: &R, by: Closer) -> Result<(), Fault> {
+    fn close<R: Wait + Copy>(&mut self, rt: &R) -> Result<(), Fault> {
         if let Subject::Listener(served) = &self.subject {
             served.note_listening(false);
         }
-        let owner = &self.owner;
-        let mut handle = self.handle.lock(rt);
-        match by {
-            Closer::ItsLoop => handle.close(rt, &Nobody),
-            Closer::Another => handle.close(rt, &Telling { rt, owner }),
-        }
+        self.handle.close(rt)
     }
 
     fn disarm<R: Wait + Copy>(self, rt: &R) {

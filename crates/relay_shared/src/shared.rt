@@ -1,19 +1,20 @@
 //! What the relay's threads share.
 //!
-//! Locks are held for a few steps, and taken in this order: the rules', the table's, an entry's, a
-//! rule's or a cell's, a remote's. The inboxes' are held alone.
+//! Locks are held for a few steps, and taken in this order: the rules', the table's, a rule's or a
+//! cell's, a remote's. Those of the inboxes and of the slots are held alone.
 
 ghost use Rattle.std.specs.Prelude.{◌≡◌, IfErr, IfOk};
 ghost use Rattle.std.specs.Arc.{arc_value};
 ghost use Rattle.relay_admin.specs.declared.serve_fault.ServeFault.{ServeFault};
 ghost use Rattle.relay_shared.specs.Drop.{IsDrop};
 
-use crate::close_wishes::CloseWishes;
-use crate::closing::{Closer, close_by_id};
+use crate::closing::close_by_id;
 use crate::entry::Entry;
-use crate::loop_handle::{Counted, LoopHandle};
+use crate::loop_handle::LoopHandle;
+use crate::requests::{Answer, Question, Request, Slots, Ticket};
 use crate::stopping::{StopFlag, Stopped};
 use arrayvec::ArrayVec;
+use base_types::OutOfMemory;
 use conntable::ConnTable;
 use log_writer::Log;
 use readiness::{LoopRemote, Sock};
@@ -47,8 +48,8 @@ pub struct Shared {
     pub safeguards: Safeguards,
     /// Where the rules file is.
     pub rules_path: String,
-    /// What sessions want closed.
-    pub closes: CloseWishes,
+    /// The answers that sessions wait for.
+    pub slots: Mutex<Slots>,
     /// Whether the main thread is to be told of each connection that ends, since it waits for the
     /// last. It is never unset.
     pub is_finishing: AtomicBool,
@@ -83,7 +84,7 @@ pub fn shared_of(
         table: Mutex::new(ConnTable::new(alloc)),
         rules: Mutex::new(rules),
         rules_path,
-        closes: CloseWishes::none(alloc)?,
+        slots: Mutex::new(Slots::none(alloc)?),
         is_finishing: AtomicBool::new(false),
         main,
         loops,
@@ -161,8 +162,8 @@ impl Shared {
     }
 
     /// Closes the connection or listener with this id; `None` says that another did.
-    pub fn close<R: Wait + Copy>(&self, rt: &R, id: u64, by: Closer) -> Option<Result<(), Fault>> {
-        close_by_id(rt, &self.table, id, by)
+    pub fn close<R: Wait + Copy>(&self, rt: &R, id: u64) -> Option<Result<(), Fault>> {
+        close_by_id(rt, &self.table, id)
     }
 
     /// How many connections stand, those among them that are being set up.
@@ -174,22 +175,43 @@ impl Shared {
         all
     }
 
-    /// A connection has ended, whose client's side had this id, and the main thread is told, where
-    /// anybody there waits for it. It is counted until wishes for it are settled: a relay that
-    /// finishes ends once none is, and whoever waits for a close is to be answered before.
-    pub fn note_end(&self, connection: u64, counted: Counted) {
-        let is_wished = self.closes.settle(connection);
-        drop(counted);
-        if is_wished || self.is_finishing.load(Ordering::SeqCst) {
+    /// Asks the loop at a place, for the session at this one, which waits for the answer from then
+    /// on; or says that there is no memory for that, and then it waits for nothing.
+    pub fn ask<R: Wait>(
+        &self,
+        rt: &R,
+        session: usize,
+        loop_place: usize,
+        question: Question,
+    ) -> Result<(), OutOfMemory> {
+        let Some(handle) = self.loops.get(loop_place) else {
+            return Err(OutOfMemory);
+        };
+        let Some(ticket) = self.slots.lock(rt).begin(session) else {
+            return Err(OutOfMemory);
+        };
+        match handle.ask(rt, Request { ticket, question }) {
+            Ok(()) => Ok(()),
+            Err(request) => {
+                self.slots.lock(rt).take_back(request);
+                Err(OutOfMemory)
+            }
+        }
+    }
+
+    /// Answers a request: its session, if it waits for that still, goes on.
+    pub fn answer<R: Wait>(&self, rt: &R, ticket: Ticket, answer: Answer) {
+        let waits = self.slots.lock(rt).answer(ticket, answer);
+        if waits {
             self.main.wake();
         }
     }
 
-    /// A set-up was refused, which has settled wishes for what it had put into the table: the main
-    /// thread is told.
-    pub fn note_refused(&self, counted: Counted) {
-        drop(counted);
-        self.main.wake();
+    /// Tells the main thread of a connection that has ended, where it waits for the last.
+    pub fn note_end(&self) {
+        if self.is_finishing.load(Ordering::SeqCst) {
+            self.main.wake();
+        }
     }
 
     /// Tells the main thread and all loops that no more turns are wanted.

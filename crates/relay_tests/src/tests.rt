@@ -39,6 +39,7 @@ mod odd_clock;
 mod odd_moments;
 mod pairs;
 mod places;
+mod slots;
 mod streams;
 mod watch;
 

@@ -30,7 +30,7 @@ FILES = {
     "LIMIT_NS": "crates/metrics_server/src/lib.rt",
     "PATIENCE_SECONDS": "crates/pollrelay/src/main.rt",
     "MAX_SILENCE_MS": "crates/relay_core/src/idle.rt",
-    "MAX_SESSIONS": "crates/relay_shared/src/close_wishes.rt",
+    "MAX_SESSIONS": "crates/relay_shared/src/requests.rt",
     "MAX_FAULTS_IN_A_ROW": "crates/relay_core/src/accepting.rt",
     "MAX_INTERRUPTIONS": "crates/stream_base/src/attempt.rt",
     "lockword_script::MAX_LINE_BYTES": "crates/lockword_script/src/script.rt",

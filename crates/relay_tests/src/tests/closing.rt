@@ -8,7 +8,7 @@ use super::watch::Watch;
 use base_types::Dir;
 use conntable::ConnTable;
 use deadline_core::Timers;
-use relay_shared::closing::{Closer, Closes, close_by_id};
+use relay_shared::closing::{Closes, close_by_id};
 use rwloops::Fault;
 use std::process::Abort;
 use std::sync::atomic::{AtomicU64, Ordering};
@@ -38,9 +38,9 @@ struct Looked<R: Clock + Drop> {
 impl<C: Clock + Drop> Closes for Looked<C> {
     ghost tells = { λ _ _. ⊤ };
 
-    fn close<R: Wait + Copy>(&mut self, _rt: &R, by: Closer) -> Result<(), Fault> {
+    fn close<R: Wait + Copy>(&mut self, _rt: &R) -> Result<(), Fault> {
         self.marks.closing.fetch_add(1, Ordering::SeqCst);
-        if comes(&self.clock, &self.marks.looked) && by == Closer::Another {
+        if comes(&self.clock, &self.marks.looked) {
             return Ok(());
         }
         Err(Fault::DeadlineExceeded)
@@ -115,8 +115,8 @@ fn an_entry_is_closed_outside_the_tables_lock(rt: HostRuntime) {
     let watch = Watch::start(rt, rt.alloc());
     let world = world_of_one(rt);
     let looking = start_looking(rt, &world);
-    let closed = close_by_id(&rt, &world.table, 1, Closer::Another);
-    let again = close_by_id(&rt, &world.table, 1, Closer::Another);
+    let closed = close_by_id(&rt, &world.table, 1);
+    let again = close_by_id(&rt, &world.table, 1);
     holds!(rt; looking.join(&rt));
     holds!(rt; closed == Some(Ok(())));
     holds!(rt; again.is_none());
