@@ -361,7 +361,7 @@ def until_closed(sock):
         is_closed(sock)
 
 
-@trial("another answer than that of this relay's web server at /metrics")
+@trial("ADDRESS answers with status 404 or 405")
 def _(stack, checks):
     made = Made(stack)
     checks.expect("another path", 404, made.page("/")[0])

@@ -1,0 +1,24 @@
+"""Turns of phrase that strangers stumbled over, each with the plain one: no page has them again."""
+
+import re
+
+ROWS = (
+    (r"[Ww]hoever", "name the thread, the client or the operator"),
+    (r"(?:^|[.;:|] )[Ww]ho (?:doesn't|destroyed|waited|waits|reads|removes|takes)\b", "say what kind of thing it is"),
+    (r"\brows? of (?:faults|accepts|them|interruptions)\b", "a series"),
+    (r"\bgot nowhere\b", "made no progress"),
+    (r"\bfor good\b", "permanently"),
+    (r"\bas ever\b", "as before"),
+    (r"\btakes nobody more\b(?! for)", "takes no more clients"),
+    (r"\bis dear\b", "is expensive"),
+    (r"\bno proof knows\b", "proofs know nothing of"),
+)
+
+
+def check(tree, told):
+    for page in tree.pages():
+        told.passed += 1
+        for line, said in enumerate(tree.text(page).splitlines(), 1):
+            for words, plain in ROWS:
+                for it in re.finditer(words, said):
+                    told.holds(False, page, f"“{it[0].strip()}”: {plain}", line)
