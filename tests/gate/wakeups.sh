@@ -205,22 +205,34 @@ finish
 # fails | loops | -DSTOP_ONCE_QUIET -DNOTHING_IS_REFUSED -DEVENTS=0 -DMAIN_FAILS -DADMIN_IS_WOKEN_BEFORE_STOP_IS_SET | the admin thread is woken before stop is set
 # fails | loops | -DSTOP_ONCE_QUIET -DNOTHING_IS_REFUSED -DEVENTS=0 -DLOOP_FAILS -DADMIN_LOOKS_NOT_AT_STOP | a woken admin thread doesn't look whether the relay has stopped
 #
-# A close that a session asks for, and the connection's loop carries out.
-# sound | close_wish | | two sessions ask for a close, by the id of either side
-# sound | close_wish | -DSESSIONS=3 | three sessions do
-# fails | close_wish | -DWISH_IS_LEFT_AFTER_THE_LOOK | a session leaves its wish after it has looked for the entry
-# fails | close_wish | -DLOOP_IS_TOLD_BEFORE_THE_WISH_IS_LEFT | a session tells the loop before it leaves its wish
-# fails | close_wish | -DLOOP_ISNT_TOLD | a session leaves its wish and tells nobody
-# fails | close_wish | -DWISHES_ARE_SETTLED_BEFORE_THE_ENTRIES_ARE_OUT | a loop settles wishes before the entries are out of the table
-# fails | close_wish | -DWISH_NAMES_THE_SIDE_THAT_WAS_ASKED_FOR | a session's wish names the side that it was asked for, and not the connection
-# fails | close_wish | -DSECOND_CLOSE_IS_ANSWERED_AT_ONCE | a second close is told that nothing stands there while it stands still
-# fails | close_wish | -DSECOND_IS_WHO_FINDS_A_WISH | a session takes a close that is being settled for one that nobody asked for
-# fails | close_wish | -DEACH_CLOSE_IS_TOLD_AS_DONE | two closes of one connection are both told as done
-# fails | close_wish | -DNO_SESSION_IS_WOKEN | a loop settles a wish and wakes no main thread
-# fails | close_wish | -DREFUSED_SET_UP_SETTLES_NOTHING | a set-up that was refused settles no wish
-# fails | close_wish | -DREFUSED_SET_UP_SETTLES_BEFORE_ITS_ENTRIES_ARE_OUT | a set-up that was refused settles wishes before it takes its entries back
-# fails | close_wish | -DWOKEN_IS_SET_AFTER_THE_LOOP_IS_ROUSED | a loop rouses the main thread before it sets its flag
-# fails | close_wish | -DWOKEN_IS_UNSET_AFTER_THE_SESSIONS_LOOK | the main thread unsets its flag after it has looked at the wishes
+# What sessions ask of connections, and the loops that have these answer.
+# sound | requests | | two sessions ask for a connection that is set up, or refused, and may end by itself
+# sound | requests | -DSESSIONS=1 -DLINES=2 -DCONNS=2 | one session asks twice, for two connections
+# sound | requests | -DSESSIONS=1 -DLINES=2 -DSESSIONS_LEAVE | a session may go while its request is out, and another has its place
+# sound | requests | -DFINISHES | a session has the relay finish
+# sound | requests | -DSTOPS | a session has the relay stop
+# sound | requests | -DLOOP_FAILS | the loop's poller fails
+# fails | requests | -DLOOP_IS_WOKEN_BEFORE_THE_REQUEST_IS_PUT | a session wakes the loop before it puts its request into the inbox
+# fails | requests | -DLOOP_ISNT_WOKEN | a session puts its request into the inbox and wakes nobody
+# fails | requests | -DSLOT_IS_BEGUN_AFTER_THE_REQUEST_IS_PUT | a slot begins to wait once its request is in the inbox
+# fails | requests | -DWOKEN_IS_UNSET_AFTER_THE_INBOX_IS_TAKEN | a loop unsets its flag after it has taken its inbox
+# fails | requests | -DWOKEN_IS_SET_AFTER_THE_LOOP_IS_ROUSED | whoever wakes a loop rouses it before it sets its flag
+# fails | requests | -DREQUEST_OF_A_TASK_THAT_IS_GONE_IS_DROPPED | a loop doesn't answer a request whose connection has ended
+# fails | requests | -DCLOSE_ISNT_ANSWERED | a loop ends a connection as asked and answers nobody
+# fails | requests | -DCLOSE_IS_ANSWERED_BEFORE_IT_IS_DONE | a loop answers a close while the connection is still found
+# fails | requests | -DANSWER_WAKES_NOBODY | a loop puts its answer into the slot and wakes no main thread
+# fails | requests | -DANSWER_WAKES_BEFORE_IT_STANDS | a loop wakes the main thread before its answer is in the slot
+# fails | requests | -DWOKEN_IS_UNSET_AFTER_THE_SESSIONS_LOOK | the main thread unsets its flag after it has looked at the slots
+# fails | requests | -DSESSIONS=1 -DLINES=2 -DSESSIONS_LEAVE -DANSWER_GOES_TO_WHOEVER_WAITS | an answer is given to the session that has the place now
+# fails | requests | -DSESSIONS=1 -DCONNS=2 -DTOKEN_ALONE_NAMES_A_CONNECTION | a request for a connection whose set-up was refused reaches the next one, which has its token
+# fails | requests | -DFINISHES -DMAIN_WAITS_FOR_NO_SESSION | a relay that finishes ends before a session has its answer
+# fails | requests | -DFINISHES -DMAIN_COUNTS_BEFORE_IT_SERVES | the main thread counts the connections before a session has it finish
+# fails | requests | -DFINISHES -DMAIN_IS_LOOKED_AT_BEFORE_THE_COUNT | a loop looks whether the relay finishes before its connection counts no more
+# fails | requests | -DFINISHES -DEND_WAKES_NO_MAIN | the last connection ends and wakes no main thread
+# fails | requests | -DLOOP_FAILS -DSTOP_WAKES_BEFORE_IT_IS_SAID | a loop that failed wakes the main thread before it says that the relay stops
+# fails | requests | -DSTOPS -DSTOP_WAKES_NO_LOOP | a stop wakes no loop
+# fails | requests | -DLOOP_FAILS -DSTOP_WAKES_NO_MAIN | a stop by a loop that failed wakes no main thread
+# fails | requests | -DLOOP_FAILS -DLOOP_THAT_FAILS_STOPS_NOBODY | a loop whose poller failed ends alone
 #
 # Which reads a task leaves out.
 # sound | short_reads | | bytes, urgent data and an end over TCP
