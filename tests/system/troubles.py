@@ -313,8 +313,7 @@ def _(stack, checks):
     client = made.client()
     checks.expect("finish", (0, "ok"), ctl(made.relay.admin, "finish", "86400000"))
     checks.expect("what stands", (0, "ids 2 3"), ctl(made.relay.admin, "list"))
-    # (the relay ends with its last connection, perhaps ahead of the reply)
-    checks.holds("close", ctl(made.relay.admin, "close", "2") in ((0, "ok"), (3, "cannot reach admin")), "")
+    checks.expect("close", (0, "ok"), ctl(made.relay.admin, "close", "2"))
     checks.holds("the relay ends", made.relay.ends_within(SECONDS) and is_closed(client), "")
 
 
