@@ -4,7 +4,7 @@
     python3 tests/system/refusals.py [STAGE]..
 
 poller   the poller takes no more descriptors, of the client or of the target.
-memory   no more memory is mapped: each client is served, or told the end and logged.
+memory   no more memory is mapped: each client is served, or told the end.
 """
 import errno
 import resource
@@ -14,7 +14,7 @@ import sys
 sys.path.insert(1, f"{sys.path[0]}/..")
 from lib.c_code import library
 from lib.checks import Checks
-from lib.log_text import logged, read_log
+from lib.log_text import logged
 from lib.places import LIB
 from lib.relay import StartFault, allow_descriptors
 from lib.stages import options, run_stages
@@ -100,23 +100,19 @@ class Crowd:
             return sum(peeked(it) == b"x" for it in self.peers)
 
 
-def memory(checks, folder):
+def memory(checks, _):
     """How many are refused is up to the allocator that the program stands on. The idle time has a set-up ask for alarms too."""
-    log = f"{folder}/log"
-    with Tried(checks, "memory", 86_400_000, loops=1, options=("--log", log)) as it:
+    with Tried(checks, "memory", 86_400_000, loops=1) as it:
         it.holds("one stands", it.ends().pass_both(), "no bytes pass")
         may_map(it.relay.process.pid, mapped(it.relay.process.pid))
         crowd = Crowd(it)
         is_so = comes(lambda: crowd.refused() + crowd.served() == CLIENTS)
         it.holds("each is served or told the end", is_so, f"{crowd.served()} and {crowd.refused()} of {CLIENTS}")
         may_map(it.relay.process.pid, resource.RLIM_INFINITY)
-        served, refused = crowd.served(), crowd.refused()
+        served = crowd.served()
         standing = 3 + 2 * served
         it.holds("nothing is left of the others", comes(lambda: len(it.relay.ids()) == standing), f"{len(it.relay.ids())} ids, not {standing}")
         it.stop(f"listening 1\nup {5 + served} down 2\n")
-        with open(log, encoding="ascii") as file:
-            lines, lost, others = read_log(file.read())
-        it.expect("each of them is logged", (refused, []), (sum(line["client_id"] == "-" for line in lines) + lost, others))
         for sock in crowd.peers:
             sock.close()
 
