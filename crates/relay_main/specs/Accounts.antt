@@ -25,4 +25,5 @@ is_listened_at addr rules =
 -- the accounts at whose addresses no rule of these listens
 abbrev pub without_rules : List Rule → List (Arc ServedRule Global) → List (Arc ServedRule Global)
 without_rules rules accounts =
-    filter (λ account. not (is_listened_at (arc_value account).listen rules)) accounts
+    filter (λ (account : Arc ServedRule Global). not (is_listened_at (arc_value account).listen rules))
+    accounts
