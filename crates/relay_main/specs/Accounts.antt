@@ -1,5 +1,6 @@
 -- The accounts of rules.
-use Rattle.std.specs.Prelude.{Bool, List, Option, any, filter, find, not}
+use Rattle.std.specs.Prelude.{Bool, List, Option, filter, find, not}
+use Rattle.std.specs.List.{list_any}
 use Rattle.std.specs.Arc.{arc_value}
 use Rattle.std.specs.declared.alloc.Global.{Global}
 use Rattle.std.specs.declared.sync.Arc.{Arc}
@@ -18,8 +19,11 @@ account_at addr accounts = find (is_account_of addr) accounts
 
 -- a rule of these listens at this address
 abbrev pub is_listened_at : Addr → List Rule → Bool
-is_listened_at addr rules = any (λ rule. same_address (address_of rule.listen) (address_of addr)) rules
+is_listened_at addr rules =
+    list_any (λ rule. same_address (address_of rule.listen) (address_of addr)) rules
 
 -- the accounts at whose addresses no rule of these listens
 abbrev pub without_rules : List Rule → List (Arc ServedRule Global) → List (Arc ServedRule Global)
-without_rules rules accounts = filter (λ account. not (is_listened_at (arc_value account).listen rules)) accounts
+without_rules rules accounts =
+    filter (λ (account : Arc ServedRule Global). not (is_listened_at (arc_value account).listen rules))
+    accounts

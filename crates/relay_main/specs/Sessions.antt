@@ -1,5 +1,7 @@
 -- Which admin session gives its place up to another.
-use Rattle.std.specs.Prelude.{◌≡◌, ◌<◌, ◌≤◌, ℕ, List, Option, Some, None, Bool, false, any, length, slice_get}
+use Rattle.std.specs.Prelude.{◌≡◌, ◌<◌, ◌≤◌, ℕ, List, Option, Some, None, Bool, false, length}
+use Rattle.std.specs.Prelude.{slice_get}
+use Rattle.std.specs.List.{list_any}
 use Rattle.std.specs.Box.{box_value}
 use Rattle.std.specs.Global.{Box}
 use Rattle.relay_main.specs.declared.sessions.Seated.{Seated}
@@ -39,4 +41,4 @@ is_held_at None = false
 
 -- the reply of one of them does
 abbrev pub are_held : List (Option (Box Seated)) → Bool
-are_held places = any is_held_at places
+are_held places = list_any is_held_at places

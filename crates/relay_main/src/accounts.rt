@@ -26,11 +26,16 @@ fn place_of(accounts: &[Arc<ServedRule>], listen: &Addr) -> usize
 }
 
 // The account of this address, if there is one.
-#[tactic(auto, using(std::proofs::lemmas::List::Folds::find_at))]
+#[tactic(auto, using(std::proofs::lemmas::List::Folds::find_at, std::proofs::lemmas::Option::slice_get_past))]
 fn account_at<'a>(accounts: &'a [Arc<ServedRule>], listen: &Addr) -> Option<&'a Arc<ServedRule>>
     ensures { option_copied result ≡ spec.account_at listen.now accounts.now }
 {
-    accounts.get(place_of(accounts, listen))
+    let place = place_of(accounts, listen);
+    if place < accounts.len() {
+        Some(&accounts[place])
+    } else {
+        None
+    }
 }
 
 /// The account of a rule: that of its address, if there is one; else a new one, of a relay with so

@@ -149,7 +149,7 @@ impl<'a, R: Wait + Clock + Copy> RelayDesk<'a, R> {
     // here is replied only where there is none to wait for.
     fn ask(&mut self, id: u64, asks: Asks) -> DeskAnswer
         ensures held { self.old.is_held ≡ false → self.new.is_held ≡ true
-            → (is_second : Bool) × (result ≡ answer_once_gone is_second) }
+            → result ≡ DeskAnswer.Fine }
     {
         let Some((loop_place, token)) = self.whereabouts(id) else {
             return DeskAnswer::Unknown;

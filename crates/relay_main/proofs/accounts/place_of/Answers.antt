@@ -6,7 +6,7 @@ use Rattle.relay_main.proofs.accounts.place_of.Goals as goal
 pub returns-then-is_same_addr : goal.returns-then-is_same_addr
 returns-then-is_same_addr c =
     sym (first_passes (is_account_of c.args.listen.now) c.args.accounts.now c.loop-place.place c.index-accounts-place.result
-    (search rules) c.loop-place.invariant (sym c.is_same_addr.ensures ∙ c.if-is_same_addr.true))
+    (search rules) c.loop-place.invariant (cc))
 
 pub returns : goal.returns
 returns c =
