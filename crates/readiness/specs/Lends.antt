@@ -20,7 +20,7 @@ module _ {T A : Type 0} where
   -- the tasks where a token names another task
   abbrev pub with_task : Tasks T A → ℕ → T → Tasks T A
   with_task tasks token task = record tasks {
-    slots = with_task_at tasks.slots (place_in token) (get tasks.slots (place_in token)) task
+    slots = with_task_at tasks.slots (place_in token) (get tasks.slots (place_in token)) task;
   }
 
   -- a loop where a token names another task

@@ -17,6 +17,6 @@ is_there {U} {D} {R} tasks question task id named told = (
   λ same. (task, named, sym told ∙ eqb-true id question.id same),
   λ has. (let one : task ≡ has.0 = cc in
       let its : id_on task.connection (side_in question.token) ≡ question.id =
-          ap (λ (t : ConnTask U D R). id_on t.connection (side_in question.token)) one ∙ has.2 in
+      ap (λ (t : ConnTask U D R). id_on t.connection (side_in question.token)) one ∙ has.2 in
       eq-eqb id question.id (told ∙ its)),
 )

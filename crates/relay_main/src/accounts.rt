@@ -60,10 +60,7 @@ pub(crate) fn account_of(
 }
 
 /// The accounts at whose addresses no rule of these listens.
-pub(crate) fn without_rules(
-    accounts: Vec<Arc<ServedRule>>,
-    rules: &[Rule],
-) -> Vec<Arc<ServedRule>>
+pub(crate) fn without_rules(accounts: Vec<Arc<ServedRule>>, rules: &[Rule]) -> Vec<Arc<ServedRule>>
     ensures { result.items ≡ spec.without_rules rules.now accounts.items }
 {
     let mut accounts = accounts;

@@ -23,12 +23,7 @@ const FINISH_KEY: u64 = 0;
 
 /// Whether a relay has finished that finishes at this moment at the latest, or doesn't at all, where
 /// so many connections stand, and sessions' replies wait for answers or don't.
-pub(crate) fn has_finished(
-    finish_at: Option<u64>,
-    now: u64,
-    standing: u64,
-    is_held: bool,
-) -> bool
+pub(crate) fn has_finished(finish_at: Option<u64>, now: u64, standing: u64, is_held: bool) -> bool
     ensures { result ≡ true ↔ HasFinished finish_at now standing is_held }
 {
     match finish_at {

@@ -184,7 +184,8 @@ impl<R: Wait + Clock + Copy> MainLoop<R> {
         };
         let done = match self.tasks.task_mut(token) {
             Some(MainTask::Rule(task)) => {
-                task.listener.set_deadline(&self.host.rt, &alarms, deadline, now)
+                task.listener
+                    .set_deadline(&self.host.rt, &alarms, deadline, now)
             }
             _ => return None,
         };

@@ -33,7 +33,11 @@ impl Figures {
         write_single(into, Family::Loops, self.turns.len() as u64)?;
         write_turns(into, self.turns.as_slice())?;
         write_single(into, Family::AdminSessions, self.admin_sessions)?;
-        write_single(into, Family::AdminDroppedSessions, self.admin_dropped_sessions)?;
+        write_single(
+            into,
+            Family::AdminDroppedSessions,
+            self.admin_dropped_sessions,
+        )?;
         write_single(into, Family::ConnectionsLimit, self.connections_limit)?;
         write_single(into, Family::Reloads, self.reloads)
     }

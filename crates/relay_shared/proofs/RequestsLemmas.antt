@@ -25,28 +25,37 @@ has_request [] slots none place number asked =
     let free : slot.Asked number ≡ slot.Free = none place (slot.Asked number) asked in absurd (cc)
 has_request (Began at given ∷ before) slots came place number asked =
     elim (at_or_not at place) [
-      inl same ↦ (let begun = came.2.0.0 in inl (same, cc))
-    | inr other ↦ inr (other, has_request before came.0 came.1 place number
-          (said_before at place came.0 slots (slot.Asked number) came.2.1 other asked))
+      | inl same ↦ (let begun = came.2.0.0 in inl (same, cc))
+      | inr other ↦ inr (
+        other,
+        has_request before came.0 came.1 place number
+            (said_before at place came.0 slots (slot.Asked number) came.2.1 other asked),
+      )
     ]
 has_request (Answered at given answer ∷ before) slots came place number asked =
     elim (at_or_not at place) [
-      inl same ↦ (let answered = came.2.0.1 in absurd (cc))
-    | inr other ↦ has_request before came.0 came.1 place number
+      | inl same ↦ (let answered = came.2.0.1 in absurd (cc))
+      | inr other ↦ has_request before came.0 came.1 place number
           (said_before at place came.0 slots (slot.Asked number) came.2.1 other asked)
     ]
 has_request (Took at answer ∷ before) slots came place number asked =
     elim (at_or_not at place) [
-      inl same ↦ (let free = came.2.0.1 in absurd (cc))
-    | inr other ↦ (other, has_request before came.0 came.1 place number
-          (said_before at place came.0 slots (slot.Asked number) came.2.1 other asked))
+      | inl same ↦ (let free = came.2.0.1 in absurd (cc))
+      | inr other ↦ (
+        other,
+        has_request before came.0 came.1 place number
+            (said_before at place came.0 slots (slot.Asked number) came.2.1 other asked),
+      )
     ]
 has_request (Withdrew at ∷ before) slots came place number asked =
     elim (at_or_not at place) [
-      inl same ↦ (let free : slot.Asked number ≡ slot.Free = came.2.0.0 (slot.Asked number) (cc) in
+      | inl same ↦ (let free : slot.Asked number ≡ slot.Free = came.2.0.0 (slot.Asked number) (cc) in
           absurd (cc))
-    | inr other ↦ (other, has_request before came.0 came.1 place number
-          (said_before at place came.0 slots (slot.Asked number) came.2.1 other asked))
+      | inr other ↦ (
+        other,
+        has_request before came.0 came.1 place number
+            (said_before at place came.0 slots (slot.Asked number) came.2.1 other asked),
+      )
     ]
 
 -- who has an answer has the request that was given it
@@ -56,29 +65,41 @@ was_answered [] slots none place answer has =
     let free : slot.Answered answer ≡ slot.Free = none place (slot.Answered answer) has in absurd (cc)
 was_answered (Began at given ∷ before) slots came place answer has =
     elim (at_or_not at place) [
-      inl same ↦ (let begun = came.2.0.0 in absurd (cc))
-    | inr other ↦ (other, was_answered before came.0 came.1 place answer
-          (said_before at place came.0 slots (slot.Answered answer) came.2.1 other has))
+      | inl same ↦ (let begun = came.2.0.0 in absurd (cc))
+      | inr other ↦ (
+        other,
+        was_answered before came.0 came.1 place answer
+            (said_before at place came.0 slots (slot.Answered answer) came.2.1 other has),
+      )
     ]
 was_answered (Answered at number given ∷ before) slots came place answer has =
     elim (at_or_not at place) [
-      inl same ↦ (let asked = came.2.0.0 in let answered = came.2.0.1 in
+      | inl same ↦ (let asked = came.2.0.0 in let answered = came.2.0.1 in
           inl (same, cc, has_request before came.0 came.1 place number (cc)))
-    | inr other ↦ inr (other, was_answered before came.0 came.1 place answer
-          (said_before at place came.0 slots (slot.Answered answer) came.2.1 other has))
+      | inr other ↦ inr (
+        other,
+        was_answered before came.0 came.1 place answer
+            (said_before at place came.0 slots (slot.Answered answer) came.2.1 other has),
+      )
     ]
 was_answered (Took at given ∷ before) slots came place answer has =
     elim (at_or_not at place) [
-      inl same ↦ (let free = came.2.0.1 in absurd (cc))
-    | inr other ↦ (other, was_answered before came.0 came.1 place answer
-          (said_before at place came.0 slots (slot.Answered answer) came.2.1 other has))
+      | inl same ↦ (let free = came.2.0.1 in absurd (cc))
+      | inr other ↦ (
+        other,
+        was_answered before came.0 came.1 place answer
+            (said_before at place came.0 slots (slot.Answered answer) came.2.1 other has),
+      )
     ]
 was_answered (Withdrew at ∷ before) slots came place answer has =
     elim (at_or_not at place) [
-      inl same ↦ (let free : slot.Answered answer ≡ slot.Free =
+      | inl same ↦ (let free : slot.Answered answer ≡ slot.Free =
           came.2.0.0 (slot.Answered answer) (cc) in absurd (cc))
-    | inr other ↦ (other, was_answered before came.0 came.1 place answer
-          (said_before at place came.0 slots (slot.Answered answer) came.2.1 other has))
+      | inr other ↦ (
+        other,
+        was_answered before came.0 came.1 place answer
+            (said_before at place came.0 slots (slot.Answered answer) came.2.1 other has),
+      )
     ]
 
 pub answers_reach_their_requests : AnswersReachTheirRequests
@@ -92,8 +113,8 @@ below_next [] slots none number begun = absurd begun
 below_next (Began at given ∷ before) slots came number begun =
     let is = came.2.0.1 in let next = came.2.0.2 in
     elim begun [
-      inl same ↦ omega (arith, same, is, next)
-    | inr earlier ↦ (let below = below_next before came.0 came.1 number earlier in
+      | inl same ↦ omega (arith, same, is, next)
+      | inr earlier ↦ (let below = below_next before came.0 came.1 number earlier in
           omega (arith, below, is, next))
     ]
 below_next (Answered at given answer ∷ before) slots came number begun =

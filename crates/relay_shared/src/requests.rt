@@ -233,7 +233,10 @@ impl Slots {
     pub fn take_back(&mut self, request: Request)
         ensures { Does (Withdrew (ticket_place request.ticket)) self.old self.new }
     {
-        let Request { ticket, question: _ } = request;
+        let Request {
+            ticket,
+            question: _,
+        } = request;
         let Ticket { place, number: _ } = ticket;
         self.withdraw(place);
     }

@@ -127,12 +127,7 @@ impl Shared {
     }
 
     // The same, or why the socket is dropped.
-    fn try_deliver<R: Wait>(
-        &self,
-        rt: &R,
-        sock: Sock,
-        acceptance: Acceptance,
-    ) -> Result<(), Ended>
+    fn try_deliver<R: Wait>(&self, rt: &R, sock: Sock, acceptance: Acceptance) -> Result<(), Ended>
         ensures why { IfErr result IsDrop }
     {
         if self.safeguards.is_at_limit(acceptance.served.standing()) {

@@ -7,7 +7,7 @@ use Rattle.relay_main.proofs.accounts.account_at.Goals as goal
 pub returns-then-place-accounts : goal.returns-then-place-accounts
 returns-then-place-accounts c =
     let within : c.place_of-place.result < length c.args.accounts.now =
-        omega (arith, c.if-place-accounts.true) in
+    omega (arith, c.if-place-accounts.true) in
     sym (slice_get_read c.args.accounts.now (length c.args.accounts.now) c.place_of-place.result
     c.index-accounts-place.result refl within (search rules))
     ∙ ap (slice_get c.args.accounts.now) c.place_of-place.ensures
