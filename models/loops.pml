@@ -1,8 +1,9 @@
 /* The relay on event loops: who hands what to whom (crates/relay, crates/readiness).
 
-   LOOPS loops, CONNS clients who connect, EVENTS of peers, one main thread that accepts, and one admin
-   thread with CLOSES commands `close ID`, DRAINS commands `drain ID`, SETTINGS commands `deadline ID`, and
-   `stop` at any time, or with STOP_ONCE_QUIET only when nothing else can happen. LOOP_FAILS has a loop's
+   LOOPS loops, CONNS clients who connect, EVENTS of peers, one main thread that accepts, and one thread, Admin,
+   that has handles on all descriptors, as a program over readiness may have. It makes CLOSES closes and DRAINS
+   drains, sets SETTINGS deadlines, and says stop, at any time, or with STOP_ONCE_QUIET only when nothing else can
+   happen. (What the relay's own sessions do is in requests.pml.) LOOP_FAILS has a loop's
    poller fail at any turn, MAIN_FAILS the main thread's, and ACCEPT_FAILS_FOR_A_TIME has accepts fail until
    they don't. The clock goes on to a moment after LAST_MOMENT, and a deadline may come later still. Smaller
    searches leave out: NOTHING_IS_REFUSED in a set-up. No poll ends by time here but at its next moment:
@@ -164,7 +165,7 @@ proctype Main() {
   }
 }
 
-/* serve_sessions over AdminGate, AdminWaits and RelayDesk */
+/* a thread that does to descriptors of tasks what it is told */
 proctype Admin() {
   byte id = 0, at = 0, moment = 0, earliest = NEVER, k = 0; bit mine = 0, asleep = 0, first = 0;
   do
@@ -172,7 +173,7 @@ proctype Admin() {
 #ifdef ADMIN_LOOKS_NOT_AT_STOP
      :: false -> skip
 #else
-     :: stop -> break                                   /* AdminWaits::prepare */
+     :: stop -> break
 #endif
      :: else -> skip
      fi;

@@ -7,9 +7,10 @@
    same inbox. A set-up may be refused, and a connection may end by itself. LOOP_FAILS has the loop's poller fail at
    any turn. With SESSIONS_LEAVE a session may go while its request is out, and another has its place.
 
-   In the end nobody waits: each session has the answers to its requests, unless the relay was stopped; an answer is
-   to the request that the session waits for, and `ok` comes once it is so; what is done to a connection was asked of
-   that connection; and a relay that finishes ends with its last connection, and not before each answer was taken. */
+   In the end nobody waits: each session has the answers to its requests, unless the relay was stopped. An answer is
+   to the request that the session waits for. Of the closes of a connection one at most is told as done, once that is
+   so. What is done to a connection was asked of that connection. A relay that finishes ends with its last connection,
+   and not before each answer was taken. */
 #ifndef SESSIONS
 #define SESSIONS 2
 #endif
@@ -41,6 +42,7 @@ byte vacant = 1;                    /* the token of the next task */
 byte accepted = 1;                  /* the next of the accepted connections in the inbox */
 byte standing = CONNS;              /* connections that are counted */
 bit ends[CONNS + 1];                /* the connection's peers will end it */
+byte oks[CONNS + 1];                /* sessions whose close of a connection was answered as done */
 bit finishing = 0, stopped = 0, over = 0, loop_ended = 0;
 bit sleeps[2], woken[2], waker[2], polls[2];
 
@@ -132,10 +134,16 @@ inline ask_loop() {
   token = 0
 }
 
-/* Slots::take: the answer is to the request that was asked, and to a close once nobody finds its connection any more */
+/* Slots::take: the answer is to the request that was asked. One close of a connection is answered as done, and once
+   nobody finds that any more. */
 inline take() {
   assert(number[p] == asked[p]);
-  assert(closes[p] == 0 || answer[p] == UNKNOWN || entry[closes[p]] == 0);
+  if
+  :: closes[p] != 0 && answer[p] == DONE ->
+     oks[closes[p]]++;
+     assert(oks[closes[p]] == 1 && entry[closes[p]] == 0)
+  :: else -> skip
+  fi;
   slot[p] = FREE; answer[p] = 0; asked[p] = 0; closes[p] = 0
 }
 
@@ -226,113 +234,7 @@ proctype Main() {
   over = 1
 }
 
-/* Slots::answer, and the wake of the main thread */
-inline give(what) {
-#ifdef ANSWER_WAKES_BEFORE_IT_STANDS
-  if :: slot[q] == ASKED && number[q] == r -> wake(MAIN) :: else -> skip fi;
-#endif
-  atomic {
-    if
-#ifdef ANSWER_GOES_TO_WHOEVER_WAITS
-    :: slot[q] == ASKED -> slot[q] = ANSWERED; number[q] = r; answer[q] = what; is_awaited = 1
-#else
-    :: slot[q] == ASKED && number[q] == r -> slot[q] = ANSWERED; answer[q] = what; is_awaited = 1
-#endif
-    :: else -> skip
-    fi
-  };
-#if !defined(ANSWER_WAKES_BEFORE_IT_STANDS) && !defined(ANSWER_WAKES_NOBODY)
-  if :: is_awaited -> wake(MAIN) :: else -> skip fi;
-#endif
-  is_awaited = 0
-}
-
-/* Shared::note_end */
-inline note_end() {
-#ifdef MAIN_IS_LOOKED_AT_BEFORE_THE_COUNT
-  if :: finishing -> standing--; wake(MAIN) :: else -> standing-- fi
-#elif defined(END_WAKES_NO_MAIN)
-  standing--
-#else
-  standing--;
-  if :: finishing -> wake(MAIN) :: else -> skip fi
-#endif
-}
-
-/* LoopHost::end: nobody finds the connection any more, it is closed, and then counts no more */
-inline end_connection(t) {
-  atomic { c = task[t]; task[t] = 0 };
-  entry[c] = 0;
-  note_end();
-  c = 0
-}
-
-/* LoopHost::is_here: the task that the token names is of the connection with this id */
-#ifdef TOKEN_ALONE_NAMES_A_CONNECTION
-#define is_here (task[t] != 0)
-#else
-#define is_here (task[t] != 0 && task[t] == id)
-#endif
-
-/* LoopHost::serve: what is asked is carried out, and then answered */
-inline serve_request() {
-  if
-#ifdef REQUEST_OF_A_TASK_THAT_IS_GONE_IS_DROPPED
-  :: !is_here -> skip
-#else
-  :: !is_here -> give(UNKNOWN)
-#endif
-  :: is_here && asks == CLOSE ->
-     assert(task[t] == id);
-#ifdef CLOSE_IS_ANSWERED_BEFORE_IT_IS_DONE
-     give(DONE); end_connection(t)
-#elif defined(CLOSE_ISNT_ANSWERED)
-     end_connection(t)
-#else
-     end_connection(t); give(DONE)
-#endif
-  :: is_here && asks == DRAIN ->
-     assert(task[t] == id);
-     give(DONE)
-  fi
-}
-
-/* LoopHost::set_up: it may be refused once the entry stands. The token of such a set-up is given again, an id never. */
-inline set_up() {
-  if
-  :: note_end()
-  :: entry[c] = vacant;
-     if
-     :: task[vacant] = c; vacant++
-     :: entry[c] = 0; note_end()
-     fi
-  fi
-}
-
-/* LoopHost::empty_inbox: the inbox and a list that is empty change places */
-inline empty_inbox() {
-  atomic {
-    do
-    :: nempty(requests) -> requests ? q, r, t, asks, id; taken ! q, r, t, asks, id
-    :: empty(requests) -> break
-    od;
-    q = 0; r = 0; t = 0; asks = 0; id = 0
-  };
-#ifdef WOKEN_IS_UNSET_AFTER_THE_INBOX_IS_TAKEN
-  woken[LOOP] = 0;
-#endif
-  do
-  :: atomic { nempty(taken) -> taken ? q, r, t, asks, id };
-     serve_request();
-     atomic { q = 0; r = 0; t = 0; asks = 0; id = 0 }
-  :: empty(taken) -> break
-  od;
-  do
-  :: atomic { accepted <= CONNS -> c = accepted; accepted++ }; set_up(); c = 0
-  :: accepted > CONNS -> break
-  od
-}
-
+#include "requests_loop.inc"
 /* run_loop */
 proctype Loop() {
   byte t = 0, q = 0, r = 0, asks = 0, id = 0, c = 0; bit was = 0, is_awaited = 0;

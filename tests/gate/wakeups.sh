@@ -218,6 +218,7 @@ finish
 # fails | requests | -DWOKEN_IS_UNSET_AFTER_THE_INBOX_IS_TAKEN | a loop unsets its flag after it has taken its inbox
 # fails | requests | -DWOKEN_IS_SET_AFTER_THE_LOOP_IS_ROUSED | whoever wakes a loop rouses it before it sets its flag
 # fails | requests | -DREQUEST_OF_A_TASK_THAT_IS_GONE_IS_DROPPED | a loop doesn't answer a request whose connection has ended
+# fails | requests | -DREQUEST_OF_A_TASK_THAT_IS_GONE_IS_TOLD_AS_DONE | a loop answers as done what was asked of a connection that has ended
 # fails | requests | -DCLOSE_ISNT_ANSWERED | a loop ends a connection as asked and answers nobody
 # fails | requests | -DCLOSE_IS_ANSWERED_BEFORE_IT_IS_DONE | a loop answers a close while the connection is still found
 # fails | requests | -DANSWER_WAKES_NOBODY | a loop puts its answer into the slot and wakes no main thread
