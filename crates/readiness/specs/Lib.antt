@@ -15,3 +15,4 @@ pub mod HostCalls
 pub mod Resuming
 pub mod EventLoop
 pub mod Laws
+pub mod Lends

@@ -10,14 +10,18 @@ ghost use Rattle.readiness.specs.Tasks.{task_in, next_place, next_serial, task_c
 ghost use Rattle.readiness.specs.Tasks.{gave_way_in, ComesNext, StillCome};
 ghost use Rattle.std.specs.Arc.{arc_value};
 ghost use Rattle.readiness.specs.LoopToken.{place_in};
-ghost use Rattle.readiness.specs.Agenda.{steps_of};
+ghost use Rattle.std.specs.Borrow.{sem};
+ghost use Rattle.std.specs.Option.{option_copied, option_copied_mut};
+ghost use Rattle.readiness.specs.Lends.{lends_loop_task};
+ghost use Rattle.readiness.specs.Agenda.{steps_of, step_for};
+ghost use Rattle.readiness.specs.declared.agenda.Why.{Why};
 ghost use Rattle.readiness.specs.EventLoop.{tasks_of, remote_in, poller_of, waker_behind};
 ghost use Rattle.readiness.specs.EventLoop.{events_in, told_in, round_in};
 ghost use Rattle.readiness.specs.EventLoop.{driver_poller, driver_remote};
-ghost use Rattle.readiness.specs.Resuming.{MakesSteps};
+ghost use Rattle.readiness.specs.Resuming.{MakesStep, MakesSteps};
 ghost use Rattle.readiness.specs.Poller.{waker_of};
 
-use crate::agenda::Why;
+use crate::agenda::{Step, Why};
 use crate::loop_driver::LoopDriver;
 use crate::loop_remote::LoopRemote;
 use crate::loop_token::Place;
@@ -167,6 +171,38 @@ impl<T, A: Allocator> EventLoop<T, A> {
         ensures come { StillCome (tasks_of self.old) (tasks_of self.new) }
     {
         self.tasks.take(token)
+    }
+
+    /// Has the task that a token names go on at once, between two turns, as one that was named: for
+    /// whoever has put into the host what the task is to do. A token that names no task is passed
+    /// over.
+    pub fn visit<R: Wait, H: Host<Task = T>>(&mut self, rt: &R, host: &mut H, token: u64)
+        ensures made { MakesStep (H.tells host.old) (H.tells host.new)
+            (tasks_of self.old) (tasks_of self.new) (step_for Why.Named token) }
+        ensures serial { next_serial (tasks_of self.new) ≡ next_serial (tasks_of self.old) }
+        ensures come { StillCome (tasks_of self.old) (tasks_of self.new) }
+        ensures poller { poller_of self.new ≡ poller_of self.old }
+        ensures remote { remote_in self.new ≡ remote_in self.old }
+    {
+        let why = Why::Named;
+        self.tasks
+            .resume(&mut CellsThemselves { rt }, host, Step { token, why });
+    }
+
+    /// The task that a token names, if it names one.
+    pub fn task(&self, token: u64) -> Option<&T>
+        ensures { option_copied result ≡ task_in (tasks_of self.now) token }
+    {
+        self.tasks.task(token)
+    }
+
+    /// The same, for a program that does something to it between two turns. Where the task is to go
+    /// on, or has ended, by that, the program calls `again` or `take`.
+    pub fn task_mut(&mut self, token: u64) -> Option<&mut T>
+        ensures* writes_back { sem 𝓛 (lends_loop_task T.row A.row A.Allocator self.entry token result) }
+        ensures value { option_copied_mut result ≡ task_in (tasks_of self.old) token }
+    {
+        self.tasks.task_mut(token)
     }
 
     /// Has the task that a token names be resumed in the next turn, as one that gave way.

@@ -42,7 +42,7 @@ pub use holding::{HeldSocket, HoldFault, Holds};
 pub use last_codes::LastCodes;
 pub use loop_driver::LoopDriver;
 pub use loop_remote::{LoopRemote, RemoteAlarms};
-pub use loop_token::{LAST_SERIAL, MAX_PLACES, Place, Side};
+pub use loop_token::{LAST_SERIAL, MAX_PLACES, Place, Side, side_of};
 pub use named_tasks::MAX_NAMED;
 pub use noted_listen::{NotedListen, NotedListenRes};
 pub use open::{connect, connect_io, listen, listen_io};

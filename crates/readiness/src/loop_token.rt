@@ -79,8 +79,8 @@ pub(crate) fn serial_of(token: u64) -> u64
     token / SIDES / PLACES
 }
 
-/// The side in a token.
-pub(crate) fn side_of(token: u64) -> Side
+/// The side in a token: which of its task's descriptors is meant.
+pub fn side_of(token: u64) -> Side
     ensures { result ≡ side_in token }
 {
     if token % SIDES == 0 {

@@ -6,6 +6,7 @@ ghost use Rattle.rwloops.specs.Waits.{Tells};
 ghost use Rattle.readiness.specs.Agenda.{event_step, due_step, step_for};
 ghost use Rattle.readiness.specs.HostCalls.{Resumed, Ended};
 ghost use Rattle.readiness.specs.Tasks.{task_in, next_serial, gone_again, SameTasks, OthersKept};
+ghost use Rattle.readiness.specs.Tasks.{StillCome};
 ghost use Rattle.readiness.specs.Resuming.{TicksFor, MakesStep, MakesSteps};
 ghost use Rattle.readiness.specs.declared.tasks.Turn.{Turn};
 
@@ -51,6 +52,8 @@ impl<T, A: Allocator> Tasks<T, A> {
             IfSome (task_in self.new step.token) (λ left. Tells (H.tells host.old) (H.tells host.new)
             (Resumed task step.why result left ∷ []))) }
         ensures others { OthersKept self.old self.new step.token }
+        ensures come { StillCome self.old self.new }
+        ensures serial { next_serial self.new ≡ next_serial self.old }
     {
         match self.slots.get_mut(place_of(step.token)) {
             Some(slot) if slot.serial == serial_of(step.token) => {
@@ -64,6 +67,8 @@ impl<T, A: Allocator> Tasks<T, A> {
     // A task that gave way comes now.
     fn come_to(&mut self, step: Step)
         ensures kept { SameTasks self.old self.new }
+        ensures come { StillCome self.old self.new }
+        ensures serial { next_serial self.new ≡ next_serial self.old }
     {
         if step.why == Why::Again {
             self.come(step.token);
@@ -81,6 +86,8 @@ impl<T, A: Allocator> Tasks<T, A> {
         ensures others { OthersKept self.old self.new step.token }
         ensures passed { task_in self.old step.token ≡ None → SameTasks self.old self.new }
         ensures made { MakesStep (H.tells host.old) (H.tells host.new) self.old self.new step }
+        ensures come { StillCome self.old self.new }
+        ensures serial { next_serial self.new ≡ next_serial self.old }
     {
         self.come_to(step);
         match self.go_on(cells, host, step) {
@@ -96,6 +103,8 @@ impl<T, A: Allocator> Tasks<T, A> {
         ensures gone { task_in self.new token ≡ None }
         ensures handed { IfSome (task_in self.old token) (λ task.
             Tells (H.tells host.old) (H.tells host.new) (Ended task ∷ [])) }
+        ensures come { StillCome self.old self.new }
+        ensures serial { next_serial self.new ≡ next_serial self.old }
     {
         if let Some(task) = self.take(token) {
             host.over(task);

@@ -9,6 +9,9 @@ ghost use Rattle.readiness.specs.Tasks.{task_in, next_place, next_serial, HasPla
 ghost use Rattle.readiness.specs.Tasks.{IsPut, RefusesPlace, HasNumbers, task_count};
 ghost use Rattle.readiness.specs.Tasks.{gave_way_in, ComesNext, StillCome};
 ghost use Rattle.readiness.specs.LoopToken.{place_in};
+ghost use Rattle.std.specs.Borrow.{sem};
+ghost use Rattle.std.specs.Option.{option_copied, option_copied_mut};
+ghost use Rattle.readiness.specs.Lends.{lends_task};
 
 use crate::agenda::Why;
 use crate::loop_token::{LAST_SERIAL, MAX_PLACES, Place, Side, place_for, place_of, serial_of};
@@ -198,12 +201,35 @@ impl<T, A: Allocator> Tasks<T, A> {
         Some(task)
     }
 
+    /// The task that a token names.
+    pub(crate) fn task(&self, token: u64) -> Option<&T>
+        ensures { option_copied result ≡ task_in self.now token }
+    {
+        match self.slots.get(place_of(token)) {
+            Some(slot) if slot.serial == serial_of(token) => Some(&slot.task),
+            _ => None,
+        }
+    }
+
+    /// The same, to change it.
+    pub(crate) fn task_mut(&mut self, token: u64) -> Option<&mut T>
+        ensures* writes_back { sem 𝓛 (lends_task T.row A.row A.Allocator self.entry token result) }
+        ensures value { option_copied_mut result ≡ task_in self.old token }
+    {
+        if !self.is_named(token) {
+            return None;
+        }
+        let slot = self.slots.get_mut(place_of(token))?;
+        Some(&mut slot.task)
+    }
+
     // Says of the task that a token names whether it gave way, and tells whether it was said
     // before, or there is no such task.
     fn mark(&mut self, token: u64, gave_way: bool) -> bool
         ensures kept { SameTasks self.old self.new }
         ensures unsaid { gave_way_in self.old token ≡ Some (not gave_way) → result ≡ false }
         ensures come { StillCome self.old self.new }
+        ensures serial { next_serial self.new ≡ next_serial self.old }
     {
         if let Some(slot) = self.slots.get_mut(place_of(token)) {
             if slot.serial == serial_of(token) && slot.gave_way != gave_way {
@@ -219,6 +245,7 @@ impl<T, A: Allocator> Tasks<T, A> {
         ensures kept { SameTasks self.old self.new }
         ensures comes { gave_way_in self.old token ≡ Some false → ComesNext self.new token }
         ensures others { StillCome self.old self.new }
+        ensures serial { next_serial self.new ≡ next_serial self.old }
     {
         if !self.mark(token, true) {
             self.list(token);
@@ -230,6 +257,7 @@ impl<T, A: Allocator> Tasks<T, A> {
         ensures kept { SameTasks self.old self.new }
         ensures comes { ComesNext self.new token }
         ensures others { StillCome self.old self.new }
+        ensures serial { next_serial self.new ≡ next_serial self.old }
     {
         if self.again.push(token).is_err() {
             self.all_again = true;
@@ -239,6 +267,8 @@ impl<T, A: Allocator> Tasks<T, A> {
     /// The task that a token names comes now.
     pub(crate) fn come(&mut self, token: u64)
         ensures kept { SameTasks self.old self.new }
+        ensures others { StillCome self.old self.new }
+        ensures serial { next_serial self.new ≡ next_serial self.old }
     {
         let _ = self.mark(token, false);
     }

@@ -1,3 +1,4 @@
+pub mod Asked
 pub mod Connection
 pub mod Deadlines
 pub mod Ending

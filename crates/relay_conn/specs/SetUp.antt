@@ -20,5 +20,14 @@ module _ {U D R : Type 0} where
     pub up_reads : connection.tasks.up ≡ Waits Read
     pub down_reads : connection.tasks.down ≡ Waits Read
     pub unfailed : connection.failure ≡ None
-    pub client : key_of_cell (arc_value connection.client.cell) ≡ client_key
-    pub target : key_of_cell (arc_value connection.target.cell) ≡ target_key
+    pub client : key_of_cell (arc_value connection.client) ≡ client_key
+    pub target : key_of_cell (arc_value connection.target) ≡ target_key
+
+  -- it was given its ids and its shares, and nothing else
+  abbrev pub IsEntered : Connection U D R → Connection U D R → Type 0
+  IsEntered old new = new ≡ record old {
+    client_id = new.client_id;
+    target_id = new.target_id;
+    up = record old.up { share = new.up.share };
+    down = record old.down { share = new.down.share };
+  }

@@ -1,7 +1,8 @@
-//! A relayed connection, from its set-up to its end: its sides in the relay's table, its ways and
+//! A relayed connection, from its set-up to its end: its entry in the relay's index, its ways and
 //! their books, and how far it came to its target.
 #![tactic(auto)]
 
+mod asked;
 pub mod connection;
 mod ending;
 pub mod giving_up;

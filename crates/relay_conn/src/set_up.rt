@@ -1,50 +1,52 @@
 //! Setting a connection up between two sockets.
 
-ghost use Rattle.std.specs.Prelude.{◌≡◌, ◌<◌, [], ◌∷◌, ◌++◌, length, Some, IfSome};
+ghost use Rattle.std.specs.Prelude.{◌≡◌, IfSome};
 ghost use Rattle.std.specs.Arc.{arc_value};
 ghost use Rattle.base_types.specs.declared.direction.Dir.{Dir};
 ghost use Rattle.fd_descriptor.specs.CellKey.{key_of_cell};
 ghost use Rattle.fd_descriptor.specs.TaskHalf.{IsHalfOf};
 ghost use Rattle.relay_core.specs.declared.pair_tasks.FlowState.{FlowState};
 ghost use Rattle.relay_ledger.specs.Book.{OpensOne};
-ghost use Rattle.relay_conn.specs.SetUp.{IsSetUp};
+ghost use Rattle.readiness.specs.EventLoop.{remote_of};
+ghost use Rattle.relay_conn.specs.SetUp.{IsSetUp, IsEntered};
 
-use crate::connection::{ConnSide, Connection, Flow};
+use crate::connection::{Connection, Flow};
 use crate::idle_time::IdleTime;
-use crate::new_side::{NewSide, new_side, subjects};
+use crate::new_side::{NewSide, new_side};
 use crate::reach::Reach;
 use crate::task_gate::{Source, TaskGate};
 use base_types::Dir;
-use conntable::ConnTable;
-use fd_descriptor::FdHandle;
-use readiness::{Poller, RemoteAlarms, Sock, SockRes};
-use relay_core::{Copying, InsertedSides, PairTasks, Step, Way};
+use deadline_core::Dirs;
+use fd_descriptor::{Alarms, FdHandle};
+use readiness::{LoopRemote, Place, Poller, RemoteAlarms, Sock, SockRes};
+use relay_core::{Copying, PairTasks, Step, Way};
 use relay_facts::books::LoopBooks;
 use relay_facts::clock::RelayClock;
 use relay_facts::connection_facts::ConnectionFacts;
-use relay_shared::closing::{Closer, close_by_id};
-use relay_shared::entry::{Entry, Owner, Subject};
+use relay_shared::index::Standing;
+use relay_shared::standing::{Connected, RelayIndex};
 use std::alloc::Global;
 use std::sync::ledger::Ledger;
 use std::sync::{Arc, Mutex, Wait};
 use std::time::Clock;
 
-/// A socket that becomes a side of a connection, and the task that will have it.
-#[derive(Drop)]
-pub struct OwnedSock {
-    pub sock: Sock,
-    pub owner: Owner,
-}
-
-/// What a loop sets its connections up by: the relay's table, and the poller of its own that tells
-/// of their sockets.
+/// What a loop sets its connections up by: the relay's index, and what is the loop's own, the
+/// poller that tells of their sockets and the remote that has their alarms.
 #[derive(Clone, Copy)]
 pub struct SetUp<'a, R: Wait + Clock + Copy> {
     pub rt: R,
     pub alloc: Global,
     pub clock: RelayClock<R>,
-    pub table: &'a Mutex<ConnTable<Entry>>,
+    pub index: &'a Mutex<RelayIndex>,
     pub poller: &'a Poller,
+    pub remote: &'a Arc<LoopRemote>,
+}
+
+/// The sockets of a connection.
+#[derive(Drop)]
+pub struct BothSocks {
+    pub client: Sock,
+    pub target: Sock,
 }
 
 // A pair of which both reads are under way. Its sides were just registered, so that the poller
@@ -59,50 +61,28 @@ fn reading_tasks() -> PairTasks
     tasks
 }
 
-// Puts a side into the table, and notes it among those that were inserted.
-fn insert_side(
-    table: &mut ConnTable<Entry>,
-    side: Entry,
-    inserted: &mut InsertedSides,
-) -> Option<u64>
-    requires room { length inserted.old < 2 }
-    ensures noted { IfSome result (λ id. inserted.new ≡ inserted.old ++ id ∷ []) }
-{
-    let (id, _) = table.insert(side).ok()?;
-    inserted.insert(id);
-    Some(id)
-}
-
-// Puts both sides into the table, one right after the other.
-fn insert_sides(
-    table: &mut ConnTable<Entry>,
-    client: Entry,
-    target: Entry,
-    inserted: &mut InsertedSides,
-) -> Option<(u64, u64)>
-    requires none_inserted { inserted.old ≡ [] }
-    ensures both { IfSome result (λ _. length inserted.new ≡ 2) }
-{
-    let client = insert_side(table, client, inserted)?;
-    let target = insert_side(table, target, inserted)?;
-    Some((client, target))
-}
-
 impl<'a, R: Wait + Clock + Copy> SetUp<'a, R> {
+    // The alarms of the loop. It takes no memory.
+    fn alarms(&self) -> Option<RemoteAlarms<R>>
+        ensures own { IfSome result (λ alarms.
+            remote_of alarms ≡ arc_value self.now.remote.now) }
+    {
+        let remote = Arc::try_clone(self.remote).ok()?;
+        Some(RemoteAlarms::new(self.rt, remote))
+    }
+
     // A way whose first read is under way, without a share. With an idle time that read arms an
-    // alarm, which is disarmed with its side's entry: so both sides were inserted before.
+    // alarm, which is disarmed by whoever ends the connection, or undoes its set-up.
     fn way<L: Ledger>(
         &self,
-        inserted: &InsertedSides,
-        alarms: RemoteAlarms<R>,
         idle_ms: Option<u32>,
         source: Source,
         target: FdHandle<SockRes>,
     ) -> Option<Flow<L, R>>
-        requires both { length inserted.now ≡ 2 }
         ensures target { IfSome result (λ way. IsHalfOf target way.gate.target) }
         ensures idle { IfSome result (λ way. way.gate.idle.idle_ms ≡ idle_ms) }
     {
+        let alarms = self.alarms()?;
         let idle = IdleTime::new(self.clock, idle_ms);
         let mut gate = TaskGate::new(self.rt, idle, alarms, source, target);
         gate.begin_read().ok()?;
@@ -115,51 +95,31 @@ impl<'a, R: Wait + Clock + Copy> SetUp<'a, R> {
         })
     }
 
-    // Puts both sides into the table, and then begins the reads of both ways, which have no shares
-    // yet.
+    // Begins the reads of both ways, which have no shares yet. The connection has no id yet.
     fn join_sides<U: Ledger, D: Ledger>(
         &self,
-        client: NewSide<R>,
-        target: NewSide<R>,
+        client: NewSide,
+        target: NewSide,
         facts: Arc<ConnectionFacts>,
-        inserted: &mut InsertedSides,
+        place: Place,
     ) -> Option<Connection<U, D, R>>
-        requires none_inserted { inserted.old ≡ [] }
         ensures up { IfSome result (λ c. IsHalfOf target.writer c.up.gate.target) }
         ensures down { IfSome result (λ c. IsHalfOf client.writer c.down.gate.target) }
         ensures set_up { IfSome result (IsSetUp facts (key_of_cell (arc_value client.cell))
             (key_of_cell (arc_value target.cell))) }
-        ensures client { IfSome result (λ c. c.client.cell ≡ client.cell) }
-        ensures target { IfSome result (λ c. c.target.cell ≡ target.cell) }
+        ensures client { IfSome result (λ c. c.client ≡ client.cell) }
+        ensures target { IfSome result (λ c. c.target ≡ target.cell) }
+        ensures place { IfSome result (λ c. c.place ≡ place) }
     {
         let idle_ms = facts.acceptance.rule.idle_ms;
-        let mut table = self.table.lock(&self.rt);
-        let ids = insert_sides(&mut *table, client.entry, target.entry, inserted);
-        drop(table);
-        let (client_id, target_id) = ids?;
-        let up = self.way(
-            inserted,
-            client.alarms,
-            idle_ms,
-            client.source,
-            target.writer,
-        )?;
-        let down = self.way(
-            inserted,
-            target.alarms,
-            idle_ms,
-            target.source,
-            client.writer,
-        )?;
+        let up = self.way(idle_ms, client.source, target.writer)?;
+        let down = self.way(idle_ms, target.source, client.writer)?;
         Some(Connection {
-            client: ConnSide {
-                id: client_id,
-                cell: client.cell,
-            },
-            target: ConnSide {
-                id: target_id,
-                cell: target.cell,
-            },
+            client_id: 0,
+            target_id: 0,
+            place,
+            client: client.cell,
+            target: target.cell,
             tasks: reading_tasks(),
             up,
             down,
@@ -169,80 +129,103 @@ impl<'a, R: Wait + Clock + Copy> SetUp<'a, R> {
         })
     }
 
-    // A connection of both sockets, without shares.
+    // A connection of both sockets, without an id, and without shares.
     fn sides<U: Ledger, D: Ledger>(
         &self,
-        client: OwnedSock,
-        target: OwnedSock,
+        socks: BothSocks,
         facts: Arc<ConnectionFacts>,
-        inserted: &mut InsertedSides,
+        place: Place,
     ) -> Option<Connection<U, D, R>>
-        requires none_inserted { inserted.old ≡ [] }
-        ensures set_up { IfSome result (IsSetUp facts client.owner.token target.owner.token) }
+        ensures set_up { IfSome result (IsSetUp facts place.first place.second) }
     {
-        let (of_client, of_target) = subjects(&facts)?;
-        let client = self.side(client, of_client)?;
-        let target = self.side(target, of_target)?;
-        self.join_sides(client, target, facts, inserted)
+        let BothSocks { client, target } = socks;
+        let client = new_side(self.alloc, self.poller, client, place.first)?;
+        let target = new_side(self.alloc, self.poller, target, place.second)?;
+        self.join_sides(client, target, facts, place)
     }
 
-    // A side of a socket.
-    fn side(&self, owned: OwnedSock, subject: Subject) -> Option<NewSide<R>>
-        ensures cell { IfSome result (λ side.
-            key_of_cell (arc_value side.cell) ≡ owned.owner.token) }
-    {
-        let OwnedSock { sock, owner } = owned;
-        new_side(self.rt, self.alloc, self.poller, sock, owner, subject)
+    // Enters a connection that has all else, and gives its client's id. From then on it is found.
+    fn id_of<U: Ledger, D: Ledger>(&self, connection: &Connection<U, D, R>) -> Option<u64> {
+        let connected = Connected {
+            facts: Arc::try_clone(&connection.facts).ok()?,
+            place: connection.place,
+        };
+        let standing = Standing::Connection(connected);
+        self.index.lock(&self.rt).enter(standing).ok()
     }
 
-    // The same with a share of each book. The shares come last, so that none has to be given back.
-    fn with_shares<U: Ledger, D: Ledger>(
+    // Opens the shares of a connection, and enters it under its ids, or does neither. It is entered
+    // last, since nothing that was found is refused: the token of a refused set-up is given again.
+    fn enter<U: Ledger, D: Ledger>(
         &self,
         books: &mut LoopBooks<U, D>,
-        client: OwnedSock,
-        target: OwnedSock,
-        facts: Arc<ConnectionFacts>,
-        inserted: &mut InsertedSides,
-    ) -> Option<Connection<U, D, R>>
-        requires none_inserted { inserted.old ≡ [] }
-        ensures set_up { IfSome result (IsSetUp facts client.owner.token target.owner.token) }
+        connection: &mut Connection<U, D, R>,
+    ) -> Option<()>
         ensures up_share { IfSome result (λ _. OpensOne books.old.up.book books.new.up.book) }
         ensures down_share { IfSome result (λ _.
             OpensOne books.old.down.book books.new.down.book) }
+        ensures set_up { IfSome result (λ _. IsEntered connection.old connection.new) }
     {
-        let mut connection = self.sides(client, target, facts, inserted)?;
         let (up, down) = books.open_shares()?;
-        connection.up.share = Some(up);
-        connection.down.share = Some(down);
-        Some(connection)
-    }
-
-    // Takes out and closes what a set-up that failed had inserted.
-    fn undo(&self, inserted: InsertedSides) {
-        let mut inserted = inserted;
-        while let Some(id) = inserted.undo() {
-            close_by_id(&self.rt, self.table, id, Closer::ItsLoop);
+        match self.id_of(connection) {
+            Some(id) => {
+                connection.client_id = id;
+                connection.target_id = id.saturating_add(1);
+                connection.up.share = Some(up);
+                connection.down.share = Some(down);
+                Some(())
+            }
+            None => {
+                books.up.settle(Some(up));
+                books.down.settle(Some(down));
+                None
+            }
         }
     }
 
-    /// A connection of both sockets, with a share of each book. Where it is refused the sockets are
-    /// dropped, and nothing is left of it.
-    pub fn connection<U: Ledger, D: Ledger>(
+    // The same as a whole.
+    fn whole<U: Ledger, D: Ledger>(
         &self,
         books: &mut LoopBooks<U, D>,
-        client: OwnedSock,
-        target: OwnedSock,
+        socks: BothSocks,
         facts: Arc<ConnectionFacts>,
+        place: Place,
     ) -> Option<Connection<U, D, R>>
-        ensures set_up { IfSome result (IsSetUp facts client.owner.token target.owner.token) }
+        ensures set_up { IfSome result (IsSetUp facts place.first place.second) }
         ensures up_share { IfSome result (λ _. OpensOne books.old.up.book books.new.up.book) }
         ensures down_share { IfSome result (λ _.
             OpensOne books.old.down.book books.new.down.book) }
     {
-        let mut inserted = InsertedSides::none();
-        let made = self.with_shares(books, client, target, facts, &mut inserted);
+        let mut connection = self.sides(socks, facts, place)?;
+        self.enter(books, &mut connection)?;
+        Some(connection)
+    }
+
+    // Takes back the alarms that a set-up which failed has armed.
+    fn undo(&self, place: Place) {
+        if let Some(alarms) = self.alarms() {
+            alarms.disarm(place.first, Dirs::Both);
+            alarms.disarm(place.second, Dirs::Both);
+        }
+    }
+
+    /// A connection of both sockets, for the task at this place, with a share of each book. Where
+    /// it is refused the sockets are dropped, and nothing is left of it.
+    pub fn connection<U: Ledger, D: Ledger>(
+        &self,
+        books: &mut LoopBooks<U, D>,
+        socks: BothSocks,
+        facts: Arc<ConnectionFacts>,
+        place: Place,
+    ) -> Option<Connection<U, D, R>>
+        ensures set_up { IfSome result (IsSetUp facts place.first place.second) }
+        ensures up_share { IfSome result (λ _. OpensOne books.old.up.book books.new.up.book) }
+        ensures down_share { IfSome result (λ _.
+            OpensOne books.old.down.book books.new.down.book) }
+    {
+        let made = self.whole(books, socks, facts, place);
         if made.is_none() {
-            self.undo(inserted);
+            self.undo(place);
         }
         made
     }

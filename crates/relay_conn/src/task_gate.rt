@@ -3,10 +3,13 @@
 
 ghost use Rattle.std.specs.Prelude.{◌≡◌, ◌≤◌, ◌<◌, ◌↔◌, ⊤, length, true, false};
 ghost use Rattle.std.specs.Prelude.{OnOk, IfOk, IfSome, IfNone};
-ghost use Rattle.fd_descriptor.specs.TaskHalf.{IsHalfOf, is_under_way};
+ghost use Rattle.fd_descriptor.specs.TaskHalf.{IsHalfOf, IsHandleOf, KeepsHalf, is_under_way};
+ghost use Rattle.fd_descriptor.specs.TaskHalf.{descriptor_of_half};
+ghost use Rattle.relay_shared.specs.Drained.{WasDrained};
 ghost use Rattle.relay_core.specs.SourceState.{resumed, ReadsAll};
 
 use crate::idle_time::IdleTime;
+use deadline_core::Deadline;
 use fd_descriptor::{Alarms, FdHandle, TaskReader, TaskWriter};
 use readiness::SockRes;
 use relay_core::{PollGate, SourceState};
@@ -19,6 +22,14 @@ use std::sync::Wait;
 pub(crate) struct Source {
     pub(crate) handle: FdHandle<SockRes>,
     pub(crate) state: SourceState,
+}
+
+/// What is left of a gate whose calls have ended.
+#[derive(Drop)]
+pub(crate) struct LeftGate<A> {
+    pub(crate) source: FdHandle<SockRes>,
+    pub(crate) target: FdHandle<SockRes>,
+    pub(crate) alarms: A,
 }
 
 /// Reads from `source` and writes to `target`. With an idle time each read and each write that
@@ -70,6 +81,30 @@ impl<R: Wait + Copy, C: Moments, A: Alarms> TaskGate<R, C, A> {
         self.source_state.resume(stop_ahead);
     }
 
+    /// Drains the source's side: the read and the write that are under way there go on, and none
+    /// begins. `Draining` says that it was drained before.
+    pub(crate) fn drain_source(&mut self, rt: &R) -> Result<(), Fault>
+        ensures source { KeepsHalf self.old.source self.new.source }
+        ensures under_way { is_under_way self.new.source ≡ is_under_way self.old.source }
+        ensures state { self.new.source_state ≡ self.old.source_state }
+        ensures target { self.new.target ≡ self.old.target }
+        ensures drained { OnOk result (WasDrained (descriptor_of_half self.old.source)) }
+    {
+        let mut handle = self.source.share()?;
+        handle.drain(rt)
+    }
+
+    /// Sets the deadline of both directions of the source's side, unless it is drained or closed.
+    pub(crate) fn set_source(&mut self, rt: &R, deadline: Deadline, now: u64) -> Result<(), Fault>
+        ensures source { KeepsHalf self.old.source self.new.source }
+        ensures under_way { is_under_way self.new.source ≡ is_under_way self.old.source }
+        ensures state { self.new.source_state ≡ self.old.source_state }
+        ensures target { self.new.target ≡ self.old.target }
+    {
+        let mut handle = self.source.share()?;
+        handle.set_deadline(rt, deadline, now, &self.alarms)
+    }
+
     /// Begins a read, where none is under way.
     pub(crate) fn begin_read(&mut self) -> Result<(), Fault>
         ensures begun { OnOk result (is_under_way self.new.source ≡ true) }
@@ -114,6 +149,28 @@ impl<R: Wait + Copy, C: Moments, A: Alarms> TaskGate<R, C, A> {
             self.source_state.note_read(buf.len(), count);
         }
         Some(answer)
+    }
+}
+
+impl<R: Wait + Copy, C: Moments + Drop, A: Alarms> TaskGate<R, C, A> {
+    /// Ends the calls under way, and gives what they were made by.
+    pub(crate) fn leave(self) -> LeftGate<A>
+        ensures source { IsHandleOf self.source result.source }
+        ensures target { IsHandleOf self.target result.target }
+        ensures alarms { result.alarms ≡ self.alarms }
+    {
+        let TaskGate {
+            idle: _,
+            alarms,
+            source,
+            source_state: _,
+            target,
+        } = self;
+        LeftGate {
+            source: source.into_handle(),
+            target: target.into_handle(),
+            alarms,
+        }
     }
 }
 

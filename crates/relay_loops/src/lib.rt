@@ -4,6 +4,7 @@
 
 mod connecting;
 mod loops;
+mod requests;
 mod set_up;
 
 pub use loops::{LoopContext, run_loop};

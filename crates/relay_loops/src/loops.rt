@@ -19,7 +19,9 @@ use relay_facts::clock::{Moments, RelayClock};
 use relay_facts::totals::Totals;
 use relay_ledger::PARTS;
 use relay_shared::fault::of_poller;
-use relay_shared::loop_handle::{Accepted, Counted, LoopParts};
+use relay_shared::inbox::{Counted, Inbox};
+use relay_shared::index::Gone;
+use relay_shared::loop_handle::LoopParts;
 use relay_shared::shared::Shared;
 use std::alloc::Global;
 use std::marker::Brand;
@@ -57,7 +59,7 @@ impl<R: Wait + Clock + Copy> LoopContext<R> {
         }
     }
 
-    fn take_inbox(&self, taken: &mut Vec<Accepted>) {
+    fn take_inbox(&self, taken: &mut Inbox) {
         if let Some(handle) = self.shared.loops.get(self.place) {
             handle.give_all(&self.rt, taken);
         }
@@ -69,9 +71,9 @@ impl<R: Wait + Clock + Copy> LoopContext<R> {
 pub(crate) struct LoopHost<U: Ledger, D: Ledger, R: Wait + Clock + Copy> {
     pub(crate) context: LoopContext<R>,
     pub(crate) books: LoopBooks<U, D>,
-    /// The accepted sockets that are being set up, an empty list between turns: it and the inbox
-    /// change places, so that a turn takes no memory for a list.
-    taken: Vec<Accepted>,
+    /// What is being done of the inbox, empty between turns: it and the inbox change places, so that
+    /// a turn takes no memory for a list.
+    taken: Inbox,
     /// It is lent to each task while that goes on.
     memory: LoopMemory,
     /// The connections whose targets may not be connected yet.
@@ -86,14 +88,11 @@ impl<U: Ledger, D: Ledger, R: Wait + Clock + Copy> Host for LoopHost<U, D, R> {
     }
 
     fn resume(&mut self, task: &mut ConnTask<U, D, R>, why: Why) -> Turn {
-        if why == Why::Named && self.is_to_close(&task.connection) {
-            return Turn::Over;
-        }
         self.go_on_with(&mut task.connection, why)
     }
 
     fn over(&mut self, task: ConnTask<U, D, R>) {
-        self.end(task);
+        let _ = self.end(task);
     }
 }
 
@@ -109,8 +108,8 @@ impl<U: Ledger, D: Ledger, R: Wait + Clock + Copy> LoopHost<U, D, R> {
         task.go_on(&mut self.books, why, &mut self.memory)
     }
 
-    // Has a connection go on, and says what follows for its loop.
-    fn go_on_with(&mut self, task: &mut Connection<U, D, R>, why: Why) -> Turn
+    /// Has a connection go on, and says what follows for its loop.
+    pub(crate) fn go_on_with(&mut self, task: &mut Connection<U, D, R>, why: Why) -> Turn
         ensures over { result ≡ Turn.Over ↔ HasToClose task.new.tasks }
         ensures again { result ≡ Turn.Again ↔ MayGoOn task.new.tasks }
     {
@@ -131,21 +130,14 @@ impl<U: Ledger, D: Ledger, R: Wait + Clock + Copy> LoopHost<U, D, R> {
         task.is_connecting() && task.is_late(why, self.context.clock.now())
     }
 
-    // Whether a session wants a connection closed.
-    fn is_to_close(&self, connection: &Connection<U, D, R>) -> bool {
-        let (client, target) = connection.ids();
-        let closes = &self.context.shared.closes;
-        closes.is_wished(client) || closes.is_wished(target)
-    }
-
     /// Ends a connection, which is counted until it has ended; then who waits for that is told.
-    pub(crate) fn end(&mut self, task: ConnTask<U, D, R>) {
-        let (client, target) = task.connection.ids();
-        self.close(task);
-        self.context.shared.note_end(client, target);
+    pub(crate) fn end(&mut self, task: ConnTask<U, D, R>) -> Gone {
+        let gone = self.close(task);
+        self.context.shared.note_end();
+        gone
     }
 
-    fn close(&mut self, task: ConnTask<U, D, R>) {
+    fn close(&mut self, task: ConnTask<U, D, R>) -> Gone {
         let ConnTask {
             connection,
             counted: _counted,
@@ -154,20 +146,23 @@ impl<U: Ledger, D: Ledger, R: Wait + Clock + Copy> LoopHost<U, D, R> {
         let shared = &self.context.shared;
         connection.end(
             &self.context.rt,
-            &shared.table,
+            &shared.index,
             &mut self.books,
             &shared.log,
             now,
-        );
+        )
     }
 }
 
 impl<U: Ledger, D: Ledger, R: Wait + Net + Clock + Copy> LoopHost<U, D, R> {
-    // Sets up what was delivered. The inbox is held for the exchange alone.
+    // Serves what was asked, and sets up what was delivered. The inbox is held for the exchange alone.
     fn empty_inbox(&mut self, tasks: &mut ConnLoop<U, D, R>) {
-        let mut taken = mem::replace(&mut self.taken, Vec::new(self.context.alloc));
+        let mut taken = mem::replace(&mut self.taken, Inbox::empty(self.context.alloc));
         self.context.take_inbox(&mut taken);
-        for accepted in taken.drain(..) {
+        while let Some(request) = taken.next_request() {
+            self.serve(tasks, request);
+        }
+        while let Some(accepted) = taken.next_socket() {
             self.set_up(tasks, accepted);
         }
         self.taken = taken;
@@ -227,7 +222,11 @@ where
     let mut host = LoopHost {
         context,
         books: LoopBooks::<U, D>::new(up, down, published),
-        taken: Vec::new(alloc),
+        taken: match Inbox::new(alloc) {
+            Ok(inbox) => inbox,
+            // Requests then take memory as they come.
+            Err(_) => Inbox::empty(alloc),
+        },
         memory,
         connecting: ConnectingList::new(alloc),
     };

@@ -1,13 +1,13 @@
 -- What a session is answered where a reload is refused.
-use Rattle.relay_admin.specs.declared.admin.desk.DeskAnswer.{DeskAnswer}
-use Rattle.relay_admin.specs.declared.admin.desk.DeskAnswer.TheVariants.{CannotRead, CannotListen}
-use Rattle.relay_admin.specs.declared.admin.desk.DeskAnswer.TheVariants.{NoMemory, Closed}
+use Rattle.relay_admin.specs.declared.admin.answers.ReloadAnswer.{ReloadAnswer}
+use Rattle.relay_admin.specs.declared.admin.answers.ReloadAnswer.TheVariants.{CannotRead, CannotListen}
+use Rattle.relay_admin.specs.declared.admin.answers.ReloadAnswer.TheVariants.{NoMemory, Finishing}
 use Rattle.relay_admin.specs.declared.serve_fault.ServeFault.{ServeFault}
 use Rattle.relay_admin.specs.declared.serve_fault.ServeFault.TheVariants as fault
 
--- the file or an address as at a start; where the relay is ending, or its poller fails, it is closed
-abbrev pub answer_of_fault : ServeFault → DeskAnswer
+-- the file or an address as at a start; any other fault as by a relay that is ending
+abbrev pub answer_of_fault : ServeFault → ReloadAnswer
 answer_of_fault fault.RulesFile = CannotRead
 answer_of_fault (fault.Listen name) = CannotListen name
 answer_of_fault fault.Memory = NoMemory
-answer_of_fault other = Closed
+answer_of_fault other = Finishing

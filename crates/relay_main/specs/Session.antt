@@ -1,11 +1,13 @@
 -- What an admin session does after its reads and writes.
-use Rattle.std.specs.Prelude.{ℕ, Option, Some, None, Result, Ok, Err}
+use Rattle.std.specs.Prelude.{ℕ, Bool, true, false, Option, Some, None, Result, Ok, Err}
 use Rattle.rwloops.specs.declared.fault.Fault.{Fault}
 use Rattle.rwloops.specs.declared.fault.Fault.TheVariants as fault
 use Rattle.relay_admin.specs.declared.admin.end.AdminEnd.{AdminEnd}
 use Rattle.relay_admin.specs.declared.admin.end.AdminEnd.TheVariants as ends
 use Rattle.relay_main.specs.declared.session.SessionStep.{SessionStep}
 use Rattle.relay_main.specs.declared.session.SessionStep.TheVariants.{Waits, Again, Over, Stops}
+use Rattle.relay_main.specs.declared.session.State.{State}
+use Rattle.relay_main.specs.declared.session.State.TheVariants as does
 use Rattle.relay_main.specs.declared.session.Heard.{Heard}
 use Rattle.relay_main.specs.declared.session.Heard.TheVariants.{Nothing, Bytes, End, Failed}
 
@@ -32,3 +34,8 @@ told_of_read None = Nothing
 told_of_read (Some (Ok count)) = Bytes count
 told_of_read (Some (Err fault.EndOfFile)) = End
 told_of_read (Some (Err other)) = Failed
+
+-- its line is answered later
+abbrev pub is_held : State → Bool
+is_held does.Held = true
+is_held other = false

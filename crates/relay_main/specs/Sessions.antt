@@ -1,13 +1,15 @@
 -- Which admin session gives its place up to another.
-use Rattle.std.specs.Prelude.{◌≡◌, ◌<◌, ◌≤◌, ℕ, List, Option, Some, false, length, slice_get}
+use Rattle.std.specs.Prelude.{◌≡◌, ◌<◌, ◌≤◌, ℕ, List, Option, Some, true, false, length, slice_get}
 use Rattle.std.specs.Box.{box_value}
 use Rattle.std.specs.Global.{Box}
 use Rattle.relay_main.specs.declared.sessions.Seated.{Seated}
+use Rattle.relay_main.specs.Session.{is_held}
 
--- the session at this place may give it up: no reply of it waits for a close
+-- the session at this place may give it up: it waits for no answer
 abbrev pub MayLeave : List (Option (Box Seated)) → ℕ → Box Seated → Type 0
 MayLeave places place session =
-    (slice_get places place ≡ Some (Some session)) × ((box_value session).is_held ≡ false)
+    (slice_get places place ≡ Some (Some session))
+    × (is_held (box_value session).session.state ≡ false)
 
 -- until when a session stands that doesn't get on: so long after it last did
 abbrev pub patience : Box Seated → ℕ
@@ -31,3 +33,9 @@ IsQuietest places place session = IsQuietestOf places (length places) place sess
 abbrev pub NoneMayLeave : List (Option (Box Seated)) → ℕ → Type 0
 NoneMayLeave places count =
     (k : ℕ) (session : Box Seated) → k < count → MayLeave places k session → ⊥
+
+-- a session waits for an answer
+abbrev pub SomeIsHeld : List (Option (Box Seated)) → Type 0
+SomeIsHeld places = (place : ℕ) × (session : Box Seated)
+    × (slice_get places place ≡ Some (Some session))
+    × (is_held (box_value session).session.state ≡ true)

@@ -1,24 +1,24 @@
-//! What an admin session asks, over the relay's table and books.
+//! What an admin session asks, over the relay's index and books.
 
-ghost use Rattle.std.specs.Prelude.{◌≡◌, None, IfSome, IfNone, true, false};
-ghost use Rattle.relay_admin.specs.declared.admin.command.Command.TheVariants as commands;
-ghost use Rattle.relay_admin.specs.admin.Reply.{HasAskedId};
-ghost use Rattle.relay_admin.specs.admin.Reply as replies;
-ghost use Rattle.relay_admin.specs.declared.admin.desk.DeskAnswer.{DeskAnswer};
-ghost use Rattle.deadline_core.specs.declared.deadline.Dirs.{Dirs};
+ghost use Rattle.std.specs.Prelude.{◌≡◌, None, IfSome};
+ghost use Rattle.relay_admin.specs.declared.admin.answers.CloseAnswer.{CloseAnswer};
+ghost use Rattle.relay_admin.specs.declared.admin.answers.SteerAnswer.{SteerAnswer};
 ghost use Rattle.relay_main.specs.Deadlines.{asked_deadline};
-ghost use Rattle.relay_main.specs.Desk.{desk_answer};
+ghost use Rattle.relay_main.specs.Desk.{close_answer, late_answer, steer_answer};
+ghost use Rattle.relay_main.specs.declared.desk.NotAsked.{NotAsked};
 
 use crate::main_loop::MainLoop;
-use deadline_core::{Deadline, Dirs};
-use fd_descriptor::Setting;
-use relay_admin::{Desk, DeskAnswer, Shown};
+use deadline_core::Deadline;
+use relay_admin::{
+    CloseAnswer, LateAnswer, ReloadAnswer, SessionDesk, Shown, SteerAnswer, TotalBytes,
+};
 use relay_core::idle_deadline;
 use relay_facts::clock::Moments;
-use relay_shared::entry::{Handle, Owner};
 use relay_shared::loop_handle::totals_of;
+use relay_shared::requests::{Answer, Asks, Question};
+use relay_shared::standing::{Whereabouts, find_side, shown};
 use rwloops::Fault;
-use std::alloc::Global;
+use std::alloc::{AllocError, Global};
 use std::fs::Files;
 use std::net::Net;
 use std::sync::Wait;
@@ -30,83 +30,100 @@ pub(crate) struct RelayDesk<'a, R: Wait + Clock + Copy> {
     main: &'a mut MainLoop<R>,
     /// The session's place.
     place: usize,
-    /// The reply to the last question waits for a close.
-    pub(crate) is_held: bool,
 }
 
-// What a close, a drain or a deadline that ended so is to the session. A device's fault while the
-// descriptor was destroyed doesn't change that it is closed.
-fn answer_of(done: Result<(), Fault>) -> DeskAnswer
-    ensures { result ≡ desk_answer done }
-{
-    match done {
-        Ok(()) | Err(Fault::Device(_)) => DeskAnswer::Fine,
-        Err(Fault::TooMany) => DeskAnswer::Busy,
-        Err(Fault::OutOfMemory) => DeskAnswer::NoMemory,
-        Err(Fault::Draining) => DeskAnswer::Draining,
-        Err(_) => DeskAnswer::Closed,
+// Why no loop could be asked.
+#[derive(Clone, Copy, Debug, PartialEq, Eq, Drop)]
+enum NotAsked {
+    // No connection has this id.
+    Unknown,
+    // Memory was refused.
+    NoMemory,
+}
+
+impl NotAsked {
+    fn to_close(self) -> CloseAnswer
+        ensures unknown { self ≡ NotAsked.Unknown → result ≡ CloseAnswer.Unknown }
+        ensures no_memory { self ≡ NotAsked.NoMemory → result ≡ CloseAnswer.NoMemory }
+    {
+        match self {
+            NotAsked::Unknown => CloseAnswer::Unknown,
+            NotAsked::NoMemory => CloseAnswer::NoMemory,
+        }
+    }
+
+    fn to_steer(self) -> SteerAnswer
+        ensures unknown { self ≡ NotAsked.Unknown → result ≡ SteerAnswer.Unknown }
+        ensures no_memory { self ≡ NotAsked.NoMemory → result ≡ SteerAnswer.NoMemory }
+    {
+        match self {
+            NotAsked::Unknown => SteerAnswer::Unknown,
+            NotAsked::NoMemory => SteerAnswer::NoMemory,
+        }
     }
 }
 
-// The same of a close by an id, which is unknown where another took its entry out.
-fn answer_of_close(done: Option<Result<(), Fault>>) -> DeskAnswer
-    ensures known { IfSome done (λ answer. result ≡ desk_answer answer) }
-    ensures unknown { IfNone done (result ≡ DeskAnswer.Unknown) }
+// What a close of a listener that ended so is to the session. A device's fault while the descriptor
+// was destroyed doesn't change that it is closed.
+fn close_answer(done: Option<Result<(), Fault>>) -> CloseAnswer
+    ensures { result ≡ close_answer done }
 {
     match done {
-        Some(done) => answer_of(done),
-        None => DeskAnswer::Unknown,
+        None => CloseAnswer::Unknown,
+        Some(Ok(())) | Some(Err(Fault::Device(_))) => CloseAnswer::Fine,
+        Some(Err(Fault::TooMany)) => CloseAnswer::Busy,
+        Some(Err(Fault::OutOfMemory)) => CloseAnswer::NoMemory,
+        Some(Err(_)) => CloseAnswer::Closed,
     }
 }
 
-// What a session asks a descriptor for: a deadline in both directions, so many milliseconds from
-// now, or none.
-fn asked_setting(now: u64, after_ms: Option<u32>) -> Setting
-    ensures both { result.dirs ≡ Dirs.Both }
-    ensures deadline { result.deadline ≡ asked_deadline now after_ms }
-    ensures now { result.now ≡ now }
+// What a drain or a deadline that ended so is to the session.
+fn steer_answer(done: Option<Result<(), Fault>>) -> SteerAnswer
+    ensures { result ≡ steer_answer done }
 {
-    let deadline = match after_ms {
+    match done {
+        None => SteerAnswer::Unknown,
+        Some(Ok(())) | Some(Err(Fault::Device(_))) => SteerAnswer::Fine,
+        Some(Err(Fault::TooMany)) => SteerAnswer::Busy,
+        Some(Err(Fault::OutOfMemory)) => SteerAnswer::NoMemory,
+        Some(Err(Fault::Draining)) => SteerAnswer::Draining,
+        Some(Err(_)) => SteerAnswer::Closed,
+    }
+}
+
+/// What the answer of a loop is to the session that waits for it.
+pub(crate) fn late_answer(answer: Answer) -> LateAnswer
+    ensures { result ≡ late_answer answer }
+{
+    match answer {
+        Answer::Close(Some(_)) => LateAnswer::Close(CloseAnswer::Fine),
+        Answer::Close(None) => LateAnswer::Close(CloseAnswer::Unknown),
+        Answer::Drain(done) => LateAnswer::Drain(steer_answer(done)),
+        Answer::Deadline(done) => LateAnswer::Deadline(steer_answer(done)),
+    }
+}
+
+// The deadline that a session asks for: so many milliseconds from now, or none.
+fn asked_deadline(now: u64, after_ms: Option<u32>) -> Deadline
+    ensures { result ≡ asked_deadline now after_ms }
+{
+    match after_ms {
         Some(ms) => Deadline::At(idle_deadline(now, ms)),
         None => Deadline::Never,
-    };
-    Setting::new(Dirs::Both, deadline, now)
+    }
 }
 
 impl<'a, R: Wait + Clock + Copy> RelayDesk<'a, R> {
     /// That of the session at this place.
     pub(crate) fn of(main: &'a mut MainLoop<R>, place: usize) -> RelayDesk<'a, R>
-        ensures free { result.is_held ≡ false }
         ensures place { result.place ≡ place }
     {
-        RelayDesk {
-            main,
-            place,
-            is_held: false,
-        }
+        RelayDesk { main, place }
     }
 
-    // A handle of its own on the connection or listener with this id, with whose it is, so that the
-    // table's lock is given back before a deadline is set or it is drained.
-    fn handle(&self, id: u64) -> Result<(Handle, Owner), DeskAnswer> {
+    fn all_ids(&self, alloc: Global) -> Result<Vec<u64>, AllocError> {
         let rt = self.main.host.rt;
-        let table = self.main.host.shared.table.lock(&rt);
-        let Some(entry) = table.by_id(id) else {
-            return Err(DeskAnswer::Unknown);
-        };
-        match entry.share(&rt) {
-            Ok(shared) => Ok(shared),
-            Err(fault) => Err(answer_of(Err(fault))),
-        }
-    }
-
-    fn all_ids(&self, alloc: Global) -> DeskAnswer {
-        let rt = self.main.host.rt;
-        let shared = &self.main.host.shared;
-        match shared.table.lock(&rt).ids(alloc) {
-            Ok(ids) => DeskAnswer::Ids(ids),
-            Err(_) => DeskAnswer::NoMemory,
-        }
+        self.main.host.shared.index.lock(&rt).ids(alloc)
     }
 
     fn seen(&self, id: u64) -> Option<Shown>
@@ -114,122 +131,95 @@ impl<'a, R: Wait + Clock + Copy> RelayDesk<'a, R> {
     {
         let rt = self.main.host.rt;
         let now = self.main.host.clock.now();
-        let table = self.main.host.shared.table.lock(&rt);
-        match table.by_id(id) {
-            Some(entry) => Some(entry.shown(&rt, id, now)),
-            None => None,
-        }
+        let index = self.main.host.shared.index.lock(&rt);
+        shown(&*index, &rt, id, now)
     }
 
-    fn shown(&self, id: u64) -> DeskAnswer
-        ensures { HasAskedId (commands.Show id) (replies.answer_of result) }
-    {
-        match self.seen(id) {
-            Some(seen) => DeskAnswer::Shown(seen),
-            None => DeskAnswer::Unknown,
-        }
-    }
-
-    // Sets a deadline, and has the task that waits for the descriptor look at it.
-    fn set_deadline(
-        &self,
-        handle: &mut Handle,
-        owner: &Owner,
-        after_ms: Option<u32>,
-    ) -> DeskAnswer {
+    fn find_side(&self, id: u64) -> Option<Whereabouts> {
         let rt = self.main.host.rt;
-        let Some(alarms) = owner.alarms(rt) else {
-            return DeskAnswer::NoMemory;
+        let index = self.main.host.shared.index.lock(&rt);
+        find_side(&*index, id)
+    }
+
+    // Asks the loop of the connection with this id: the session waits for its answer from then on.
+    fn ask(&self, id: u64, asks: Asks) -> Result<(), NotAsked> {
+        let Some(at) = self.find_side(id) else {
+            return Err(NotAsked::Unknown);
         };
-        let setting = asked_setting(self.main.host.clock.now(), after_ms);
-        let answer = answer_of(handle.set(&rt, &alarms, setting));
-        owner.tell(&rt);
-        answer
-    }
-
-    // Has the task that has the connection with this id look at what is wished of it.
-    fn tell_owner(&self, id: u64) -> Result<(), DeskAnswer> {
-        match self.handle(id) {
-            Ok((_, owner)) => {
-                owner.tell(&self.main.host.rt);
-                Ok(())
-            }
-            Err(answer) => Err(answer),
+        let question = Question {
+            id,
+            token: at.token,
+            asks,
+        };
+        let host = &self.main.host;
+        match host.shared.ask(&host.rt, self.place, at.loop_place, question) {
+            Ok(()) => Ok(()),
+            Err(_) => Err(NotAsked::NoMemory),
         }
     }
 
-    // Takes the wish back. Its loop may have closed the connection by it meanwhile, where it had
-    // another reason to look.
-    fn withdrawn(&self, answer: DeskAnswer) -> DeskAnswer {
-        if self.main.host.shared.closes.take_back(self.place) {
-            return DeskAnswer::Fine;
-        }
-        answer
-    }
-
-    // Asks the loop of the connection with this id on one of its sides to close it. The reply waits
-    // until it has.
-    fn ask_close(&mut self, id: u64) -> DeskAnswer
-        ensures held { self.old.is_held ≡ false → self.new.is_held ≡ true
-            → result ≡ DeskAnswer.Fine }
-    {
-        if self.main.host.shared.closes.is_wished(id) {
-            return DeskAnswer::Unknown;
-        }
-        self.main.host.shared.closes.leave(self.place, id);
-        match self.tell_owner(id) {
-            Ok(()) => {
-                self.is_held = true;
-                DeskAnswer::Fine
-            }
-            Err(answer) => self.withdrawn(answer),
+    // The same of a drain or a deadline: the answer where there is none to wait for.
+    fn steer(&self, id: u64, asks: Asks) -> Option<SteerAnswer> {
+        match self.ask(id, asks) {
+            Ok(()) => None,
+            Err(refused) => Some(refused.to_steer()),
         }
     }
 }
 
-impl<'a, R> Desk for RelayDesk<'a, R>
+impl<'a, R> SessionDesk for RelayDesk<'a, R>
 where
     R: Wait + Net + Files + Clock + Copy,
 {
-    // What other threads do to the table and the books in between isn't known.
+    // What other threads do to the index and the books in between isn't known.
     ghost exchanges = { λ _. None };
 
-    fn ids(&mut self, alloc: Global) -> DeskAnswer {
+    fn ids(&mut self, alloc: Global) -> Result<Vec<u64>, AllocError> {
         self.all_ids(alloc)
     }
 
-    fn totals(&mut self) -> DeskAnswer {
+    fn totals(&mut self) -> TotalBytes {
         totals_of(self.main.host.shared.loops.as_slice()).answer()
     }
 
-    // The main thread closes a listener by itself, whose task it has.
-    fn close(&mut self, id: u64) -> DeskAnswer {
+    // What is asked of a listener the main thread does by itself, whose task it has; so also below.
+    fn close(&mut self, id: u64) -> Option<CloseAnswer> {
         let rt = self.main.host.rt;
         match self.main.listener_token(&rt, id) {
-            Some(token) => answer_of_close(self.main.close_listener(&rt, id, token)),
-            None => self.ask_close(id),
+            Some(token) => Some(close_answer(self.main.close_listener(token))),
+            None => match self.ask(id, Asks::Close) {
+                Ok(()) => None,
+                Err(refused) => Some(refused.to_close()),
+            },
         }
     }
 
-    fn drain(&mut self, id: u64) -> DeskAnswer {
-        match self.handle(id) {
-            Ok((mut handle, _)) => answer_of(handle.drain(&self.main.host.rt)),
-            Err(answer) => answer,
+    fn drain(&mut self, id: u64) -> Option<SteerAnswer> {
+        let rt = self.main.host.rt;
+        match self.main.listener_token(&rt, id) {
+            Some(token) => Some(steer_answer(self.main.drain_listener(token))),
+            None => self.steer(id, Asks::Drain),
         }
     }
 
-    fn deadline(&mut self, _alloc: Global, id: u64, after_ms: Option<u32>) -> DeskAnswer {
-        match self.handle(id) {
-            Ok((mut handle, owner)) => self.set_deadline(&mut handle, &owner, after_ms),
-            Err(answer) => answer,
+    fn deadline(&mut self, _alloc: Global, id: u64, after_ms: Option<u32>) -> Option<SteerAnswer> {
+        let rt = self.main.host.rt;
+        let now = self.main.host.clock.now();
+        let deadline = asked_deadline(now, after_ms);
+        match self.main.listener_token(&rt, id) {
+            Some(token) => {
+                let done = self.main.set_listener_deadline(token, deadline, now);
+                Some(steer_answer(done))
+            }
+            None => self.steer(id, Asks::Deadline { deadline, now }),
         }
     }
 
-    fn show(&mut self, id: u64) -> DeskAnswer {
-        self.shown(id)
+    fn show(&mut self, id: u64) -> Option<Shown> {
+        self.seen(id)
     }
 
-    fn ids_to_show(&mut self, alloc: Global) -> DeskAnswer {
+    fn ids_to_show(&mut self, alloc: Global) -> Result<Vec<u64>, AllocError> {
         self.all_ids(alloc)
     }
 
@@ -237,14 +227,13 @@ where
         self.seen(id)
     }
 
-    fn reload(&mut self, _alloc: Global) -> DeskAnswer {
+    fn reload(&mut self, _alloc: Global) -> ReloadAnswer {
         let rt = self.main.host.rt;
         let now = self.main.host.clock.now();
         self.main.reload(&rt, now)
     }
 
-    fn finish(&mut self, after_ms: u64) -> DeskAnswer {
+    fn finish(&mut self, after_ms: u64) {
         self.main.finish(after_ms);
-        DeskAnswer::Fine
     }
 }

@@ -1,5 +1,5 @@
 //! A relay that finishes: it takes nobody more, lets its connections go on to their own ends, and
-//! ends once none stands, or a moment has come.
+//! ends once none stands and no session waits for the answer of a loop, or a moment has come.
 
 ghost use Rattle.std.specs.Prelude.{◌≡◌, ◌↔◌, true, None, IsSome};
 ghost use Rattle.readiness.specs.EventLoop.{tasks_of};
@@ -22,12 +22,17 @@ use std::time::Clock;
 const FINISH_KEY: u64 = 0;
 
 /// Whether a relay has finished that finishes at this moment at the latest, or doesn't at all, where
-/// so many connections stand.
-pub(crate) fn has_finished(finish_at: Option<u64>, now: u64, standing: u64) -> bool
-    ensures { result ≡ true ↔ HasFinished finish_at now standing }
+/// so many connections stand, and an answer is awaited, or none.
+pub(crate) fn has_finished(
+    finish_at: Option<u64>,
+    now: u64,
+    standing: u64,
+    awaited: bool,
+) -> bool
+    ensures { result ≡ true ↔ HasFinished finish_at now standing awaited }
 {
     match finish_at {
-        Some(at) => at <= now || standing == 0,
+        Some(at) => at <= now || (standing == 0 && !awaited),
         None => false,
     }
 }

@@ -1,16 +1,20 @@
 //! What the main thread's loop resumes its tasks with.
 
-ghost use Rattle.std.specs.Prelude.{◌≡◌, true, false, None};
+ghost use Rattle.std.specs.Prelude.{◌≡◌, true, false, None, IfSome};
+ghost use Rattle.std.specs.Arc.{arc_value};
+ghost use Rattle.readiness.specs.EventLoop.{remote_of};
 
 use crate::admin::Caller;
 use crate::main_task::MainTask;
+use crate::rule_task::{RuleListener, RuleTask};
 use deadline_core::Dirs;
 use fd_descriptor::{Alarms, PollCell};
 use readiness::{Host, Place, RemoteAlarms, Side, Turn, Why};
 use relay_core::{has_come, pause_end};
 use relay_facts::clock::Moments;
-use relay_shared::close_wishes::MAX_SESSIONS;
+use relay_shared::requests::MAX_SESSIONS;
 use relay_shared::shared::Shared;
+use rwloops::Fault;
 use std::alloc::Global;
 use std::sync::{Arc, Wait};
 use std::time::Clock;
@@ -45,21 +49,28 @@ impl<R: Wait + Copy, C: Moments> MainHost<R, C> {
         }
     }
 
+    /// The alarms of the main thread's loop. It takes no memory.
+    pub(crate) fn alarms(&self) -> Option<RemoteAlarms<R>>
+        ensures own { IfSome result (λ alarms.
+            remote_of alarms ≡ arc_value (arc_value self.now.shared).main) }
+    {
+        let remote = Arc::try_clone(&self.shared.main).ok()?;
+        Some(RemoteAlarms::new(self.rt, remote))
+    }
+
     /// Has the loop resume a task at this moment, by one of its tokens; or says that memory was
     /// refused for it.
     pub(crate) fn arm(&self, token: u64, at: u64) -> bool {
-        match Arc::try_clone(&self.shared.main) {
-            Ok(remote) => RemoteAlarms::new(self.rt, remote)
-                .arm(token, Dirs::Read, at)
-                .is_ok(),
-            Err(_) => false,
+        match self.alarms() {
+            Some(alarms) => alarms.arm(token, Dirs::Read, at).is_ok(),
+            None => false,
         }
     }
 
     /// Takes back what was armed by this token.
     pub(crate) fn disarm(&self, token: u64) {
-        if let Ok(remote) = Arc::try_clone(&self.shared.main) {
-            RemoteAlarms::new(self.rt, remote).disarm(token, Dirs::Read);
+        if let Some(alarms) = self.alarms() {
+            alarms.disarm(token, Dirs::Read);
         }
     }
 
@@ -83,6 +94,26 @@ impl<R: Wait + Copy, C: Moments> MainHost<R, C> {
         }
         *paused_until = None;
         false
+    }
+
+    /// Ends a rule's task, and closes its listener: first nobody finds it any more, and the accept
+    /// under way ends, for which the close would wait.
+    pub(crate) fn close_rule(&self, task: RuleTask<R>) -> Result<(), Fault> {
+        let RuleTask {
+            served,
+            place,
+            listener,
+            ..
+        } = task;
+        let _ = self.shared.index.lock(&self.rt).leave(listener.id);
+        served.note_listening(false);
+        let RuleListener { half, .. } = listener;
+        let mut handle = half.into_handle();
+        let closed = handle.close(&self.rt);
+        if let Some(alarms) = self.alarms() {
+            alarms.disarm(place.first, Dirs::Both);
+        }
+        closed
     }
 
     /// Whether a pause is over whose alarm couldn't be armed.
@@ -127,6 +158,12 @@ where
     }
 
     fn over(&mut self, task: MainTask<R>) {
-        drop(task);
+        match task {
+            MainTask::Rule(task) => {
+                let _ = self.close_rule(task);
+            }
+            MainTask::Admin(task) => drop(task),
+            MainTask::Session(_) => {}
+        }
     }
 }

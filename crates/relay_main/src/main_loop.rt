@@ -102,7 +102,7 @@ impl<R: Wait + Net + Files + Clock + Copy> MainLoop<R> {
         } = self;
         let shared = &host.shared;
         for served in shared.rules.lock(&host.rt).iter() {
-            listen_by(&host.rt, *alloc, tasks, &shared.table, served, listeners, 0)?;
+            listen_by(&host.rt, *alloc, tasks, &shared.index, served, listeners, 0)?;
         }
         Ok(())
     }
@@ -145,7 +145,7 @@ impl<R: Wait + Net + Files + Clock + Copy> MainLoop<R> {
                 return Err(of_poller(fault));
             }
             sessions.serve(self);
-            if self.is_over() {
+            if self.is_over(sessions.awaits_answer()) {
                 return Ok(());
             }
             if self.host.takes_unarmed() {
@@ -155,10 +155,10 @@ impl<R: Wait + Net + Files + Clock + Copy> MainLoop<R> {
         unreachable!()
     }
 
-    // Whether no turn more is wanted.
-    fn is_over(&self) -> bool {
+    // Whether no turn more is wanted, where a session waits for the answer of a loop, or none does.
+    fn is_over(&self, awaited: bool) -> bool {
         let shared = &self.host.shared;
-        shared.is_stopped()
-            || has_finished(self.finish_at, self.host.clock.now(), shared.standing())
+        let now = self.host.clock.now();
+        shared.is_stopped() || has_finished(self.finish_at, now, shared.standing(), awaited)
     }
 }

@@ -3,15 +3,17 @@
 //! listeners of those that have gone.
 
 ghost use Rattle.std.specs.Prelude.{◌≡◌, ◌≢◌, None};
-ghost use Rattle.relay_admin.specs.declared.admin.desk.DeskAnswer.{DeskAnswer};
+ghost use Rattle.readiness.specs.EventLoop.{tasks_of};
+ghost use Rattle.readiness.specs.Tasks.{task_in};
+ghost use Rattle.relay_admin.specs.declared.admin.answers.ReloadAnswer.{ReloadAnswer};
 ghost use Rattle.relay_main.specs.Reload.{answer_of_fault};
 
 use crate::main_loop::MainLoop;
+use crate::main_task::MainTask;
 use crate::opening::listen_by;
-use relay_admin::{Addr, DeskAnswer, Rule, Rules, ServeFault, Verdict};
+use relay_admin::{Addr, ReloadAnswer, Rule, Rules, ServeFault, Verdict};
 use relay_facts::rules_file::text_of;
 use relay_facts::served_rule::ServedRule;
-use relay_shared::closing::Closer;
 use rwloops::Fault;
 use std::alloc::Global;
 use std::fs::Files;
@@ -30,14 +32,14 @@ struct Planned {
 }
 
 // What a session is answered where a reload is refused.
-fn answer_of_fault(fault: ServeFault) -> DeskAnswer
+fn answer_of_fault(fault: ServeFault) -> ReloadAnswer
     ensures { result ≡ answer_of_fault fault }
 {
     match fault {
-        ServeFault::RulesFile => DeskAnswer::CannotRead,
-        ServeFault::Listen(name) => DeskAnswer::CannotListen(name),
-        ServeFault::Memory => DeskAnswer::NoMemory,
-        _ => DeskAnswer::Closed,
+        ServeFault::RulesFile => ReloadAnswer::CannotRead,
+        ServeFault::Listen(name) => ReloadAnswer::CannotListen(name),
+        ServeFault::Memory => ReloadAnswer::NoMemory,
+        _ => ReloadAnswer::Finishing,
     }
 }
 
@@ -67,7 +69,7 @@ impl<R: Wait + Net + Files + Clock + Copy> MainLoop<R> {
         let rules = self.host.shared.rules.lock(rt);
         for served in rules.iter() {
             if served.listen == *listen {
-                if self.host.shared.table.lock(rt).by_id(served.id()).is_some() {
+                if self.host.shared.index.lock(rt).find(served.id()).is_some() {
                     return Arc::try_clone(served).ok();
                 }
                 served.remove_path(rt);
@@ -103,21 +105,19 @@ impl<R: Wait + Net + Files + Clock + Copy> MainLoop<R> {
 
     // Ends the listener of a rule, if it has one.
     fn end_listener(&mut self, rt: &R, served: &ServedRule) {
-        self.close_listener(rt, served.id(), served.token());
+        self.close_listener(served.token());
         served.remove_path(rt);
     }
 
-    /// Closes the listener with this id: first its task ends, which has this token, so that no
-    /// accept is under way, for which the close would wait. `None` says that another did.
-    pub(crate) fn close_listener(
-        &mut self,
-        rt: &R,
-        id: u64,
-        token: u64,
-    ) -> Option<Result<(), Fault>> {
-        let task = self.tasks.take(token);
-        drop(task);
-        self.host.shared.close(rt, id, Closer::ItsLoop)
+    /// Closes the listener whose task has this token, and ends the task; none where there is no such
+    /// task.
+    pub(crate) fn close_listener(&mut self, token: u64) -> Option<Result<(), Fault>>
+        ensures gone { task_in (tasks_of self.new.tasks) token ≡ None }
+    {
+        match self.tasks.take(token)? {
+            MainTask::Rule(task) => Some(self.host.close_rule(task)),
+            _ => None,
+        }
     }
 
     /// The token of the task whose listener stands under this id.
@@ -143,7 +143,7 @@ impl<R: Wait + Net + Files + Clock + Copy> MainLoop<R> {
             rt,
             *alloc,
             tasks,
-            &host.shared.table,
+            &host.shared.index,
             served,
             listeners,
             now,
@@ -189,11 +189,11 @@ impl<R: Wait + Net + Files + Clock + Copy> MainLoop<R> {
     /// Reads the rules file again, and serves its rules from now on. Where it can't be read, is bad,
     /// or has a new address that can't be listened on, nothing changes; nor does it where the relay
     /// finishes.
-    pub(crate) fn reload(&mut self, rt: &R, now: u64) -> DeskAnswer
-        ensures finishing { self.old.finish_at ≢ None → result ≡ DeskAnswer.Closed }
+    pub(crate) fn reload(&mut self, rt: &R, now: u64) -> ReloadAnswer
+        ensures finishing { self.old.finish_at ≢ None → result ≡ ReloadAnswer.Finishing }
     {
         if self.finish_at.is_some() {
-            return DeskAnswer::Closed;
+            return ReloadAnswer::Finishing;
         }
         let text = match text_of(rt, self.alloc, self.host.shared.rules_path.as_str()) {
             Ok(text) => text,
@@ -201,10 +201,10 @@ impl<R: Wait + Net + Files + Clock + Copy> MainLoop<R> {
         };
         let rules = match Rules::parse(text.as_slice()) {
             Ok(rules) => rules,
-            Err(fault) => return DeskAnswer::Verdict(Verdict::Bad(fault)),
+            Err(fault) => return ReloadAnswer::Verdict(Verdict::Bad(fault)),
         };
         match self.serve_rules(rt, rules.as_slice(), now) {
-            Ok(()) => DeskAnswer::Verdict(Verdict::Rules(rules.as_slice().len() as u32)),
+            Ok(()) => ReloadAnswer::Verdict(Verdict::Rules(rules.as_slice().len() as u32)),
             Err(fault) => answer_of_fault(fault),
         }
     }

@@ -1,10 +1,15 @@
 //! A rule's task of the main thread's loop: it accepts from the rule's listener, and delivers to the
 //! loops.
 
-ghost use Rattle.std.specs.Prelude.{◌≡◌, ⊤, IfSome};
+ghost use Rattle.std.specs.Prelude.{◌≡◌, ⊤, IfSome, OnOk};
+ghost use Rattle.fd_descriptor.specs.TaskHalf.{KeepsHalf, descriptor_of_half};
+ghost use Rattle.relay_shared.specs.Drained.{WasDrained};
 ghost use Rattle.std.specs.Arc.{arc_value};
 
-use fd_descriptor::{PollCell, TaskReader};
+use crate::main_loop::MainLoop;
+use crate::main_task::MainTask;
+use deadline_core::Deadline;
+use fd_descriptor::{Alarms, PollCell, TaskReader};
 use readiness::{ListenRes, Place, Sock};
 use relay_core::{AcceptStep, Accepting, PollAcceptGate};
 use relay_facts::clock::Moments;
@@ -22,6 +27,33 @@ pub struct RuleListener<R: Wait + Copy> {
     pub(crate) id: u64,
     pub(crate) cell: Arc<PollCell>,
     pub(crate) half: TaskReader<ListenRes, R>,
+}
+
+impl<R: Wait + Copy> RuleListener<R> {
+    // Drains it: the accept that is under way may take one client more.
+    fn drain(&mut self, rt: &R) -> Result<(), Fault>
+        ensures half { KeepsHalf self.old.half self.new.half }
+        ensures kept { self.new ≡ record self.old { half = self.new.half } }
+        ensures drained { OnOk result (WasDrained (descriptor_of_half self.old.half)) }
+    {
+        let mut handle = self.half.share()?;
+        handle.drain(rt)
+    }
+
+    // Sets the deadline of its accepts.
+    fn set_deadline<A: Alarms>(
+        &mut self,
+        rt: &R,
+        alarms: &A,
+        deadline: Deadline,
+        now: u64,
+    ) -> Result<(), Fault>
+        ensures half { KeepsHalf self.old.half self.new.half }
+        ensures kept { self.new ≡ record self.old { half = self.new.half } }
+    {
+        let mut handle = self.half.share()?;
+        handle.set_deadline(rt, deadline, now, alarms)
+    }
 }
 
 /// Accepts by a rule until its listener is closed or drained.
@@ -128,4 +160,35 @@ pub(crate) fn accept_on<'a, R: Wait + Clock + Copy, C: Moments>(
     };
     let step = accepting.resume(&mut gate);
     (step, gate.fault)
+}
+
+impl<R: Wait + Clock + Copy> MainLoop<R> {
+    /// Drains the listener of the rule's task that this token names; none where there is no such
+    /// task.
+    pub(crate) fn drain_listener(&mut self, token: u64) -> Option<Result<(), Fault>> {
+        match self.tasks.task_mut(token) {
+            Some(MainTask::Rule(task)) => Some(task.listener.drain(&self.host.rt)),
+            _ => None,
+        }
+    }
+
+    /// Sets the deadline of the same, and has its task look at that in the next turn.
+    pub(crate) fn set_listener_deadline(
+        &mut self,
+        token: u64,
+        deadline: Deadline,
+        now: u64,
+    ) -> Option<Result<(), Fault>> {
+        let Some(alarms) = self.host.alarms() else {
+            return Some(Err(Fault::OutOfMemory));
+        };
+        let done = match self.tasks.task_mut(token) {
+            Some(MainTask::Rule(task)) => {
+                task.listener.set_deadline(&self.host.rt, &alarms, deadline, now)
+            }
+            _ => return None,
+        };
+        self.tasks.again(token);
+        Some(done)
+    }
 }

@@ -4,10 +4,10 @@
 
 ghost use Rattle.std.specs.Prelude.{◌≡◌, ◌<◌, ◌↔◌, true, Some, None, length, slice_get};
 ghost use Rattle.std.specs.Prelude.{IfErr, IfSome, IfNone};
-ghost use Rattle.relay_main.specs.Sessions.{IsQuietest, NoneMayLeave, patience};
+ghost use Rattle.relay_main.specs.Sessions.{IsQuietest, NoneMayLeave, SomeIsHeld, patience};
 ghost use Rattle.relay_admin.specs.declared.serve_fault.ServeFault.{ServeFault};
 
-use crate::desk::RelayDesk;
+use crate::desk::{RelayDesk, late_answer};
 use crate::main_loop::MainLoop;
 use crate::main_task::MainTask;
 use crate::session::{Session, SessionStep};
@@ -15,7 +15,7 @@ use readiness::Sock;
 use relay_admin::ServeFault;
 use relay_core::{has_come, silence_end};
 use relay_facts::clock::Moments;
-use relay_shared::close_wishes::{CloseWishes, MAX_SESSIONS};
+use relay_shared::requests::MAX_SESSIONS;
 use std::alloc::Global;
 use std::fs::Files;
 use std::mem;
@@ -35,8 +35,6 @@ struct Seated {
     token: u64,
     /// When it is ended, unless it gets on before.
     until: u64,
-    /// Its reply waits for a close that it has asked for.
-    is_held: bool,
 }
 
 /// The sessions, by their places.
@@ -62,25 +60,20 @@ impl Seated {
             self.until = silence_end(now);
             main.host.arm(self.token, self.until);
         }
-        if step == SessionStep::Waits && !self.is_held && has_come(Some(self.until), now) {
+        if step == SessionStep::Waits && !self.session.is_held() && has_come(Some(self.until), now) {
             return SessionStep::Over;
         }
         step
     }
 
-    // Has the next line answered, and its reply written, unless that is to wait.
+    // Has the next line answered, and its reply written, unless its answer comes later.
     fn ask<R>(&mut self, main: &mut MainLoop<R>, place: usize) -> SessionStep
     where
         R: Wait + Net + Files + Clock + Copy,
     {
         let alloc = main.alloc;
         let mut desk = RelayDesk::of(main, place);
-        let step = self.session.ask(alloc, &mut desk);
-        self.is_held = desk.is_held;
-        if self.is_held {
-            return SessionStep::Waits;
-        }
-        match step {
+        match self.session.ask(alloc, &mut desk) {
             SessionStep::Again => self.session.pay(),
             other => other,
         }
@@ -123,8 +116,8 @@ impl Sessions {
         None
     }
 
-    // The session that has got nowhere for longest, with its place. One whose reply waits for a
-    // close isn't asked.
+    // The session that has got nowhere for longest, with its place. One that waits for an answer
+    // isn't asked.
     fn quietest(&self) -> Option<(usize, &Box<Seated>)>
         ensures longest { IfSome result (λ found.
             IsQuietest self.now.places.items found.0 found.1.now) }
@@ -134,7 +127,7 @@ impl Sessions {
         let mut found: Option<(usize, &Box<Seated>)> = None;
         for place in 0..self.places.len() {
             if let Some(session) = &self.places[place] {
-                if !session.is_held && is_quieter(session, found) {
+                if !session.session.is_held() && is_quieter(session, found) {
                     found = Some((place, session));
                 }
             }
@@ -182,20 +175,23 @@ impl Sessions {
         main.host.callers = came;
     }
 
-    // Whether the session at this place may go on: one whose reply waits for a close, once that is
-    // done; any other, where it was named.
-    fn may_go_on(&mut self, place: usize, is_named: bool, wishes: &CloseWishes) -> bool {
+    // Whether the session at this place may go on: one that waits for an answer, once that is there;
+    // any other, where it was named.
+    fn may_go_on<R>(&mut self, main: &MainLoop<R>, place: usize, is_named: bool) -> bool
+    where
+        R: Wait + Net + Files + Clock + Copy,
+    {
         let Some(Some(seated)) = self.places.get_mut(place) else {
             return false;
         };
-        if !seated.is_held {
+        if !seated.session.is_held() {
             return is_named;
         }
-        if !wishes.is_settled(place) {
+        let answer = main.host.shared.slots.lock(&main.host.rt).take(place);
+        let Some(answer) = answer else {
             return false;
-        }
-        wishes.take_back(place);
-        seated.is_held = false;
+        };
+        seated.session.answer(main.alloc, late_answer(answer));
         true
     }
 
@@ -225,9 +221,24 @@ impl Sessions {
     {
         drop(main.tasks.take(token));
         main.host.disarm(token);
+        main.host.shared.slots.lock(&main.host.rt).withdraw(place);
         if let Some(seat) = self.places.get_mut(place) {
             *seat = None;
         }
+    }
+
+    /// Whether a session waits for the answer of a loop.
+    pub(crate) fn awaits_answer(&self) -> bool
+        ensures { result ≡ true ↔ SomeIsHeld self.now.places.items }
+    {
+        for place in self.places.iter() {
+            if let Some(seated) = place {
+                if seated.session.is_held() {
+                    return true;
+                }
+            }
+        }
+        false
     }
 
     /// Begins the sessions that came, and has those go on that may.
@@ -238,7 +249,7 @@ impl Sessions {
         self.begin_all(main);
         let named = mem::replace(&mut main.host.named, [false; MAX_SESSIONS]);
         for place in 0..MAX_SESSIONS {
-            if self.may_go_on(place, named[place], &main.host.shared.closes) {
+            if self.may_go_on(main, place, named[place]) {
                 self.go_on(main, place);
             }
         }
@@ -257,7 +268,6 @@ impl<R: Wait + Net + Files + Clock + Copy> MainLoop<R> {
             session: Session::over(self.alloc, sock)?,
             token,
             until,
-            is_held: false,
         };
         let seated = Box::new(self.alloc, seated).ok()?;
         if !self.host.arm(token, until) {

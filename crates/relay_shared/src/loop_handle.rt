@@ -1,72 +1,23 @@
-//! What others reach a loop by: its remote, and the inbox of the sockets that were accepted for it;
-//! and what they know of it.
+//! What others reach a loop by: its remote, and its inbox; and what they know of it.
 
-ghost use Rattle.std.specs.Prelude.{◌≡◌, IfSome};
-ghost use Rattle.std.specs.Arc.{arc_value};
+ghost use Rattle.std.specs.Prelude.{◌≡◌, IfErr};
 
+use crate::inbox::{Accepted, Counted, Inbox};
+use crate::requests::Request;
 use readiness::{LoopDriver, LoopRemote, Sock};
 use relay_facts::connection_facts::Acceptance;
 use relay_facts::counts::Counter;
-use relay_facts::served_rule::ServedRule;
 use relay_facts::totals::{PublishedTotals, Totals};
 use std::alloc::{AllocError, Global};
 use std::mem;
 use std::sync::atomic::{AtomicU64, Ordering};
 use std::sync::{Arc, Mutex, Wait};
 
-/// One of a loop's connections: it is counted from when this is made until this is let go, whatever
-/// comes of it. An accepted socket has one from its delivery, and then its connection.
-pub struct Counted {
-    connections: Arc<AtomicU64>,
-    /// Its rule, which counts it too.
-    served: Arc<ServedRule>,
-}
-
-impl Counted {
-    // One connection more. It takes no memory; refused is only a count that is held too often.
-    fn new(connections: &Arc<AtomicU64>, served: &Arc<ServedRule>) -> Option<Counted>
-        ensures own { IfSome result (λ counted. arc_value counted.served
-            ≡ arc_value served.now) }
-    {
-        let connections = Arc::try_clone(connections).ok()?;
-        let served = Arc::try_clone(served).ok()?;
-        connections.fetch_add(1, Ordering::SeqCst);
-        served.enter();
-        Some(Counted {
-            connections,
-            served,
-        })
-    }
-}
-
-impl Drop for Counted {
-    fn drop(self) {
-        self.connections.fetch_sub(1, Ordering::SeqCst);
-        self.served.leave();
-        let Counted {
-            connections: _,
-            served: _,
-        } = self;
-    }
-}
-
-/// A socket that was accepted, which its loop counts.
-#[derive(Drop)]
-pub struct Accepted {
-    pub sock: Sock,
-    pub acceptance: Acceptance,
-    pub counted: Counted,
-}
-
-/// That a socket was put into an inbox: its loop is to be woken, and finds it there. It can't be
-/// dropped, so that nobody puts one there and wakes nobody.
-struct OwedWake;
-
 /// What others reach a loop by.
 #[derive(Drop)]
 pub struct LoopHandle {
     pub remote: Arc<LoopRemote>,
-    inbox: Mutex<Vec<Accepted>>,
+    inbox: Mutex<Inbox>,
     /// How many connections it has, those in its inbox among them.
     connections: Arc<AtomicU64>,
     /// How many turns its loop has made.
@@ -81,7 +32,7 @@ impl LoopHandle {
         let published = PublishedTotals::new(alloc)?;
         Ok(LoopHandle {
             remote,
-            inbox: Mutex::new(Vec::new(alloc)),
+            inbox: Mutex::new(Inbox::new(alloc)?),
             connections,
             turns: Counter::new(),
             published,
@@ -104,31 +55,32 @@ impl LoopHandle {
             acceptance,
             counted,
         };
-        match self.put(rt, accepted) {
+        let left = self.inbox.lock(rt).leave_socket(accepted);
+        match left {
             Some(owed) => {
-                self.wake(owed);
+                owed.pay(&self.remote);
                 true
             }
             None => false,
         }
     }
 
-    // Puts a socket into the inbox; or drops it, where there is no memory.
-    fn put<R: Wait>(&self, rt: &R, accepted: Accepted) -> Option<OwedWake> {
-        match self.inbox.lock(rt).push(accepted) {
-            Ok(()) => Some(OwedWake),
-            Err(_) => None,
+    /// Leaves a request, and wakes the loop; or gives it back, where there is no memory.
+    pub fn ask<R: Wait>(&self, rt: &R, request: Request) -> Result<(), Request>
+        ensures returned { IfErr result (λ other. other ≡ request) }
+    {
+        let left = self.inbox.lock(rt).leave_request(request);
+        match left {
+            Ok(owed) => {
+                owed.pay(&self.remote);
+                Ok(())
+            }
+            Err(request) => Err(request),
         }
     }
 
-    // Ends the loop's wait, or its next one.
-    fn wake(&self, owed: OwedWake) {
-        let OwedWake = owed;
-        self.remote.wake();
-    }
-
-    /// Changes the inbox for this list, which is empty.
-    pub fn give_all<R: Wait>(&self, rt: &R, taken: &mut Vec<Accepted>) {
+    /// Changes the inbox for this one, which is empty.
+    pub fn give_all<R: Wait>(&self, rt: &R, taken: &mut Inbox) {
         mem::swap(&mut *self.inbox.lock(rt), taken);
     }
 }

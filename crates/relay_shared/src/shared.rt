@@ -1,19 +1,19 @@
 //! What the relay's threads share.
 //!
-//! Locks are held for a few steps, and taken in this order: the rules', the table's, an entry's, a
-//! rule's or a cell's, a remote's. The inboxes' are held alone.
+//! Locks are held for a few steps, and taken in this order: the rules', the index's, a rule's or a
+//! cell's, a remote's. Those of the inboxes and of the slots are held alone.
 
 ghost use Rattle.std.specs.Prelude.{◌≡◌, IfErr, IfOk};
 ghost use Rattle.std.specs.Arc.{arc_value};
 ghost use Rattle.relay_admin.specs.declared.serve_fault.ServeFault.{ServeFault};
 
-use crate::close_wishes::{CloseWishes, MAX_SESSIONS};
-use crate::closing::{Closer, close_by_id};
-use crate::entry::Entry;
+use crate::index::Index;
 use crate::loop_handle::LoopHandle;
+use crate::requests::{Answer, Question, Request, Slots, Ticket};
+use crate::standing::RelayIndex;
 use crate::stopping::{StopFlag, Stopped};
 use arrayvec::ArrayVec;
-use conntable::ConnTable;
+use base_types::OutOfMemory;
 use log_writer::Log;
 use readiness::{LoopRemote, Sock};
 use relay_admin::ServeFault;
@@ -25,7 +25,6 @@ use relay_facts::log_lines::tell_refused;
 use relay_facts::safeguards::Safeguards;
 use relay_facts::served_rule::ServedRule;
 use relay_log::ended::Ended;
-use rwloops::Fault;
 use std::alloc::Global;
 use std::sync::atomic::{AtomicBool, Ordering};
 use std::sync::{Arc, Mutex, Wait};
@@ -33,7 +32,8 @@ use std::time::Clock;
 
 #[derive(Drop)]
 pub struct Shared {
-    pub table: Mutex<ConnTable<Entry>>,
+    /// Who has what stands.
+    pub index: Mutex<RelayIndex>,
     /// The rules that are served, in the order of their file, as it was read last.
     pub rules: Mutex<Vec<Arc<ServedRule>>>,
     /// The remote of the main thread's loop, which accepts.
@@ -46,8 +46,8 @@ pub struct Shared {
     pub safeguards: Safeguards,
     /// Where the rules file is.
     pub rules_path: String,
-    /// What sessions want closed.
-    pub closes: CloseWishes,
+    /// The answers that sessions wait for.
+    pub slots: Mutex<Slots>,
     /// Whether the main thread is to be told of each connection that ends, since it waits for the
     /// last. It is never unset.
     pub is_finishing: AtomicBool,
@@ -79,10 +79,10 @@ pub fn shared_of(
         log,
     } = config;
     let shared = Shared {
-        table: Mutex::new(ConnTable::new(alloc)),
+        index: Mutex::new(Index::new(alloc)),
         rules: Mutex::new(rules),
         rules_path,
-        closes: CloseWishes::none(alloc)?,
+        slots: Mutex::new(Slots::none(alloc)?),
         is_finishing: AtomicBool::new(false),
         main,
         loops,
@@ -145,11 +145,6 @@ impl Shared {
         }
     }
 
-    /// Closes the connection or listener with this id; `None` says that another did.
-    pub fn close<R: Wait + Copy>(&self, rt: &R, id: u64, by: Closer) -> Option<Result<(), Fault>> {
-        close_by_id(rt, &self.table, id, by)
-    }
-
     /// How many connections stand, those among them that are being set up.
     pub fn standing(&self) -> u64 {
         let mut all = 0u64;
@@ -159,25 +154,41 @@ impl Shared {
         all
     }
 
-    /// Settles the wishes for entries that are in the table no more: after a set-up that was
-    /// refused, and took back what it had put there.
-    pub fn settle_gone<R: Wait>(&self, rt: &R) {
-        for place in 0..MAX_SESSIONS {
-            if let Some(id) = self.closes.wished(place) {
-                let is_gone = self.table.lock(rt).by_id(id).is_none();
-                if is_gone && self.closes.settle(id) {
-                    self.main.wake();
-                }
+    /// Asks the loop at a place, for the session at this one, which waits for the answer from then
+    /// on; or says that there is no memory for that, and then it waits for nothing.
+    pub fn ask<R: Wait>(
+        &self,
+        rt: &R,
+        session: usize,
+        loop_place: usize,
+        question: Question,
+    ) -> Result<(), OutOfMemory> {
+        let Some(handle) = self.loops.get(loop_place) else {
+            return Err(OutOfMemory);
+        };
+        let Some(ticket) = self.slots.lock(rt).begin(session) else {
+            return Err(OutOfMemory);
+        };
+        match handle.ask(rt, Request { ticket, question }) {
+            Ok(()) => Ok(()),
+            Err(request) => {
+                self.slots.lock(rt).take_back(request);
+                Err(OutOfMemory)
             }
         }
     }
 
-    /// Tells the main thread of a connection that has ended, where anybody there waits for it. Its
-    /// sides had these ids.
-    pub fn note_end(&self, client: u64, target: u64) {
-        let client = self.closes.settle(client);
-        let target = self.closes.settle(target);
-        if client || target || self.is_finishing.load(Ordering::SeqCst) {
+    /// Answers a request: its session, if it waits for that still, goes on.
+    pub fn answer<R: Wait>(&self, rt: &R, ticket: Ticket, answer: Answer) {
+        let waits = self.slots.lock(rt).answer(ticket, answer);
+        if waits {
+            self.main.wake();
+        }
+    }
+
+    /// Tells the main thread of a connection that has ended, where it waits for the last.
+    pub fn note_end(&self) {
+        if self.is_finishing.load(Ordering::SeqCst) {
             self.main.wake();
         }
     }

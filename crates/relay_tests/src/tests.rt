@@ -30,7 +30,6 @@ macro_rules! started {
     }};
 }
 
-mod closing;
 mod ending;
 mod failing_files;
 mod leaving;
@@ -39,6 +38,7 @@ mod odd_clock;
 mod odd_moments;
 mod pairs;
 mod places;
+mod standing;
 mod streams;
 mod watch;
 

@@ -1,0 +1,127 @@
+//! What admin sessions ask of a loop's connections: the loop carries it out on its own values,
+//! between two of its turns, and answers.
+
+ghost use Rattle.std.specs.Prelude.{◌≡◌, ◌≢◌, ◌↔◌, true, None, IfSome};
+ghost use Rattle.readiness.specs.EventLoop.{tasks_of};
+ghost use Rattle.readiness.specs.LoopToken.{side_in};
+ghost use Rattle.readiness.specs.Tasks.{task_in, OthersKept, SameTasks};
+ghost use Rattle.readiness.specs.declared.tasks.Turn.{Turn};
+ghost use Rattle.relay_loops.specs.Requests.{IsHere, TellsDrain, TellsDeadline, TellsClose};
+ghost use Rattle.relay_shared.specs.Requests.{IsCarriedOut, unknown_answer};
+ghost use Rattle.relay_shared.specs.declared.requests.Asks.{Asks};
+
+use crate::loops::{ConnLoop, LoopHost};
+use deadline_core::Deadline;
+use readiness::{Turn, Why, side_of};
+use relay_shared::requests::{Answer, Asks, Question, Request};
+use std::sync::Wait;
+use std::sync::ledger::Ledger;
+use std::time::Clock;
+
+// Whether the loop has the connection that is asked. (a token alone doesn't tell: that of a set-up
+// which was refused is given again, an id never)
+fn is_here<U: Ledger, D: Ledger, R: Wait + Clock + Copy>(
+    tasks: &ConnLoop<U, D, R>,
+    question: &Question,
+) -> bool
+    ensures { result ≡ true ↔ IsHere (tasks_of tasks.now) question.now }
+{
+    match tasks.task(question.token) {
+        Some(task) => task.connection.id(side_of(question.token)) == question.id,
+        None => false,
+    }
+}
+
+impl<U: Ledger, D: Ledger, R: Wait + Clock + Copy> LoopHost<U, D, R> {
+    /// Carries a request out, and answers it then.
+    pub(crate) fn serve(&mut self, tasks: &mut ConnLoop<U, D, R>, request: Request) {
+        let Request { ticket, question } = request;
+        let answer = self.carry_out(tasks, question);
+        self.context.shared.answer(&self.context.rt, ticket, answer);
+    }
+
+    // Carries out what is asked of a connection, unless it has ended.
+    fn carry_out(&mut self, tasks: &mut ConnLoop<U, D, R>, question: Question) -> Answer
+        ensures gone { (IsHere (tasks_of tasks.old) question → ⊥)
+            → (result ≡ unknown_answer question.asks) × (tasks.new ≡ tasks.old) }
+        ensures done { IsHere (tasks_of tasks.old) question → IsCarriedOut question.asks result }
+        ensures closed { IsHere (tasks_of tasks.old) question → question.asks ≡ Asks.Close
+            → task_in (tasks_of tasks.new) question.token ≡ None }
+        ensures others { OthersKept (tasks_of tasks.old) (tasks_of tasks.new) question.token }
+    {
+        if !is_here(tasks, &question) {
+            return question.asks.unknown();
+        }
+        match question.asks {
+            Asks::Close => self.close_asked(tasks, question.token),
+            Asks::Drain => self.drain_asked(tasks, question.token),
+            Asks::Deadline { deadline, now } => {
+                self.set_asked(tasks, question.token, deadline, now)
+            }
+        }
+    }
+
+    // Ends the connection with this token.
+    fn close_asked(&mut self, tasks: &mut ConnLoop<U, D, R>, token: u64) -> Answer
+        ensures told { TellsClose (task_in (tasks_of tasks.old) token) result }
+        ensures closed { task_in (tasks_of tasks.new) token ≡ None }
+        ensures others { OthersKept (tasks_of tasks.old) (tasks_of tasks.new) token }
+    {
+        match tasks.take(token) {
+            Some(task) => Answer::Close(Some(self.end(task))),
+            None => Answer::Close(None),
+        }
+    }
+
+    // Drains a side of the connection with this token.
+    fn drain_asked(&mut self, tasks: &mut ConnLoop<U, D, R>, token: u64) -> Answer
+        ensures told { TellsDrain (task_in (tasks_of tasks.old) token) (side_in token) result }
+        ensures others { OthersKept (tasks_of tasks.old) (tasks_of tasks.new) token }
+    {
+        let rt = self.context.rt;
+        match tasks.task_mut(token) {
+            Some(task) => Answer::Drain(Some(task.connection.drain(&rt, side_of(token)))),
+            None => Answer::Drain(None),
+        }
+    }
+
+    // Sets the deadline of a side of the connection with this token, which then goes on.
+    fn set_asked(
+        &mut self,
+        tasks: &mut ConnLoop<U, D, R>,
+        token: u64,
+        deadline: Deadline,
+        now: u64,
+    ) -> Answer
+        ensures told { TellsDeadline (task_in (tasks_of tasks.old) token) result }
+        ensures others { OthersKept (tasks_of tasks.old) (tasks_of tasks.new) token }
+    {
+        let rt = self.context.rt;
+        let Some(task) = tasks.task_mut(token) else {
+            return Answer::Deadline(None);
+        };
+        let done = task
+            .connection
+            .set_deadline(&rt, side_of(token), deadline, now);
+        let turn = self.go_on_with(&mut task.connection, Why::Named);
+        self.follow(tasks, token, turn);
+        Answer::Deadline(Some(done))
+    }
+
+    // Has a task go on, or ends it, as it has said between two turns.
+    fn follow(&mut self, tasks: &mut ConnLoop<U, D, R>, token: u64, turn: Turn)
+        ensures over { turn ≡ Turn.Over → task_in (tasks_of tasks.new) token ≡ None }
+        ensures stays { turn ≢ Turn.Over → SameTasks (tasks_of tasks.old) (tasks_of tasks.new) }
+        ensures others { OthersKept (tasks_of tasks.old) (tasks_of tasks.new) token }
+    {
+        match turn {
+            Turn::Waits => {}
+            Turn::Again => tasks.again(token),
+            Turn::Over => {
+                if let Some(task) = tasks.take(token) {
+                    let _ = self.end(task);
+                }
+            }
+        }
+    }
+}

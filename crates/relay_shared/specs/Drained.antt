@@ -1,0 +1,11 @@
+-- What a drain did that was carried out.
+use Rattle.std.specs.Prelude.{◌≡◌}
+use Rattle.fd_descriptor.specs.declared.descriptor.Fd.{Fd}
+use Rattle.fd_descriptor.specs.declared.descriptor.FdHandle.{FdHandle}
+use Rattle.fd_descriptor.specs.FdHandle.{descriptor_of, drains_of}
+
+module _ {X R W A : Type 0} where
+  -- a handle of this descriptor has set its drain flag
+  abbrev pub WasDrained : Fd X R W A → Type 0
+  WasDrained descriptor = (handle : FdHandle X R W A)
+      × (descriptor_of handle ≡ descriptor) × (drains_of handle ≡ 1)
