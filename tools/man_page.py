@@ -33,11 +33,16 @@ def inline(text):
     return "".join(parts) + text[at:].replace("\\", "\\e")
 
 
+def width(text):
+    """How long a text is for man, which reads a letter beyond ASCII as its number."""
+    return len(re.sub(r"[^\x00-\x7f]", r"\\[u0000]", text))
+
+
 def broken(sentence):
     """A sentence in lines, none of which begins as a request does."""
     lines = [""]
     for word in sentence.split(" "):
-        if lines[-1] and len(lines[-1]) + 1 + len(word) > WIDTH:
+        if lines[-1] and width(lines[-1]) + 1 + width(word) > WIDTH:
             lines.append("")
         lines[-1] += f" {word}" if lines[-1] else word
     return [f"\\&{it}" if it[:1] in (".", "'") else it for it in lines]

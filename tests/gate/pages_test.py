@@ -60,6 +60,7 @@ ROWS = (
     ("limits", f"{ADMIN}/rules/file.rt", r"MAX_RULES: usize = 64", "MAX_RULES: usize = 65", "its limit of rules isn't 65"),
     ("limits", FORMAT, END, "\nA line of more than 80 bytes ends it.\n", "64, as `MAX_LINE_BYTES` is"),
     ("limits", f"{COMMAND_LINE}/descriptors.rt", r"SESSIONS: u64 = 32", "SESSIONS: u64 = 31", "`SESSIONS` isn't 32"),
+    ("limits", GUIDE, r"loops \+ 64\) \+ 112", "loops + 64) + 96", "doesn't say that a relay needs 2 × (connections + loops + 64) + 112"),
     ("limits", GUIDE, r"1,280 with", "1,216 with", "8 loops need 1280 descriptors"),
     ("limits", UNIT, r"(LimitNOFILE)=.*", r"\1=1024", "LimitNOFILE is 1024, below"),
     ("limits", UNIT, r"TasksMax=.*", "TasksMax=32", "TasksMax is 32, below 76"),
@@ -84,7 +85,9 @@ ROWS = (
     ("names", "crates/admin_tests/src/.*", r"fn lines_have_their_replies", "fn lines_have_replies", "nothing is called `lines_have_their_replies`"),
     ("links", README, END, "\n[here](docs/nowhere.md)\n", "links to docs/nowhere.md"),
     ("links", README, END, "\n`tests/metrics_storm.py`\n", "names `tests/metrics_storm.py`"),
+    ("names", "docs/rattle-for-rust.md", END, "\n`FROM_JAVA.md`\n", "nothing is called `FROM_JAVA`"),
     ("links", "docs/nowhere.md", END, "# Nowhere\n", "doesn't list nowhere.md"),
+    ("net_page", "docs/net.md", r"Closes the connection for all who share it", "Closes this clone", "isn't what tools/net_reference.py makes of crates/net/src"),
     ("packaged", GUIDE, END, "\nSee `../packaging/deb.sh`.\n", "names ../packaging/deb.sh, which the package hasn't"),
     ("packaged", "packaging/deb.sh", r"git ls-files examples", "git ls-files examples/rules", "../examples/admin, which the package hasn't"),
     # What pages said once that wasn't so.

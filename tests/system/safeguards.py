@@ -20,6 +20,7 @@ import sys
 import time
 
 sys.path.insert(1, f"{sys.path[0]}/..")
+from lib.black_hole import BlackHole
 from lib.c_code import library
 from lib.checks import Checks
 from lib.log_text import read_log
@@ -35,31 +36,6 @@ from lib.waiting import wait_until
 TIMEOUT_MS = 400
 # More calls than a relay makes until a client is served.
 MOST_CALLS = 40
-
-
-class BlackHole:
-    """A port whose queue is full, so that who connects hears nothing."""
-
-    def __init__(self):
-        self.sock = socket.socket()
-        self.sock.bind(("127.0.0.1", 0))
-        self.sock.listen(0)
-        self.where = self.sock.getsockname()
-        self.address = f"tcp:127.0.0.1:{self.where[1]}"
-        self.waiting = []
-        for _ in range(4):
-            one = socket.socket()
-            one.setblocking(False)
-            one.connect_ex(self.where)
-            self.waiting.append(one)
-        time.sleep(0.1)
-
-    def __enter__(self):
-        return self
-
-    def __exit__(self, *_):
-        for sock in [*self.waiting, self.sock]:
-            sock.close()
 
 
 def hows(path, count):

@@ -12,10 +12,10 @@ use crate::main_loop::MainLoop;
 use crate::main_task::MainTask;
 use crate::session::{Session, SessionStep};
 use readiness::Sock;
-use relay_admin::ServeFault;
+use relay_admin::{CloseAnswer, LateAnswer, ServeFault};
 use relay_core::{has_come, silence_end};
 use relay_facts::clock::Moments;
-use relay_shared::close_wishes::{CloseWishes, MAX_SESSIONS};
+use relay_shared::close_wishes::MAX_SESSIONS;
 use std::alloc::Global;
 use std::fs::Files;
 use std::mem;
@@ -35,8 +35,8 @@ struct Seated {
     token: u64,
     /// When it is ended, unless it gets on before.
     until: u64,
-    /// Its reply waits for a close that it has asked for.
-    is_held: bool,
+    /// The answer to the close that it waits for, if it does, once the connection has gone.
+    once_gone: CloseAnswer,
 }
 
 /// The sessions, by their places.
@@ -62,13 +62,16 @@ impl Seated {
             self.until = silence_end(now);
             main.host.arm(self.token, self.until);
         }
-        if step == SessionStep::Waits && !self.is_held && has_come(Some(self.until), now) {
+        if step == SessionStep::Waits
+            && !self.session.is_held()
+            && has_come(Some(self.until), now)
+        {
             return SessionStep::Over;
         }
         step
     }
 
-    // Has the next line answered, and its reply written, unless that is to wait.
+    // Has the next line answered, and its reply written, unless its answer comes later.
     fn ask<R>(&mut self, main: &mut MainLoop<R>, place: usize) -> SessionStep
     where
         R: Wait + Net + Files + Clock + Copy,
@@ -76,10 +79,7 @@ impl Seated {
         let alloc = main.alloc;
         let mut desk = RelayDesk::of(main, place);
         let step = self.session.ask(alloc, &mut desk);
-        self.is_held = desk.is_held;
-        if self.is_held {
-            return SessionStep::Waits;
-        }
+        self.once_gone = desk.once_gone;
         match step {
             SessionStep::Again => self.session.pay(),
             other => other,
@@ -99,12 +99,12 @@ fn is_quieter(session: &Box<Seated>, found: Option<(usize, &Box<Seated>)>) -> bo
     }
 }
 
-// Whether the reply of the session at a place waits for a close.
+// Whether the session at a place waits for an answer.
 fn is_held(seat: &Option<Box<Seated>>) -> bool
     ensures { result ≡ is_held_at seat.now }
 {
     match seat {
-        Some(session) => session.is_held,
+        Some(seated) => seated.session.is_held(),
         None => false,
     }
 }
@@ -133,8 +133,8 @@ impl Sessions {
         None
     }
 
-    // The session that has got nowhere for longest, with its place. One whose reply waits for a
-    // close isn't asked.
+    // The session that has got nowhere for longest, with its place. One that waits for an answer
+    // isn't asked.
     fn quietest(&self) -> Option<(usize, &Box<Seated>)>
         ensures longest { IfSome result (λ found.
             IsQuietest self.now.places.items found.0 found.1.now) }
@@ -144,7 +144,7 @@ impl Sessions {
         let mut found: Option<(usize, &Box<Seated>)> = None;
         for place in 0..self.places.len() {
             if let Some(session) = &self.places[place] {
-                if !session.is_held && is_quieter(session, found) {
+                if !session.session.is_held() && is_quieter(session, found) {
                     found = Some((place, session));
                 }
             }
@@ -192,24 +192,29 @@ impl Sessions {
         main.host.callers = came;
     }
 
-    // Whether the session at this place may go on: one whose reply waits for a close, once that is
-    // done; any other, where it was named.
-    fn may_go_on(&mut self, place: usize, is_named: bool, wishes: &CloseWishes) -> bool {
+    // Whether the session at this place may go on: one that waits for a close, once that is done and
+    // it has its answer; any other, where it was named.
+    fn may_go_on<R>(&mut self, main: &MainLoop<R>, place: usize, is_named: bool) -> bool
+    where
+        R: Wait + Net + Files + Clock + Copy,
+    {
         let Some(Some(seated)) = self.places.get_mut(place) else {
             return false;
         };
-        if !seated.is_held {
+        if !seated.session.is_held() {
             return is_named;
         }
-        if !wishes.is_settled(place) {
+        let closes = &main.host.shared.closes;
+        if !closes.is_settled(place) {
             return false;
         }
-        wishes.take_back(place);
-        seated.is_held = false;
+        closes.take_back(place);
+        let answer = LateAnswer::Close(seated.once_gone);
+        seated.session.answer(main.alloc, answer);
         true
     }
 
-    /// Whether the reply of one of them waits for a close.
+    /// Whether one of them waits for an answer.
     pub(crate) fn are_held(&self) -> bool
         ensures { result ≡ are_held self.now.places.items }
     {
@@ -255,7 +260,7 @@ impl Sessions {
         self.begin_all(main);
         let named = mem::replace(&mut main.host.named, [false; MAX_SESSIONS]);
         for place in 0..MAX_SESSIONS {
-            if self.may_go_on(place, named[place], &main.host.shared.closes) {
+            if self.may_go_on(main, place, named[place]) {
                 self.go_on(main, place);
             }
         }
@@ -274,7 +279,7 @@ impl<R: Wait + Net + Files + Clock + Copy> MainLoop<R> {
             session: Session::over(self.alloc, sock)?,
             token,
             until,
-            is_held: false,
+            once_gone: CloseAnswer::Fine,
         };
         let seated = Box::new(self.alloc, seated).ok()?;
         if !self.host.arm(token, until) {

@@ -1,12 +1,25 @@
 """The logic that the proofs were made with, and the kits of it that were tried, stand in one page; all others ask for the same. The
 kit that is here may be another: that is told, and fails nothing, since the gate proves everything by it anyhow."""
 
+import functools
+import os
 import re
 import subprocess
 
 from lib.pages.tree import TRUSTED
 
 KIT, LOGIC = re.compile(r"\brattle-kit-\w+"), re.compile(r"\blogic ([0-9a-f]{16})\b")
+
+
+@functools.cache
+def pages_of_kit():
+    """The names of the kit's own pages: the first, which `rt doc` names, and those in its folder beside that."""
+    first = subprocess.run(["rt", "doc"], capture_output=True, text=True, check=False).stdout.strip()
+    folder = f"{os.path.dirname(first)}/rattle"
+    found = {os.path.basename(first)}
+    for at, _, names in os.walk(folder):
+        found |= {os.path.relpath(f"{at}/{it}", folder) for it in names if it.endswith(".md")}
+    return found
 
 
 def version_here():

@@ -97,6 +97,8 @@ def needed(tree, told, known):
     for name, limit in (("SESSIONS", "MAX_SESSIONS"), ("METRICS_CLIENTS", "MOST_CLIENTS")):
         told.holds(own.get(name) == known[limit], NEEDED, f"`{name}` isn't {known[limit]}, as `{limit}` is")
     others = 2 * known["MAX_RULES"] + sum(own.get(it) or 0 for it in ("SESSIONS", "METRICS_CLIENTS", "OTHERS"))
+    formula = f"2 × (connections + loops + {known['MAX_RULES']}) + {others - 2 * known['MAX_RULES']}"
+    told.holds(formula in tree.text(GUIDE), GUIDE, f"doesn't say that a relay needs {formula} descriptors")
     for pairs, loops in (("DEFAULT_PAIRS", "MOST_BY_DEFAULT"), ("MAX_PAIRS", "MAX_LOOPS")):
         most = 2 * known[pairs] + 2 * known[loops] + others
         said = rf"{grouped(most)} with {grouped(known[pairs])}( connections)? on {known[loops]}\b"

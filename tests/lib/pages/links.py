@@ -4,7 +4,9 @@ import functools
 import os
 import re
 
+from lib.pages.kit import pages_of_kit
 from lib.pages.markdown import FENCE, spans
+from lib.pages.tree import ON_KIT
 
 LINK = re.compile(r"\]\(([^)\s#]+)(?:#[\w-]*)?\)")
 # What a page names as a file: a path of these letters with a folder ahead or an ending that files here have.
@@ -66,7 +68,9 @@ def check(tree, told):
     for page in tree.pages():
         text = tree.text(page)
         for line, path in named_files(text):
-            if is_path(path, page) and page != CHANGES:
+            if page == ON_KIT and path in pages_of_kit():
+                told.passed += 1
+            elif is_path(path, page) and page != CHANGES:
                 told.holds(names.is_there(path), page, f"names `{path}`, which isn't there", line)
         for it in LINK.finditer(FENCE.sub(lambda block: "\n" * block[0].count("\n"), text)):
             if "://" not in it[1]:

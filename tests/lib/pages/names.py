@@ -3,9 +3,10 @@
 import functools
 import re
 
+from lib.pages.kit import pages_of_kit
 from lib.pages.markdown import spans
 from lib.pages.rust import without_comments
-from lib.pages.tree import FOLLOWED
+from lib.pages.tree import FOLLOWED, ON_KIT
 
 SOURCES = r"(?:crates|tests|tools|bench|models|examples|packaging|\.ci)/.*\.(?:rt|antt|edit|py|sh|pml|inc|rs|c|toml|go|cfg|service)|crates\.txt|\.ci/run"
 WORD = re.compile(r"[A-Za-z_]\w*")
@@ -20,6 +21,7 @@ PATTERNS = {"try_", "_io", "NAME_tests"}
 PLANTED = {"tests/gate/pages_test.py"}
 # A page of what was, and one that gives its reader code to write.
 LEFT_OUT = {"CHANGELOG.md", *FOLLOWED}
+
 
 
 @functools.cache
@@ -41,6 +43,8 @@ def check(tree, told):
     known = known_words(tree)
     for page in set(tree.pages()) - LEFT_OUT:
         for line, span in spans(tree.text(page)):
-            if NAME.fullmatch(span) and TELLING.search(span):
+            if page == ON_KIT and span in pages_of_kit():
+                told.passed += 1
+            elif NAME.fullmatch(span) and TELLING.search(span):
                 for word in WORD.findall(re.sub(r"<.*?>|\(\w*\)", "", span)):
                     told.holds(word in known, page, f"nothing is called `{word}`" + (f", of `{span}`" if word != span else ""), line)

@@ -36,6 +36,7 @@ UNTRIED = {
     "examples/prometheus/pollrelay_textfile.py": "`relay_program`",
     "tools/build.py": "`build_test`",
     "tools/man_page.py": "`man_page`",
+    "tools/net_reference.py": "`pages`",
     "tools/unproved.py": "`first_connection`",
     "tools/vendor.py": "`vendor_test`",
     "tools/clauses.py": "`clauses_test`",

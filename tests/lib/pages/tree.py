@@ -16,6 +16,8 @@ UNIT = "examples/systemd/pollrelay.service"
 # Pages whose commands `own_program` and `quickstart` give as their reader does.
 FOLLOWED = ("docs/your-own-program.md", "docs/quickstart.md")
 HELP = "crates/relay_command/src/usage.rt"
+# A page that names pages of the kit beside the repository's own.
+ON_KIT = "docs/rattle-for-rust.md"
 # The page that says what is trusted: the one room of the kit.
 TRUSTED = "docs/guarantees.md"
 

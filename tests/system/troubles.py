@@ -1,0 +1,398 @@
+#!/usr/bin/env python3
+"""Brings about each row of the table Troubleshooting in docs/operations.md on a relay of its own, and shows that what the row tells to
+look at is there, and that what it tells to do helps where that is a command of the relay's.
+
+    python3 tests/system/troubles.py
+
+A row is found by the words of its first cell. Each row has a try here, and each try its row.
+"""
+import contextlib
+import os
+import re
+import socket
+import subprocess
+import sys
+import tempfile
+import time
+import urllib.error
+import urllib.request
+
+sys.path.insert(1, f"{sys.path[0]}/..")
+from lib.black_hole import BlackHole
+from lib.checks import Checks
+from lib.echoes import comes_back, target
+from lib.pages.markdown import bare, rows, section
+from lib.pages.tree import GUIDE, Tree
+from lib.places import PROGRAM
+from lib.relay import Relay, StartFault
+from lib.sockets import connect, free_port, listener
+from lib.waiting import wait_until
+
+SECONDS = 20
+MANY = 1_500
+TRIES = {}
+
+
+def trial(row):
+    """The try of the row whose first cell has these words."""
+    return lambda tried: TRIES.setdefault(row, tried)
+
+
+class Made:
+    """A relay with one rule, web, and what it says; its rules, its log and its metrics."""
+
+    def __init__(self, stack, to=None, idle="never", *options, **more):
+        self.stack, self.port, metrics = stack, free_port(), free_port()
+        self.to = to or target()[1]
+        self.web, self.metrics = f"tcp:127.0.0.1:{self.port}", f"http://127.0.0.1:{metrics}"
+        self.folder = stack.enter_context(tempfile.TemporaryDirectory(prefix="troubles-"))
+        self.log = more.pop("log", f"{self.folder}/log")
+        words = ("--metrics", f"tcp:127.0.0.1:{metrics}", "--log", self.log, *options)
+        self.relay = stack.enter_context(Relay(f"relay web {self.web} {self.to} {idle}\n", options=words, env={}, **more))
+        self.rules = f"{self.relay.folder}/rules"
+
+    def client(self):
+        """A connection through the relay."""
+        sock = self.stack.enter_context(connect(self.web))
+        sock.sendall(b"x")
+        return sock if sock.recv(1) == b"x" else None
+
+    def logged(self):
+        with contextlib.suppress(OSError), open(self.log, encoding="ascii") as file:
+            return file.read().splitlines()
+        return []
+
+    def ends(self, words):
+        """Whether the log comes to have a line that ends so."""
+        return wait_until(lambda: any(it.endswith(f" {words}") for it in self.logged()), SECONDS)
+
+    def page(self, path, sent=None):
+        try:
+            with urllib.request.urlopen(self.metrics + path, sent, timeout=SECONDS) as answer:
+                return answer.status, answer.read().decode()
+        except urllib.error.HTTPError as refusal:
+            return refusal.code, refusal.read().decode()
+
+    def figure(self, name):
+        return sum(float(it) for it in re.findall(rf"^{name}(?:{{.*}})? (\S+)$", self.page("/metrics")[1], re.M))
+
+
+def ctl(path, *words):
+    ran = subprocess.run([PROGRAM, "ctl", "--admin", path, *words], capture_output=True, text=True, timeout=SECONDS, check=False)
+    return ran.returncode, (ran.stdout + ran.stderr).strip()
+
+
+def start_fault(rules, folder, *options, admin=None):
+    """What `serve` says that ends at its start."""
+    with open(f"{folder}/rules", "w", encoding="ascii") as file:
+        file.write(rules)
+    words = [PROGRAM, "serve", "--rules", f"{folder}/rules", "--admin", admin or f"{folder}/admin.sock", *options]
+    ran = subprocess.run(words, capture_output=True, text=True, timeout=SECONDS, check=False)
+    return ran.returncode, ran.stderr.strip()
+
+
+def verdict(path):
+    return subprocess.run([PROGRAM, "check", "--rules", path], capture_output=True, text=True, check=False).stdout.strip()
+
+
+def is_closed(sock):
+    try:
+        return sock.recv(1) == b""
+    except OSError:
+        return True
+
+
+def refuses(address):
+    try:
+        connect(address).close()
+        return False
+    except OSError:
+        return True
+
+
+@trial("cannot listen web at the start, of a port")
+def _(stack, checks):
+    taken, address = listener()
+    with taken, tempfile.TemporaryDirectory() as folder:
+        checks.expect("a taken port", (3, "cannot listen web"), start_fault(f"relay web {address} unix:/a never\n", folder))
+        port = f":{taken.getsockname()[1]}"
+        shown = subprocess.run(["ss", "-Hltnp"], capture_output=True, text=True, check=False).stdout
+        checks.holds("ss names who has it", any(port in it and f"pid={os.getpid()}" in it for it in shown.splitlines()), shown)
+
+
+@trial("cannot listen web at the start, of a Unix path, after a relay was killed")
+def _(stack, checks):
+    folder = stack.enter_context(tempfile.TemporaryDirectory())
+    rule = f"relay web unix:{folder}/web.sock unix:/a never\n"
+    killed = Relay(rule)
+    killed.process.kill()
+    killed.close()
+    checks.holds("the path is there", os.path.exists(f"{folder}/web.sock") and refuses(f"unix:{folder}/web.sock"), "")
+    checks.expect("the next start", (3, "cannot listen web"), start_fault(rule, folder))
+    with Relay(rule, options=("--replace-stale",)) as relay:
+        checks.expect("with --replace-stale", [1], relay.ids())
+
+
+@trial("cannot listen admin")
+def _(stack, checks):
+    folder = stack.enter_context(tempfile.TemporaryDirectory())
+    checks.expect("no folder", (3, "cannot listen admin"), start_fault("", folder, admin=f"{folder}/none/admin.sock"))
+
+
+@trial("bad rules: line 2")
+def _(stack, checks):
+    folder = stack.enter_context(tempfile.TemporaryDirectory())
+    for name, line in (("two spaces", "relay  a unix:/a unix:/b never\n"), ("a tab", "relay\ta unix:/a unix:/b never\n"),
+                       ("a carriage return", "relay a unix:/a unix:/b never\r\n"), ("a leading zero", "relay a unix:/a unix:/b 01\n")):
+        checks.expect(name, (1, "bad rules: line 2"), start_fault(f"# one\n{line}", folder))
+        checks.expect(f"{name}: check says the same", "bad rules: line 2", verdict(f"{folder}/rules"))
+
+
+@trial("cannot read rules")
+def _(stack, checks):
+    words = [PROGRAM, "serve", "--rules", "/none/rules", "--admin", "/none/admin"]
+    ran = subprocess.run(words, capture_output=True, text=True, timeout=SECONDS, check=False)
+    checks.expect("no file", (3, "cannot read rules"), (ran.returncode, ran.stderr.strip()))
+
+
+@trial("cannot open log")
+def _(stack, checks):
+    folder = stack.enter_context(tempfile.TemporaryDirectory())
+    checks.expect("no folder", (3, "cannot open log"), start_fault("", folder, "--log", f"{folder}/none/log"))
+
+
+@trial("few descriptors: 256, and 1280 may be needed")
+def _(stack, checks):
+    relay = stack.enter_context(Relay("", descriptors=256, options=("--loops", "8"), env={}))
+    checks.holds("the line", wait_until(lambda: "few descriptors: 256, and 1280 may be needed" in relay.errors(), SECONDS), relay.errors())
+    enough = stack.enter_context(Relay("", descriptors=1_280, options=("--loops", "8"), env={}))
+    checks.expect("with as many as that", "", enough.errors())
+
+
+@trial("unused socket tcp:127.0.0.1:8080")
+def _(stack, checks):
+    given = stack.enter_context(socket.create_server(("127.0.0.1", 0)))
+    relay = stack.enter_context(Relay("", env={}, sockets=[given]))
+    line = f"unused socket tcp:127.0.0.1:{given.getsockname()[1]}"
+    checks.holds("the line", wait_until(lambda: line in relay.errors(), SECONDS), relay.errors())
+
+
+@trial("clients are refused at once")
+def _(stack, checks):
+    made = Made(stack)
+    checks.expect("a listener is closed", (0, "ok"), ctl(made.relay.admin, "close", "1"))
+    checks.holds("clients are refused", refuses(made.web), "")
+    checks.expect("no listener is shown", (0, "end"), ctl(made.relay.admin, "show"))
+    checks.expect("a reload", (0, "rules 1"), ctl(made.relay.admin, "reload"))
+    checks.holds("clients are served", comes_back(made.web), "")
+
+
+@trial("clients connect, and nothing comes; the log has at most accept other")
+def _(stack, checks):
+    made = Made(stack)
+    checks.expect("a deadline on a listener", (0, "ok"), ctl(made.relay.admin, "deadline", "1", "0"))
+    client = stack.enter_context(connect(made.web))
+    client.sendall(b"x")
+    client.settimeout(0.5)
+    with contextlib.suppress(TimeoutError):
+        checks.holds("nothing comes", False, client.recv(1))
+    checks.holds("its log", all(it.endswith(" accept other") for it in made.logged()), made.logged())
+    checks.holds("the listener is shown", " side listener " in ctl(made.relay.admin, "show")[1], "")
+    checks.expect("its health", (503, "not listening\n"), made.page("/healthz"))
+    checks.expect("the deadline is lifted", (0, "ok"), ctl(made.relay.admin, "deadline", "1", "never"))
+    client.settimeout(SECONDS)
+    checks.expect("the client is served", b"x", client.recv(1))
+
+
+@trial("clients connect and are closed at once: no target refused in the log")
+def _(stack, checks):
+    made = Made(stack, f"tcp:127.0.0.1:{free_port()}")
+    checks.holds("it is closed", is_closed(stack.enter_context(connect(made.web))), "")
+    checks.holds("the log", made.ends("no target refused"), made.logged())
+
+
+@trial("the same with no target unreachable")
+def _(stack, checks):
+    made = Made(stack, "unix:/nowhere/at.all")
+    checks.holds("it is closed", is_closed(stack.enter_context(connect(made.web))), "")
+    checks.holds("the log", made.ends("no target unreachable"), made.logged())
+
+
+@trial("the same after some seconds, with no target timeout")
+def _(stack, checks):
+    hole = stack.enter_context(BlackHole())
+    made = Made(stack, hole.address, "never", "--connect-timeout", "300")
+    checks.holds("it is closed", is_closed(stack.enter_context(connect(made.web))), "")
+    checks.holds("the log", made.ends("no target timeout"), made.logged())
+
+
+@trial("the same with full")
+def _(stack, checks):
+    made = Made(stack, None, "never", "--connections", "1")
+    made.client()
+    checks.holds("it is closed", is_closed(stack.enter_context(connect(made.web))), "")
+    checks.holds("the log", made.ends("full"), made.logged())
+    checks.expect("the figures", made.figure("pollrelay_connections_limit"), made.figure("pollrelay_rule_connections"))
+
+
+@trial("the same with rule full")
+def _(stack, checks):
+    made = Made(stack, None, "never", "--connections-per-rule", "1")
+    made.client()
+    checks.holds("it is closed", is_closed(stack.enter_context(connect(made.web))), "")
+    checks.holds("the log", made.ends("rule full"), made.logged())
+
+
+@trial("connections end with idle while bytes pass one way")
+def _(stack, checks):
+    accepts, to = listener()
+    stack.enter_context(accepts)
+    made = Made(stack, to, "700")
+    client = stack.enter_context(connect(made.web))
+    far = stack.enter_context(accepts.accept()[0])
+    began, seen = time.monotonic(), ""
+    with contextlib.suppress(OSError):
+        while time.monotonic() - began < SECONDS and not made.logged():
+            client.sendall(b"x")
+            far.recv(1)
+            status, reply = ctl(made.relay.admin, "show", "2")
+            seen = seen if status else reply
+            time.sleep(0.02)
+    checks.holds("the log", made.ends("idle"), made.logged())
+    checks.holds("bytes passed up alone", re.search(r" up [1-9]\d* down 0 ", seen), seen)
+
+
+@trial("connections end with read reset")
+def _(stack, checks):
+    made = Made(stack)
+    client = made.client()
+    client.setsockopt(socket.SOL_SOCKET, socket.SO_LINGER, b"\x01\0\0\0\0\0\0\0")
+    client.close()
+    checks.holds("the log", made.ends("read reset"), made.logged())
+
+
+@trial("reload says bad rules: .., or systemctl reload fails")
+def _(stack, checks):
+    made = Made(stack)
+    with open(made.rules, "a", encoding="ascii") as file:
+        file.write("relay\n")
+    checks.expect("a reload", (1, "bad rules: line 2"), ctl(made.relay.admin, "reload"))
+    checks.expect("check", "bad rules: line 2", verdict(made.rules))
+    checks.holds("nothing has changed", comes_back(made.web), "")
+
+
+@trial("reload said rules N, and a connection still goes to the old target")
+def _(stack, checks):
+    made = Made(stack)
+    client = made.client()
+    with open(made.rules, "w", encoding="ascii") as file:
+        file.write(f"relay web {made.web} tcp:127.0.0.1:{free_port()} never\n")
+    checks.expect("a reload", (0, "rules 1"), ctl(made.relay.admin, "reload"))
+    client.sendall(b"x")
+    checks.expect("the old target answers", b"x", client.recv(1))
+    checks.holds("its age", re.search(r" age \d+ ", ctl(made.relay.admin, "show", "2")[1]), "")
+    checks.expect("close", (0, "ok"), ctl(made.relay.admin, "close", "2"))
+    checks.holds("it has ended", is_closed(client), "")
+
+
+@trial("cannot reach admin")
+def _(stack, checks):
+    checks.expect("no relay", (3, "cannot reach admin"), ctl("/none/admin.sock", "list"))
+
+
+@trial("error 404 no such connection")
+def _(stack, checks):
+    made = Made(stack)
+    checks.expect("an id that is gone", (1, "error 404 no such connection"), ctl(made.relay.admin, "close", "9"))
+    checks.expect("the ids that are there", (0, "ids 1"), ctl(made.relay.admin, "list"))
+
+
+@trial("finish said ok, and the relay goes on")
+def _(stack, checks):
+    made = Made(stack)
+    client = made.client()
+    checks.expect("finish", (0, "ok"), ctl(made.relay.admin, "finish", "86400000"))
+    checks.expect("what stands", (0, "ids 2 3"), ctl(made.relay.admin, "list"))
+    checks.expect("close", (0, "ok"), ctl(made.relay.admin, "close", "2"))
+    checks.holds("the relay ends", made.relay.ends_within(SECONDS) and is_closed(client), "")
+
+
+@trial("error 409 closed to reload")
+def _(stack, checks):
+    made = Made(stack)
+    made.client()
+    ctl(made.relay.admin, "finish", "86400000")
+    checks.expect("a reload", (1, "error 409 closed"), ctl(made.relay.admin, "reload"))
+
+
+@trial("error 409 draining to deadline")
+def _(stack, checks):
+    made = Made(stack)
+    client = made.client()
+    checks.expect("drain", (0, "ok"), ctl(made.relay.admin, "drain", "3"))
+    checks.expect("a deadline", (1, "error 409 draining"), ctl(made.relay.admin, "deadline", "3", "9"))
+    checks.expect("close", (0, "ok"), ctl(made.relay.admin, "close", "3"))
+    checks.holds("it has ended", is_closed(client), "")
+
+
+@trial("the log has lines that begin with lost")
+def _(stack, checks):
+    folder = stack.enter_context(tempfile.TemporaryDirectory())
+    os.mkfifo(f"{folder}/log")
+    reader = os.open(f"{folder}/log", os.O_RDWR | os.O_NONBLOCK)
+    stack.callback(os.close, reader)
+    made = Made(stack, f"tcp:127.0.0.1:{free_port()}", log=f"{folder}/log")
+    for _ in range(3 * MANY):
+        until_closed(connect(made.web))
+    checks.holds("the figure", made.figure("pollrelay_log_lost_lines_total") > 0, "0")
+    text = b""
+    for _ in range(1_000):
+        with contextlib.suppress(BlockingIOError):
+            text += os.read(reader, 1 << 20)
+        if re.search(rb"^lost [1-9]\d*\b", text, re.M):
+            break
+        until_closed(connect(made.web))
+        time.sleep(0.01)
+    checks.holds("the line", re.search(rb"^lost [1-9]\d*\b", text, re.M), text[-200:])
+
+
+def until_closed(sock):
+    with sock:
+        is_closed(sock)
+
+
+@trial("another answer than that of this relay's web server at /metrics")
+def _(stack, checks):
+    made = Made(stack)
+    checks.expect("another path", 404, made.page("/")[0])
+    checks.expect("another method", 405, made.page("/metrics", b"x")[0])
+
+
+def main():
+    checks = Checks()
+    table = {bare(cells[0]) for _, cells in list(rows(section(Tree().text(GUIDE), "Troubleshooting")))[1:]}
+    checks.expect("each row has its try, and each try its row", set(), table ^ set(TRIES))
+    for row, tried in TRIES.items():
+        try:
+            with contextlib.ExitStack() as stack:
+                tried(stack, Named(checks, row))
+        except (OSError, StartFault, subprocess.TimeoutExpired) as fault:
+            checks.holds(row, False, repr(fault))
+    return checks.end()
+
+
+class Named:
+    """Checks of one row, told with its words."""
+
+    def __init__(self, checks, row):
+        self.checks, self.row = checks, row
+
+    def expect(self, name, wanted, got):
+        self.checks.expect(f"{self.row}: {name}", wanted, got)
+
+    def holds(self, name, is_so, otherwise):
+        self.checks.holds(f"{self.row}: {name}", is_so, otherwise)
+
+
+if __name__ == "__main__":
+    sys.exit(main())

@@ -1,0 +1,207 @@
+#!/usr/bin/env python3
+"""Makes the reference of the library `net` out of its public items: what each is, its signature, which time ends its wait, how it
+fails, and what Go calls it.
+
+    python3 tools/net_reference.py > docs/net.md
+
+What an item does is its doc comment. How a call fails is read from its contract: the call of a handle that a clause names, the faults
+that `fd_descriptor` lists for that call, and the kind that `handle_io` gives to each fault. Go's names and the times stand below; a
+public item without them, or one of them without an item, is a fault of this script.
+"""
+import pathlib
+import re
+import sys
+import textwrap
+
+ROOT = pathlib.Path(__file__).resolve().parent.parent
+SRC = ROOT / "crates/net/src"
+CALLS, KINDS = ROOT / "crates/fd_descriptor/specs/HandleCalls.antt", ROOT / "crates/handle_io/specs/Kinds.antt"
+# The sections, each with its items in the order in which a program comes to them.
+SECTIONS = {
+    "A net": ("Net", "Net::start", "Net::stop"),
+    "Addresses": ("address_of", "tcp", "UNIX"),
+    "Listeners": ("Listener", "Listener::bind", "Listener::accept", "Listener::try_clone", "Listener::close", "Listener::local_addr"),
+    "Connections": (
+        "Conn", "Conn::connect", "Conn::read", "Conn::write", "Conn::flush", "Conn::try_clone", "Conn::set_read_timeout",
+        "Conn::set_write_timeout", "Conn::set_deadline", "Conn::close_write", "Conn::close", "Conn::peer_addr", "Conn::local_addr",
+    ),
+    "Many connections on a few threads": (
+        "Net::serve", "Task", "Task::begin", "Task::step", "Next", "Cause", "Conn::poll_read", "Conn::poll_write", "Conn::wake",
+        "Service", "Service::local_addr", "Service::wait", "Service::stop",
+    ),
+    "What a program is generic over": ("Runs", "Unlinks", "Unlinks::unlink"),
+    "For programs that look at times and errors themselves": (
+        "Limits", "Limits::none", "Limits::each", "Limits::until", "Limits::with_time", "Limits::with_until", "Times", "error_with",
+    ),
+}
+# What Go's package net has in its place.
+GO = {
+    "Listener": "`net.Listener`", "Listener::bind": "`net.Listen`", "Listener::accept": "`Listener.Accept`", "Listener::close": "`Listener.Close`",
+    "Listener::local_addr": "`Listener.Addr`", "Conn": "`net.Conn`", "Conn::connect": "`net.DialTimeout`", "Conn::read": "`Conn.Read`",
+    "Conn::write": "`Conn.Write`", "Conn::set_deadline": "`Conn.SetDeadline`, by a moment; all times here are lengths from now",
+    "Conn::set_read_timeout": "none: `SetReadDeadline` before each read", "Conn::set_write_timeout": "none: `SetWriteDeadline` before each write",
+    "Conn::close_write": "`TCPConn.CloseWrite`", "Conn::close": "`Conn.Close`, which doesn't wait for calls under way",
+    "Conn::peer_addr": "`Conn.RemoteAddr`", "Conn::local_addr": "`Conn.LocalAddr`", "Conn::try_clone": "none: goroutines share one value",
+    "Net": "none: its runtime has the poller", "Net::serve": "none: a goroutine a connection", "address_of": "`net.ResolveTCPAddr`, which looks names up",
+}
+# Which time ends a call's wait.
+TIMES = {
+    "Listener::accept": "none; only a close ends it", "Conn::connect": "`timeout`, from the call on; with `None` the system's, about two minutes",
+    "Conn::read": "the read time-out, from when the call has its direction to itself, and the deadline: the earlier",
+    "Conn::write": "the write time-out, from when the call has its direction to itself, and the deadline: the earlier",
+    "Conn::poll_read": "the deadline, where it has passed; a task's own time is in `Next`", "Conn::poll_write": "the deadline, where it has passed; a task's own time is in `Next`",
+    "Conn::close_write": "none", "Conn::close": "none: it waits until the calls under way have ended, which it ends",
+    "Service::wait": "none",
+}
+# How calls fail whose clauses name no call of a handle, and what comes beside those that do.
+FAILS = {
+    "Net::start": "`OutOfMemory`, or the system's error for a poller or a thread",
+    "Net::serve": "`OutOfMemory`, what `Task::begin` answers, or the system's error for a thread",
+    "Listener::bind": "`OutOfMemory`, or the system's error: the address is taken, isn't this machine's, or isn't allowed",
+    "Listener::accept": "`OutOfMemory`, or the system's error where the poller refuses the socket",
+    "Conn::connect": "`OutOfMemory`, or the system's error; `WouldBlock` where the queue at a Unix path is full",
+    "Conn::flush": "never", "Task::begin": "as the program's own does",
+    "address_of": "`InvalidInput`",
+}
+# Where a call's clause stands at a private function that it calls.
+CLAUSE_OF = {"Listener::accept": "Accepts", "Conn::connect": "Connects"}
+# What each kind of error says.
+WHEN = {
+    "NotConnected": "the connection or the listener was closed: by this or another clone, or with its net",
+    "TimedOut": "the call's time or the deadline has passed",
+    "WriteZero": "the system took no byte of a write, and gave no reason",
+    "ConnectionReset": "the peer reset the connection",
+    "ConnectionAborted": "the system gave the connection up",
+    "BrokenPipe": "the peer takes no more bytes, or this side was shut",
+    "ConnectionRefused": "nobody listens at the address",
+    "Other": "no reference or place to wait is left (16,777,215 and 262,143), or the system interrupted the call 1,025 times in a row; another error of the system keeps its own kind and number, and is never `Interrupted` or `WouldBlock`",
+    "OutOfMemory": "memory was refused; the connection is as before",
+}
+HEAD = re.compile(
+    r"((?:^ *///[^\n]*\n)+)(?:^ *(?:#\[|// )[^\n]*\n)*^( *)(?:pub )?(fn|struct|enum|trait|const|static) (\w+)([^{;]*?)(?=\n *(?:where\b|ensures|requires|ghost)|\s*\{|;)", re.M
+)
+OWNER = re.compile(r"^(?:impl(?:<[^>]*>)? (?:\w+(?:<[^>]*>)? for )?(\w+)|pub trait (\w+)|impl<.*> (?:\w+ for )?(\w+)<)", re.M)
+
+
+def owner_of(text, at):
+    found = None
+    for it in OWNER.finditer(text, 0, at):
+        found = it[1] or it[2] or it[3]
+    return found
+
+
+def items():
+    """Each documented item: its doc comment, its signature and its contract."""
+    found = {}
+    for path in sorted(SRC.glob("*.rt")):
+        text = path.read_text()
+        for head in HEAD.finditer(text):
+            is_public = re.search(r"\bpub (?:fn|struct|enum|trait|const|static) ", head[0]) or owner_of(text, head.start()) == "Task"
+            is_read_or_write = path.name == "stream.rt" and head[4] in ("read", "write", "flush")
+            is_method = bool(head[2]) and head[3] == "fn"
+            if not (is_public or is_read_or_write or is_method and head[4] == "unlink"):
+                continue
+            name = f"{owner_of(text, head.start())}::{head[4]}" if is_method else head[4]
+            doc = " ".join(it.strip().removeprefix("///").strip() for it in head[1].strip().splitlines())
+            contract = text[head.end() : text.find("\n" + head[2] + "}", head.end())]
+            signature = " ".join(f"{head[3]} {head[4]}{head[5]}".split()).replace("( ", "(").replace(", )", ")")
+            found.setdefault(name, (doc, signature, contract, body_of(text, head)))
+    return found
+
+
+def body_of(text, head):
+    """The variants of an enum, each with its doc comment."""
+    if head[3] != "enum":
+        return []
+    inside = text[text.index("{", head.end()) : text.index("\n}", head.end())]
+    found = re.findall(r"((?:^ *///[^\n]*\n)+) *(\w+(?:\([^)]*\))?),", inside, re.M)
+    return [(name, " ".join(it.strip().removeprefix("///").strip() for it in doc.strip().splitlines())) for doc, name in found]
+
+
+def kinds_of(call):
+    """The kinds of error by which a handle's call fails, by the tables of the crates below."""
+    kind_of = dict(re.findall(r"^kind_told \(?fault\.(\w+(?: device\.\w+)?)\)? = kind\.(\w+)$", KINDS.read_text(), re.M))
+    faults = re.findall(rf"^IsOwnFault {call} \(?fault\.(\w+)", CALLS.read_text(), re.M)
+    if not faults:
+        raise ValueError(f"{CALLS} has no row of {call}")
+    # (a call that takes a reference or a lock is refused where the word is closed or has none left)
+    named = {"Closed", "TooMany", *faults} - {"EndOfFile"}
+    found = {kind for fault, kind in kind_of.items() if fault.split(" ")[0] in named}
+    return [it for it in WHEN if it in found]
+
+
+def fails(name, contract):
+    said = re.findall(r"\b(?:FailsAs|IsFaultOf|IsPolledFault) (\w+)", contract)
+    calls = [CLAUSE_OF[name]] if name in CLAUSE_OF else said[:1]
+    kinds = kinds_of(calls[0]) if calls else []
+    if "IsPolledFault" in contract or "FailsForMemory" in contract:
+        kinds = [*kinds, "OutOfMemory"]
+    parts = [", ".join(f"`{it}`" for it in dict.fromkeys(kinds))] if kinds else []
+    parts += [FAILS[name]] if name in FAILS else []
+    return "; ".join(parts)
+
+
+def entry(name, item):
+    doc, signature, contract, variants = item
+    lines = [f"### `{name}`", ""]
+    if signature.startswith(("fn ", "const ")):
+        lines += ["```text", *textwrap.wrap(signature, 100, subsequent_indent="    "), "```", ""]
+    lines += [doc, ""]
+    rows = [("Ends its wait", TIMES.get(name)), ("Fails", fails(name, contract)), ("In Go", GO.get(name))]
+    rows = [f"| {head} | {text} |" for head, text in rows if text]
+    if rows:
+        lines += ["| | |", "|---|---|", *rows, ""]
+    if variants:
+        lines += ["| Variant | When |", "|---|---|", *(f"| `{it}` | {when} |" for it, when in variants), ""]
+    return lines
+
+
+def page():
+    found = items()
+    named = [it for names in SECTIONS.values() for it in names]
+    lacking = {*named, *GO, *TIMES, *FAILS} - set(found)
+    exported = exports()
+    more = {it for it in found if it.split("::")[0] in exported} - set(named)
+    if lacking or more:
+        raise ValueError(f"not there: {sorted(lacking)}; without a place: {sorted(more)}")
+    lines = [
+        "# The library net",
+        "",
+        "For authors of programs on sockets: the reference of each call. `tools/net_reference.py` makes this page of the doc comments and",
+        "contracts in `crates/net/src`. `sockets.md` is the guide, `../crates/net/README.md` the overview.",
+        "",
+        "A connection is shared by clones, one a thread; a clone is a `Read` and a `Write`. Clones share time-outs and the deadline; the earlier",
+        "one wins. A time-out starts once a call has its direction to itself. A read answers `Ok(0)` at the peer's end.",
+        "",
+        "## Errors",
+        "",
+        "Each call below names the kinds by which it may fail. Where they are read from a clause of its own, it is proved to fail by no",
+        "other; `Net::start`, `Net::serve`, `Listener::bind`, `Listener::accept` and `Conn::connect` have no such clause.",
+        "",
+        "| Kind | When |",
+        "|---|---|",
+        *(f"| `{kind}` | {when} |" for kind, when in WHEN.items()),
+        "",
+        "A write that is cut off after some bytes answers how many were taken; the next write of that clone tells why, once, and writes nothing.",
+        "",
+    ]
+    for head, names in SECTIONS.items():
+        lines += [f"## {head}", ""]
+        for name in names:
+            lines += entry(name, found[name])
+    return "\n".join(lines).rstrip("\n") + "\n"
+
+
+def exports():
+    """The names that the crate hands out."""
+    text = (SRC / "lib.rt").read_text()
+    groups = re.findall(r"^pub use (?:\w+)::(?:\{([^}]*)\}|(\w+));", text, re.M)
+    return {it.strip() for group in groups for it in (group[0] or group[1]).split(",")} - {"Addr"}
+
+
+def main():
+    sys.stdout.write(page())
+
+
+if __name__ == "__main__":
+    main()
