@@ -24,9 +24,17 @@ ghost use Rattle.lockword.specs.LocalView.{made_by_seats};
 ghost use Rattle.lockword.specs.Marks.{Place, HeardOn};
 ghost use Rattle.lockword.specs.SharedInvariant.{IsReached};
 ghost use Rattle.lockword.specs.TransitionOutcomes.{IsOnlyClosed, Looks};
-ghost use Rattle.lockword.specs.Moment.{Moment, IsRead};
+ghost use Rattle.lockword.specs.Moment.{Moment, IsRead, IsShown};
+ghost use Rattle.lockword.specs.Headline.{Headline};
 ghost use Rattle.lockword.specs.Laws.{seats_census, over_seats, IsInOnePlace, CountsSeats};
-ghost use Rattle.lockword.specs.Laws.{ComesOfDeeds};
+ghost use Rattle.lockword.specs.Laws.{ComesOfDeeds, Stood};
+
+/// The rule has the headline: so the headline holds between any two atomic steps of any number of
+/// threads (`shared_rule.rt`: `ghost holds`), and at each moment that a look or a refusal shows.
+pub fn the_headline<R, W>()
+    ensures always { (s : Moment R W) → IsReached s → Headline s }
+    ensures shown { (fields : Word) (v : LocalView) → IsShown R W fields v → Stood R W fields v }
+{}
 
 /// At every moment what all seats of the word have done interleaves into one list of operations, of
 /// which none is refused and which leads to the words and stakes of that moment: so the laws of
