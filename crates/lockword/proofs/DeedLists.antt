@@ -6,13 +6,13 @@ use Rattle.std.proofs.lemmas.List.Elements.{All-cons, Contains-append_cases, Con
 use mathlib.Core.List.{head-eq_of_cons-eq, tail-eq_of_cons-eq}
 use Rattle.lockword.proofs.Words.{ℕ, zero, suc, Bool, true, false, List, refl, sym, ap, subst, arith, Op, Answer}
 use Rattle.lockword.proofs.Words.{Event, bit}
-use Rattle.lockword_core.proofs.Words.{LockState, empty, census, references, number, IsConsistent, transition}
+use Rattle.lockword_core.proofs.Words.{LockState, empty, census, references, lasts, number, IsConsistent, transition}
 use Rattle.lockword_core.proofs.Words.{state_after, answers_of}
 use Rattle.lockword_core.specs.declared.stake.Op.TheVariants as op
 use Rattle.lockword_core.specs.declared.stake.Answer.TheVariants as answer
 use Rattle.lockword_core.specs.OperationCounts.{is_close, is_drain, is_destroy, is_refusal, NoneRefused, made_in}
 use Rattle.lockword_core.specs.OperationCounts.{operations_of}
-use Rattle.lockword_core.specs.Laws.{is_last, ReturnedTheLast}
+use Rattle.lockword_core.specs.Laws.{ReturnedTheLast}
 use Rattle.lockword_core.proofs.CountLemmas.{count-nil}
 use Rattle.lockword_core.proofs.StateLemmas.{transition_consistent, empty_consistent}
 use Rattle.lockword_core.proofs.ReplayLemmas.{always_consistent}
@@ -67,6 +67,8 @@ pub record DeedsAdd (s : LockState) (events : List Event) : Type 0 where
       + number references (census s)
       ≡ number references (census (state_after s events)) + times answer.Kept (deeds_from s events)
       + times answer.Owes (deeds_from s events) + times answer.Last (deeds_from s events)
+  pub duties : number lasts (census s) + times answer.Last (deeds_from s events)
+      ≡ number lasts (census (state_after s events)) + times answer.Done (deeds_from s events)
 
 pub deeds_add : (s : LockState) (events : List Event) → IsConsistent s
     → count_by is_refusal (answers_of s events) ≡ 0 → DeedsAdd s events
@@ -77,6 +79,7 @@ deeds_add s [] good none =
       drains = refl;
       destroys = refl;
       refs = omega arith;
+      duties = omega arith;
     }
 deeds_add s (e ∷ events) good none =
     let next : LockState = (transition s e.holder e.op).0 in
@@ -100,35 +103,9 @@ deeds_add s (e ∷ events) good none =
       refs = let a = one.refs in let b = rest.refs in let held = adds answer.Held in
           let closing = adds answer.Closing in let kept = adds answer.Kept in let owes = adds answer.Owes in
           let last = adds answer.Last in omega arith;
+      duties = let a = one.duties in let b = rest.duties in let last = adds answer.Last in
+          let done = adds answer.Done in omega arith;
     }
-
-same_last : (a : Answer) → is answer.Last a ≡ is_last a
-same_last answer.Last = refl
-same_last answer.Held = refl
-same_last answer.Queued = refl
-same_last answer.Kept = refl
-same_last answer.Owes = refl
-same_last answer.Signalled = refl
-same_last answer.Woken = refl
-same_last answer.Closing = refl
-same_last answer.Drained = refl
-same_last answer.Done = refl
-same_last answer.Misuse = refl
-same_last answer.Closed = refl
-same_last answer.TooMany = refl
-same_last answer.Full = refl
-same_last answer.NotYet = refl
-same_last answer.Draining = refl
-
-pub lasts_are : (s : LockState) (events : List Event)
-    → times answer.Last (deeds_from s events) ≡ count_by is_last (answers_of s events)
-lasts_are s [] = refl
-lasts_are s (e ∷ events) =
-    let rest = lasts_are (transition s e.holder e.op).0 events in
-    let a = times-cons answer.Last (deed s e) (deeds_from (transition s e.holder e.op).0 events) in
-    let b = count_by-cons is_last (transition s e.holder e.op).1 (answers_of (transition s e.holder e.op).0 events) in
-    let same = ap bit (same_last (transition s e.holder e.op).1) in
-    omega arith
 
 -- ---- The parts of a list
 

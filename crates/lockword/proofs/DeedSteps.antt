@@ -7,7 +7,7 @@ use Rattle.lockword.proofs.Words.{Answer}
 use Rattle.lockword_core.specs.declared.word.TheConstants.{MAX_REFERENCES, MAX_WAITERS}
 use Rattle.lockword_core.specs.declared.signals.TheConstants.{MAX_SIGNALS}
 use Rattle.lockword_core.proofs.Words.{bit, signals_in, Census}
-use Rattle.lockword_core.proofs.Words.{LockState, census, stake_of, references, locks, part, number, pending, Change}
+use Rattle.lockword_core.proofs.Words.{LockState, census, stake_of, references, locks, lasts, part, number, pending, Change}
 use Rattle.lockword_core.proofs.Words.{IsConsistent, Outcome, refused, moved, allows, outcome, allowed_outcome}
 use Rattle.lockword_core.proofs.Words.{drop_outcome, stake_after_signal, drains_stake, lock_stake, with_stake, with_change}
 use Rattle.lockword_core.proofs.Words.{carried_out, transition, changed, values_of, insert_entry, nat_cmp, nat_tests}
@@ -29,6 +29,7 @@ pub record Tells (shut : Bool) (used : ℕ) (own : Stake) (o : Op) (a : Answer) 
   pub destroys : is answer.Done a ≡ is_destroy o
   pub refs : bit (is answer.Held a) + bit (is answer.Closing a) + part references own
       ≡ part references new + bit (is answer.Kept a) + bit (is answer.Owes a) + bit (is answer.Last a)
+  pub duties : part lasts own + bit (is answer.Last a) ≡ part lasts new + bit (is answer.Done a)
   pub last : a ≡ answer.Last → (shut ≡ true) × (used ≡ 1)
 
 abbrev TellsOutcome : Census → Stake → Op → Outcome → Type 0
@@ -51,20 +52,22 @@ incref_tells c =
     by_test c stake.Free op.Incref c.closed _ _ (λ _. refl)
     (λ _. by_test c stake.Free op.Incref c.draining _ _ (λ _. refl)
     (λ _. by_test c stake.Free op.Incref (number references c == MAX_REFERENCES) _ _ (λ _. refl)
-    (λ _. record { fits = only answer.Held; closes = refl; drains = refl; destroys = refl; refs = refl; last = λ e. absurd (cc) })))
+    (λ _. record { fits = only answer.Held; closes = refl; drains = refl; destroys = refl; refs = refl; duties = refl; last = λ e. absurd (cc) })))
 
 close_tells : (c : Census) → TellsOutcome c stake.Free op.Close (allowed_outcome c stake.Free op.Close)
 close_tells c =
     by_test c stake.Free op.Close c.closed _ _ (λ _. refl)
     (λ _. by_test c stake.Free op.Close (number references c == MAX_REFERENCES) _ _ (λ _. refl)
-    (λ _. record { fits = only answer.Closing; closes = refl; drains = refl; destroys = refl; refs = refl; last = λ e. absurd (cc) }))
+    (λ _. record { fits = only answer.Closing; closes = refl; drains = refl; destroys = refl; refs = refl; duties = refl; last = λ e. absurd (cc) }))
 
-no_reference : (r w : ℕ) → part references (drains_stake r w) ≡ 0
+-- a drainer has no reference, and no duty
+no_reference : (r w : ℕ) → (part references (drains_stake r w) ≡ 0) × (part lasts (drains_stake r w) ≡ 0)
 no_reference r w = by (r == 0 && w == 0)
   where
-    by : (t : Bool) → part references (if t then stake.Free else stake.Drains r w) ≡ 0
-    by true = refl
-    by false = refl
+    by : (t : Bool) → (part references (if t then stake.Free else stake.Drains r w) ≡ 0)
+        × (part lasts (if t then stake.Free else stake.Drains r w) ≡ 0)
+    by true = (refl, refl)
+    by false = (refl, refl)
 
 drain_tells : (c : Census) → TellsOutcome c stake.Free op.Drain (allowed_outcome c stake.Free op.Drain)
 drain_tells c =
@@ -75,13 +78,15 @@ drain_tells c =
       closes = refl;
       drains = refl;
       destroys = refl;
-      refs = let none = no_reference (pending Read c) (pending Write c) in omega arith;
+      refs = let none = (no_reference (pending Read c) (pending Write c)).0 in omega arith;
+      duties = let none = (no_reference (pending Read c) (pending Write c)).1 in omega arith;
       last = λ e. absurd (cc);
     }))
 
-one_reference : (d : Dir) → part references (lock_stake d) ≡ 1
-one_reference Read = refl
-one_reference Write = refl
+-- the holder of a lock has one reference, and no duty
+one_reference : (d : Dir) → (part references (lock_stake d) ≡ 1) × (part lasts (lock_stake d) ≡ 0)
+one_reference Read = (refl, refl)
+one_reference Write = (refl, refl)
 
 lock_tells : (d : Dir) (c : Census) → TellsOutcome c stake.Free (op.Lock d) (allowed_outcome c stake.Free (op.Lock d))
 lock_tells d c =
@@ -94,7 +99,8 @@ lock_tells d c =
       closes = refl;
       drains = refl;
       destroys = refl;
-      refs = let one = one_reference d in omega arith;
+      refs = let one = (one_reference d).0 in omega arith;
+      duties = let none = (one_reference d).1 in omega arith;
       last = λ e. absurd (cc);
     }))
     (λ _. by_test c stake.Free (op.Lock d) (pending d c == MAX_WAITERS) _ _ (λ _. refl)
@@ -104,6 +110,7 @@ lock_tells d c =
       drains = refl;
       destroys = refl;
       refs = refl;
+      duties = refl;
       last = λ e. absurd (cc);
     }))))
 
@@ -116,10 +123,10 @@ is_one : (n : ℕ) → (n == 1) ≡ true → n ≡ 1
 is_one n e = grind (arith, nat_tests)
 
 -- a reference that is given back by the holder of this stake
-drop_tells : (c : Census) (own : Stake) (o : Op) → part references own ≡ 1 → Contains (answers_to o) answer.Kept
-    → Contains (answers_to o) answer.Last → is_close o ≡ false → is_drain o ≡ false → is_destroy o ≡ false
+drop_tells : (c : Census) (own : Stake) (o : Op) → (part references own ≡ 1) × (part lasts own ≡ 0)
+    → Contains (answers_to o) answer.Kept → Contains (answers_to o) answer.Last → is_close o ≡ false → is_drain o ≡ false → is_destroy o ≡ false
     → TellsOutcome c own o (drop_outcome c)
-drop_tells c own o one kept last no_close no_drain no_destroy =
+drop_tells c own o (one, none) kept last no_close no_drain no_destroy =
     by_test c own o (c.closed && (number references c == 1)) _ _
     (λ over. record {
       fits = last;
@@ -127,6 +134,7 @@ drop_tells c own o one kept last no_close no_drain no_destroy =
       drains = sym no_drain;
       destroys = sym no_destroy;
       refs = omega arith;
+      duties = omega arith;
       last = λ e. let both = both_true c.closed (number references c == 1) over in (both.0, is_one _ both.1);
     })
     (λ _. record {
@@ -135,6 +143,7 @@ drop_tells c own o one kept last no_close no_drain no_destroy =
       drains = sym no_drain;
       destroys = sym no_destroy;
       refs = omega arith;
+      duties = omega arith;
       last = λ e. absurd (cc);
     })
 
@@ -149,13 +158,15 @@ unlock_tells d c =
       closes = refl;
       drains = refl;
       destroys = refl;
-      refs = let one = one_reference d in omega arith;
+      refs = let one = (one_reference d).0 in omega arith;
+      duties = let none = (one_reference d).1 in omega arith;
       last = λ e. absurd (cc);
     })
 
-signal_tells : (d : Dir) (c : Census) (own : Stake) → part references (stake_after_signal d own) ≡ part references own
-    → TellsOutcome c own (op.Signal d) (allowed_outcome c own (op.Signal d))
-signal_tells d c own same =
+signal_tells : (d : Dir) (c : Census) (own : Stake)
+    → (part references (stake_after_signal d own) ≡ part references own)
+    × (part lasts (stake_after_signal d own) ≡ part lasts own) → TellsOutcome c own (op.Signal d) (allowed_outcome c own (op.Signal d))
+signal_tells d c own (same, none) =
     by_test c own (op.Signal d) (signals_in d c.signals == MAX_SIGNALS) _ _ (λ _. refl)
     (λ _. record {
       fits = only answer.Signalled;
@@ -163,6 +174,7 @@ signal_tells d c own same =
       drains = refl;
       destroys = refl;
       refs = omega arith;
+      duties = omega arith;
       last = λ e. absurd (cc);
     })
 
@@ -176,6 +188,7 @@ wake_tells d c =
       drains = refl;
       destroys = refl;
       refs = refl;
+      duties = refl;
       last = λ e. absurd (cc);
     })
 
@@ -186,15 +199,15 @@ allowed_tells c stake.Free op.Close may = close_tells c
 allowed_tells c stake.Free op.Drain may = drain_tells c
 allowed_tells c stake.Free (op.Lock d) may = lock_tells d c
 allowed_tells c stake.Ref op.Decref may =
-    drop_tells c stake.Ref op.Decref refl (0, omega arith, refl) (1, omega arith, refl) refl refl refl
+    drop_tells c stake.Ref op.Decref (refl, refl) (0, omega arith, refl) (1, omega arith, refl) refl refl refl
 allowed_tells c (stake.Closing r w) op.Decref may =
-    drop_tells c (stake.Closing r w) op.Decref refl (0, omega arith, refl) (1, omega arith, refl) refl refl refl
+    drop_tells c (stake.Closing r w) op.Decref (refl, refl) (0, omega arith, refl) (1, omega arith, refl) refl refl refl
 allowed_tells c stake.Read (op.Unlock Read) may = unlock_tells Read c
 allowed_tells c stake.Write (op.Unlock Write) may = unlock_tells Write c
-allowed_tells c (stake.Owes e) (op.Signal Read) may = signal_tells Read c (stake.Owes e) refl
-allowed_tells c (stake.Owes e) (op.Signal Write) may = signal_tells Write c (stake.Owes e) refl
-allowed_tells c (stake.Closing r w) (op.Signal Read) may = signal_tells Read c (stake.Closing r w) refl
-allowed_tells c (stake.Closing r w) (op.Signal Write) may = signal_tells Write c (stake.Closing r w) refl
+allowed_tells c (stake.Owes e) (op.Signal Read) may = signal_tells Read c (stake.Owes e) (refl, refl)
+allowed_tells c (stake.Owes e) (op.Signal Write) may = signal_tells Write c (stake.Owes e) (refl, refl)
+allowed_tells c (stake.Closing r w) (op.Signal Read) may = signal_tells Read c (stake.Closing r w) (refl, refl)
+allowed_tells c (stake.Closing r w) (op.Signal Write) may = signal_tells Write c (stake.Closing r w) (refl, refl)
 allowed_tells c (stake.Drains r w) (op.Signal Read) may =
     signal_tells Read c (stake.Drains r w) (no_reference (r - 1) w)
 allowed_tells c (stake.Drains r w) (op.Signal Write) may =
@@ -208,6 +221,7 @@ allowed_tells c stake.Last op.Destroy may =
       drains = refl;
       destroys = refl;
       refs = refl;
+      duties = refl;
       last = λ e. absurd (cc);
     }
 allowed_tells c stake.Read (op.Unlock Write) may = absurd (cc)
@@ -243,6 +257,8 @@ pub record TellsDeed (s : LockState) (o : Op) (next : LockState × Answer) : Typ
   pub refs : bit (is answer.Held next.1) + bit (is answer.Closing next.1) + number references (census s)
       ≡ number references (census next.0) + bit (is answer.Kept next.1) + bit (is answer.Owes next.1)
       + bit (is answer.Last next.1)
+  pub duties : number lasts (census s) + bit (is answer.Last next.1)
+      ≡ number lasts (census next.0) + bit (is answer.Done next.1)
   pub last : next.1 ≡ answer.Last → (s.closed ≡ true) × (number references (census s) ≡ 1)
 
 changed_stakes : (c : Census) (ys : List Stake) (change : Change) → (changed c ys change).stakes ≡ ys
@@ -264,14 +280,17 @@ carried_tells s holder o (moved a new change) good told not_refused =
     let stakes_are : next.stakes ≡ ys =
     ap (λ (x : Census). x.stakes) same ∙ changed_stakes (census s) ys change in
     let refs_are = ap (count references) stakes_are in
-    let counted = moves (census s).stakes ys (stake_of s holder) new (changes-insert s.holders holder new good.names)
-    references in
+    let lasts_are = ap (count lasts) stakes_are in
+    let counted = moves (census s).stakes ys (stake_of s holder) new (changes-insert s.holders holder new good.names) in
+    let refs_moved = counted references in
+    let lasts_moved = counted lasts in
     record {
       fits = told.fits;
       closes = told.closes;
       drains = told.drains;
       destroys = told.destroys;
       refs = let one = told.refs in omega arith;
+      duties = let one = told.duties in omega arith;
       last = told.last;
     }
 

@@ -1,9 +1,9 @@
 -- The headline, from the rule.
 use Rattle.std.proofs.Common.{◌≡◌, ◌≤◌, ◌∙◌, [], ◌∷◌}
-use Rattle.std.specs.Prelude.{sum_by, if◌then◌else◌}
+use Rattle.std.specs.Prelude.{◌==◌, ◌&&◌, sum_by, if◌then◌else◌}
 use Rattle.std.proofs.lemmas.List.Sums.{sum_by-cons}
-use Rattle.lockword.proofs.Words.{ℕ, List, refl, sym, ap, arith, get_or, Dir, Read, Write, Stake, bit}
-use Rattle.lockword.proofs.Words.{Census, Counted, LockState, empty, census, references, locks, lasts, part}
+use Rattle.lockword.proofs.Words.{ℕ, List, refl, sym, ap, arith, get_or, Dir, Read, Write, Stake}
+use Rattle.lockword.proofs.Words.{Census, Counted, LockState, empty, census, references, locks, lasts, number, part}
 use Rattle.lockword.proofs.Words.{state_after, always_consistent, balance_of, LocalView, stakes_of, taken_by}
 use Rattle.lockword.proofs.Words.{IsReached, Word, is_some}
 use Rattle.lockword_core.specs.declared.stake.Stake.TheVariants as stake
@@ -14,14 +14,13 @@ use Rattle.lockword_core.proofs.InvariantPreserved.{bit-le}
 use Rattle.lockword_core.proofs.WordFields.{reads_fields}
 use Rattle.lockword_core.proofs.NameLemmas.{counts_by_seats}
 use Rattle.lockword_core.proofs.OperationLemmas.{adds_up}
-use Rattle.lockword_core.proofs.EndCounts.{last_once}
 use Rattle.lockword_core.proofs.StateLemmas.{empty_consistent}
 use Rattle.lockword.specs.LocalView.{takers}
 use Rattle.lockword.specs.Moment.{Moment, IsShown}
 use Rattle.lockword.specs.Headline.{Headline, reference, lock, queued, owed, duty, summed}
 use Rattle.lockword.specs.Laws.{Stood}
 use Rattle.lockword.proofs.Representation.{both, present, fits}
-use Rattle.lockword.proofs.DeedLists.{deeds_from, same_deeds_by, deeds_add, lasts_are, last_is_last, destroyer_was_last}
+use Rattle.lockword.proofs.DeedLists.{deeds_from, same_deeds_by, deeds_add, last_is_last, destroyer_was_last}
 
 -- ---- The counts of stakes are those of the rule
 
@@ -180,7 +179,12 @@ module _ {R W : Type 0} where
         in_use = let a = add.refs in
             let same = counts_by_seats st (stakes_of s.views) good leads.stakes references in
             let none = count-nil references in omega arith;
-        one_last = let a = lasts_are empty reached.history in let b = last_once reached.history in omega arith;
+        one_last = let a = add.duties in let none = count-nil lasts in let one = good.counts.one_last in
+            let destroyed = add.destroys in let done = sums.destroyed in let most = bit-le
+            (st.closed && (number references (census st) == 0)) in omega arith;
+        duties = let a = add.duties in let none = count-nil lasts in
+            let now = sum_is duty lasts same_duty s.views in
+            let same = counts_by_seats st (stakes_of s.views) good leads.stakes lasts in omega arith;
         last = λ early late d whole is. last_is_last reached.history early late d reached.none_refused whole is;
         destroy = λ early late d whole is.
             destroyer_was_last reached.history early late d reached.none_refused whole is;

@@ -7,7 +7,7 @@ use Rattle.lockword.proofs.Words.{get_or, get_or-set_same, get_or-set_other, dit
 use Rattle.lockword.proofs.Words.{Read, Write, Op, Event, Word, bit, signals_in, empty, census, references}
 use Rattle.lockword.proofs.Words.{locks, lasts, number, state_after, count-within, always_consistent, LocalView}
 use Rattle.lockword.proofs.Words.{stakes_of, deeds_of, IsReached}
-use Rattle.lockword_core.specs.LockState.{queued, owed, closers, drainers, count}
+use Rattle.lockword_core.specs.LockState.{queued, count}
 use Rattle.lockword_core.specs.Laws.{ReturnedTheLast}
 use Rattle.lockword_core.specs.OperationCounts.{is_taking, is_returning, is_signal, is_wake, is_close, is_drain}
 use Rattle.lockword_core.specs.OperationCounts.{is_destroy, made_in, operations_of, AddsUp}
@@ -18,12 +18,11 @@ use Rattle.lockword_core.proofs.WordLaws.{counts_stakes}
 use Rattle.lockword_core.proofs.NameLemmas.{counts_by_seats}
 use Rattle.lockword_core.proofs.WordRefines.{pick_then, pick_else}
 use Rattle.lockword_core.proofs.OperationLemmas.{count_by-cons, adds_up, destroyer}
-use Rattle.lockword.specs.Directions.{semaphore}
 use Rattle.lockword.specs.LocalView.{made_by_seats}
 use Rattle.lockword.specs.TransitionOutcomes.{IsOnlyClosed}
 use Rattle.lockword.specs.Steps.{IsJustClosed}
 use Rattle.lockword.specs.Moment.{Moment, IsRead}
-use Rattle.lockword.specs.Laws.{seats_census, over_seats, IsInOnePlace, CountsSeats, ComesOfDeeds}
+use Rattle.lockword.specs.Laws.{seats_census, over_seats, ComesOfDeeds}
 use Rattle.lockword.proofs.Representation.{both, present, fits}
 use Rattle.lockword.proofs.LookSteps.{IsOver, is_over}
 use Rattle.lockword.proofs.HistorySteps.{own_deeds, same_number, other_number}

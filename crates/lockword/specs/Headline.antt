@@ -61,7 +61,7 @@ abbrev pub done_by : ℕ → List Deed → List Op
 done_by seat [] = []
 done_by seat (d ∷ ds) = if d.seat == seat then d.op ∷ done_by seat ds else done_by seat ds
 
--- the answers that are counted; how often one was given; that so many references are left
+-- the answers that are counted; how often one was given; that so many references are out
 abbrev pub is : Answer → Answer → Bool
 is answer.Held answer.Held = true
 is answer.Closing answer.Closing = true
@@ -102,6 +102,7 @@ pub record Headline {R W : Type 0} (s : Moment R W) : Type 0 where
   pub read_lock : state_number s / 2 % 2 ≡ summed (lock Read) s
   pub write_lock : state_number s / 4 % 2 ≡ summed (lock Write) s
   pub references : state_number s / 8 % 2 ^ 24 ≡ summed reference s
+  pub in_use : HaveLeft deeds (summed reference s)
   pub readers : state_number s / 2 ^ 27 % 2 ^ 18 + summed (owed Read) s
       + slice_index s.words (semaphore Read) ≡ summed (queued Read) s
   pub writers : state_number s / 2 ^ 45 % 2 ^ 18 + summed (owed Write) s
@@ -110,10 +111,9 @@ pub record Headline {R W : Type 0} (s : Moment R W) : Type 0 where
   pub one_lock : (d : Dir) → summed (lock d) s ≤ 1
   pub one_place : (d : Dir) → half_home d (get_elem? s.homes (slot_of d)) + summed (lock d) s
       + sum_by (λ v. if v.took then duty v.stake else 0) s.views + slice_index s.words DONE ≡ 1
-  -- the references that seats have are those that were given and not taken back
-  pub in_use : HaveLeft deeds (summed reference s)
   -- one `Last` at most: with it the last reference of a closed word went back; its seat destroys
   pub one_last : times answer.Last deeds ≤ 1
+  pub duties : summed duty s + times answer.Done deeds ≡ times answer.Last deeds
   pub last : (early late : List Deed) (d : Deed) → deeds ≡ early ++ d ∷ late → d.answer ≡ answer.Last
       → (times answer.Closing early ≡ 1) × HaveLeft (early ++ d ∷ []) 0
   pub destroy : (early late : List Deed) (d : Deed) → deeds ≡ early ++ d ∷ late → d.op ≡ op.Destroy
