@@ -17,15 +17,15 @@ use Rattle.lockword_core.proofs.CountLemmas.{count-nil}
 use Rattle.lockword_core.proofs.StateLemmas.{transition_consistent, empty_consistent}
 use Rattle.lockword_core.proofs.ReplayLemmas.{always_consistent}
 use Rattle.lockword_core.proofs.OperationLemmas.{count_by-cons, count_by-push, adds_up, none_refused-push, destroyer}
-use Rattle.lockword.specs.Headline.{Deed, answers_to, done_by, is, times, HaveLeft}
+use Rattle.lockword.specs.Headline.{Act, answers_to, done_by, is, times, HaveLeft}
 use Rattle.lockword.proofs.DeedSteps.{tells_deed}
 use Rattle.lockword.proofs.HistorySteps.{same_number}
 
-abbrev deed : LockState → Event → Deed
+abbrev deed : LockState → Event → Act
 deed s e = record { seat = e.holder; op = e.op; answer = (transition s e.holder e.op).1 }
 
 -- the operations of a list, each with its answer
-abbrev pub deeds_from : LockState → List Event → List Deed
+abbrev pub deeds_from : LockState → List Event → List Act
 deeds_from s [] = []
 deeds_from s (e ∷ events) = deed s e ∷ deeds_from (transition s e.holder e.op).0 events
 
@@ -52,14 +52,14 @@ none_refused-cons s e events none =
     (answers_of (transition s e.holder e.op).0 events) in
     (no_bit _ _ (sym sum ∙ none), omega arith)
 
-pub times-cons : (a : Answer) (d : Deed) (ds : List Deed) → times a (d ∷ ds) ≡ bit (is a d.answer) + times a ds
-times-cons a d ds = count_by-cons (λ (x : Deed). is a x.answer) d ds
+pub times-cons : (a : Answer) (d : Act) (ds : List Act) → times a (d ∷ ds) ≡ bit (is a d.answer) + times a ds
+times-cons a d ds = count_by-cons (λ (x : Act). is a x.answer) d ds
 
-pub times-push : (a : Answer) (ds : List Deed) (d : Deed) → times a (ds ++ d ∷ []) ≡ times a ds + bit (is a d.answer)
-times-push a ds d = count_by-push (λ (x : Deed). is a x.answer) ds d
+pub times-push : (a : Answer) (ds : List Act) (d : Act) → times a (ds ++ d ∷ []) ≡ times a ds + bit (is a d.answer)
+times-push a ds d = count_by-push (λ (x : Act). is a x.answer) ds d
 
 pub record DeedsAdd (s : LockState) (events : List Event) : Type 0 where
-  pub fits : All (λ (d : Deed). Contains (answers_to d.op) d.answer) (deeds_from s events)
+  pub fits : All (λ (d : Act). Contains (answers_to d.op) d.answer) (deeds_from s events)
   pub closes : times answer.Closing (deeds_from s events) ≡ made_in events is_close
   pub drains : times answer.Drained (deeds_from s events) ≡ made_in events is_drain
   pub destroys : times answer.Done (deeds_from s events) ≡ made_in events is_destroy
@@ -92,7 +92,7 @@ deeds_add s (e ∷ events) good none =
     ≡ bit (is a (transition s e.holder e.op).1) + times a (deeds_from next events) =
     λ a. times-cons a (deed s e) (deeds_from next events) in
     record {
-      fits = All-cons (λ (d : Deed). Contains (answers_to d.op) d.answer) (deed s e) (deeds_from next events) one.fits
+      fits = All-cons (λ (d : Act). Contains (answers_to d.op) d.answer) (deed s e) (deeds_from next events) one.fits
           rest.fits;
       closes = let a = ap bit one.closes in let b = rest.closes in let c = more is_close in
           let d = adds answer.Closing in omega arith;
@@ -110,7 +110,7 @@ deeds_add s (e ∷ events) good none =
 -- ---- The parts of a list
 
 -- a list of deeds is cut at one of them
-record Cut (s : LockState) (events : List Event) (early : List Deed) (d : Deed) : Type 0 where
+record Cut (s : LockState) (events : List Event) (early : List Act) (d : Act) : Type 0 where
   front : List Event
   event : Event
   early_is : early ≡ deeds_from s front
@@ -118,7 +118,7 @@ record Cut (s : LockState) (events : List Event) (early : List Deed) (d : Deed) 
   unrefused : count_by is_refusal (answers_of s front) ≡ 0
   made : is_refusal (transition (state_after s front) event.holder event.op).1 ≡ false
 
-cut : (s : LockState) (events : List Event) (early late : List Deed) (d : Deed)
+cut : (s : LockState) (events : List Event) (early late : List Act) (d : Act)
     → count_by is_refusal (answers_of s events) ≡ 0 → deeds_from s events ≡ early ++ d ∷ late → Cut s events early d
 cut s [] [] late d none e = absurd (cc)
 cut s [] (x ∷ early) late d none e = absurd (cc)
@@ -138,8 +138,8 @@ cut s (event ∷ events) (x ∷ early) late d none e =
     record {
       front = event ∷ rest.front;
       event = rest.event;
-      early_is = ap (λ (y : Deed). y ∷ early) (sym (head-eq_of_cons-eq e))
-          ∙ ap (λ (ys : List Deed). deed s event ∷ ys) rest.early_is;
+      early_is = ap (λ (y : Act). y ∷ early) (sym (head-eq_of_cons-eq e))
+          ∙ ap (λ (ys : List Act). deed s event ∷ ys) rest.early_is;
       this = rest.this;
       unrefused = let sum = count_by-cons is_refusal (transition s event.holder event.op).1
           (answers_of next rest.front) in let none_here = ap bit parts.0 in let none_there = rest.unrefused in
@@ -148,7 +148,7 @@ cut s (event ∷ events) (x ∷ early) late d none e =
     }
 
 -- with `Last` the last reference of a closed word went back
-pub last_is_last : (events : List Event) (early late : List Deed) (d : Deed) → NoneRefused events
+pub last_is_last : (events : List Event) (early late : List Act) (d : Act) → NoneRefused events
     → deeds_from empty events ≡ early ++ d ∷ late → d.answer ≡ answer.Last
     → (times answer.Closing early ≡ 1) × HaveLeft (early ++ d ∷ []) 0
 last_is_last events early late d none whole last =
@@ -156,7 +156,7 @@ last_is_last events early late d none whole last =
     let s : LockState = state_after empty at.front in
     let add = deeds_add empty at.front empty_consistent at.unrefused in
     let told = tells_deed s at.event.holder at.event.op (always_consistent at.front) at.made in
-    let over = told.last (sym (ap (λ (x : Deed). x.answer) at.this) ∙ last) in
+    let over = told.last (sym (ap (λ (x : Act). x.answer) at.this) ∙ last) in
     let sums = adds_up at.front at.unrefused in
     let shut = ap bit over.0 in
     let front_is : (a : Answer) → times a early ≡ times a (deeds_from empty at.front) = λ a. ap (times a) at.early_is in
@@ -204,7 +204,7 @@ deeds_push : (s : LockState) (events : List Event) (e : Event)
     → deeds_from s (events ++ e ∷ []) ≡ deeds_from s events ++ deed (state_after s events) e ∷ []
 deeds_push s [] e = refl
 deeds_push s (x ∷ events) e =
-    ap (λ (rest : List Deed). deed s x ∷ rest) (deeds_push (transition s x.holder x.op).0 events e)
+    ap (λ (rest : List Act). deed s x ∷ rest) (deeds_push (transition s x.holder x.op).0 events e)
 
 -- the deed of one event among others
 among : (s : LockState) (early : List Event) (e : Event) (later : List Event)
@@ -217,7 +217,7 @@ among s (x ∷ early) e later =
     (among (transition s x.holder x.op).0 early e later)
 
 -- who destroys was answered `Last` before
-pub destroyer_was_last : (events : List Event) (early late : List Deed) (d : Deed) → NoneRefused events
+pub destroyer_was_last : (events : List Event) (early late : List Act) (d : Act) → NoneRefused events
     → deeds_from empty events ≡ early ++ d ∷ late → d.op ≡ op.Destroy
     → (o : Op) × Contains early (record { seat = d.seat; op = o; answer = answer.Last })
 destroyer_was_last events early late d none whole destroys =
@@ -225,18 +225,18 @@ destroyer_was_last events early late d none whole destroys =
     let s : LockState = state_after empty at.front in
     let e : Event = at.event in
     let told = tells_deed s e.holder e.op (always_consistent at.front) at.made in
-    let is : is_destroy e.op ≡ true = ap (λ (x : Deed). is_destroy x.op) (sym at.this) ∙ ap is_destroy destroys in
-    let own : d.seat ≡ e.holder = ap (λ (x : Deed). x.seat) at.this in
+    let is : is_destroy e.op ≡ true = ap (λ (x : Act). is_destroy x.op) (sym at.this) ∙ ap is_destroy destroys in
+    let own : d.seat ≡ e.holder = ap (λ (x : Act). x.seat) at.this in
     let r : ReturnedTheLast (at.front ++ e ∷ []) e.holder =
     destroyer (at.front ++ e ∷ []) e.holder (none_refused-push at.front e at.unrefused at.made)
     (made_last at.front e true (same_number e.holder) is) in
-    let found : Deed = record { seat = e.holder; op = r.op; answer = answer.Last } in
+    let found : Act = record { seat = e.holder; op = r.op; answer = answer.Last } in
     let there : Contains (deeds_from empty (r.earlier ++ record { holder = e.holder; op = r.op } ∷ r.later)) found =
     subst (λ (a : Answer). Contains (deeds_from empty (r.earlier ++ record { holder = e.holder; op = r.op } ∷ r.later))
     (record { seat = e.holder; op = r.op; answer = a })) r.answered
     (among empty r.earlier (record { holder = e.holder; op = r.op }) r.later) in
     let inside : Contains (deeds_from empty at.front ++ deed s e ∷ []) found =
-    subst (λ (ds : List Deed). Contains ds found) (deeds_push empty at.front e)
+    subst (λ (ds : List Act). Contains ds found) (deeds_push empty at.front e)
     (subst (λ (xs : List Event). Contains (deeds_from empty xs) found) (sym r.among) there) in
     let before : Contains (deeds_from empty at.front) found =
     ⊎_elim (λ here. here)
@@ -244,12 +244,12 @@ destroyer_was_last events early late d none whole destroys =
     (Contains-append_cases (deeds_from empty at.front) (deed s e ∷ []) found inside) in (
       r.op,
       subst (λ (q : ℕ). Contains early (record { seat = q; op = r.op; answer = answer.Last })) (sym own)
-          (subst (λ (ds : List Deed). Contains ds found) (sym at.early_is) before),
+          (subst (λ (ds : List Act). Contains ds found) (sym at.early_is) before),
     )
   where
-    is_only : (x y : Deed) → Contains (x ∷ []) y → x ≡ y
+    is_only : (x y : Act) → Contains (x ∷ []) y → x ≡ y
     is_only x y (zero, inside, e) = e
     is_only x y (suc k, inside, e) = absurd (omega arith)
 
-    not_done : {x y : Deed} → x ≡ y → is answer.Done x.answer ≡ true → is answer.Done y.answer ≡ true
-    not_done same done = subst (λ (z : Deed). is answer.Done z.answer ≡ true) same done
+    not_done : {x y : Act} → x ≡ y → is answer.Done x.answer ≡ true → is answer.Done y.answer ≡ true
+    not_done same done = subst (λ (z : Act). is answer.Done z.answer ≡ true) same done

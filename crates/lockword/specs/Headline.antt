@@ -39,7 +39,7 @@ duty stake.Last = 1
 duty _ = 0
 
 -- an operation that the seat of this number made, and its answer
-pub record Deed : Type 0 where
+pub record Act : Type 0 where
   pub seat : ℕ
   pub op : Op
   pub answer : Answer
@@ -57,7 +57,7 @@ answers_to op.Drain = answer.Drained ∷ []
 answers_to op.Destroy = answer.Done ∷ []
 
 -- what a seat did, in its order
-abbrev pub done_by : ℕ → List Deed → List Op
+abbrev pub done_by : ℕ → List Act → List Op
 done_by seat [] = []
 done_by seat (d ∷ ds) = if d.seat == seat then d.op ∷ done_by seat ds else done_by seat ds
 
@@ -72,10 +72,10 @@ is answer.Drained answer.Drained = true
 is answer.Done answer.Done = true
 is _ _ = false
 
-abbrev pub times : Answer → List Deed → ℕ
+abbrev pub times : Answer → List Act → ℕ
 times a deeds = count_by (λ d. is a d.answer) deeds
 
-abbrev pub HaveLeft : List Deed → ℕ → Type 0
+abbrev pub HaveLeft : List Act → ℕ → Type 0
 HaveLeft deeds n =
     times answer.Held deeds + times answer.Closing deeds
     ≡ n + times answer.Kept deeds + times answer.Owes deeds + times answer.Last deeds
@@ -89,7 +89,7 @@ summed what s = sum_by (λ v. what v.stake) s.views
 
 pub record Headline {R W : Type 0} (s : Moment R W) : Type 0 where
   -- one list has all that was done, and of each seat what that seat did, in its order
-  pub deeds : List Deed
+  pub deeds : List Act
   pub own : (seat : ℕ) → done_by seat deeds ≡ get_or (map (λ v. v.did) s.views) seat []
   pub unrefused : All (λ d. Contains (answers_to d.op) d.answer) deeds
   -- a flag is set, and the mark is made, by the one close, drain and destroy that there was, if any
@@ -114,7 +114,7 @@ pub record Headline {R W : Type 0} (s : Moment R W) : Type 0 where
   -- one `Last` at most: with it the last reference of a closed word went back; its seat destroys
   pub one_last : times answer.Last deeds ≤ 1
   pub duties : summed duty s + times answer.Done deeds ≡ times answer.Last deeds
-  pub last : (early late : List Deed) (d : Deed) → deeds ≡ early ++ d ∷ late → d.answer ≡ answer.Last
+  pub last : (early late : List Act) (d : Act) → deeds ≡ early ++ d ∷ late → d.answer ≡ answer.Last
       → (times answer.Closing early ≡ 1) × HaveLeft (early ++ d ∷ []) 0
-  pub destroy : (early late : List Deed) (d : Deed) → deeds ≡ early ++ d ∷ late → d.op ≡ op.Destroy
+  pub destroy : (early late : List Act) (d : Act) → deeds ≡ early ++ d ∷ late → d.op ≡ op.Destroy
       → (o : Op) × Contains early (record { seat = d.seat; op = o; answer = answer.Last })

@@ -1,13 +1,12 @@
 -- What the rule of a running word comes to, in the words of the subject.
-use Rattle.std.specs.Prelude.{◌≡◌, ◌==◌, ◌+◌, ◌-◌, ◌/◌, ◌%◌, ◌^◌}
-use Rattle.lockword.specs.Words.{ℕ, List, slice_index, get_elem?, some, Dir, Read, Write, Word, Event}
+use Rattle.std.specs.Prelude.{◌≡◌, ◌==◌, ◌/◌, ◌%◌, ◌^◌}
+use Rattle.lockword.specs.Words.{ℕ, List, slice_index, get_elem?, some, Word, Event}
 use Rattle.lockword.specs.Words.{bit, state_after, empty}
 use Rattle.lockword_core.specs.OperationCounts.{NoneRefused}
 use Rattle.lockword_core.specs.Laws.{CountsStakes}
-use Rattle.lockword_core.specs.LockState.{Census, Counted, references, locks, queued, owed, count}
+use Rattle.lockword_core.specs.LockState.{Census, Counted, count}
 use Rattle.lockword.specs.declared.shared_rule.TheConstants.{READ_SIGNALS, WRITE_SIGNALS, DONE}
-use Rattle.lockword.specs.LocalView.{stakes_of, takers}
-use Rattle.lockword.specs.Directions.{slot_of, half_home}
+use Rattle.lockword.specs.LocalView.{stakes_of}
 use Rattle.lockword.specs.History.{Matches, Interleaves}
 use Rattle.lockword.specs.Marks.{Place}
 use Rattle.lockword.specs.Moment.{Moment}
@@ -64,25 +63,3 @@ module _ {R W : Type 0} where
   -- a count over the stakes of all seats
   abbrev pub over_seats : Counted → Moment R W → ℕ
   over_seats what s = count what (stakes_of s.views)
-
-  -- waiters of a direction to whom nobody owes a signal, and for whom none lies ready
-  abbrev pub unsignalled : Dir → Moment R W → ℕ
-  unsignalled Read s =
-      over_seats (queued Read) s - (over_seats (owed Read) s + slice_index s.words READ_SIGNALS)
-  unsignalled Write s =
-      over_seats (queued Write) s - (over_seats (owed Write) s + slice_index s.words WRITE_SIGNALS)
-
-  -- a half is in one place: at home, with the holder of its lock, with the `Last` that took it, or
-  -- given away for good
-  abbrev pub IsInOnePlace : Dir → Moment R W → Type 0
-  IsInOnePlace d s =
-      half_home d (get_elem? s.homes (slot_of d)) + over_seats (locks d) s + takers s.views
-      + slice_index s.words DONE ≡ 1
-
--- lock bits and counts are those of the stakes of all seats
-pub record CountsSeats {R W : Type 0} (s : Moment R W) (fields : Word) : Type 0 where
-  pub read_lock : bit fields.rlock ≡ over_seats (locks Read) s
-  pub write_lock : bit fields.wlock ≡ over_seats (locks Write) s
-  pub references : fields.refs ≡ over_seats references s
-  pub read_waiters : fields.rwait ≡ unsignalled Read s
-  pub write_waiters : fields.wwait ≡ unsignalled Write s
