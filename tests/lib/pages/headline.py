@@ -73,25 +73,36 @@ class Reading:
         return self.lines + sum(self.definitions.values())
 
     def of_types(self):
-        """The lines of the Rust types and constants that are cited, with their comments."""
-        found = 0
-        for crate, file, name in self.types:
-            path = f"crates/{crate}/src/{file}.rt"
-            found += item_lines(self.tree.text(path).splitlines(), name)
-        return found
+        """The lines of the Rust types and constants that are cited, and of the types that these have, with their comments."""
+        ahead, known = list(self.types), {}
+        while ahead:
+            crate, file, name = ahead.pop()
+            if (crate, name) not in known:
+                text = self.tree.text(f"crates/{crate}/src/{file}.rt")
+                known[crate, name] = item_lines(text.splitlines(), name)
+                ahead += self.parts(crate, text, known[crate, name])
+        return sum(map(len, known.values()))
+
+    def parts(self, crate, text, lines):
+        """The types of this repository that an item's lines name, of its own crate and of those that its file names."""
+        named = set(re.findall(r"\b[A-Z]\w+", re.sub(r"//.*", "", "\n".join(lines))))
+        for other in {crate, *re.findall(r"\buse (?:Rattle\.)?(\w+)(?:\.|::)", text)}:
+            for path in self.tree.paths(rf"crates/{other}/src/\w+\.rt"):
+                for name in named & set(re.findall(r"^pub (?:struct|enum) (\w+)", self.tree.text(path), re.M)):
+                    yield other, path.split("/")[-1][:-3], name
 
 
 def item_lines(lines, name):
-    """How many lines a type or a constant has, with the comments above it."""
+    """The lines of a type or a constant, with the comments above it."""
     at = next((i for i, it in enumerate(lines) if re.match(rf"pub (?:struct|enum|const) {name}\b", it)), None)
     if at is None:
-        return 0
+        return []
     first, last = at, at
     while lines[first - 1].startswith(("///", "#[")):
         first -= 1
     while not lines[last].endswith(";") and lines[last] != "}":
         last += 1
-    return last + 1 - first
+    return lines[first : last + 1]
 
 
 def check(tree, told):
