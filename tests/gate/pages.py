@@ -1,6 +1,6 @@
 #!/usr/bin/env python3
 """Compares what pages say with what the code has: options, admin commands, replies, faults, statuses, figures, words of the log,
-limits, names, files, examples of code, lines of shell and samples.
+limits, names, files, examples of code, lines of shell, samples, and the lines of the lock word's headline.
 
     python3 tests/gate/pages.py [SUBJECT]..     all of it, or these subjects, which are modules of tests/lib/pages
     python3 tests/gate/pages.py --reached       for each function that README.md and docs/guarantees.md name: which program calls it
@@ -16,7 +16,7 @@ from lib.pages.tree import Told, Tree
 
 SUBJECTS = (
     "options", "admin", "replies", "faults", "trace", "metrics", "log_words", "limits", "version", "kit", "man", "shell_lines", "samples",
-    "quotes", "claims", "names", "links", "figures", "plants", "stale", "packaged", "net_page", "voice",
+    "quotes", "claims", "names", "links", "figures", "plants", "stale", "packaged", "net_page", "voice", "headline",
 )
 
 

@@ -52,6 +52,8 @@ ROWS = (
     ("log_words", GUIDE, END, "\n    2026-11-24T15:21:47.123Z web 2 3 eof\n", "no line of a log"),
     ("log_words", "crates/relay_log/src/line.rt", r"    pub up: u64,", "    pub loop_place: u64,\n    pub up: u64,", "a line of the log has 11 fields"),
     ("version", HELP, r"pollrelay 0\.", "pollrelay 1.", "packaging/debian/changelog: the program says"),
+    ("headline", "docs/lock-word.md", r"It has \d+ lines", "It has 99 lines", "of the lines that the headline's reader reads"),
+    ("headline", "crates/lockword/specs/Headline.antt", r"\npub record Headline", "\n-- more\n" * 45 + r"\g<0>", "at most 200 are allowed"),
     ("kit", README, END, "\nIt was tried with `rattle-kit-1`.\n", "names rattle-kit-1, and the kits that were tried are"),
     ("kit", README, END, "\nIt needs `logic 0123456789abcdef`.\n", "asks for logic 0123456789abcdef"),
     ("kit", TRUSTED, r"logic [0-9a-f]{16}", "logic", "what tests/lib/pages/kit.py reads here isn't there any more"),

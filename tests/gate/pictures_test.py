@@ -1,5 +1,6 @@
 """The pictures in docs/pictures are those that examples/trace_picture.py draws of the sample scripts, and it refuses what
-is no run; that of the crates is what tools/crate_picture.py draws of crates.txt.
+is no run; those of the crates and of the lock word's headline are what tools/crate_picture.py draws of crates.txt, and
+tools/headline_picture.py.
 
     python3 tests/gate/pictures_test.py
 """
@@ -32,9 +33,9 @@ def is_current(picture, name):
         return drawn(f"{SCRIPTS}/{name}.script", f"{SCRIPTS}/{name}.expected").stdout == kept.read()
 
 
-def is_of_these_crates():
-    command = [sys.executable, f"{ROOT}/tools/crate_picture.py"]
-    with open(f"{ROOT}/docs/pictures/crates.svg", encoding="utf-8") as kept:
+def is_drawn_by(tool, picture):
+    command = [sys.executable, f"{ROOT}/tools/{tool}.py"]
+    with open(f"{ROOT}/docs/pictures/{picture}.svg", encoding="utf-8") as kept:
         return subprocess.run(command, capture_output=True, text=True).stdout == kept.read()
 
 
@@ -49,7 +50,8 @@ def is_refused(script, answers):
 
 def main():
     rows = [(f"the picture {it} is current", is_current(it, name)) for it, name in PICTURES.items()]
-    rows.append(("the picture of the crates is current", is_of_these_crates()))
+    rows.append(("the picture of the crates is current", is_drawn_by("crate_picture", "crates")))
+    rows.append(("the picture of the headline is current", is_drawn_by("headline_picture", "headline")))
     rows += [(f"refused: {it}", is_refused(*texts)) for it, texts in UNFIT.items()]
     for row in (it for it, well in rows if not well):
         print("FAILED:", row)

@@ -1,3 +1,4 @@
 pub mod Deeds
 pub mod Refusal
 pub mod Heard
+pub mod Did

@@ -10,6 +10,7 @@ ghost use Rattle.lockword.specs.Places.{seat_place, closing_place, owed_by};
 ghost use Rattle.lockword.specs.TransitionOutcomes.{IsSeatOf};
 ghost use Rattle.lockword.specs.Dropping.{IsDecided, LeavesClosed};
 ghost use Rattle.fdmutex.specs.Deeds.{MadeNoEnd, MadeTheClose, LeavesWithoutEnd};
+ghost use Rattle.fdmutex.specs.Did.{TellsHeardWord};
 ghost use Rattle.fdmutex.specs.Heard.{TakesHearing, LeavesHearing};
 ghost use Rattle.fdmutex.specs.Refusal.{IsClosingOrRefused, close_answer};
 
@@ -44,6 +45,7 @@ fn take_over<R: Drop, W: Drop, T: Wait>(
     ensures made { IfOk result (λ closing. MadeTheClose (seat_place seat) (closing_place closing)) }
     ensures refused { IfErr result (λ back. SameDeeds (seat_place seat) (seat_place back.0)) }
     ensures heard { TakesHearing closing_place seat result }
+    ensures told { TellsHeardWord seat result }
 {
     let mut seat = seat;
     for _ in rt.forever() {
@@ -98,6 +100,7 @@ pub fn close_mark<R: Drop, W: Drop, T: Wait>(
     ensures made { IfOk result (λ closing. MadeTheClose (seat_place seat) (closing_place closing)) }
     ensures refused { IfErr result (λ back. SameDeeds (seat_place seat) (seat_place back.0)) }
     ensures heard { TakesHearing closing_place seat result }
+    ensures told { TellsHeardWord seat result }
 {
     let closing = take_over(rt, word, seat)?;
     let closing = signal_all(rt, word, closing, Dir::Read);

@@ -3,11 +3,15 @@
 //! it returns.
 
 ghost use Rattle.base_types.specs.declared.direction.Dir.TheVariants.{Read, Write};
-ghost use Rattle.lockword.specs.Marks.{SameMarks, HeardOn};
+ghost use Rattle.lockword_core.specs.declared.stake.Op.TheVariants as op;
+ghost use Rattle.lockword_core.specs.declared.stake.Answer.TheVariants as answer;
+ghost use Rattle.lockword.specs.Marks.{SameMarks, HeardOn, Did};
 ghost use Rattle.lockword.specs.Places.{seat_place, lock_place, wait_place, owing_place};
+ghost use Rattle.lockword.specs.Places.{owing_way};
 ghost use Rattle.lockword.specs.TransitionOutcomes.{IsSeatOf};
 ghost use Rattle.lockword.specs.Dropping.{Leaves};
 ghost use Rattle.fdmutex.specs.Deeds.{MadeNoEnd, TakesWithoutEnd, LeavesWithoutEnd};
+ghost use Rattle.fdmutex.specs.Did.{TookOrWaited, GaveBack, TellsHeardWord};
 ghost use Rattle.fdmutex.specs.Heard.{TakesHearing, LeavesHearing};
 ghost use Rattle.fdmutex.specs.Refusal.{IsLockFull, IsTakenOrRefused};
 
@@ -27,6 +31,7 @@ fn await_signal<D: Direction, R: Drop, W: Drop, T: Wait>(
     requires seat { IsSeatOf word.now (wait_place wait) }
     ensures marks { SameMarks (wait_place wait) (seat_place result) }
     ensures no_end { MadeNoEnd (wait_place wait) (seat_place result) }
+    ensures did { Did (op.Wake D.dir) answer.Woken (wait_place wait) (seat_place result) }
     ensures heard { HeardOn (wait_place wait) (seat_place result) }
 {
     let mut wait = wait;
@@ -53,6 +58,8 @@ fn signal<R: Drop, W: Drop, T: Wait>(
     requires seat { IsSeatOf word.now (owing_place owing) }
     ensures marks { SameMarks (owing_place owing) (seat_place result) }
     ensures no_end { MadeNoEnd (owing_place owing) (seat_place result) }
+    ensures did { Did (op.Signal (owing_way owing)) answer.Signalled (owing_place owing)
+        (seat_place result) }
     ensures heard { HeardOn (owing_place owing) (seat_place result) }
 {
     let mut owing = owing;
@@ -74,7 +81,9 @@ pub fn lock<D: Guards<R, W>, R: Drop, W: Drop, T: Wait>(
     requires seat { IsSeatOf word.now (seat_place seat) }
     ensures answer { IsTakenOrRefused SameMarks lock_place (IsLockFull D.dir) seat result }
     ensures no_end { TakesWithoutEnd lock_place seat result }
+    ensures did { TookOrWaited D.dir lock_place seat result }
     ensures heard { TakesHearing lock_place seat result }
+    ensures told { TellsHeardWord seat result }
 {
     let mut seat = seat;
     for _ in rt.forever() {
@@ -99,6 +108,7 @@ pub fn unlock<D: Guards<R, W>, R: Drop, W: Drop, T: Wait>(
     requires seat { IsSeatOf word.now (lock_place held) }
     ensures left { Leaves (lock_place held) result }
     ensures no_end { LeavesWithoutEnd (lock_place held) result }
+    ensures did { GaveBack D.dir (lock_place held) result }
     ensures heard { LeavesHearing (lock_place held) result }
 {
     let mut held = held;
@@ -122,7 +132,9 @@ pub fn read_lock<R: Drop, W: Drop, T: Wait>(
     requires seat { IsSeatOf word.now (seat_place seat) }
     ensures answer { IsTakenOrRefused SameMarks lock_place (IsLockFull Read) seat result }
     ensures no_end { TakesWithoutEnd lock_place seat result }
+    ensures did { TookOrWaited Read lock_place seat result }
     ensures heard { TakesHearing lock_place seat result }
+    ensures told { TellsHeardWord seat result }
 {
     lock(rt, word, seat)
 }
@@ -136,7 +148,9 @@ pub fn write_lock<R: Drop, W: Drop, T: Wait>(
     requires seat { IsSeatOf word.now (seat_place seat) }
     ensures answer { IsTakenOrRefused SameMarks lock_place (IsLockFull Write) seat result }
     ensures no_end { TakesWithoutEnd lock_place seat result }
+    ensures did { TookOrWaited Write lock_place seat result }
     ensures heard { TakesHearing lock_place seat result }
+    ensures told { TellsHeardWord seat result }
 {
     lock(rt, word, seat)
 }
@@ -150,6 +164,7 @@ pub fn read_unlock<R: Drop, W: Drop, T: Wait>(
     requires seat { IsSeatOf word.now (lock_place held) }
     ensures left { Leaves (lock_place held) result }
     ensures no_end { LeavesWithoutEnd (lock_place held) result }
+    ensures did { GaveBack Read (lock_place held) result }
     ensures heard { LeavesHearing (lock_place held) result }
 {
     unlock(rt, word, held)
@@ -164,6 +179,7 @@ pub fn write_unlock<R: Drop, W: Drop, T: Wait>(
     requires seat { IsSeatOf word.now (lock_place held) }
     ensures left { Leaves (lock_place held) result }
     ensures no_end { LeavesWithoutEnd (lock_place held) result }
+    ensures did { GaveBack Write (lock_place held) result }
     ensures heard { LeavesHearing (lock_place held) result }
 {
     unlock(rt, word, held)

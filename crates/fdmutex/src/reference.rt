@@ -1,10 +1,13 @@
 //! References: a try to take one that was lost is made again.
 
+ghost use Rattle.lockword_core.specs.declared.stake.Op.TheVariants as op;
+ghost use Rattle.lockword_core.specs.declared.stake.Answer.TheVariants as answer;
 ghost use Rattle.lockword.specs.Marks.{SameMarks};
 ghost use Rattle.lockword.specs.Places.{seat_place, ref_place};
 ghost use Rattle.lockword.specs.TransitionOutcomes.{IsSeatOf};
 ghost use Rattle.lockword.specs.Dropping.{IsDecided, Leaves};
 ghost use Rattle.fdmutex.specs.Deeds.{TakesWithoutEnd, LeavesWithoutEnd};
+ghost use Rattle.fdmutex.specs.Did.{DidOrNothing, TellsHeardWord};
 ghost use Rattle.fdmutex.specs.Heard.{TakesHearing, LeavesHearing};
 ghost use Rattle.fdmutex.specs.Refusal.{IsReferenceFull, IsTakenOrRefused};
 
@@ -21,7 +24,9 @@ pub fn incref<R: Drop, W: Drop, T: Wait>(
     requires seat { IsSeatOf word.now (seat_place seat) }
     ensures answer { IsTakenOrRefused SameMarks ref_place IsReferenceFull seat result }
     ensures no_end { TakesWithoutEnd ref_place seat result }
+    ensures did { DidOrNothing op.Incref answer.Held ref_place seat result }
     ensures heard { TakesHearing ref_place seat result }
+    ensures told { TellsHeardWord seat result }
 {
     let mut seat = seat;
     for _ in rt.forever() {

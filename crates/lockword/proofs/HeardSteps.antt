@@ -1,7 +1,7 @@
 -- What seats have heard: each step keeps it, or goes on from it.
 use Rattle.std.proofs.Common.{◌≡◌, ◌∙◌, ◌⊎◌, inl, inr, ⊎_elim, [], ◌∷◌, ◌++◌, append-nil, append_assoc}
 use Rattle.lockword.proofs.Words.{ℕ, zero, suc, List, set, refl, sym, ap, subst, some, get_elem?, Event, LocalView}
-use Rattle.lockword.proofs.Words.{newcomer, Op, Answer, IsMade}
+use Rattle.lockword.proofs.Words.{newcomer}
 use mathlib.Core.List.{cons-ne-nil, head-eq_of_cons-eq, tail-eq_of_cons-eq}
 use mathlib.Core.Option.{some-injective, some-ne-none}
 use Rattle.atomic_table.proofs.Lists.{at_set, at_snoc}

@@ -17,3 +17,6 @@ pub mod SplitSteps
 pub mod OpeningKeepsInvariant
 pub mod WakeupSteps
 pub mod RuleLaws
+pub mod DeedSteps
+pub mod DeedLists
+pub mod HeadlineLemmas

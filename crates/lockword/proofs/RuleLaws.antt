@@ -1,5 +1,5 @@
 -- What the rule says of all seats.
-use Rattle.std.proofs.Common.{◌≡◌, ◌+◌, ◌≤◌, ◌<◌, ◌∙◌, [], ◌∷◌}
+use Rattle.std.proofs.Common.{◌≡◌, ◌+◌, ◌<◌, ◌∙◌, [], ◌∷◌}
 use Rattle.std.specs.Prelude.{◌==◌, ◌&&◌, sum_by, count_by}
 use Rattle.std.proofs.lemmas.List.Sums.{sum_by-cons, sum_by-set}
 use Rattle.lockword.proofs.Words.{ℕ, zero, suc, Bool, true, false, List, length, set, refl, sym, ap, subst, arith}
@@ -7,8 +7,7 @@ use Rattle.lockword.proofs.Words.{get_or, get_or-set_same, get_or-set_other, dit
 use Rattle.lockword.proofs.Words.{Read, Write, Op, Event, Word, bit, signals_in, empty, census, references}
 use Rattle.lockword.proofs.Words.{locks, lasts, number, state_after, count-within, always_consistent, LocalView}
 use Rattle.lockword.proofs.Words.{stakes_of, deeds_of, IsReached}
-use Rattle.lockword_core.specs.LockState.{queued, owed, closers, drainers, count}
-use Rattle.lockword_core.specs.Laws.{ReturnedTheLast}
+use Rattle.lockword_core.specs.LockState.{queued, count}
 use Rattle.lockword_core.specs.OperationCounts.{is_taking, is_returning, is_signal, is_wake, is_close, is_drain}
 use Rattle.lockword_core.specs.OperationCounts.{is_destroy, made_in, operations_of, AddsUp}
 use Rattle.lockword_core.proofs.BalanceLemmas.{reads_as}
@@ -17,16 +16,15 @@ use Rattle.lockword_core.proofs.WordFields.{reads_fields, bit-same}
 use Rattle.lockword_core.proofs.WordLaws.{counts_stakes}
 use Rattle.lockword_core.proofs.NameLemmas.{counts_by_seats}
 use Rattle.lockword_core.proofs.WordRefines.{pick_then, pick_else}
-use Rattle.lockword_core.proofs.OperationLemmas.{count_by-cons, adds_up, destroyer}
-use Rattle.lockword.specs.Directions.{semaphore}
+use Rattle.lockword_core.proofs.OperationLemmas.{count_by-cons, adds_up}
 use Rattle.lockword.specs.LocalView.{made_by_seats}
 use Rattle.lockword.specs.TransitionOutcomes.{IsOnlyClosed}
 use Rattle.lockword.specs.Steps.{IsJustClosed}
 use Rattle.lockword.specs.Moment.{Moment, IsRead}
-use Rattle.lockword.specs.Laws.{seats_census, over_seats, IsInOnePlace, CountsSeats, ComesOfDeeds}
+use Rattle.lockword.specs.Laws.{seats_census, over_seats, ComesOfDeeds}
 use Rattle.lockword.proofs.Representation.{both, present, fits}
 use Rattle.lockword.proofs.LookSteps.{IsOver, is_over}
-use Rattle.lockword.proofs.HistorySteps.{own_deeds, same_number, other_number}
+use Rattle.lockword.proofs.HistorySteps.{same_number, other_number}
 
 no_bit : (b : Bool) → bit b ≡ 0 → b ≡ false
 no_bit true e = absurd (omega arith)
@@ -165,14 +163,6 @@ module _ {R W : Type 0} where
   saw_done s seat v reached at saw =
       let f = fits s reached.represents in f.done ∙ ap bit ((f.seen seat v at).done saw)
 
-  -- who made a destroy returned the last reference
-  pub destroyer_returned : (s : Moment R W) (seat : ℕ) (v : LocalView) (reached : IsReached s)
-      → get_elem? s.views seat ≡ some v → 0 < count_by is_destroy v.did → ReturnedTheLast reached.history seat
-  destroyer_returned s seat v reached at some_made =
-      destroyer reached.history seat reached.none_refused
-      (subst (λ ops. 0 < count_by is_destroy ops)
-      (own_deeds reached.history s.views seat v reached.interleaves at) some_made)
-
   -- how many operations of a sort all seats have made is how many there are in the history
   pub made_is : (s : Moment R W) (reached : IsReached s) (what : Op → Bool)
       → made_by_seats s.views what ≡ made_in reached.history what
@@ -191,7 +181,7 @@ module _ {R W : Type 0} where
         destroyed = is is_destroy ∙ all.destroyed;
       }
 
-  pub closes_are : (s : Moment R W) (fields : Word) → IsRead s fields → made_by_seats s.views is_close
+  closes_are : (s : Moment R W) (fields : Word) → IsRead s fields → made_by_seats s.views is_close
       ≡ bit fields.closed
   closes_are s fields read =
       let reached = read.rule in
@@ -199,7 +189,7 @@ module _ {R W : Type 0} where
       (always_consistent reached.history) read.is_word (read.same ∙ reached.leads.state_word) in
       (history_adds_up s reached).closed ∙ sym (ap bit counts.flag)
 
-  pub drains_are : (s : Moment R W) (fields : Word) → IsRead s fields → made_by_seats s.views is_drain
+  drains_are : (s : Moment R W) (fields : Word) → IsRead s fields → made_by_seats s.views is_drain
       ≡ bit fields.drain
   drains_are s fields read =
       let reached = read.rule in
@@ -207,15 +197,8 @@ module _ {R W : Type 0} where
       (always_consistent reached.history) read.is_word (read.same ∙ reached.leads.state_word) in
       (history_adds_up s reached).drained ∙ sym (ap bit counts.drain)
 
-  pub destroys_are : (s : Moment R W) → IsReached s → made_by_seats s.views is_destroy ≡ get_or s.words 3 0
+  destroys_are : (s : Moment R W) → IsReached s → made_by_seats s.views is_destroy ≡ get_or s.words 3 0
   destroys_are s reached = (history_adds_up s reached).destroyed ∙ sym reached.leads.done_word
-
-  pub one_destroy : (s : Moment R W) → IsReached s → made_by_seats s.views is_destroy ≤ 1
-  one_destroy s reached =
-      let all = destroys_are s reached in
-      let done = reached.represents.done_word in
-      let small = bit-le reached.represents.census.destroyed in
-      omega arith
 
   pub seats_add_up : (s : Moment R W) (fields : Word) → IsRead s fields
       → AddsUp (made_by_seats s.views) (seats_census s fields)

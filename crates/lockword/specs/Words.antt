@@ -8,7 +8,8 @@ pub use Rattle.lockword_core.specs.declared.stake.Op.{Op}
 pub use Rattle.lockword_core.specs.declared.stake.Stake.{Stake}
 pub use Rattle.lockword_core.specs.declared.transition.After.{After}
 pub use Rattle.lockword_core.specs.declared.word.Word.{Word}
-pub use Rattle.std.specs.Prelude.{Bool, List, false, slice_index, true, ℕ}
+pub use Rattle.std.specs.List.{All, Contains}
+pub use Rattle.std.specs.Prelude.{Bool, List, count_by, false, get_or, map, slice_index, sum_by, true, ℕ}
 pub use Rattle.base_types.specs.declared.direction.Dir.{Dir}
 pub use Rattle.base_types.specs.declared.direction.Dir.TheVariants.{Read, Write}
 pub use lib.ListN.{get_elem?}

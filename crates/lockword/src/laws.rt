@@ -2,7 +2,7 @@
 //! number of threads; each law is the contract of a function that does nothing.
 
 ghost use Rattle.std.specs.Prelude.{◌≡◌, ◌≤◌, ◌<◌, ◌+◌, ◌==◌, ◌&&◌, ◌⊎◌, ℕ, List, true};
-ghost use Rattle.std.specs.Prelude.{count_by, slice_index};
+ghost use Rattle.std.specs.Prelude.{slice_index};
 ghost use mathlib.Core.Option.{some};
 ghost use lib.ListN.{get_elem?};
 ghost use Rattle.base_types.specs.declared.direction.Dir.{Dir};
@@ -11,22 +11,28 @@ ghost use Rattle.lockword_core.specs.declared.stake.Event.{Event};
 ghost use Rattle.lockword_core.specs.declared.stake.Op.{Op};
 ghost use Rattle.lockword_core.specs.declared.word.Word.{Word};
 ghost use Rattle.lockword_core.specs.Word.{bit};
-ghost use Rattle.lockword_core.specs.LockState.{references, locks, queued, owed, closers, drainers};
+ghost use Rattle.lockword_core.specs.LockState.{references, locks, queued, closers, drainers};
 ghost use Rattle.lockword_core.specs.LockState.{lasts};
-ghost use Rattle.lockword_core.specs.OperationCounts.{is_close, is_drain, is_destroy, AddsUp};
+ghost use Rattle.lockword_core.specs.OperationCounts.{AddsUp};
 ghost use Rattle.lockword_core.specs.OperationCounts.{NoneRefused};
-ghost use Rattle.lockword_core.specs.Laws.{ReturnedTheLast};
 ghost use Rattle.lockword.specs.declared.local_view.LocalView.{LocalView};
 ghost use Rattle.lockword.specs.declared.shared_rule.TheConstants.{DONE};
-ghost use Rattle.lockword.specs.Directions.{semaphore};
 ghost use Rattle.lockword.specs.History.{GoesOn, IsMade};
 ghost use Rattle.lockword.specs.LocalView.{made_by_seats};
 ghost use Rattle.lockword.specs.Marks.{Place, HeardOn};
 ghost use Rattle.lockword.specs.SharedInvariant.{IsReached};
 ghost use Rattle.lockword.specs.TransitionOutcomes.{IsOnlyClosed, Looks};
-ghost use Rattle.lockword.specs.Moment.{Moment, IsRead};
-ghost use Rattle.lockword.specs.Laws.{seats_census, over_seats, IsInOnePlace, CountsSeats};
-ghost use Rattle.lockword.specs.Laws.{ComesOfDeeds};
+ghost use Rattle.lockword.specs.Moment.{Moment, IsRead, IsShown};
+ghost use Rattle.lockword.specs.Headline.{Headline};
+ghost use Rattle.lockword.specs.Laws.{seats_census, over_seats};
+ghost use Rattle.lockword.specs.Laws.{ComesOfDeeds, Stood};
+
+/// The rule has the headline: so the headline holds between any two atomic steps of any number of
+/// threads (`shared_rule.rt`: `ghost holds`), and at each moment that a look or a refusal shows.
+pub fn the_headline<R, W>()
+    ensures always { (s : Moment R W) → IsReached s → Headline s }
+    ensures shown { (fields : Word) (v : LocalView) → IsShown R W fields v → Stood R W fields v }
+{}
 
 /// At every moment what all seats of the word have done interleaves into one list of operations, of
 /// which none is refused and which leads to the words and stakes of that moment: so the laws of
@@ -35,22 +41,14 @@ pub fn the_word_comes_of_what_its_seats_did<R, W>()
     ensures { (s : Moment R W) (fields : Word) → IsRead s fields → ComesOfDeeds s fields }
 {}
 
-/// At every moment the lock bits and counts of the word are those of the stakes of all seats, at
-/// most one seat reads and at most one writes, each half is in one place, at most one seat is
-/// closing, only in a closed word, at most one owes the signals of a drain, only in a draining
-/// word, and nobody is left to be signalled in a word that is closed or draining. The signals that
-/// lie ready and those that are owed never exceed the seats that wait for them, so that no count of
-/// waiters is cut off at 0.
+/// At every moment at most one seat is closing, only in a closed word, at most one owes the signals
+/// of a drain, only in a draining word, and nobody is left to be signalled in a word that is closed
+/// or draining. The counts themselves are the headline's.
 pub fn the_word_counts_the_seats<R, W>()
-    ensures counts { (s : Moment R W) (fields : Word) → IsRead s fields → CountsSeats s fields }
-    ensures one_lock { (s : Moment R W) (d : Dir) → IsReached s → over_seats (locks d) s ≤ 1 }
-    ensures one_place { (s : Moment R W) (d : Dir) → IsReached s → IsInOnePlace d s }
     ensures one_drainer { (s : Moment R W) (fields : Word) → IsRead s fields
         → over_seats drainers s ≤ bit fields.drain }
     ensures one_closer { (s : Moment R W) (fields : Word) → IsRead s fields
         → over_seats closers s ≤ bit fields.closed }
-    ensures signals_have_waiters { (s : Moment R W) (d : Dir) → IsReached s
-        → over_seats (owed d) s + slice_index s.words (semaphore d) ≤ over_seats (queued d) s }
     ensures no_reader_waits_closed { (s : Moment R W) (fields : Word) → IsRead s fields
         → fields.closed ≡ true → fields.rwait ≡ 0 }
     ensures no_writer_waits_closed { (s : Moment R W) (fields : Word) → IsRead s fields
@@ -110,20 +108,10 @@ pub fn what_a_seat_saw_is_so<R, W>()
 
 /// What all seats of a word together have ever done adds up to what they have now: what was taken
 /// is held or queued for, or was given back; a signal that was given lies ready, or was taken; the
-/// close was made once if the word is closed, the drain once if it is draining, and the destroy at
-/// most once, by the seat that gave back the last reference after the close. No call takes back
-/// what its seat has made, and no seat leaves the count.
+/// close was made once if the word is closed, the drain once if it is draining, and the destroy
+/// once if it is destroyed. No call takes back what its seat has made, and no seat leaves the
+/// count.
 pub fn what_all_seats_did_adds_up<R, W>()
     ensures adds_up { (s : Moment R W) (fields : Word) → IsRead s fields
         → AddsUp (made_by_seats s.views) (seats_census s fields) }
-    ensures closes { (s : Moment R W) (fields : Word) → IsRead s fields
-        → made_by_seats s.views is_close ≡ bit fields.closed }
-    ensures drains { (s : Moment R W) (fields : Word) → IsRead s fields
-        → made_by_seats s.views is_drain ≡ bit fields.drain }
-    ensures destroys { (s : Moment R W) → IsReached s
-        → made_by_seats s.views is_destroy ≡ slice_index s.words DONE }
-    ensures one_destroy { (s : Moment R W) → IsReached s → made_by_seats s.views is_destroy ≤ 1 }
-    ensures destroyer { (s : Moment R W) (seat : ℕ) (v : LocalView) (reached : IsReached s)
-        → get_elem? s.views seat ≡ some v → 0 < count_by is_destroy v.did
-        → ReturnedTheLast reached.history seat }
 {}

@@ -23,12 +23,14 @@ pub trait Holder<R: Drop, W: Drop> {
 }
 
 impl<R: Drop, W: Drop> LockWord<R, W> {
+    ghost use Rattle.lockword.specs.Laws.{StoodBy};
     ghost use Rattle.lockword.specs.TransitionOutcomes.{IsSeatOf, SameStake, Looks};
 
-    /// The seven fields of the state word, by one load.
+    /// The seven fields of the state word, by one load, at some moment.
     pub fn look<S: Holder<R, W>>(&self, holder: &mut S) -> Word
         requires { IsSeatOf self.now (S.place holder.old) }
         ensures looks { Looks (S.place holder.old) (S.place holder.new) result }
+        ensures headline { StoodBy (S.place holder.new) result }
         ensures stake { SameStake (S.place holder.old) (S.place holder.new) }
         ensures rest { S.keeps holder.old holder.new }
     {

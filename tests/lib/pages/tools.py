@@ -41,6 +41,7 @@ UNTRIED = {
     "tools/vendor.py": "`vendor_test`",
     "tools/clauses.py": "`clauses_test`",
     "tools/crate_picture.py": "`pictures_test`",
+    "tools/headline_picture.py": "`pictures_test`",
     "tools/wrong_bodies_list.py": "prints a list",
     "packaging/deb.sh": "`package`",
     "bench/go_word/build.sh": "makes a bench of Go's word, which measures and shows nothing",

@@ -1,9 +1,8 @@
-use Rattle.lockword.specs.Marks.{SameMarks, HeardOn}
-use Rattle.fdmutex.specs.Deeds.{MadeNoEnd}
+use Rattle.lockword.specs.Marks.{SameMarks, SameDeeds, HeardOn}
 use Rattle.lockword.specs.Places.{wait_place}
 use Rattle.fdmutex.proofs.locks.await_signal.Given as goal
 
 abbrev pub invariant-loop : goal.invariant-loop
 invariant-loop g l = SameMarks (wait_place l.initial.wait) (wait_place l.wait)
-    × MadeNoEnd (wait_place l.initial.wait) (wait_place l.wait)
+    × SameDeeds (wait_place l.initial.wait) (wait_place l.wait)
     × HeardOn (wait_place l.initial.wait) (wait_place l.wait)

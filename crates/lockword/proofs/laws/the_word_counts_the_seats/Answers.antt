@@ -1,34 +1,15 @@
 -- What the rule says of all seats: the lock bits and counts, and who closes, drains and waits.
-use Rattle.std.proofs.Common.{◌≡◌, ◌+◌, ◌≤◌, ◌∙◌}
-use Rattle.lockword.proofs.Words.{ℕ, true, sym, ap, arith, get_or, Dir, Read, Write, Word, bit, locks}
-use Rattle.lockword.proofs.Words.{IsReached}
-use Rattle.lockword_core.specs.LockState.{queued, owed, closers, drainers}
+use Rattle.std.proofs.Common.{◌≡◌, ◌≤◌}
+use Rattle.lockword.proofs.Words.{ℕ, true, ap, arith, get_or, Read, Write, Word, bit}
+use Rattle.lockword_core.specs.LockState.{closers, drainers}
 use Rattle.lockword_core.proofs.BalanceLemmas.{reads_as}
 use Rattle.lockword_core.proofs.WordFields.{reads_fields}
-use Rattle.lockword.specs.Directions.{semaphore}
 use Rattle.lockword.specs.Moment.{Moment, IsRead}
-use Rattle.lockword.specs.Laws.{over_seats, IsInOnePlace, CountsSeats}
+use Rattle.lockword.specs.Laws.{over_seats}
 use Rattle.lockword.proofs.Representation.{present, fits}
 use Rattle.lockword.proofs.laws.the_word_counts_the_seats.Goals as goal
 
 module _ {R W : Type 0} where
-  counts_seats : (s : Moment R W) (fields : Word) → IsRead s fields → CountsSeats s fields
-  counts_seats s fields read =
-      let r = read.rule.represents in
-      let f = fits s r in
-      let n : ℕ = get_or s.words 0 0 in
-      let told = reads_fields fields n read.is_word read.same in
-      let have = reads_as (present s r) n f.balance in
-      let readers = f.semaphores Read in
-      let writers = f.semaphores Write in
-      record {
-        read_lock = sym told.rlock ∙ have.lock Read;
-        write_lock = sym told.wlock ∙ have.lock Write;
-        references = sym told.refs ∙ have.refs;
-        read_waiters = let one = told.rwait in let other = have.waiters Read in omega arith;
-        write_waiters = let one = told.wwait in let other = have.waiters Write in omega arith;
-      }
-
   -- at most one seat owes the signals of a drain, and only of a word that is draining
   one_drainer : (s : Moment R W) (fields : Word) → IsRead s fields → over_seats drainers s ≤ bit fields.drain
   one_drainer s fields read =
@@ -87,40 +68,11 @@ module _ {R W : Type 0} where
       let one = f.balance.one_closer in
       omega arith
 
-  -- signals that are owed or lie ready have waiters
-  signals_have_waiters : (s : Moment R W) (d : Dir) → IsReached s
-      → over_seats (owed d) s + get_or s.words (semaphore d) 0 ≤ over_seats (queued d) s
-  signals_have_waiters s Read reached =
-      let f = fits s reached.represents in
-      let ready = f.semaphores Read in let fewer = f.balance.reading.signals_have_waiters in omega arith
-  signals_have_waiters s Write reached =
-      let f = fits s reached.represents in
-      let ready = f.semaphores Write in let fewer = f.balance.writing.signals_have_waiters in omega arith
-
-  one_lock : (s : Moment R W) (d : Dir) → IsReached s → over_seats (locks d) s ≤ 1
-  one_lock s Read reached = (fits s reached.represents).balance.reading.one_holder
-  one_lock s Write reached = (fits s reached.represents).balance.writing.one_holder
-
-  one_place : (s : Moment R W) (d : Dir) → IsReached s → IsInOnePlace d s
-  one_place s d reached = let f = fits s reached.represents in let here = f.halves d in let done = f.done in omega arith
-
-pub returns-clause-counts : goal.returns-clause-counts
-returns-clause-counts g c s fields read = counts_seats s fields read
-
-pub returns-clause-one_lock : goal.returns-clause-one_lock
-returns-clause-one_lock g c s d reached = one_lock s d reached
-
-pub returns-clause-one_place : goal.returns-clause-one_place
-returns-clause-one_place g c s d reached = one_place s d reached
-
 pub returns-clause-one_drainer : goal.returns-clause-one_drainer
 returns-clause-one_drainer g c s fields read = one_drainer s fields read
 
 pub returns-clause-one_closer : goal.returns-clause-one_closer
 returns-clause-one_closer g c s fields read = one_closer s fields read
-
-pub returns-clause-signals_have_waiters : goal.returns-clause-signals_have_waiters
-returns-clause-signals_have_waiters g c s d reached = signals_have_waiters s d reached
 
 pub returns-clause-no_reader_waits_closed : goal.returns-clause-no_reader_waits_closed
 returns-clause-no_reader_waits_closed g c s fields read shut = (none_waits_closed s fields read shut).0
