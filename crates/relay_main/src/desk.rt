@@ -4,7 +4,7 @@ ghost use Rattle.std.specs.Prelude.{◌≡◌, None, IfSome};
 ghost use Rattle.relay_admin.specs.declared.admin.answers.CloseAnswer.{CloseAnswer};
 ghost use Rattle.relay_admin.specs.declared.admin.answers.SteerAnswer.{SteerAnswer};
 ghost use Rattle.relay_main.specs.Deadlines.{asked_deadline};
-ghost use Rattle.relay_main.specs.Desk.{close_answer, late_answer, steer_answer};
+ghost use Rattle.relay_main.specs.Desk.{closed_answer, late_answer, steered_answer};
 ghost use Rattle.relay_main.specs.declared.desk.NotAsked.{NotAsked};
 
 use crate::main_loop::MainLoop;
@@ -64,8 +64,8 @@ impl NotAsked {
 
 // What a close of a listener that ended so is to the session. A device's fault while the descriptor
 // was destroyed doesn't change that it is closed.
-fn close_answer(done: Option<Result<(), Fault>>) -> CloseAnswer
-    ensures { result ≡ close_answer done }
+fn closed_answer(done: Option<Result<(), Fault>>) -> CloseAnswer
+    ensures { result ≡ closed_answer done }
 {
     match done {
         None => CloseAnswer::Unknown,
@@ -77,8 +77,8 @@ fn close_answer(done: Option<Result<(), Fault>>) -> CloseAnswer
 }
 
 // What a drain or a deadline that ended so is to the session.
-fn steer_answer(done: Option<Result<(), Fault>>) -> SteerAnswer
-    ensures { result ≡ steer_answer done }
+fn steered_answer(done: Option<Result<(), Fault>>) -> SteerAnswer
+    ensures { result ≡ steered_answer done }
 {
     match done {
         None => SteerAnswer::Unknown,
@@ -97,8 +97,8 @@ pub(crate) fn late_answer(answer: Answer) -> LateAnswer
     match answer {
         Answer::Close(true) => LateAnswer::Close(CloseAnswer::Fine),
         Answer::Close(false) => LateAnswer::Close(CloseAnswer::Unknown),
-        Answer::Drain(done) => LateAnswer::Drain(steer_answer(done)),
-        Answer::Deadline(done) => LateAnswer::Deadline(steer_answer(done)),
+        Answer::Drain(done) => LateAnswer::Drain(steered_answer(done)),
+        Answer::Deadline(done) => LateAnswer::Deadline(steered_answer(done)),
     }
 }
 
@@ -190,7 +190,7 @@ where
     fn close(&mut self, id: u64) -> Option<CloseAnswer> {
         let rt = self.main.host.rt;
         match self.main.listener_token(&rt, id) {
-            Some(token) => Some(close_answer(self.main.close_listener(&rt, id, token))),
+            Some(token) => Some(closed_answer(self.main.close_listener(&rt, id, token))),
             None => match self.ask(id, Asks::Close) {
                 Ok(()) => None,
                 Err(refused) => Some(refused.to_close()),
@@ -201,7 +201,7 @@ where
     fn drain(&mut self, id: u64) -> Option<SteerAnswer> {
         let rt = self.main.host.rt;
         match self.main.listener_token(&rt, id) {
-            Some(token) => Some(steer_answer(self.main.drain_listener(token))),
+            Some(token) => Some(steered_answer(self.main.drain_listener(token))),
             None => self.steer(id, Asks::Drain),
         }
     }
@@ -213,7 +213,7 @@ where
         match self.main.listener_token(&rt, id) {
             Some(token) => {
                 let done = self.main.set_listener_deadline(token, deadline, now);
-                Some(steer_answer(done))
+                Some(steered_answer(done))
             }
             None => self.steer(id, Asks::Deadline { deadline, now }),
         }
