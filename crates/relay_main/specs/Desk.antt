@@ -1,5 +1,5 @@
 -- What an admin session is answered.
-use Rattle.std.specs.Prelude.{true, false, Option, Some, None, Result, Ok, Err}
+use Rattle.std.specs.Prelude.{Option, Some, None, Result, Ok, Err}
 use Rattle.rwloops.specs.declared.fault.Fault.{Fault}
 use Rattle.rwloops.specs.declared.fault.Fault.TheVariants as fault
 use Rattle.relay_admin.specs.declared.admin.desk.DeskAnswer.{DeskAnswer}
@@ -25,7 +25,7 @@ known_answer (Some done) = desk_answer done
 
 -- the answer to what a loop answered
 abbrev pub loop_answer : Answer → DeskAnswer
-loop_answer (answer.Close true) = Fine
-loop_answer (answer.Close false) = Unknown
+loop_answer (answer.Close (Some gone)) = Fine
+loop_answer (answer.Close None) = Unknown
 loop_answer (answer.Drain done) = known_answer done
 loop_answer (answer.Deadline done) = known_answer done

@@ -1,4 +1,4 @@
-//! What an admin session asks, over the relay's table and books.
+//! What an admin session asks, over the relay's index and books.
 
 ghost use Rattle.std.specs.Prelude.{◌≡◌, Some, None, IfSome, IfNone, true, false};
 ghost use Rattle.relay_admin.specs.declared.admin.command.Command.TheVariants as commands;
@@ -15,6 +15,7 @@ use relay_core::idle_deadline;
 use relay_facts::clock::Moments;
 use relay_shared::loop_handle::totals_of;
 use relay_shared::requests::{Answer, Asks, Question};
+use relay_shared::standing::{Whereabouts, find_side, shown};
 use rwloops::Fault;
 use std::alloc::Global;
 use std::fs::Files;
@@ -63,8 +64,8 @@ fn answer_of_loop(answer: Answer) -> DeskAnswer
     ensures { result ≡ loop_answer answer }
 {
     match answer {
-        Answer::Close(true) => DeskAnswer::Fine,
-        Answer::Close(false) => DeskAnswer::Unknown,
+        Answer::Close(Some(_)) => DeskAnswer::Fine,
+        Answer::Close(None) => DeskAnswer::Unknown,
         Answer::Drain(done) | Answer::Deadline(done) => answer_if_known(done),
     }
 }
@@ -110,7 +111,7 @@ impl<'a, R: Wait + Clock + Copy> RelayDesk<'a, R> {
     fn all_ids(&self, alloc: Global) -> DeskAnswer {
         let rt = self.main.host.rt;
         let shared = &self.main.host.shared;
-        match shared.table.lock(&rt).ids(alloc) {
+        match shared.index.lock(&rt).ids(alloc) {
             Ok(ids) => DeskAnswer::Ids(ids),
             Err(_) => DeskAnswer::NoMemory,
         }
@@ -121,11 +122,8 @@ impl<'a, R: Wait + Clock + Copy> RelayDesk<'a, R> {
     {
         let rt = self.main.host.rt;
         let now = self.main.host.clock.now();
-        let table = self.main.host.shared.table.lock(&rt);
-        match table.by_id(id) {
-            Some(entry) => Some(entry.shown(&rt, id, now)),
-            None => None,
-        }
+        let index = self.main.host.shared.index.lock(&rt);
+        shown(&*index, &rt, id, now)
     }
 
     fn shown(&self, id: u64) -> DeskAnswer
@@ -137,12 +135,10 @@ impl<'a, R: Wait + Clock + Copy> RelayDesk<'a, R> {
         }
     }
 
-    // The place of the loop that has the connection with this id on one of its sides, and the token
-    // of its task on that side.
-    fn whereabouts(&self, id: u64) -> Option<(usize, u64)> {
+    fn whereabouts(&self, id: u64) -> Option<Whereabouts> {
         let rt = self.main.host.rt;
-        let table = self.main.host.shared.table.lock(&rt);
-        table.by_id(id)?.whereabouts()
+        let index = self.main.host.shared.index.lock(&rt);
+        find_side(&*index, id)
     }
 
     // Asks the loop of the connection with this id. The reply waits for its answer; what is told
@@ -151,7 +147,7 @@ impl<'a, R: Wait + Clock + Copy> RelayDesk<'a, R> {
         ensures held { self.old.is_held ≡ false → self.new.is_held ≡ true
             → result ≡ DeskAnswer.Fine }
     {
-        let Some((loop_place, token)) = self.whereabouts(id) else {
+        let Some(Whereabouts { loop_place, token }) = self.whereabouts(id) else {
             return DeskAnswer::Unknown;
         };
         let question = Question { id, token, asks };
@@ -170,7 +166,7 @@ impl<'a, R> Desk for RelayDesk<'a, R>
 where
     R: Wait + Net + Files + Clock + Copy,
 {
-    // What other threads do to the table and the books in between isn't known.
+    // What other threads do to the index and the books in between isn't known.
     ghost exchanges = { λ _. None };
 
     fn ids(&mut self, alloc: Global) -> DeskAnswer {
@@ -188,7 +184,7 @@ where
         }
         let rt = self.main.host.rt;
         match self.main.listener_token(&rt, id) {
-            Some(token) => answer_if_known(self.main.close_listener(&rt, id, token)),
+            Some(token) => answer_if_known(self.main.close_listener(token)),
             None => self.ask(id, Asks::Close),
         }
     }
