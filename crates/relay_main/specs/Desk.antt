@@ -1,5 +1,5 @@
 -- What an admin session is answered.
-use Rattle.std.specs.Prelude.{true, false, Option, Some, None, Result, Ok, Err}
+use Rattle.std.specs.Prelude.{Option, Some, None, Result, Ok, Err}
 use Rattle.rwloops.specs.declared.fault.Fault.{Fault}
 use Rattle.rwloops.specs.declared.fault.Fault.TheVariants as fault
 use Rattle.relay_admin.specs.declared.admin.answers.CloseAnswer.{CloseAnswer}
@@ -33,7 +33,7 @@ steered_answer (Some (Err other)) = steering.Closed
 
 -- the answer to what a loop was asked
 abbrev pub late_answer : Answer → LateAnswer
-late_answer (answer.Close true) = late.Close closing.Fine
-late_answer (answer.Close false) = late.Close closing.Unknown
+late_answer (answer.Close (Some gone)) = late.Close closing.Fine
+late_answer (answer.Close None) = late.Close closing.Unknown
 late_answer (answer.Drain done) = late.Drain (steered_answer done)
 late_answer (answer.Deadline done) = late.Deadline (steered_answer done)

@@ -1,4 +1,4 @@
-//! What an admin session asks, over the relay's table and books.
+//! What an admin session asks, over the relay's index and books.
 
 ghost use Rattle.std.specs.Prelude.{◌≡◌, None, IfSome};
 ghost use Rattle.relay_admin.specs.declared.admin.answers.CloseAnswer.{CloseAnswer};
@@ -16,6 +16,7 @@ use relay_core::idle_deadline;
 use relay_facts::clock::Moments;
 use relay_shared::loop_handle::totals_of;
 use relay_shared::requests::{Answer, Asks, Question};
+use relay_shared::standing::{Whereabouts, find_side, shown};
 use rwloops::Fault;
 use std::alloc::{AllocError, Global};
 use std::fs::Files;
@@ -95,8 +96,8 @@ pub(crate) fn late_answer(answer: Answer) -> LateAnswer
     ensures { result ≡ late_answer answer }
 {
     match answer {
-        Answer::Close(true) => LateAnswer::Close(CloseAnswer::Fine),
-        Answer::Close(false) => LateAnswer::Close(CloseAnswer::Unknown),
+        Answer::Close(Some(_)) => LateAnswer::Close(CloseAnswer::Fine),
+        Answer::Close(None) => LateAnswer::Close(CloseAnswer::Unknown),
         Answer::Drain(done) => LateAnswer::Drain(steered_answer(done)),
         Answer::Deadline(done) => LateAnswer::Deadline(steered_answer(done)),
     }
@@ -122,11 +123,7 @@ impl<'a, R: Wait + Clock + Copy> RelayDesk<'a, R> {
 
     fn all_ids(&self, alloc: Global) -> Result<Vec<u64>, AllocError> {
         let rt = self.main.host.rt;
-        let shared = &self.main.host.shared;
-        match shared.table.lock(&rt).ids(alloc) {
-            Ok(ids) => Ok(ids),
-            Err(_) => Err(AllocError),
-        }
+        self.main.host.shared.index.lock(&rt).ids(alloc)
     }
 
     fn seen(&self, id: u64) -> Option<Shown>
@@ -134,24 +131,19 @@ impl<'a, R: Wait + Clock + Copy> RelayDesk<'a, R> {
     {
         let rt = self.main.host.rt;
         let now = self.main.host.clock.now();
-        let table = self.main.host.shared.table.lock(&rt);
-        match table.by_id(id) {
-            Some(entry) => Some(entry.shown(&rt, id, now)),
-            None => None,
-        }
+        let index = self.main.host.shared.index.lock(&rt);
+        shown(&*index, &rt, id, now)
     }
 
-    // The place of the loop that has the connection with this id on one of its sides, and the token
-    // of its task on that side.
-    fn whereabouts(&self, id: u64) -> Option<(usize, u64)> {
+    fn whereabouts(&self, id: u64) -> Option<Whereabouts> {
         let rt = self.main.host.rt;
-        let table = self.main.host.shared.table.lock(&rt);
-        table.by_id(id)?.whereabouts()
+        let index = self.main.host.shared.index.lock(&rt);
+        find_side(&*index, id)
     }
 
     // Asks the loop of the connection with this id: the session waits for its answer from then on.
     fn ask(&self, id: u64, asks: Asks) -> Result<(), NotAsked> {
-        let Some((loop_place, token)) = self.whereabouts(id) else {
+        let Some(Whereabouts { loop_place, token }) = self.whereabouts(id) else {
             return Err(NotAsked::Unknown);
         };
         let question = Question { id, token, asks };
@@ -175,7 +167,7 @@ impl<'a, R> SessionDesk for RelayDesk<'a, R>
 where
     R: Wait + Net + Files + Clock + Copy,
 {
-    // What other threads do to the table and the books in between isn't known.
+    // What other threads do to the index and the books in between isn't known.
     ghost exchanges = { λ _. None };
 
     fn ids(&mut self, alloc: Global) -> Result<Vec<u64>, AllocError> {
@@ -190,7 +182,7 @@ where
     fn close(&mut self, id: u64) -> Option<CloseAnswer> {
         let rt = self.main.host.rt;
         match self.main.listener_token(&rt, id) {
-            Some(token) => Some(closed_answer(self.main.close_listener(&rt, id, token))),
+            Some(token) => Some(closed_answer(self.main.close_listener(token))),
             None => match self.ask(id, Asks::Close) {
                 Ok(()) => None,
                 Err(refused) => Some(refused.to_close()),

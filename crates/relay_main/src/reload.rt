@@ -3,11 +3,14 @@
 //! the listeners of those that have gone.
 
 ghost use Rattle.std.specs.Prelude.{◌≡◌, ◌≢◌, None};
+ghost use Rattle.readiness.specs.EventLoop.{tasks_of};
+ghost use Rattle.readiness.specs.Tasks.{task_in};
 ghost use Rattle.relay_admin.specs.declared.admin.answers.ReloadAnswer.{ReloadAnswer};
 ghost use Rattle.relay_main.specs.Reload.{answer_of_fault};
 
 use crate::accounts::{account_of, without_rules};
 use crate::main_loop::MainLoop;
+use crate::main_task::MainTask;
 use crate::opening::listen_by;
 use relay_admin::{ReloadAnswer, Rule, Rules, ServeFault, Verdict};
 use relay_facts::rules_file::text_of;
@@ -66,7 +69,7 @@ impl<R: Wait + Net + Files + Clock + Copy> MainLoop<R> {
     // Whether a rule's listener stands. Of one whose listener has gone the path goes too, so that
     // another can be bound.
     fn listens(&self, rt: &R, served: &ServedRule) -> bool {
-        let stands = self.host.shared.table.lock(rt).by_id(served.id()).is_some();
+        let stands = self.host.shared.index.lock(rt).find(served.id()).is_some();
         if !stands {
             served.remove_path(rt);
         }
@@ -95,21 +98,19 @@ impl<R: Wait + Net + Files + Clock + Copy> MainLoop<R> {
 
     // Ends the listener of a rule, if it has one.
     fn end_listener(&mut self, rt: &R, served: &ServedRule) {
-        self.close_listener(rt, served.id(), served.token());
+        self.close_listener(served.token());
         served.remove_path(rt);
     }
 
-    /// Closes the listener with this id: first its task ends, which has this token, so that no
-    /// accept is under way, for which the close would wait. `None` says that another did.
-    pub(crate) fn close_listener(
-        &mut self,
-        rt: &R,
-        id: u64,
-        token: u64,
-    ) -> Option<Result<(), Fault>> {
-        let task = self.tasks.take(token);
-        drop(task);
-        self.host.shared.close(rt, id)
+    /// Closes the listener whose task has this token, and ends the task; none where there is no such
+    /// task.
+    pub(crate) fn close_listener(&mut self, token: u64) -> Option<Result<(), Fault>>
+        ensures gone { task_in (tasks_of self.new.tasks) token ≡ None }
+    {
+        match self.tasks.take(token)? {
+            MainTask::Rule(task) => Some(self.host.close_rule(task)),
+            _ => None,
+        }
     }
 
     /// The token of the task whose listener stands under this id.
@@ -135,7 +136,7 @@ impl<R: Wait + Net + Files + Clock + Copy> MainLoop<R> {
             rt,
             *alloc,
             tasks,
-            &host.shared.table,
+            &host.shared.index,
             served,
             listeners,
             now,

@@ -30,7 +30,6 @@ macro_rules! started {
     }};
 }
 
-mod closing;
 mod ending;
 mod failing_files;
 mod leaving;
@@ -40,6 +39,7 @@ mod odd_moments;
 mod pairs;
 mod places;
 mod slots;
+mod standing;
 mod streams;
 mod watch;
 
