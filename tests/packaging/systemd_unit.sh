@@ -23,7 +23,7 @@ number_of() {
     sed -n "s/^[A-Z].*--$1 \([0-9]*\).*/\1/p; s/^$1=\([0-9]*\)\$/\1/p" $unit
 }
 holds "a stop has more time than its connections" test "$(number_of TimeoutStopSec)000" -gt "$(number_of finish)"
-holds "descriptors for 2,000 connections, 64 rules and 64 loops" test "$(number_of LimitNOFILE)" -ge 4368
+holds "descriptors for 50,000 connections, 64 rules and 64 loops" test "$(number_of LimitNOFILE)" -ge 100368
 holds "threads for 64 loops" test "$(number_of TasksMax)" -ge 80
 
 # The names of a set of calls, with those of the sets in it.

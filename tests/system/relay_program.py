@@ -73,13 +73,13 @@ def command_lines(checks, folder):
         ["serve", "--rules", pipe, "--admin", "/a", "--loops"], ["serve", "--rules", pipe, "--admin", "/a", "--loops", "0"],
         ["serve", "--rules", pipe, "--admin", "/a", "--loops", "65"], ["serve", "--rules", pipe, "--admin", "/a", "--loops=02"],
         ["serve", "--rules", pipe, "--admin", "/a", "--loops", "2", "--loops", "2"], ["check", "--rules", pipe, "--loops", "2"],
-        *(["serve", "--rules", pipe, "--admin", "/a", "--connections", it] for it in ("", "0", "2001", "02", "+2", "two")),
+        *(["serve", "--rules", pipe, "--admin", "/a", "--connections", it] for it in ("", "0", "50001", "02", "+2", "two")),
         ["serve", "--rules", pipe, "--admin", "/a", "--connections=2", "--connections=2"], ["check", "--rules", pipe, "--connections", "2"],
         *(["serve", "--rules", pipe, "--admin", "/a", *more] for more in (
             ["--log"], ["--log", ""], ["--log="], ["--log=a", "--log=a"], ["--metrics"], ["--metrics", ""], ["--metrics", "x"],
             ["--metrics", "tcp:1.2.3:4"], ["--metrics", "tcp:1.2.3.4:0"], ["--metrics=unix:m"], ["--metrics=unix:/m", "--metrics=unix:/m"],
             ["--connect-timeout"], ["--connect-timeout", "86400001"], ["--connect-timeout=05"], ["--connections-per-rule", "0"],
-            ["--connections-per-rule=2001"], ["--replace-stale=yes"], ["--replace-stale", "yes"], ["--replace-stale", "--replace-stale"],
+            ["--connections-per-rule=50001"], ["--replace-stale=yes"], ["--replace-stale", "yes"], ["--replace-stale", "--replace-stale"],
         )),
         ["check", "--rules", pipe, "--log=a"], ["check", "--rules", pipe, "--metrics=unix:/m"],
         *(["ctl", "--admin", "/a", *more] for more in ([], ["frob"], ["list", "x"], ["close"], ["close", "01"], ["a", "b", "c", "d"], ["--", "list"], [""])),
@@ -614,10 +614,10 @@ def spread(checks, _):
 
 
 def asked_pairs(checks, _):
-    """As many pairs stand as --connections asks for, up to the most."""
+    """As many pairs stand as --connections asks for."""
     allow_descriptors(DESCRIPTORS)
     so_many_pairs(checks, "3 pairs", 3, "--connections", "3")
-    so_many_pairs(checks, "2,000 pairs", 2_000, "--connections=2000")
+    so_many_pairs(checks, "3,500 pairs", 3_500, "--connections=3500")
 
 
 def silent_sessions(checks, folder):

@@ -7,16 +7,9 @@ use std::alloc::Global;
 use std::fs::Files;
 use std::sync::Wait;
 
-/// Closes every listener that stands, the least id first, and removes the rules' paths. It takes no
-/// memory. The loops have closed their connections, and the accepts that were under way have ended.
-pub(crate) fn close_listeners<R: Wait + Files + Copy>(rt: &R, shared: &Shared, _joined: &Joined) {
-    for _ in rt.forever() {
-        let first = shared.table.lock(rt).first_id();
-        let Some(id) = first else {
-            break;
-        };
-        shared.close(rt, id);
-    }
+/// Removes the rules' paths. The main thread's loop has closed its listeners, the others their
+/// connections.
+pub(crate) fn remove_paths<R: Wait + Files>(rt: &R, shared: &Shared, _joined: &Joined) {
     for served in shared.rules.lock(rt).iter() {
         served.remove_path(rt);
     }

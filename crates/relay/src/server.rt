@@ -5,7 +5,7 @@ ghost use Rattle.relay.specs.Server.{given_in, replaces_stale_in};
 ghost use Rattle.relay_admin.specs.ServeFault.{IsRunFault};
 ghost use Rattle.relay_admin.specs.declared.serve_fault.ServeFault.{ServeFault};
 
-use crate::ending::{close_listeners, empty_inboxes};
+use crate::ending::{empty_inboxes, remove_paths};
 use crate::figures::RelayFigures;
 use crate::pollers::Pollers;
 use crate::threads::StartedThreads;
@@ -167,7 +167,7 @@ where
         drop(sessions);
         let (rt, shared, ended) = main.end();
         let joined = threads.join(&rt, stopped, ended);
-        close_listeners(&rt, &shared, &joined);
+        remove_paths(&rt, &shared, &joined);
         empty_inboxes(&rt, alloc, &shared, &joined);
         if let Some(path) = admin {
             path.remove(&rt);

@@ -190,10 +190,10 @@ fn options_of<'a>(words: &'a [&'a str]) -> &'a [&'a str]
 /// The job that the words after the program's name ask for, and `None` where they ask for none.
 /// No word and the word `trace` ask for [`Job::Trace`]; `check` with `--rules` and `serve` with
 /// `--rules` and `--admin`, in any order, for the others. `serve` may have `--loops` too, with a
-/// number from 1 to 64 in digits without a zero ahead, `--connections`, with one from 1 to 2,000,
+/// number from 1 to 64 in digits without a zero ahead, `--connections`, with one from 1 to 50,000,
 /// `--log`, with the path of a file, `--metrics`, with an address as the rules file has it,
 /// `--connect-timeout`, with a number up to 86,400,000, `--connections-per-rule`, with one from 1 to
-/// 2,000, and `--replace-stale`, alone;
+/// 50,000, and `--replace-stale`, alone;
 /// `ctl` with `--admin` and one to three words asks for [`Job::Ctl`]; `help` and `version` stand
 /// alone. A value follows its option as the next word, which begins with no `-`, or behind a `=`. A
 /// `--` ends the options: what follows it is an operand, and no command has one. The only fault is

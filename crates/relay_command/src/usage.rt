@@ -10,11 +10,11 @@ pollrelay relays TCP and Unix-socket connections by a rules file.
 pollrelay serve --rules FILE --admin PATH [OPTION..]
     relays until an admin session says stop, or finish and that is over
     --loops N           loops that copy, 1 to 64 (as many as suit the machine)
-    --connections N     connections at once, 1 to 2000 (512)
+    --connections N     connections at once, 1 to 50000 (512)
     --log FILE          a line for each connection that ended
     --metrics ADDRESS   figures for Prometheus, and /healthz
     --connect-timeout MS        time to connect to a target, 0 for no end (5000)
-    --connections-per-rule N    connections of a rule at once, 1 to 2000 (no limit)
+    --connections-per-rule N    connections of a rule at once, 1 to 50000 (no limit)
     --replace-stale             Unix sockets at which nobody listens give way
 pollrelay check --rules FILE
     says whether a rules file is good

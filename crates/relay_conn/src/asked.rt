@@ -20,8 +20,8 @@ impl<U: Ledger, D: Ledger, R: Wait + Clock + Copy> Connection<U, D, R> {
         ensures { result ≡ id_on self.now side }
     {
         match side {
-            Side::First => self.client.id,
-            Side::Second => self.target.id,
+            Side::First => self.client_id,
+            Side::Second => self.target_id,
         }
     }
 

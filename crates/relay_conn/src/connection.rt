@@ -10,16 +10,18 @@ ghost use Rattle.relay_core.specs.PairTasks.{flow_state_of, flow_state_after, ot
 ghost use Rattle.relay_conn.specs.Connection.{GoesOn, HasHeard, side_of_pair, stop_told};
 ghost use Rattle.relay_facts.specs.Books.{TakesBack};
 ghost use Rattle.relay_conn.specs.Reach.{reach_after};
+ghost use Rattle.fd_descriptor.specs.TaskHalf.{IsHandleOf};
 ghost use Rattle.relay_conn.specs.Ending as spec;
+ghost use Rattle.relay_shared.specs.Index.{gone_id};
 
 use crate::ending::{failure_after, how_unfailed};
 use crate::reach::Reach;
-use crate::task_gate::TaskGate;
+use crate::task_gate::{LeftGate, TaskGate};
 use base_types::Dir;
-use conntable::ConnTable;
-use fd_descriptor::PollCell;
+use deadline_core::Dirs;
+use fd_descriptor::{Alarms, PollCell};
 use log_writer::Log;
-use readiness::{RemoteAlarms, Side, Why};
+use readiness::{Place, RemoteAlarms, Side, Why};
 use relay_core::{Copying, Credits, LoopMemory, PairNext, PairTasks, Step, Way, Ways, source_of};
 use relay_facts::books::LoopBooks;
 use relay_facts::clock::{Moments, RelayClock};
@@ -27,8 +29,8 @@ use relay_facts::connection_facts::ConnectionFacts;
 use relay_facts::log_lines::tell_end;
 use relay_ledger::CarriedShare;
 use relay_log::ended::Ended as How;
-use relay_shared::closing::close_both;
-use relay_shared::entry::Entry;
+use relay_shared::index::Gone;
+use relay_shared::standing::RelayIndex;
 use std::sync::ledger::Ledger;
 use std::sync::{Arc, Mutex, Wait};
 use std::time::Clock;
@@ -62,9 +64,11 @@ impl<L: Ledger, R: Wait + Clock + Copy> Flow<L, R> {
         step
     }
 
-    // Ends what is under way, and gives the share.
-    fn leave(self) -> Option<CarriedShare<L>>
-        ensures { result ≡ self.share }
+    // Ends what is under way, and gives the share, and what is left of the gate.
+    fn leave(self) -> (Option<CarriedShare<L>>, LeftGate<RemoteAlarms<R>>)
+        ensures share { result.0 ≡ self.share }
+        ensures source { IsHandleOf self.gate.source result.1.source }
+        ensures target { IsHandleOf self.gate.target result.1.target }
     {
         let Flow {
             gate,
@@ -72,23 +76,41 @@ impl<L: Ledger, R: Wait + Clock + Copy> Flow<L, R> {
             share,
             passed: _,
         } = self;
-        drop(gate);
-        share
+        (share, gate.leave())
     }
 }
 
-/// A side: the id of its entry, and the cell of its descriptor, which due timers tick.
-#[derive(Drop)]
-pub(crate) struct ConnSide {
-    pub(crate) id: u64,
-    pub(crate) cell: Arc<PollCell>,
+// Closes both sides of a connection by handles of which no call is under way, and takes back the
+// alarms of its place.
+fn close_sides<A: Alarms + Drop, R: Wait>(
+    rt: &R,
+    up: LeftGate<A>,
+    down: LeftGate<A>,
+    place: Place,
+) {
+    let LeftGate {
+        source: mut client,
+        target: mut target,
+        alarms,
+    } = up;
+    drop(down);
+    let _ = client.close(rt);
+    let _ = target.close(rt);
+    alarms.disarm(place.first, Dirs::Both);
+    alarms.disarm(place.second, Dirs::Both);
 }
 
 /// A connection: both its sides, how far its ways are, and the ways; and what others know of it.
 #[derive(Drop)]
 pub struct Connection<U: Ledger, D: Ledger, R: Wait + Clock + Copy> {
-    pub(crate) client: ConnSide,
-    pub(crate) target: ConnSide,
+    /// The ids of its sides, in the relay's index.
+    pub(crate) client_id: u64,
+    pub(crate) target_id: u64,
+    /// The place of its task.
+    pub(crate) place: Place,
+    /// The cells of both descriptors, which due timers tick.
+    pub(crate) client: Arc<PollCell>,
+    pub(crate) target: Arc<PollCell>,
     pub(crate) tasks: PairTasks,
     pub(crate) up: Flow<U, R>,
     pub(crate) down: Flow<D, R>,
@@ -126,12 +148,12 @@ fn stop_ahead_of(way: Way, why: Why) -> bool
 impl<U: Ledger, D: Ledger, R: Wait + Clock + Copy> Connection<U, D, R> {
     /// The cell of the descriptor on this side of its place.
     pub fn cell(&self, side: Side) -> &PollCell
-        ensures first { side ≡ Side.First → result.now ≡ arc_value self.now.client.cell }
-        ensures second { side ≡ Side.Second → result.now ≡ arc_value self.now.target.cell }
+        ensures first { side ≡ Side.First → result.now ≡ arc_value self.now.client }
+        ensures second { side ≡ Side.Second → result.now ≡ arc_value self.now.target }
     {
         match side {
-            Side::First => &self.client.cell,
-            Side::Second => &self.target.cell,
+            Side::First => &self.client,
+            Side::Second => &self.target,
         }
     }
 
@@ -236,23 +258,27 @@ impl<U: Ledger, D: Ledger, R: Wait + Clock + Copy> Connection<U, D, R> {
         }
     }
 
-    /// Ends it. First its calls under way end, so that no close waits for them; then both sides are
-    /// closed, and the books take the shares back, however it ended.
+    /// Ends it. First nobody finds it any more, and its calls under way end, so that no close waits
+    /// for them; then both sides are closed, and the books take the shares back, however it ended.
     pub fn end(
         self,
         rt: &R,
-        table: &Mutex<ConnTable<Entry>>,
+        index: &Mutex<RelayIndex>,
         books: &mut LoopBooks<U, D>,
         log: &Option<Arc<Log>>,
         now: u64,
-    )
+    ) -> Gone
         ensures up { TakesBack books.old.up.book books.new.up.book self.up.share }
         ensures down { TakesBack books.old.down.book books.new.down.book self.down.share }
+        ensures gone { gone_id result ≡ self.client_id }
     {
         let how = self.how();
         let Connection {
-            client,
-            target,
+            client_id,
+            target_id,
+            place,
+            client: _,
+            target: _,
             tasks: _,
             up,
             down,
@@ -260,15 +286,18 @@ impl<U: Ledger, D: Ledger, R: Wait + Clock + Copy> Connection<U, D, R> {
             reach: _,
             failure: _,
         } = self;
-        let (up, down) = (up.leave(), down.leave());
-        close_both(rt, table, client.id, target.id);
-        books.up.settle(up);
-        books.down.settle(down);
+        let gone = index.lock(rt).leave(client_id);
+        let (up_share, up) = up.leave();
+        let (down_share, down) = down.leave();
+        close_sides(rt, up, down, place);
+        books.up.settle(up_share);
+        books.down.settle(down_share);
         if let Some(counts) = facts.counts() {
             counts.note_end(how);
         }
         if let Some(log) = log {
-            tell_end(rt, log, &facts, (client.id, target.id), now, how);
+            tell_end(rt, log, &facts, (client_id, target_id), now, how);
         }
+        gone
     }
 }

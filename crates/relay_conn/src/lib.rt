@@ -1,4 +1,4 @@
-//! A relayed connection, from its set-up to its end: its sides in the relay's table, its ways and
+//! A relayed connection, from its set-up to its end: its entry in the relay's index, its ways and
 //! their books, and how far it came to its target.
 #![tactic(auto)]
 

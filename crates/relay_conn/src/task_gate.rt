@@ -3,7 +3,7 @@
 
 ghost use Rattle.std.specs.Prelude.{◌≡◌, ◌≤◌, ◌<◌, ◌↔◌, ⊤, length, true, false};
 ghost use Rattle.std.specs.Prelude.{OnOk, IfOk, IfSome, IfNone};
-ghost use Rattle.fd_descriptor.specs.TaskHalf.{IsHalfOf, KeepsHalf, is_under_way};
+ghost use Rattle.fd_descriptor.specs.TaskHalf.{IsHalfOf, IsHandleOf, KeepsHalf, is_under_way};
 ghost use Rattle.fd_descriptor.specs.TaskHalf.{descriptor_of_half};
 ghost use Rattle.relay_shared.specs.Drained.{WasDrained};
 ghost use Rattle.relay_core.specs.SourceState.{resumed, ReadsAll};
@@ -22,6 +22,14 @@ use std::sync::Wait;
 pub(crate) struct Source {
     pub(crate) handle: FdHandle<SockRes>,
     pub(crate) state: SourceState,
+}
+
+/// What is left of a gate whose calls have ended.
+#[derive(Drop)]
+pub(crate) struct LeftGate<A> {
+    pub(crate) source: FdHandle<SockRes>,
+    pub(crate) target: FdHandle<SockRes>,
+    pub(crate) alarms: A,
 }
 
 /// Reads from `source` and writes to `target`. With an idle time each read and each write that
@@ -141,6 +149,28 @@ impl<R: Wait + Copy, C: Moments, A: Alarms> TaskGate<R, C, A> {
             self.source_state.note_read(buf.len(), count);
         }
         Some(answer)
+    }
+}
+
+impl<R: Wait + Copy, C: Moments + Drop, A: Alarms> TaskGate<R, C, A> {
+    /// Ends the calls under way, and gives what they were made by.
+    pub(crate) fn leave(self) -> LeftGate<A>
+        ensures source { IsHandleOf self.source result.source }
+        ensures target { IsHandleOf self.target result.target }
+        ensures alarms { result.alarms ≡ self.alarms }
+    {
+        let TaskGate {
+            idle: _,
+            alarms,
+            source,
+            source_state: _,
+            target,
+        } = self;
+        LeftGate {
+            source: source.into_handle(),
+            target: target.into_handle(),
+            alarms,
+        }
     }
 }
 

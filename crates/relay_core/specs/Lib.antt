@@ -4,7 +4,6 @@ pub mod Lending
 pub mod Loops
 pub mod AcceptTrace
 pub mod Accepting
-pub mod Pair
 pub mod PairLimit
 pub mod PairTasks
 pub mod Placing

@@ -47,21 +47,11 @@ pub trait AcceptGate {
 pub enum AcceptEnded {
     /// The listener was closed.
     Closed,
-    /// The listener is drained: it accepts nothing more, and is still to be closed.
+    /// The listener is drained: it accepts nothing more, and is still to be closed, since its clients
+    /// would wait in the system's queue, and nobody would come for them.
     Draining,
     /// One fault more came in a row than `MAX_FAULTS_IN_A_ROW`; it is the last of them.
     TooManyFaults(Fault),
-}
-
-impl AcceptEnded {
-    /// Whether the listener is still to be closed: a drained one, since its clients would wait in
-    /// the system's queue, and nobody would come for them. One that fails too often stays for an
-    /// admin session.
-    pub fn leaves_a_listener_to_close(self) -> bool
-        ensures { result ≡ true ↔ self ≡ AcceptEnded.Draining }
-    {
-        self == AcceptEnded::Draining
-    }
 }
 
 /// The pause after a fault, by the pause before it, in milliseconds: 5 after the first fault in a

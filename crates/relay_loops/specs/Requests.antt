@@ -1,5 +1,5 @@
 -- Which connection of a loop a request is to, and what it is told.
-use Rattle.std.specs.Prelude.{◌≡◌, true, false, Option, Some, None, Ok, Err}
+use Rattle.std.specs.Prelude.{◌≡◌, Option, Some, None, Ok, Err}
 use Rattle.fd_descriptor.specs.TaskHalf.{descriptor_of_half}
 use Rattle.readiness.specs.LoopToken.{side_in}
 use Rattle.readiness.specs.Tasks.{task_in}
@@ -9,6 +9,7 @@ use Rattle.readiness.specs.declared.tasks.Tasks.{Tasks}
 use Rattle.relay_conn.specs.Asked.{id_on}
 use Rattle.relay_loops.specs.declared.loops.ConnTask.{ConnTask}
 use Rattle.relay_shared.specs.Drained.{WasDrained}
+use Rattle.relay_shared.specs.Index.{gone_id}
 use Rattle.relay_shared.specs.declared.requests.Answer.{Answer}
 use Rattle.relay_shared.specs.declared.requests.Answer.TheVariants as answer
 use Rattle.relay_shared.specs.declared.requests.Question.{Question}
@@ -23,8 +24,10 @@ module _ {U D R : Type 0} where
 
   -- where there was a task, a close is told that it has ended
   abbrev pub TellsClose : Option (ConnTask U D R) → Answer → Type 0
-  TellsClose None told = told ≡ answer.Close false
-  TellsClose (Some task) told = told ≡ answer.Close true
+  TellsClose None told = told ≡ answer.Close None
+  TellsClose (Some task) (answer.Close (Some gone)) =
+      gone_id gone ≡ id_on task.connection First
+  TellsClose (Some task) other = ⊥
 
   -- where there was a task, a drain is told what it did: by `Ok` the side of its connection is drained
   abbrev pub TellsDrain : Option (ConnTask U D R) → Side → Answer → Type 0

@@ -1,12 +1,15 @@
 //! The loops: each a thread that resumes the tasks of its connections, and has books of its own.
 
 ghost use Rattle.std.specs.Prelude.{◌≡◌, ◌↔◌, true, false};
+ghost use Rattle.readiness.specs.declared.loop_token.Side.{Side};
 ghost use Rattle.readiness.specs.declared.tasks.Turn.{Turn};
 ghost use Rattle.relay_facts.specs.Books.{IsBlankOf};
+ghost use Rattle.relay_conn.specs.Asked.{id_on};
 ghost use Rattle.relay_conn.specs.Reach.{tells_target};
 ghost use Rattle.relay_conn.specs.declared.reach.Reach.{Reach};
 ghost use Rattle.relay_core.specs.PairTasks.{HasToClose, MayGoOn};
 ghost use Rattle.relay_core.specs.declared.pair_tasks.PairNext.{PairNext};
+ghost use Rattle.relay_shared.specs.Index.{gone_id};
 
 use crate::connecting::ConnectingList;
 use fd_descriptor::PollCell;
@@ -20,6 +23,7 @@ use relay_facts::totals::Totals;
 use relay_ledger::PARTS;
 use relay_shared::fault::of_poller;
 use relay_shared::inbox::{Counted, Inbox};
+use relay_shared::index::Gone;
 use relay_shared::loop_handle::LoopParts;
 use relay_shared::shared::Shared;
 use std::alloc::Global;
@@ -91,7 +95,7 @@ impl<U: Ledger, D: Ledger, R: Wait + Clock + Copy> Host for LoopHost<U, D, R> {
     }
 
     fn over(&mut self, task: ConnTask<U, D, R>) {
-        self.end(task);
+        let _ = self.end(task);
     }
 }
 
@@ -130,12 +134,17 @@ impl<U: Ledger, D: Ledger, R: Wait + Clock + Copy> LoopHost<U, D, R> {
     }
 
     /// Ends a connection, which is counted until it has ended; then who waits for that is told.
-    pub(crate) fn end(&mut self, task: ConnTask<U, D, R>) {
-        self.close(task);
+    pub(crate) fn end(&mut self, task: ConnTask<U, D, R>) -> Gone
+        ensures { gone_id result ≡ id_on task.connection Side.First }
+    {
+        let gone = self.close(task);
         self.context.shared.note_end();
+        gone
     }
 
-    fn close(&mut self, task: ConnTask<U, D, R>) {
+    fn close(&mut self, task: ConnTask<U, D, R>) -> Gone
+        ensures { gone_id result ≡ id_on task.connection Side.First }
+    {
         let ConnTask {
             connection,
             counted: _counted,
@@ -144,11 +153,11 @@ impl<U: Ledger, D: Ledger, R: Wait + Clock + Copy> LoopHost<U, D, R> {
         let shared = &self.context.shared;
         connection.end(
             &self.context.rt,
-            &shared.table,
+            &shared.index,
             &mut self.books,
             &shared.log,
             now,
-        );
+        )
     }
 }
 

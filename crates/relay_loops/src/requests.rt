@@ -68,11 +68,8 @@ impl<U: Ledger, D: Ledger, R: Wait + Clock + Copy> LoopHost<U, D, R> {
         ensures others { OthersKept (tasks_of tasks.old) (tasks_of tasks.new) token }
     {
         match tasks.take(token) {
-            Some(task) => {
-                self.end(task);
-                Answer::Close(true)
-            }
-            None => Answer::Close(false),
+            Some(task) => Answer::Close(Some(self.end(task))),
+            None => Answer::Close(None),
         }
     }
 
@@ -122,7 +119,7 @@ impl<U: Ledger, D: Ledger, R: Wait + Clock + Copy> LoopHost<U, D, R> {
             Turn::Again => tasks.again(token),
             Turn::Over => {
                 if let Some(task) = tasks.take(token) {
-                    self.end(task);
+                    let _ = self.end(task);
                 }
             }
         }

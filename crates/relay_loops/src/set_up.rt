@@ -10,44 +10,28 @@ use relay_admin::Addr;
 use relay_conn::connection::Connection;
 use relay_conn::reach::{Reach, cause_of_connect};
 use relay_conn::refused::Refused;
-use relay_conn::set_up::{OwnedSock, SetUp};
+use relay_conn::set_up::{BothSocks, SetUp};
 use relay_facts::clock::Moments;
 use relay_facts::connection_facts::{Acceptance, ConnectionFacts};
 use relay_log::ended::Ended as How;
 use relay_shared::address::socket_address;
-use relay_shared::entry::Owner;
 use relay_shared::inbox::Accepted;
 use std::net::Net;
 use std::sync::ledger::Ledger;
 use std::sync::{Arc, Wait};
 use std::time::Clock;
 
-// Who will have both sides of the next connection of a loop: a task at its vacant place.
-fn owners<U: Ledger, D: Ledger, R: Wait + Clock + Copy>(
-    tasks: &mut ConnLoop<U, D, R>,
-) -> Option<(Owner, Owner)> {
-    let place = tasks.vacant().ok()?;
-    let first = Owner {
-        remote: tasks.remote().ok()?,
-        token: place.first,
-    };
-    let second = Owner {
-        remote: tasks.remote().ok()?,
-        token: place.second,
-    };
-    Some((first, second))
-}
-
 impl<R: Wait + Net + Clock + Copy> LoopContext<R> {
     // What a connection of its loop is set up by.
-    fn set_up<'a>(&'a self, poller: &'a Poller) -> SetUp<'a, R> {
-        SetUp {
+    fn set_up<'a>(&'a self, poller: &'a Poller) -> Option<SetUp<'a, R>> {
+        Some(SetUp {
             rt: self.rt,
             alloc: self.alloc,
             clock: self.clock,
-            table: &self.shared.table,
+            index: &self.shared.index,
             poller,
-        }
+            remote: &self.shared.loops.get(self.place)?.remote,
+        })
     }
 
     // What is known of a connection with this client.
@@ -87,24 +71,16 @@ impl<U: Ledger, D: Ledger, R: Wait + Net + Clock + Copy> LoopHost<U, D, R> {
     fn join(
         &mut self,
         tasks: &mut ConnLoop<U, D, R>,
-        client: Sock,
-        target: Sock,
+        socks: BothSocks,
         facts: Arc<ConnectionFacts>,
     ) -> Result<Connection<U, D, R>, Refused> {
-        let Some((first, second)) = owners(tasks) else {
+        let Ok(place) = tasks.vacant() else {
             return Err(Refused::Memory);
         };
-        let client = OwnedSock {
-            sock: client,
-            owner: first,
-        };
-        let target = OwnedSock {
-            sock: target,
-            owner: second,
-        };
-        self.context
-            .set_up(tasks.poller())
-            .connection(&mut self.books, client, target, facts)
+        match self.context.set_up(tasks.poller()) {
+            Some(set_up) => set_up.connection(&mut self.books, socks, facts, place),
+            None => Err(Refused::Memory),
+        }
     }
 
     // Connects to the target, and makes a connection of both sockets; or says why not.
@@ -122,7 +98,11 @@ impl<U: Ledger, D: Ledger, R: Wait + Net + Clock + Copy> LoopHost<U, D, R> {
             Ok(target) => target,
             Err(error) => return Err(How::NoTarget(cause_of_connect(&error))),
         };
-        match self.join(tasks, sock, target, facts) {
+        let socks = BothSocks {
+            client: sock,
+            target,
+        };
+        match self.join(tasks, socks, facts) {
             Ok(connection) => Ok(connection),
             Err(refused) => Err(refused.how()),
         }
@@ -154,7 +134,9 @@ impl<U: Ledger, D: Ledger, R: Wait + Net + Clock + Copy> LoopHost<U, D, R> {
         task.connection.begin(reach);
         match tasks.put(task) {
             Ok(place) => self.wait_for_target(tasks, reach, place.first),
-            Err(task) => self.end(task),
+            Err(task) => {
+                let _ = self.end(task);
+            }
         }
     }
 

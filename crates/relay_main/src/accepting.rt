@@ -7,13 +7,14 @@ ghost use Rattle.relay_main.specs.Accepting.{turn_of};
 use crate::admin::{AdminDoor, AdminTask, Caller};
 use crate::main_host::MainHost;
 use crate::rule_task::{RuleListener, RuleTask, accept_on};
+use deadline_core::Dirs;
+use fd_descriptor::Alarms;
 use readiness::Turn;
 use relay_core::{AcceptEnded, AcceptStep, Accepting, next_pause_ms};
 use relay_facts::clock::Moments;
 use relay_facts::how_ended::reason_of_fault;
 use relay_facts::log_lines::tell_accept_fault;
 use relay_facts::served_rule::ServedRule;
-use relay_shared::closing::Closes;
 use rwloops::Fault;
 use std::sync::Wait;
 use std::time::Clock;
@@ -45,7 +46,8 @@ fn begins_row(pause_ms: u64) -> bool
 }
 
 impl<R: Wait + Clock + Copy, C: Moments> MainHost<R, C> {
-    /// Has a rule's task go on.
+    /// Has a rule's task go on. One that has ended is closed, also where it was drained: else its
+    /// clients would wait in the system's queue, and nobody would come for them.
     pub(crate) fn resume_rule(&mut self, task: &mut RuleTask<R>) -> Turn {
         if self.is_paused(task.place, &mut task.paused_until) {
             return Turn::Waits;
@@ -57,10 +59,7 @@ impl<R: Wait + Clock + Copy, C: Moments> MainHost<R, C> {
                 self.pause(task.place, &mut task.paused_until, ms);
             }
             AcceptStep::Ended(AcceptEnded::TooManyFaults(_)) => self.begin_anew(task),
-            AcceptStep::Ended(ended) => {
-                task.served.note_listening(false);
-                self.end(&task.listener, ended);
-            }
+            AcceptStep::Ended(_) => task.served.note_listening(false),
             AcceptStep::Waits | AcceptStep::Again => task.served.note_listening(true),
         }
         turn_after(&step)
@@ -85,14 +84,6 @@ impl<R: Wait + Clock + Copy, C: Moments> MainHost<R, C> {
     {
         self.pause(task.place, &mut task.paused_until, RESTART_MS);
         task.accepting = Accepting::new();
-    }
-
-    // A drained listener is closed: else its clients would wait in the system's queue, and nobody
-    // would come for them.
-    fn end(&self, listener: &RuleListener<R>, ended: AcceptEnded) {
-        if ended.leaves_a_listener_to_close() {
-            self.shared.close(&self.rt, listener.id);
-        }
     }
 
     // Takes over one that came, if there is memory.
@@ -140,18 +131,33 @@ impl<R: Wait + Clock + Copy, C: Moments> MainHost<R, C> {
     /// accepted, and then it is closed. (a close resets who waits in the system's queue)
     pub(crate) fn let_last_in(&self, task: RuleTask<R>) {
         let mut task = task;
-        let removed = self.shared.table.lock(&self.rt).remove(task.listener.id);
+        let _ = self.shared.index.lock(&self.rt).leave(task.listener.id);
         for _ in 0..LAST_ROUNDS {
             let (step, _) = accept_on(self.rt, &self.clock, &*self.shared, &mut task);
             if step != AcceptStep::Again {
                 break;
             }
         }
-        drop(task);
-        if let Ok(entry) = removed {
-            let mut entry = entry;
-            let _ = entry.close(&self.rt);
-            entry.disarm(&self.rt);
+        let _ = self.close_rule(task);
+    }
+
+    /// Ends a rule's task, and closes its listener: first nobody finds it any more, and the accept
+    /// under way ends, for which the close would wait.
+    pub(crate) fn close_rule(&self, task: RuleTask<R>) -> Result<(), Fault> {
+        let RuleTask {
+            served,
+            place,
+            listener,
+            ..
+        } = task;
+        let RuleListener { id, half, .. } = listener;
+        let _ = self.shared.index.lock(&self.rt).leave(id);
+        served.note_listening(false);
+        let mut handle = half.into_handle();
+        let closed = handle.close(&self.rt);
+        if let Some(alarms) = self.alarms() {
+            alarms.disarm(place.first, Dirs::Both);
         }
+        closed
     }
 }

@@ -166,6 +166,12 @@ where
     }
 
     fn over(&mut self, task: MainTask<R>) {
-        drop(task);
+        match task {
+            MainTask::Rule(task) => {
+                let _ = self.close_rule(task);
+            }
+            MainTask::Admin(task) => drop(task),
+            MainTask::Session(_) => {}
+        }
     }
 }

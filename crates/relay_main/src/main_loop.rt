@@ -40,8 +40,7 @@ pub struct MainLoop<R: Wait + Clock + Copy> {
     pub(crate) finish_at: Option<u64>,
 }
 
-/// That no accept is under way any more, for which a close by another thread would wait: the end of
-/// the loop alone makes one.
+/// That no accept is under way any more, and no rule listens: the end of the loop alone makes one.
 #[derive(Clone, Copy)]
 pub struct AcceptsEnded {
     by_loop: (),
@@ -76,7 +75,7 @@ impl<R: Wait + Clock + Copy> MainLoop<R> {
         }
     }
 
-    /// Ends the accepts that are under way, and gives what the threads share.
+    /// Ends the accepts that are under way, closes their listeners, and gives what the threads share.
     pub fn end(self) -> (R, Arc<Shared>, AcceptsEnded) {
         let MainLoop {
             alloc: _,
@@ -107,7 +106,7 @@ impl<R: Wait + Net + Files + Clock + Copy> MainLoop<R> {
         } = self;
         let shared = &host.shared;
         for served in shared.rules.lock(&host.rt).iter() {
-            listen_by(&host.rt, *alloc, tasks, &shared.table, served, listeners, 0)?;
+            listen_by(&host.rt, *alloc, tasks, &shared.index, served, listeners, 0)?;
         }
         Ok(())
     }

@@ -9,14 +9,14 @@ use crate::listening::{Listeners, Opened};
 use crate::main_task::MainTask;
 use crate::rule_task::{RuleListener, RuleTask};
 use arrayvec::ArrayString;
-use conntable::ConnTable;
 use fd_descriptor::{FdHandle, TaskReader};
 use readiness::{EventLoop, HoldFault, Listen, ListenRes};
 use relay_admin::{Addr, ServeFault};
 use relay_core::Accepting;
 use relay_facts::bound_path::BoundPath;
 use relay_facts::served_rule::ServedRule;
-use relay_shared::entry::{Entry, Handle, Owner, Subject};
+use relay_shared::index::Standing;
+use relay_shared::standing::RelayIndex;
 use std::alloc::Global;
 use std::fs::Files;
 use std::net::Net;
@@ -38,19 +38,16 @@ fn bind<R: Wait + Net + Files>(
     }
 }
 
-// A descriptor of a rule's listener, which stands in the table.
+// A descriptor of a rule's listener, which stands in the index.
 fn listener_in<R: Wait + Copy>(
     rt: R,
-    table: &mut ConnTable<Entry>,
+    index: &mut RelayIndex,
     handle: FdHandle<ListenRes>,
-    owner: Owner,
     served: &Arc<ServedRule>,
 ) -> Option<RuleListener<R>> {
-    let mut handle = handle;
     let cell = handle.cell().ok()?;
-    let subject = Subject::Listener(Arc::try_clone(served).ok()?);
-    let entry = Entry::new(Handle::Listener(handle.share().ok()?), owner, subject);
-    let (id, _) = table.insert(entry).ok()?;
+    let known = Arc::try_clone(served).ok()?;
+    let id = index.enter(Standing::Listener(known)).ok()?;
     Some(RuleListener {
         id,
         cell,
@@ -58,16 +55,15 @@ fn listener_in<R: Wait + Copy>(
     })
 }
 
-// Has a task accept from this socket from the next turn on; its descriptor stands in the table
-// under the next id. After a fault no task is left, and an entry may be, of the id that the rule
-// then has.
+// Has a task accept from this socket from the next turn on; its listener stands in the index under
+// the next id. After a fault nothing of it is left.
 fn hold_rule<R: Wait + Copy>(
     rt: R,
     alloc: Global,
     tasks: &mut EventLoop<MainTask<R>>,
-    table: &mut ConnTable<Entry>,
+    index: &mut RelayIndex,
     socket: Listen,
-    served: Arc<ServedRule>,
+    served: &Arc<ServedRule>,
     now: u64,
 ) -> Result<(), ServeFault> {
     let Ok(place) = tasks.vacant() else {
@@ -79,16 +75,13 @@ fn hold_rule<R: Wait + Copy>(
         Err(HoldFault::Device(_)) => return Err(ServeFault::Device),
         Err(_) => return Err(ServeFault::Memory),
     };
-    let owner = Owner {
-        remote: tasks.remote()?,
-        token: place.first,
-    };
-    let Some(listener) = listener_in(rt, table, handle, owner, &served) else {
+    let task_served = Arc::try_clone(served)?;
+    let Some(listener) = listener_in(rt, index, handle, served) else {
         return Err(ServeFault::Memory);
     };
-    served.note_listener(listener.id, place.first, now);
+    let id = listener.id;
     let task = RuleTask {
-        served,
+        served: task_served,
         place,
         listener,
         accepting: Accepting::new(),
@@ -96,27 +89,30 @@ fn hold_rule<R: Wait + Copy>(
     };
     match tasks.put(MainTask::Rule(task)) {
         Ok(_) => {
+            served.note_listener(id, place.first, now);
             tasks.again(place.first);
             Ok(())
         }
-        Err(_) => Err(ServeFault::Memory),
+        Err(_) => {
+            let _ = index.leave(id);
+            Err(ServeFault::Memory)
+        }
     }
 }
 
-/// Listens at a rule's address, and has a task accept there from the next turn on. After a fault no
-/// task is left, and an entry of the table may be, of the id that the rule then has.
+/// Listens at a rule's address, and has a task accept there from the next turn on. After a fault
+/// nothing of it is left.
 pub(crate) fn listen_by<R: Wait + Net + Files + Copy>(
     rt: &R,
     alloc: Global,
     tasks: &mut EventLoop<MainTask<R>>,
-    table: &Mutex<ConnTable<Entry>>,
+    index: &Mutex<RelayIndex>,
     served: &Arc<ServedRule>,
     listeners: &mut Listeners,
     now: u64,
 ) -> Result<(), ServeFault> {
     let socket = bind(rt, served, listeners)?;
-    let served = Arc::try_clone(served)?;
-    hold_rule(*rt, alloc, tasks, &mut *table.lock(rt), socket, served, now)
+    hold_rule(*rt, alloc, tasks, &mut *index.lock(rt), socket, served, now)
 }
 
 // Listens at the admin path; `bound` says whether it has bound it. A path of no byte, or of more

@@ -3,13 +3,16 @@
 //! the listeners of those that have gone.
 
 ghost use Rattle.std.specs.Prelude.{◌≡◌, ◌≢◌, None};
-ghost use Rattle.relay_admin.specs.declared.admin.desk.DeskAnswer.{DeskAnswer};
+ghost use Rattle.readiness.specs.EventLoop.{tasks_of};
+ghost use Rattle.readiness.specs.Tasks.{task_in};
+ghost use Rattle.relay_admin.specs.declared.admin.answers.ReloadAnswer.{ReloadAnswer};
 ghost use Rattle.relay_main.specs.Reload.{answer_of_fault};
 
 use crate::accounts::{account_of, without_rules};
 use crate::main_loop::MainLoop;
+use crate::main_task::MainTask;
 use crate::opening::listen_by;
-use relay_admin::{DeskAnswer, Rule, Rules, ServeFault, Verdict};
+use relay_admin::{ReloadAnswer, Rule, Rules, ServeFault, Verdict};
 use relay_facts::rules_file::text_of;
 use relay_facts::served_rule::ServedRule;
 use rwloops::Fault;
@@ -30,14 +33,14 @@ struct Planned {
 }
 
 // What a session is answered where a reload is refused.
-fn answer_of_fault(fault: ServeFault) -> DeskAnswer
+fn answer_of_fault(fault: ServeFault) -> ReloadAnswer
     ensures { result ≡ answer_of_fault fault }
 {
     match fault {
-        ServeFault::RulesFile => DeskAnswer::CannotRead,
-        ServeFault::Listen(name) => DeskAnswer::CannotListen(name),
-        ServeFault::Memory => DeskAnswer::NoMemory,
-        _ => DeskAnswer::Device,
+        ServeFault::RulesFile => ReloadAnswer::CannotRead,
+        ServeFault::Listen(name) => ReloadAnswer::CannotListen(name),
+        ServeFault::Memory => ReloadAnswer::NoMemory,
+        _ => ReloadAnswer::Device,
     }
 }
 
@@ -66,7 +69,7 @@ impl<R: Wait + Net + Files + Clock + Copy> MainLoop<R> {
     // Whether a rule's listener stands. Of one whose listener has gone the path goes too, so that
     // another can be bound.
     fn listens(&self, rt: &R, served: &ServedRule) -> bool {
-        let stands = self.host.shared.table.lock(rt).by_id(served.id()).is_some();
+        let stands = self.host.shared.index.lock(rt).find(served.id()).is_some();
         if !stands {
             served.remove_path(rt);
         }
@@ -95,21 +98,19 @@ impl<R: Wait + Net + Files + Clock + Copy> MainLoop<R> {
 
     // Ends the listener of a rule, if it has one.
     fn end_listener(&mut self, rt: &R, served: &ServedRule) {
-        self.close_listener(rt, served.id(), served.token());
+        self.close_listener(served.token());
         served.remove_path(rt);
     }
 
-    /// Closes the listener with this id: first its task ends, which has this token, so that no
-    /// accept is under way, for which the close would wait. `None` says that another did.
-    pub(crate) fn close_listener(
-        &mut self,
-        rt: &R,
-        id: u64,
-        token: u64,
-    ) -> Option<Result<(), Fault>> {
-        let task = self.tasks.take(token);
-        drop(task);
-        self.host.shared.close(rt, id)
+    /// Closes the listener whose task has this token, and ends the task; none where there is no such
+    /// task.
+    pub(crate) fn close_listener(&mut self, token: u64) -> Option<Result<(), Fault>>
+        ensures gone { task_in (tasks_of self.new.tasks) token ≡ None }
+    {
+        match self.tasks.take(token)? {
+            MainTask::Rule(task) => Some(self.host.close_rule(task)),
+            _ => None,
+        }
     }
 
     /// The token of the task whose listener stands under this id.
@@ -135,7 +136,7 @@ impl<R: Wait + Net + Files + Clock + Copy> MainLoop<R> {
             rt,
             *alloc,
             tasks,
-            &host.shared.table,
+            &host.shared.index,
             served,
             listeners,
             now,
@@ -183,11 +184,11 @@ impl<R: Wait + Net + Files + Clock + Copy> MainLoop<R> {
     /// Reads the rules file again, and serves its rules from now on. Where it can't be read, is bad,
     /// or has a new address that can't be listened on, nothing changes; nor does it where the relay
     /// finishes.
-    pub(crate) fn reload(&mut self, rt: &R, now: u64) -> DeskAnswer
-        ensures finishing { self.old.finish_at ≢ None → result ≡ DeskAnswer.Closed }
+    pub(crate) fn reload(&mut self, rt: &R, now: u64) -> ReloadAnswer
+        ensures finishing { self.old.finish_at ≢ None → result ≡ ReloadAnswer.Finishing }
     {
         if self.finish_at.is_some() {
-            return DeskAnswer::Closed;
+            return ReloadAnswer::Finishing;
         }
         let text = match text_of(rt, self.alloc, self.host.shared.rules_path.as_str()) {
             Ok(text) => text,
@@ -195,10 +196,10 @@ impl<R: Wait + Net + Files + Clock + Copy> MainLoop<R> {
         };
         let rules = match Rules::parse(text.as_slice()) {
             Ok(rules) => rules,
-            Err(fault) => return DeskAnswer::Verdict(Verdict::Bad(fault)),
+            Err(fault) => return ReloadAnswer::Verdict(Verdict::Bad(fault)),
         };
         match self.serve_rules(rt, rules.as_slice(), now) {
-            Ok(()) => DeskAnswer::Verdict(Verdict::Rules(rules.as_slice().len() as u32)),
+            Ok(()) => ReloadAnswer::Verdict(Verdict::Rules(rules.as_slice().len() as u32)),
             Err(fault) => answer_of_fault(fault),
         }
     }

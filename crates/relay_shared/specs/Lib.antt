@@ -1,11 +1,11 @@
 pub mod Addr
-pub mod Closing
 pub mod Drained
 pub mod Drop
 pub mod Fault
-pub mod Handle
 pub mod Inbox
+pub mod Index
+pub mod IndexLaws
 pub mod Laws
 pub mod Requests
 pub mod StalePath
-pub mod Subject
+pub mod Standing

@@ -1,5 +1,5 @@
 -- The slots in which admin sessions wait for answers, and what is done to them.
-use Rattle.std.specs.Prelude.{◌≡◌, ◌≢◌, ◌⊎◌, ◌+◌, ◌^◌, ◌≤◌, ℕ, true, false, length, Option, Some, None, slice_get}
+use Rattle.std.specs.Prelude.{◌≡◌, ◌≢◌, ◌⊎◌, ◌+◌, ◌^◌, ◌≤◌, ℕ, length, Option, Some, None, slice_get}
 use Rattle.relay_shared.specs.declared.requests.Answer.{Answer}
 use Rattle.relay_shared.specs.declared.requests.Answer.TheVariants as answers
 use Rattle.relay_shared.specs.declared.requests.Asks.{Asks}
@@ -11,13 +11,13 @@ use Rattle.relay_shared.specs.declared.requests.Ticket.{Ticket}
 
 -- the answer to what is asked of no connection
 abbrev pub unknown_answer : Asks → Answer
-unknown_answer asks.Close = answers.Close false
+unknown_answer asks.Close = answers.Close None
 unknown_answer asks.Drain = answers.Drain None
 unknown_answer (asks.Deadline deadline now) = answers.Deadline None
 
 -- an answer to this question that was carried out
 abbrev pub IsCarriedOut : Asks → Answer → Type 0
-IsCarriedOut asks.Close answer = answer ≡ answers.Close true
+IsCarriedOut asks.Close (answers.Close (Some gone)) = Unit {0}
 IsCarriedOut asks.Drain (answers.Drain (Some done)) = Unit {0}
 IsCarriedOut (asks.Deadline deadline now) (answers.Deadline (Some done)) = Unit {0}
 IsCarriedOut asked other = ⊥

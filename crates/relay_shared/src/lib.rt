@@ -1,15 +1,15 @@
-//! What the threads of a relay share: the table of connections and listeners, what others reach a
+//! What the threads of a relay share: the index of connections and listeners, what others reach a
 //! loop by, what sessions ask of connections, and the stop.
 #![tactic(auto)]
 
 pub mod address;
-pub mod closing;
-pub mod entry;
 pub mod fault;
 pub mod inbox;
+pub mod index;
 pub mod laws;
 pub mod loop_handle;
 pub mod requests;
 pub mod shared;
 pub mod stale_path;
+pub mod standing;
 pub mod stopping;

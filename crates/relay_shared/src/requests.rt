@@ -15,6 +15,7 @@ ghost use Rattle.relay_shared.specs.Requests.{Does, Began, Answered, Took, Withd
 ghost use Rattle.relay_shared.specs.Requests.{SlotSays, ticket_place, ticket_number};
 ghost use Rattle.relay_shared.specs.Requests.{unknown_answer};
 
+use crate::index::Gone;
 use base_types::OutOfMemory;
 use deadline_core::Deadline;
 use rwloops::Fault;
@@ -47,8 +48,8 @@ pub struct Question {
 /// What came of a request, by what was asked.
 #[derive(Clone, Copy, Debug, PartialEq, Eq, Drop)]
 pub enum Answer {
-    /// Whether there was such a connection, which has ended by then.
-    Close(bool),
+    /// That the connection has ended; none where there was no such connection any more.
+    Close(Option<Gone>),
     /// What the drain told; none where there was no such connection any more.
     Drain(Option<Result<(), Fault>>),
     /// The same of the call that sets a deadline.
@@ -61,7 +62,7 @@ impl Asks {
         ensures { result ≡ unknown_answer self }
     {
         match self {
-            Asks::Close => Answer::Close(false),
+            Asks::Close => Answer::Close(None),
             Asks::Drain => Answer::Drain(None),
             Asks::Deadline { .. } => Answer::Deadline(None),
         }

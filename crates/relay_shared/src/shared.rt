@@ -1,6 +1,6 @@
 //! What the relay's threads share.
 //!
-//! Locks are held for a few steps, and taken in this order: the rules', the table's, a rule's or a
+//! Locks are held for a few steps, and taken in this order: the rules', the index's, a rule's or a
 //! cell's, a remote's. Those of the inboxes and of the slots are held alone.
 
 ghost use Rattle.std.specs.Prelude.{◌≡◌, IfErr, IfOk};
@@ -8,14 +8,13 @@ ghost use Rattle.std.specs.Arc.{arc_value};
 ghost use Rattle.relay_admin.specs.declared.serve_fault.ServeFault.{ServeFault};
 ghost use Rattle.relay_shared.specs.Drop.{IsDrop};
 
-use crate::closing::close_by_id;
-use crate::entry::Entry;
+use crate::index::Index;
 use crate::loop_handle::LoopHandle;
 use crate::requests::{Answer, Question, Request, Slots, Ticket};
+use crate::standing::RelayIndex;
 use crate::stopping::{StopFlag, Stopped};
 use arrayvec::ArrayVec;
 use base_types::OutOfMemory;
-use conntable::ConnTable;
 use log_writer::Log;
 use readiness::{LoopRemote, Sock};
 use relay_admin::ServeFault;
@@ -27,7 +26,6 @@ use relay_facts::log_lines::tell_refused;
 use relay_facts::safeguards::Safeguards;
 use relay_facts::served_rule::ServedRule;
 use relay_log::ended::Ended;
-use rwloops::Fault;
 use std::alloc::Global;
 use std::sync::atomic::{AtomicBool, Ordering};
 use std::sync::{Arc, Mutex, Wait};
@@ -35,7 +33,8 @@ use std::time::Clock;
 
 #[derive(Drop)]
 pub struct Shared {
-    pub table: Mutex<ConnTable<Entry>>,
+    /// Who has what stands.
+    pub index: Mutex<RelayIndex>,
     /// The rules that are served, in the order of their file, as it was read last.
     pub rules: Mutex<Vec<Arc<ServedRule>>>,
     /// The remote of the main thread's loop, which accepts.
@@ -81,7 +80,7 @@ pub fn shared_of(
         log,
     } = config;
     let shared = Shared {
-        table: Mutex::new(ConnTable::new(alloc)),
+        index: Mutex::new(Index::new(alloc)),
         rules: Mutex::new(rules),
         rules_path,
         slots: Mutex::new(Slots::none(alloc)?),
@@ -154,11 +153,6 @@ impl Shared {
         if let Some(log) = &self.log {
             tell_refused(rt, log, acceptance, now, how);
         }
-    }
-
-    /// Closes the connection or listener with this id; `None` says that another did.
-    pub fn close<R: Wait + Copy>(&self, rt: &R, id: u64) -> Option<Result<(), Fault>> {
-        close_by_id(rt, &self.table, id)
     }
 
     /// How many connections stand, those among them that are being set up.

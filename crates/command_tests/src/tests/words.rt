@@ -82,7 +82,7 @@ fn a_command_is_taken_with_its_options(rt: HostRuntime) {
     let serve = served(alloc, "F", "/a b", None, None);
     let on_one = served(alloc, "F", "/a b", Loops::of(1), None);
     let on_most = served(alloc, "F", "/a b", Loops::of(64), PairLimit::of(1));
-    let most_pairs = served(alloc, "F", "/a b", None, PairLimit::of(2_000));
+    let most_pairs = served(alloc, "F", "/a b", None, PairLimit::of(50_000));
     let check_none = checked(alloc, "");
     let rows: [(&[&str], &Option<Job>); 14] = [
         (&[], &Some(Job::Trace)),
@@ -119,7 +119,7 @@ fn a_command_is_taken_with_its_options(rt: HostRuntime) {
                 "--admin",
                 "/a b",
                 "--connections",
-                "2000",
+                "50000",
             ],
             &most_pairs,
         ),
@@ -212,7 +212,7 @@ fn no_other_words_are_taken(rt: HostRuntime) {
             "F",
             "--admin",
             "A",
-            "--connections=2001",
+            "--connections=50001",
         ],
         &["serve", "--rules", "F", "--admin", "A", "--connections=04"],
         &[

@@ -3,8 +3,8 @@
 use base_types::Dir;
 use relay_core::Way::{Down, Up};
 use relay_core::{
-    Ended, FlowState, InsertedSides, PairLimit, PairNext, PairTasks, Side, Step, Way, Ways,
-    has_room_for_pair, idle_deadline, loop_of, next_pause_ms,
+    Ended, FlowState, PairLimit, PairNext, PairTasks, Side, Step, Way, Ways, has_room_for_pair,
+    idle_deadline, loop_of, next_pause_ms,
 };
 use rwloops::{DevKind, Fault};
 
@@ -29,14 +29,14 @@ const CASES: &[(&str, Case)] = &[
     ("a pair too many by default", Room(None, 512, Some(false))),
     (
         "the last of most pairs",
-        Room(Some(2_000), 1_999, Some(true)),
+        Room(Some(50_000), 49_999, Some(true)),
     ),
     (
         "a pair more than most",
-        Room(Some(2_000), 2_000, Some(false)),
+        Room(Some(50_000), 50_000, Some(false)),
     ),
     ("a limit of none", Room(Some(0), 0, None)),
-    ("a limit past the most", Room(Some(2_001), 0, None)),
+    ("a limit past the most", Room(Some(50_001), 0, None)),
     ("five seconds", Idle(7, 5_000, 5_000_000_007)),
     ("the greatest moment", Idle(u64::MAX - 1, 1, u64::MAX)),
     ("the first pause", Pause(0, 5)),
@@ -69,16 +69,6 @@ fn pairs_deadlines_pauses_and_loops_are_as_their_rows_say(rt: HostRuntime) {
     for (row, case) in CASES {
         assert!(rt; holds(case), "{row}");
     }
-}
-
-#[test]
-fn set_up_is_undone_from_its_last_side(rt: HostRuntime) {
-    let mut sides = InsertedSides::none();
-    assert!(rt; sides.undo() == None, "nothing is set up");
-    sides.insert(8);
-    sides.insert(9);
-    let undone = [sides.undo(), sides.undo(), sides.undo()];
-    assert!(rt; undone == [Some(9), Some(8), None], "{undone:?}");
 }
 
 /// A step on the tasks of a pair, with what it has to answer.

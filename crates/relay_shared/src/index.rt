@@ -1,0 +1,152 @@
+//! What stands under which id: connections and listeners, each entered by the thread that has it.
+//! Nobody finds a handle here, so that what is found is asked for, and never done by who finds it.
+//!
+//! A connection has two ids, its client's and the next, its target's; a listener has one. One entry
+//! stands for both ids of a connection, so that it is entered and left as one. Ids rise, and none is
+//! given twice.
+
+ghost use Rattle.std.specs.Prelude.{◌≡◌, ◌<◌, ◌+◌, ◌^◌, ◌++◌, ℕ, IfOk, OnOk, OnErr, IfSome, IfNone, None, []};
+ghost use Rattle.relay_shared.specs.declared.index.Standing.{Standing};
+ghost use Rattle.relay_admin.specs.declared.admin.shown.ShownSide.{ShownSide};
+ghost use Rattle.relay_shared.specs.Index.{entered, next_id_of, ids_of, ids_from, all_ids};
+ghost use Rattle.relay_shared.specs.Index.{gone_id};
+ghost use Rattle.relay_shared.specs.Index.{Enters, Leaves, IsKept, IsFound, IsFoundAt};
+
+use base_types::OutOfMemory;
+use relay_admin::ShownSide;
+use std::alloc::Global;
+use std::collections::BTreeMap;
+
+/// What stands.
+#[derive(Clone, Copy, Debug, PartialEq, Eq, Drop)]
+pub enum Standing<C, L> {
+    Connection(C),
+    Listener(L),
+}
+
+/// Connections and listeners by their ids.
+#[derive(Drop)]
+pub struct Index<C, L> {
+    entries: BTreeMap<u64, Standing<C, L>>,
+    next_id: u64,
+}
+
+/// That what was entered under this id has left an index: nobody finds it any more. `leave` alone
+/// makes it.
+#[derive(Clone, Copy, Debug, PartialEq, Eq, Drop)]
+pub struct Gone {
+    id: u64,
+}
+
+impl<C, L> Standing<C, L> {
+    // How many ids it has.
+    fn ids(&self) -> u64
+        ensures { result ≡ ids_of self.now }
+    {
+        match self {
+            Standing::Connection(_) => 2,
+            Standing::Listener(_) => 1,
+        }
+    }
+
+    // As what it has its first id.
+    fn first_side(&self) -> ShownSide
+        ensures { IsFoundAt self.now result 0 }
+    {
+        match self {
+            Standing::Connection(_) => ShownSide::Client,
+            Standing::Listener(_) => ShownSide::Listener,
+        }
+    }
+}
+
+// Lists the ids of what was entered under this one; or says that memory was refused. (no id is past
+// the last number)
+fn list<C, L>(ids: &mut Vec<u64>, id: u64, standing: &Standing<C, L>) -> Result<(), OutOfMemory>
+    ensures { OnOk result (ids.new.items ≡ ids.old.items ++ ids_from id standing.now) }
+{
+    ids.push(id)?;
+    if let Standing::Connection(_) = standing {
+        let Some(target) = id.checked_add(1) else {
+            return Err(OutOfMemory);
+        };
+        ids.push(target)?;
+    }
+    Ok(())
+}
+
+impl<C, L> Index<C, L> {
+    /// Nothing stands, and the first id is 1.
+    pub fn new(alloc: Global) -> Index<C, L>
+        ensures none { (id : ℕ) → entered result id ≡ None }
+        ensures first { next_id_of result ≡ 1 }
+        ensures no_ids { all_ids result ≡ [] }
+    {
+        Index {
+            entries: BTreeMap::new(alloc),
+            next_id: 1,
+        }
+    }
+
+    /// Enters what stands from now on, and gives its first id. Refused is only memory, or no id is
+    /// left; then nothing changes.
+    pub fn enter(&mut self, standing: Standing<C, L>) -> Result<u64, OutOfMemory>
+    where
+        C: Drop,
+        L: Drop,
+        ensures entered { IfOk result (λ id. Enters self.old self.new id standing) }
+        ensures fits { IfOk result (λ id. id + ids_of standing < 2 ^ 64) }
+        ensures kept { OnErr result (IsKept self.old self.new) }
+    {
+        let id = self.next_id;
+        let Some(next) = id.checked_add(standing.ids()) else {
+            return Err(OutOfMemory);
+        };
+        match self.entries.insert(id, standing) {
+            Ok(_) => {
+                self.next_id = next;
+                Ok(id)
+            }
+            Err(_) => Err(OutOfMemory),
+        }
+    }
+
+    /// Takes out what was entered under this id, if it stands. From then on nobody finds it.
+    pub fn leave(&mut self, id: u64) -> Gone
+    where
+        C: Drop,
+        L: Drop,
+        ensures left { Leaves self.old self.new id }
+        ensures gone { gone_id result ≡ id }
+    {
+        let _ = self.entries.remove(&id);
+        Gone { id }
+    }
+
+    /// What this id names, and as what, if it names anything.
+    pub fn find(&self, id: u64) -> Option<(ShownSide, &Standing<C, L>)>
+        ensures found { IfSome result (λ found. IsFound self.now id found.0 found.1.now) }
+        ensures none { IfNone result ((side : ShownSide) (standing : Standing C L)
+            → IsFound self.now id side standing → ⊥) }
+    {
+        if let Some(standing) = self.entries.get(&id) {
+            return Some((standing.first_side(), standing));
+        }
+        let standing = self.entries.get(&id.checked_sub(1)?)?;
+        match standing {
+            Standing::Connection(_) => Some((ShownSide::Target, standing)),
+            Standing::Listener(_) => None,
+        }
+    }
+
+    /// All ids that name anything, rising; or want of memory.
+    pub fn ids(&self, alloc: Global) -> Result<Vec<u64>, OutOfMemory>
+        ensures { IfOk result (λ ids. ids.items ≡ all_ids self.now) }
+    {
+        let mut ids = Vec::new(alloc);
+        for (id, standing) in self.entries.iter() {
+            list(&mut ids, *id, standing)?;
+        }
+        Ok(ids)
+    }
+}
