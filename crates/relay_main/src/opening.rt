@@ -61,9 +61,9 @@ fn listener_in<R: Wait + Copy>(
 ) -> Option<RuleListener<R>> {
     let cell = handle.cell().ok()?;
     let known = Arc::try_clone(served).ok()?;
-    let id = index.enter(Standing::Listener(known)).ok()?;
+    let entered = index.enter(Standing::Listener(known)).ok()?;
     Some(RuleListener {
-        id,
+        id: entered.keep(),
         cell,
         half: TaskReader::new(rt, handle),
     })

@@ -4,11 +4,16 @@ use Rattle.std.specs.Prelude.{All, AllPairs, filter}
 use Rattle.std.specs.Ordering.{nat_cmp}
 use Rattle.std.specs.BTreeMap.{is_at}
 use Rattle.std.specs.Map.{lookup}
+use Rattle.relay_shared.specs.declared.index.Entered.{Entered}
 use Rattle.relay_shared.specs.declared.index.Gone.{Gone}
 use Rattle.relay_shared.specs.declared.index.Standing.{Standing}
 use Rattle.relay_shared.specs.declared.index.Standing.TheVariants.{Connection, Listener}
 use Rattle.relay_admin.specs.declared.admin.shown.ShownSide.{ShownSide}
 use Rattle.relay_admin.specs.declared.admin.shown.ShownSide.TheVariants as side
+
+-- the id under which something was entered
+abbrev pub entered_id : Entered → ℕ
+entered_id entered = entered.id
 
 -- the id under which what has gone was entered
 abbrev pub gone_id : Gone → ℕ

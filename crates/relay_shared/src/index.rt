@@ -9,7 +9,7 @@ ghost use Rattle.std.specs.Prelude.{◌≡◌, ◌<◌, ◌+◌, ◌^◌, ◌++�
 ghost use Rattle.relay_shared.specs.declared.index.Standing.{Standing};
 ghost use Rattle.relay_admin.specs.declared.admin.shown.ShownSide.{ShownSide};
 ghost use Rattle.relay_shared.specs.Index.{Enters, Leaves, IsFound, IsFoundAt};
-ghost use Rattle.relay_shared.specs.Index.{gone_id, ids_of, ids_from, ids_in};
+ghost use Rattle.relay_shared.specs.Index.{entered_id, gone_id, ids_of, ids_from, ids_in};
 
 use base_types::OutOfMemory;
 use relay_admin::ShownSide;
@@ -42,11 +42,27 @@ impl<C, L> Model for Index<C, L> {
     ghost invariant = { λ index. IsConsistent (register_of index.entries.entries index.next_id) };
 }
 
+/// That something stands under this id from now on. It can't be dropped: who has entered something
+/// keeps its id, or takes it back, so that nothing stands of which nobody knows.
+pub struct Entered {
+    id: u64,
+}
+
 /// That what was entered under this id has left an index: nobody finds it any more. `leave` alone
 /// makes it.
 #[derive(Clone, Copy, Debug, PartialEq, Eq, Drop)]
 pub struct Gone {
     id: u64,
+}
+
+impl Entered {
+    /// The id, from which who keeps it has it leave.
+    pub fn keep(self) -> u64
+        ensures { result ≡ entered_id self }
+    {
+        let Entered { id } = self;
+        id
+    }
 }
 
 impl<C, L> Standing<C, L> {
@@ -98,14 +114,14 @@ impl<C, L> Index<C, L> {
         }
     }
 
-    /// Enters what stands from now on, and gives its first id. Refused is only memory, or no id is
-    /// left; then nothing changes.
-    pub fn enter(&mut self, standing: Standing<C, L>) -> Result<u64, OutOfMemory>
+    /// Enters what stands from now on. Refused is only memory, or no id is left; then nothing changes.
+    pub fn enter(&mut self, standing: Standing<C, L>) -> Result<Entered, OutOfMemory>
     where
         C: Drop,
         L: Drop,
-        ensures entered { IfOk result (λ id. Enters self.old self.new id standing) }
-        ensures fits { IfOk result (λ id. id + ids_of standing < 2 ^ 64) }
+        ensures entered { IfOk result (λ entered.
+            Enters self.old self.new (entered_id entered) standing) }
+        ensures fits { IfOk result (λ entered. entered_id entered + ids_of standing < 2 ^ 64) }
         ensures kept { OnErr result (self.new ≡ self.old) }
     {
         let id = self.next_id;
@@ -115,7 +131,7 @@ impl<C, L> Index<C, L> {
         match self.entries.insert(id, standing) {
             Ok(_) => {
                 self.next_id = next;
-                Ok(id)
+                Ok(Entered { id })
             }
             Err(_) => Err(OutOfMemory),
         }
