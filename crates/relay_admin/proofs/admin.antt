@@ -1,4 +1,5 @@
 pub mod CommandLemmas
+pub mod LaterLemmas
 pub mod LineTranscripts
 pub mod Listings
 pub mod OneDialogue

@@ -1,6 +1,9 @@
+pub mod Answers
 pub mod Command
 pub mod CommandReading
 pub mod Devices
+pub mod Later
+pub mod LineMeaning
 pub mod Listing
 pub mod Parts
 pub mod Progress

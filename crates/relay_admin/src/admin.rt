@@ -4,12 +4,14 @@
 //! |---|---|
 //! | a command | `command`: its variant and its row, and its row of `words_of` |
 //! | an end by a command | `end`: how it is told; `command`: `Command::end`, and `end_of` |
-//! | a question to the desk | `desk`: the question, its row in `ask`, a new answer |
+//! | a question to a desk | `desk` and `session_desk`: the question, its row in `ask` and `ask_session_desk`; `answers`: the type of its answers |
+//! | a question that is answered later | `session_desk`: an `Option`; `answers`: its variant of `LateAnswer` |
 //! | a reply | `reply_text`: its words; `reply`: which answer has it |
 //! | a reply that refuses | `refusal`: its first word, if it is none of those there |
 //! | a word of what is shown | `shown`: its field, and its place in the line |
 //! | a reply that comes in parts | `listing`: its parts; `line_reply`: which answer has it |
 
+pub mod answers;
 pub mod command;
 pub mod desk;
 pub mod dialogue;
@@ -17,10 +19,12 @@ pub mod end;
 pub mod line_answer;
 pub mod line_reply;
 pub mod listing;
+pub mod next_line;
 pub mod refusal;
 pub mod reply;
 pub mod reply_bytes;
 pub mod reply_text;
 pub mod session;
+pub mod session_desk;
 pub mod shown;
 pub mod stepwise;

@@ -13,6 +13,7 @@ ghost use Rattle.relay_admin.specs.declared.rules.addr.TheConstants.{MAX_ADDR_BY
 ghost use Rattle.relay_admin.specs.declared.rules.addr.TheConstants.{MAX_PATH_BYTES};
 ghost use Rattle.relay_admin.specs.declared.rules.file.TheConstants.{MAX_BYTES, MAX_RULES};
 ghost use Rattle.relay_admin.specs.declared.rules.rule.TheConstants.{MAX_IDLE_MS, MAX_NAME_BYTES};
+ghost use Rattle.relay_admin.specs.admin.Later.{LastLaterIsAsAtOnce, LaterIsAsAtOnce};
 ghost use Rattle.relay_admin.specs.admin.Refusal.{BadCommandsAreRefused, RepliesTellRefusals};
 ghost use Rattle.relay_admin.specs.Laws.{NoRulesWithFault, OneCommandALine, OneDialogueAText};
 ghost use Rattle.relay_admin.specs.Laws.{OneFault, OneLineAShow, OneListOfRules, OneRuleALine};
@@ -41,6 +42,14 @@ pub fn one_verdict_a_text()
 pub fn one_dialogue_a_text()
     ensures line { OneCommandALine }
     ensures text { OneDialogueAText }
+{}
+
+/// A line that is answered later is answered as if at once: by the same reply, exchange and end, and
+/// the session stands where it would stand. So what a session has answered is the function of its
+/// lines and its desk's answers that it is where none is late.
+pub fn a_late_answer_is_as_one_at_once()
+    ensures line { LaterIsAsAtOnce }
+    ensures last_line { LastLaterIsAsAtOnce }
 {}
 
 /// What is shown of a connection is one line, whatever path its peer has chosen: no client can make

@@ -8,15 +8,18 @@ mod rules;
 mod serve_fault;
 mod text;
 
+pub use admin::answers::{CloseAnswer, LateAnswer, ReloadAnswer, SteerAnswer, TotalBytes};
 pub use admin::command::Command;
 pub use admin::desk::{Desk, DeskAnswer};
 pub use admin::end::{AdminEnd, AdminFault};
 pub use admin::line_reply::LineReply;
 pub use admin::listing::{Listing, Part};
+pub use admin::next_line::NextLine;
 pub use admin::refusal::{reply_breaks_off, reply_is_whole, reply_refuses};
 pub use admin::reply::{reply_in, reply_of};
 pub use admin::reply_bytes::Reply;
 pub use admin::session::{serve_admin, serve_on};
+pub use admin::session_desk::SessionDesk;
 pub use admin::shown::{Shown, ShownSide, peer_name};
 pub use admin::stepwise::AdminSession;
 pub use rules::addr::{Addr, MAX_ADDR_BYTES, addr_of, is_same_addr};

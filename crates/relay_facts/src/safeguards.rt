@@ -1,6 +1,6 @@
 //! What keeps one target, one rule or a path that was left from harming the rest of a relay.
 
-ghost use Rattle.std.specs.Prelude.{◌≡◌, ◌↔◌, true, Some, None, false};
+ghost use Rattle.std.specs.Prelude.{◌≡◌, ◌↔◌, true};
 ghost use Rattle.relay_facts.specs.Safeguards.{IsAtRuleLimit};
 
 use relay_core::PairLimit;
@@ -18,20 +18,6 @@ pub struct Safeguards {
 }
 
 impl Safeguards {
-    /// Those of a relay that isn't asked for others: five seconds, no limit of a rule's own, and no
-    /// path that is replaced.
-    pub fn by_default() -> Safeguards
-        ensures connect_ms { result.connect_ms ≡ Some 5000 }
-        ensures per_rule { result.per_rule ≡ None }
-        ensures replaces_stale { result.replaces_stale ≡ false }
-    {
-        Safeguards {
-            connect_ms: Some(5_000),
-            per_rule: None,
-            replaces_stale: false,
-        }
-    }
-
     /// Whether a rule of which so many connections stand has as many as it may.
     pub fn is_at_limit(&self, standing: u64) -> bool
         ensures { result ≡ true ↔ IsAtRuleLimit self.now.per_rule standing }

@@ -4,9 +4,8 @@
 
 ghost use Rattle.std.specs.Prelude.{◌≡◌, ◌+◌, ◌-◌, ◌^◌, min, IfSome};
 ghost use Rattle.std.specs.Arc.{arc_value};
-ghost use Rattle.relay_admin.specs.declared.admin.desk.DeskAnswer.{DeskAnswer};
 
-use relay_admin::DeskAnswer;
+use relay_admin::TotalBytes;
 use relay_ledger::Book;
 use std::alloc::{AllocError, Global};
 use std::marker::PhantomData;
@@ -84,10 +83,14 @@ impl Totals {
     }
 
     /// What a session is told: first what was copied to the targets.
-    pub fn answer(&self) -> DeskAnswer
-        ensures { result ≡ DeskAnswer.Totals self.now.up.bytes self.now.down.bytes }
+    pub fn answer(&self) -> TotalBytes
+        ensures up { result.up ≡ self.now.up.bytes }
+        ensures down { result.down ≡ self.now.down.bytes }
     {
-        DeskAnswer::Totals(self.up.bytes, self.down.bytes)
+        TotalBytes {
+            up: self.up.bytes,
+            down: self.down.bytes,
+        }
     }
 }
 

@@ -1,11 +1,16 @@
 -- What an admin session does after its reads and writes.
-use Rattle.std.specs.Prelude.{ℕ, Option, Some, None, Result, Ok, Err}
+use Rattle.std.specs.Prelude.{ℕ, Bool, true, false, List, [], drop, Option, Some, None, Result, Ok, Err}
 use Rattle.rwloops.specs.declared.fault.Fault.{Fault}
 use Rattle.rwloops.specs.declared.fault.Fault.TheVariants as fault
 use Rattle.relay_admin.specs.declared.admin.end.AdminEnd.{AdminEnd}
 use Rattle.relay_admin.specs.declared.admin.end.AdminEnd.TheVariants as ends
 use Rattle.relay_main.specs.declared.session.SessionStep.{SessionStep}
 use Rattle.relay_main.specs.declared.session.SessionStep.TheVariants.{Waits, Again, Over, Stops}
+use Rattle.relay_admin.specs.admin.ReplyBytes.{bytes_of}
+use Rattle.relay_admin.specs.declared.admin.line_reply.LineReply.{LineReply}
+use Rattle.relay_admin.specs.declared.admin.line_reply.LineReply.TheVariants as line
+use Rattle.relay_main.specs.declared.session_state.State.{State}
+use Rattle.relay_main.specs.declared.session_state.State.TheVariants as does
 use Rattle.relay_main.specs.declared.session.Heard.{Heard}
 use Rattle.relay_main.specs.declared.session.Heard.TheVariants.{Nothing, Bytes, End, Failed}
 
@@ -32,3 +37,25 @@ told_of_read None = Nothing
 told_of_read (Some (Ok count)) = Bytes count
 told_of_read (Some (Err fault.EndOfFile)) = End
 told_of_read (Some (Err other)) = Failed
+
+-- its line is answered later
+abbrev pub is_held : State → Bool
+is_held does.Held = true
+is_held other = false
+
+-- how it ends behind what it does, if it does
+abbrev pub end_behind : State → Option AdminEnd
+end_behind (does.Replying writing end) = end
+end_behind (does.Listing listing writing end) = end
+end_behind other = None
+
+-- the bytes of the reply, or of the line of a listing, that aren't written yet
+abbrev pub to_write : State → List ℕ
+to_write (does.Replying writing end) = drop writing.written (bytes_of writing.reply)
+to_write (does.Listing listing (Some writing) end) = drop writing.written (bytes_of writing.reply)
+to_write other = []
+
+-- the text of a reply, where it is whole
+abbrev pub whole_text : {A : Type 0} → LineReply A → List ℕ
+whole_text (line.Whole reply) = bytes_of reply
+whole_text (line.Each listing) = []

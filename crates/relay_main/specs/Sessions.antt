@@ -5,11 +5,13 @@ use Rattle.std.specs.List.{list_any}
 use Rattle.std.specs.Box.{box_value}
 use Rattle.std.specs.Global.{Box}
 use Rattle.relay_main.specs.declared.sessions.Seated.{Seated}
+use Rattle.relay_main.specs.Session.{is_held}
 
--- the session at this place may give it up: no reply of it waits for an answer
+-- the session at this place may give it up: it waits for no answer
 abbrev pub MayLeave : List (Option (Box Seated)) → ℕ → Box Seated → Type 0
 MayLeave places place session =
-    (slice_get places place ≡ Some (Some session)) × ((box_value session).is_held ≡ false)
+    (slice_get places place ≡ Some (Some session))
+    × (is_held (box_value session).session.state ≡ false)
 
 -- until when a session stands that doesn't get on: so long after it last did
 abbrev pub patience : Box Seated → ℕ
@@ -34,9 +36,9 @@ abbrev pub NoneMayLeave : List (Option (Box Seated)) → ℕ → Type 0
 NoneMayLeave places count =
     (k : ℕ) (session : Box Seated) → k < count → MayLeave places k session → ⊥
 
--- the reply of the session at this place waits for an answer
+-- the session at this place waits for an answer
 abbrev pub is_held_at : Option (Box Seated) → Bool
-is_held_at (Some session) = (box_value session).is_held
+is_held_at (Some session) = is_held (box_value session).session.state
 is_held_at None = false
 
 -- the reply of one of them does

@@ -1,23 +1,24 @@
 //! What an admin session asks, over the relay's index and books.
 
-ghost use Rattle.std.specs.Prelude.{◌≡◌, Some, None, IfSome, IfNone, true, false};
-ghost use Rattle.relay_admin.specs.declared.admin.command.Command.TheVariants as commands;
-ghost use Rattle.relay_admin.specs.admin.Reply.{HasAskedId};
-ghost use Rattle.relay_admin.specs.admin.Reply as replies;
-ghost use Rattle.relay_admin.specs.declared.admin.desk.DeskAnswer.{DeskAnswer};
+ghost use Rattle.std.specs.Prelude.{◌≡◌, None, IfSome};
+ghost use Rattle.relay_admin.specs.declared.admin.answers.CloseAnswer.{CloseAnswer};
+ghost use Rattle.relay_admin.specs.declared.admin.answers.SteerAnswer.{SteerAnswer};
 ghost use Rattle.relay_main.specs.Deadlines.{asked_deadline};
-ghost use Rattle.relay_main.specs.Desk.{desk_answer, known_answer, loop_answer};
+ghost use Rattle.relay_main.specs.Desk.{closed_answer, late_answer, steered_answer};
+ghost use Rattle.relay_main.specs.declared.desk.NotAsked.{NotAsked};
 
 use crate::main_loop::MainLoop;
 use deadline_core::Deadline;
-use relay_admin::{Desk, DeskAnswer, Shown};
+use relay_admin::{
+    CloseAnswer, LateAnswer, ReloadAnswer, SessionDesk, Shown, SteerAnswer, TotalBytes,
+};
 use relay_core::idle_deadline;
 use relay_facts::clock::Moments;
 use relay_shared::loop_handle::totals_of;
 use relay_shared::requests::{Answer, Asks, Question};
 use relay_shared::standing::{Whereabouts, find_side, shown};
 use rwloops::Fault;
-use std::alloc::Global;
+use std::alloc::{AllocError, Global};
 use std::fs::Files;
 use std::net::Net;
 use std::sync::Wait;
@@ -29,44 +30,76 @@ pub(crate) struct RelayDesk<'a, R: Wait + Clock + Copy> {
     main: &'a mut MainLoop<R>,
     /// The session's place.
     place: usize,
-    /// The reply to the last question waits for the answer of a loop.
-    pub(crate) is_held: bool,
-    /// The answer of a loop, where it is there.
-    late: Option<DeskAnswer>,
 }
 
-// What a close, a drain or a deadline that ended so is to the session. A device's fault while the
-// descriptor was destroyed doesn't change that it is closed.
-fn answer_of(done: Result<(), Fault>) -> DeskAnswer
-    ensures { result ≡ desk_answer done }
-{
-    match done {
-        Ok(()) | Err(Fault::Device(_)) => DeskAnswer::Fine,
-        Err(Fault::TooMany) => DeskAnswer::Busy,
-        Err(Fault::OutOfMemory) => DeskAnswer::NoMemory,
-        Err(Fault::Draining) => DeskAnswer::Draining,
-        Err(_) => DeskAnswer::Closed,
+// Why no loop could be asked.
+#[derive(Clone, Copy, Debug, PartialEq, Eq, Drop)]
+enum NotAsked {
+    // No connection has this id.
+    Unknown,
+    // Memory was refused.
+    NoMemory,
+}
+
+impl NotAsked {
+    fn to_close(self) -> CloseAnswer
+        ensures unknown { self ≡ NotAsked.Unknown → result ≡ CloseAnswer.Unknown }
+        ensures no_memory { self ≡ NotAsked.NoMemory → result ≡ CloseAnswer.NoMemory }
+    {
+        match self {
+            NotAsked::Unknown => CloseAnswer::Unknown,
+            NotAsked::NoMemory => CloseAnswer::NoMemory,
+        }
+    }
+
+    fn to_steer(self) -> SteerAnswer
+        ensures unknown { self ≡ NotAsked.Unknown → result ≡ SteerAnswer.Unknown }
+        ensures no_memory { self ≡ NotAsked.NoMemory → result ≡ SteerAnswer.NoMemory }
+    {
+        match self {
+            NotAsked::Unknown => SteerAnswer::Unknown,
+            NotAsked::NoMemory => SteerAnswer::NoMemory,
+        }
     }
 }
 
-// The same of a listener, which is unknown where it has gone.
-fn answer_if_known(done: Option<Result<(), Fault>>) -> DeskAnswer
-    ensures { result ≡ known_answer done }
+// What a close of a listener that ended so is to the session. A device's fault while the descriptor
+// was destroyed doesn't change that it is closed.
+fn closed_answer(done: Option<Result<(), Fault>>) -> CloseAnswer
+    ensures { result ≡ closed_answer done }
 {
     match done {
-        Some(done) => answer_of(done),
-        None => DeskAnswer::Unknown,
+        None => CloseAnswer::Unknown,
+        Some(Ok(())) | Some(Err(Fault::Device(_))) => CloseAnswer::Fine,
+        Some(Err(Fault::TooMany)) => CloseAnswer::Busy,
+        Some(Err(Fault::OutOfMemory)) => CloseAnswer::NoMemory,
+        Some(Err(_)) => CloseAnswer::Closed,
     }
 }
 
-// What the answer of a loop is to the session.
-fn answer_of_loop(answer: Answer) -> DeskAnswer
-    ensures { result ≡ loop_answer answer }
+// What a drain or a deadline that ended so is to the session.
+fn steered_answer(done: Option<Result<(), Fault>>) -> SteerAnswer
+    ensures { result ≡ steered_answer done }
+{
+    match done {
+        None => SteerAnswer::Unknown,
+        Some(Ok(())) | Some(Err(Fault::Device(_))) => SteerAnswer::Fine,
+        Some(Err(Fault::TooMany)) => SteerAnswer::Busy,
+        Some(Err(Fault::OutOfMemory)) => SteerAnswer::NoMemory,
+        Some(Err(Fault::Draining)) => SteerAnswer::Draining,
+        Some(Err(_)) => SteerAnswer::Closed,
+    }
+}
+
+/// What the answer of a loop is to the session that waits for it.
+pub(crate) fn late_answer(answer: Answer) -> LateAnswer
+    ensures { result ≡ late_answer answer }
 {
     match answer {
-        Answer::Close(Some(_)) => DeskAnswer::Fine,
-        Answer::Close(None) => DeskAnswer::Unknown,
-        Answer::Drain(done) | Answer::Deadline(done) => answer_if_known(done),
+        Answer::Close(Some(_)) => LateAnswer::Close(CloseAnswer::Fine),
+        Answer::Close(None) => LateAnswer::Close(CloseAnswer::Unknown),
+        Answer::Drain(done) => LateAnswer::Drain(steered_answer(done)),
+        Answer::Deadline(done) => LateAnswer::Deadline(steered_answer(done)),
     }
 }
 
@@ -83,38 +116,14 @@ fn asked_deadline(now: u64, after_ms: Option<u32>) -> Deadline
 impl<'a, R: Wait + Clock + Copy> RelayDesk<'a, R> {
     /// That of the session at this place.
     pub(crate) fn of(main: &'a mut MainLoop<R>, place: usize) -> RelayDesk<'a, R>
-        ensures free { result.is_held ≡ false }
         ensures place { result.place ≡ place }
     {
-        RelayDesk {
-            main,
-            place,
-            is_held: false,
-            late: None,
-        }
+        RelayDesk { main, place }
     }
 
-    /// The same, which answers so once.
-    pub(crate) fn answering(
-        main: &'a mut MainLoop<R>,
-        place: usize,
-        answer: Answer,
-    ) -> RelayDesk<'a, R>
-        ensures late { result.late ≡ Some (loop_answer answer) }
-        ensures place { result.place ≡ place }
-    {
-        let mut desk = RelayDesk::of(main, place);
-        desk.late = Some(answer_of_loop(answer));
-        desk
-    }
-
-    fn all_ids(&self, alloc: Global) -> DeskAnswer {
+    fn all_ids(&self, alloc: Global) -> Result<Vec<u64>, AllocError> {
         let rt = self.main.host.rt;
-        let shared = &self.main.host.shared;
-        match shared.index.lock(&rt).ids(alloc) {
-            Ok(ids) => DeskAnswer::Ids(ids),
-            Err(_) => DeskAnswer::NoMemory,
-        }
+        self.main.host.shared.index.lock(&rt).ids(alloc)
     }
 
     fn seen(&self, id: u64) -> Option<Shown>
@@ -126,92 +135,87 @@ impl<'a, R: Wait + Clock + Copy> RelayDesk<'a, R> {
         shown(&*index, &rt, id, now)
     }
 
-    fn shown(&self, id: u64) -> DeskAnswer
-        ensures { HasAskedId (commands.Show id) (replies.answer_of result) }
-    {
-        match self.seen(id) {
-            Some(seen) => DeskAnswer::Shown(seen),
-            None => DeskAnswer::Unknown,
-        }
-    }
-
     fn whereabouts(&self, id: u64) -> Option<Whereabouts> {
         let rt = self.main.host.rt;
         let index = self.main.host.shared.index.lock(&rt);
         find_side(&*index, id)
     }
 
-    // Asks the loop of the connection with this id. The reply waits for its answer; what is told
-    // here is replied only where there is none to wait for.
-    fn ask(&mut self, id: u64, asks: Asks) -> DeskAnswer
-        ensures held { self.old.is_held ≡ false → self.new.is_held ≡ true
-            → result ≡ DeskAnswer.Fine }
-    {
+    // Asks the loop of the connection with this id: the session waits for its answer from then on.
+    fn ask(&self, id: u64, asks: Asks) -> Result<(), NotAsked> {
         let Some(Whereabouts { loop_place, token }) = self.whereabouts(id) else {
-            return DeskAnswer::Unknown;
+            return Err(NotAsked::Unknown);
         };
         let question = Question { id, token, asks };
         let host = &self.main.host;
         match host.shared.ask(&host.rt, self.place, loop_place, question) {
-            Ok(()) => {
-                self.is_held = true;
-                DeskAnswer::Fine
-            }
-            Err(_) => DeskAnswer::NoMemory,
+            Ok(()) => Ok(()),
+            Err(_) => Err(NotAsked::NoMemory),
+        }
+    }
+
+    // The same of a drain or a deadline: the answer where there is none to wait for.
+    fn steer(&self, id: u64, asks: Asks) -> Option<SteerAnswer> {
+        match self.ask(id, asks) {
+            Ok(()) => None,
+            Err(refused) => Some(refused.to_steer()),
         }
     }
 }
 
-impl<'a, R> Desk for RelayDesk<'a, R>
+impl<'a, R> SessionDesk for RelayDesk<'a, R>
 where
     R: Wait + Net + Files + Clock + Copy,
 {
     // What other threads do to the index and the books in between isn't known.
     ghost exchanges = { λ _. None };
 
-    fn ids(&mut self, alloc: Global) -> DeskAnswer {
+    fn ids(&mut self, alloc: Global) -> Result<Vec<u64>, AllocError> {
         self.all_ids(alloc)
     }
 
-    fn totals(&mut self) -> DeskAnswer {
+    fn totals(&mut self) -> TotalBytes {
         totals_of(self.main.host.shared.loops.as_slice()).answer()
     }
 
     // What is asked of a listener the main thread does by itself, whose task it has; so also below.
-    fn close(&mut self, id: u64) -> DeskAnswer {
-        if let Some(answer) = self.late.take() {
-            return answer;
-        }
+    fn close(&mut self, id: u64) -> Option<CloseAnswer> {
         let rt = self.main.host.rt;
         match self.main.listener_token(&rt, id) {
-            Some(token) => answer_if_known(self.main.close_listener(token)),
-            None => self.ask(id, Asks::Close),
+            Some(token) => Some(closed_answer(self.main.close_listener(token))),
+            None => match self.ask(id, Asks::Close) {
+                Ok(()) => None,
+                Err(refused) => Some(refused.to_close()),
+            },
         }
     }
 
-    fn drain(&mut self, id: u64) -> DeskAnswer {
+    fn drain(&mut self, id: u64) -> Option<SteerAnswer> {
         let rt = self.main.host.rt;
         match self.main.listener_token(&rt, id) {
-            Some(token) => answer_if_known(self.main.drain_listener(token)),
-            None => self.ask(id, Asks::Drain),
+            Some(token) => Some(steered_answer(self.main.drain_listener(token))),
+            None => self.steer(id, Asks::Drain),
         }
     }
 
-    fn deadline(&mut self, _alloc: Global, id: u64, after_ms: Option<u32>) -> DeskAnswer {
+    fn deadline(&mut self, _alloc: Global, id: u64, after_ms: Option<u32>) -> Option<SteerAnswer> {
         let rt = self.main.host.rt;
         let now = self.main.host.clock.now();
         let deadline = asked_deadline(now, after_ms);
         match self.main.listener_token(&rt, id) {
-            Some(token) => answer_if_known(self.main.set_listener_deadline(token, deadline, now)),
-            None => self.ask(id, Asks::Deadline { deadline, now }),
+            Some(token) => {
+                let done = self.main.set_listener_deadline(token, deadline, now);
+                Some(steered_answer(done))
+            }
+            None => self.steer(id, Asks::Deadline { deadline, now }),
         }
     }
 
-    fn show(&mut self, id: u64) -> DeskAnswer {
-        self.shown(id)
+    fn show(&mut self, id: u64) -> Option<Shown> {
+        self.seen(id)
     }
 
-    fn ids_to_show(&mut self, alloc: Global) -> DeskAnswer {
+    fn ids_to_show(&mut self, alloc: Global) -> Result<Vec<u64>, AllocError> {
         self.all_ids(alloc)
     }
 
@@ -219,14 +223,13 @@ where
         self.seen(id)
     }
 
-    fn reload(&mut self, _alloc: Global) -> DeskAnswer {
+    fn reload(&mut self, _alloc: Global) -> ReloadAnswer {
         let rt = self.main.host.rt;
         let now = self.main.host.clock.now();
         self.main.reload(&rt, now)
     }
 
-    fn finish(&mut self, after_ms: u64) -> DeskAnswer {
+    fn finish(&mut self, after_ms: u64) {
         self.main.finish(after_ms);
-        DeskAnswer::Fine
     }
 }

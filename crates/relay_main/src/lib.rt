@@ -15,6 +15,7 @@ mod opening;
 mod reload;
 mod rule_task;
 mod session;
+mod session_state;
 mod sessions;
 
 pub use listening::GivenListener;

@@ -5,14 +5,14 @@
 ghost use Rattle.std.specs.Prelude.{◌≡◌, ◌≢◌, None};
 ghost use Rattle.readiness.specs.EventLoop.{tasks_of};
 ghost use Rattle.readiness.specs.Tasks.{task_in};
-ghost use Rattle.relay_admin.specs.declared.admin.desk.DeskAnswer.{DeskAnswer};
+ghost use Rattle.relay_admin.specs.declared.admin.answers.ReloadAnswer.{ReloadAnswer};
 ghost use Rattle.relay_main.specs.Reload.{answer_of_fault};
 
 use crate::accounts::{account_of, without_rules};
 use crate::main_loop::MainLoop;
 use crate::main_task::MainTask;
 use crate::opening::listen_by;
-use relay_admin::{DeskAnswer, Rule, Rules, ServeFault, Verdict};
+use relay_admin::{ReloadAnswer, Rule, Rules, ServeFault, Verdict};
 use relay_facts::rules_file::text_of;
 use relay_facts::served_rule::ServedRule;
 use rwloops::Fault;
@@ -33,14 +33,14 @@ struct Planned {
 }
 
 // What a session is answered where a reload is refused.
-fn answer_of_fault(fault: ServeFault) -> DeskAnswer
+fn answer_of_fault(fault: ServeFault) -> ReloadAnswer
     ensures { result ≡ answer_of_fault fault }
 {
     match fault {
-        ServeFault::RulesFile => DeskAnswer::CannotRead,
-        ServeFault::Listen(name) => DeskAnswer::CannotListen(name),
-        ServeFault::Memory => DeskAnswer::NoMemory,
-        _ => DeskAnswer::Device,
+        ServeFault::RulesFile => ReloadAnswer::CannotRead,
+        ServeFault::Listen(name) => ReloadAnswer::CannotListen(name),
+        ServeFault::Memory => ReloadAnswer::NoMemory,
+        _ => ReloadAnswer::Device,
     }
 }
 
@@ -184,11 +184,11 @@ impl<R: Wait + Net + Files + Clock + Copy> MainLoop<R> {
     /// Reads the rules file again, and serves its rules from now on. Where it can't be read, is bad,
     /// or has a new address that can't be listened on, nothing changes; nor does it where the relay
     /// finishes.
-    pub(crate) fn reload(&mut self, rt: &R, now: u64) -> DeskAnswer
-        ensures finishing { self.old.finish_at ≢ None → result ≡ DeskAnswer.Closed }
+    pub(crate) fn reload(&mut self, rt: &R, now: u64) -> ReloadAnswer
+        ensures finishing { self.old.finish_at ≢ None → result ≡ ReloadAnswer.Finishing }
     {
         if self.finish_at.is_some() {
-            return DeskAnswer::Closed;
+            return ReloadAnswer::Finishing;
         }
         let text = match text_of(rt, self.alloc, self.host.shared.rules_path.as_str()) {
             Ok(text) => text,
@@ -196,10 +196,10 @@ impl<R: Wait + Net + Files + Clock + Copy> MainLoop<R> {
         };
         let rules = match Rules::parse(text.as_slice()) {
             Ok(rules) => rules,
-            Err(fault) => return DeskAnswer::Verdict(Verdict::Bad(fault)),
+            Err(fault) => return ReloadAnswer::Verdict(Verdict::Bad(fault)),
         };
         match self.serve_rules(rt, rules.as_slice(), now) {
-            Ok(()) => DeskAnswer::Verdict(Verdict::Rules(rules.as_slice().len() as u32)),
+            Ok(()) => ReloadAnswer::Verdict(Verdict::Rules(rules.as_slice().len() as u32)),
             Err(fault) => answer_of_fault(fault),
         }
     }

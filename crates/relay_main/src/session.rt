@@ -1,23 +1,24 @@
 //! An admin session: it has the lines of its client answered one at a time, each only once the
-//! reply before is written; a listing is a line of it at a time. No call of it waits.
+//! reply before is written; a listing is a line of it at a time. Where an answer comes later, nothing
+//! is read and nothing answered until then. No call of it waits.
 
-ghost use Rattle.std.specs.Prelude.{◌≡◌, IfSome, drop, false};
+ghost use Rattle.std.specs.Prelude.{◌≡◌, ◌↔◌, ◌⊎◌, IfSome, IsSome, false, true};
+ghost use Rattle.relay_admin.specs.admin.Answers.{of_late};
+ghost use Rattle.relay_admin.specs.admin.Later.{TakesNoAnswer};
+ghost use Rattle.relay_admin.specs.admin.Reply.{reply_text};
 ghost use Rattle.readiness.specs.Sockets.{read_from, written_to};
 ghost use Rattle.relay_main.specs.Session as spec;
 
+use crate::session_state::{State, Writing, begun, rest_of, shown_on};
 use fd_descriptor::HalfClose;
 use readiness::{ReadHalf, Sock, WriteHalf};
-use relay_admin::{AdminEnd, AdminSession, Desk, LineReply, Listing, Part, Reply};
+use relay_admin::{AdminEnd, AdminSession, LateAnswer, NextLine, SessionDesk};
 use rwloops::{Fault, Progress, read_now, write_now};
 use std::alloc::Global;
 use std::mem;
 
 /// The most bytes of one read.
 const CHUNK_BYTES: usize = 1_024;
-
-/// A line whose reply is that of any other to the same answer: which question is asked again, once
-/// the desk has its answer, makes no difference.
-const LATE_LINE: &[u8] = b"close 1\n";
 
 /// What a step of a session came to.
 #[derive(Clone, Copy, Debug, PartialEq, Eq, Drop)]
@@ -32,29 +33,15 @@ pub(crate) enum SessionStep {
     Stops,
 }
 
-/// A reply that is being written: how much of it is, and how the session ends by it, if it does.
-#[derive(Drop)]
-struct Owed {
-    reply: Reply<Global>,
-    written: usize,
-    end: Option<AdminEnd>,
-}
-
-/// A listing of which more is to be written, and how the session ends by it, if it does.
-#[derive(Drop)]
-struct Showing {
-    listing: Listing,
-    end: Option<AdminEnd>,
-}
-
-/// A session: both halves of its socket, its lines, and the reply that its client hasn't taken yet.
+/// A session: both halves of its socket, its lines, and what it does.
 #[derive(Drop)]
 pub(crate) struct Session {
     input: ReadHalf,
     output: WriteHalf,
     lines: AdminSession,
-    owed: Option<Owed>,
-    showing: Option<Showing>,
+    state: State,
+    // It waits for an answer exactly while a line of it does.
+    ghost waits: { spec.is_held state ≡ true ↔ IsSome lines.held },
     /// Its client has said all.
     is_at_end: bool,
     /// Bytes went either way since this was looked at.
@@ -80,16 +67,6 @@ fn while_owed(end: Option<AdminEnd>) -> SessionStep
         Some(AdminEnd::Stop) => SessionStep::Stops,
         _ => SessionStep::Waits,
     }
-}
-
-// What is left of a reply of which so much is written.
-fn rest_of(reply: &[u8], written: usize) -> &[u8]
-    ensures { result.now ≡ drop written reply.now }
-{
-    if written > reply.len() {
-        return &[];
-    }
-    &reply[written..]
 }
 
 // What follows a write of a reply that failed. The replies of a client that has gone are dropped as
@@ -136,87 +113,59 @@ impl Session {
             input,
             output,
             lines: AdminSession::new(),
-            owed: None,
-            showing: None,
+            state: State::Reading,
             is_at_end: false,
             gets_on: false,
         })
     }
 
-    // Writes of a reply what isn't written yet.
-    fn write(&mut self, owed: Owed) -> SessionStep {
-        let mut owed = owed;
-        let rest = rest_of(owed.reply.as_slice(), owed.written);
+    // Writes what isn't written yet, gives what is left, and says what follows where the session ends
+    // so behind it, if it does.
+    fn write(&mut self, writing: Writing, end: Option<AdminEnd>) -> (Option<Writing>, SessionStep)
+        ensures lines { self.new.lines ≡ self.old.lines }
+        ensures state { self.new.state ≡ self.old.state }
+    {
+        let mut writing = writing;
+        let rest = rest_of(writing.reply.as_slice(), writing.written);
         match write_now(&mut self.output, rest) {
             Progress::Whole => {
                 self.gets_on = true;
-                after_reply(owed.end)
+                (None, after_reply(end))
             }
             Progress::Part(count) => {
-                owed.written = owed.written.saturating_add(count);
+                writing.written = writing.written.saturating_add(count);
                 self.gets_on = self.gets_on || count > 0;
-                let step = while_owed(owed.end);
-                self.owed = Some(owed);
-                step
+                (Some(writing), while_owed(end))
             }
             Progress::Failed(failed) => {
                 // A client that is there after all sees the end, and doesn't wait for a reply that
                 // was dropped.
                 let _ = self.output.shut();
-                after_fault(failed.fault, owed.end)
+                (None, after_fault(failed.fault, end))
             }
         }
     }
 
-    // Has the desk answer the next line, if one is whole, or the last; or goes on with a listing.
-    fn answer<D: Desk>(&mut self, alloc: Global, desk: &mut D) -> bool {
-        if let Some(showing) = self.showing.take() {
-            self.show_on(alloc, desk, showing);
-            return true;
-        }
-        let mut next = self.lines.next_reply(alloc, alloc, desk);
-        if next.is_none() && self.is_at_end {
-            next = match self.lines.last_reply(alloc, alloc, desk) {
-                Some((reply, end)) => Some((reply, Some(end))),
-                None => None,
-            };
-        }
+    // Has the desk answer the next line, if one is whole, or the last; or reads.
+    fn go_on<D: SessionDesk>(&mut self, alloc: Global, desk: &mut D) -> SessionStep
+        requires { spec.is_held self.old.state ≡ false }
+    {
+        let next = match self.lines.next_reply(alloc, alloc, desk) {
+            NextLine::Unended if self.is_at_end => self.lines.last_reply(alloc, alloc, desk),
+            next => next,
+        };
         match next {
-            Some((reply, end)) => {
-                self.begin(reply, end);
-                true
+            NextLine::Reply(reply, end) => {
+                self.state = begun(reply, end);
+                SessionStep::Again
             }
-            None => false,
-        }
-    }
-
-    // Begins the reply to a line.
-    fn begin(&mut self, reply: LineReply<Global>, end: Option<AdminEnd>) {
-        match reply {
-            LineReply::Whole(reply) => self.owe(reply, end),
-            LineReply::Each(listing) => self.showing = Some(Showing { listing, end }),
-        }
-    }
-
-    // Goes on with a listing: its next part is owed from then on, if there is anything to write.
-    fn show_on<D: Desk>(&mut self, alloc: Global, desk: &mut D, showing: Showing) {
-        let mut showing = showing;
-        match showing.listing.next_part(alloc, desk) {
-            Part::Gone => self.showing = Some(showing),
-            Part::Line(reply) => {
-                self.showing = Some(showing);
-                self.owe(reply, None);
+            NextLine::Held(_) => {
+                self.state = State::Held;
+                SessionStep::Waits
             }
-            Part::Last(reply) => self.owe(reply, showing.end),
+            NextLine::Unended if self.is_at_end => SessionStep::Over,
+            NextLine::Unended => self.hear(),
         }
-    }
-
-    fn owe(&mut self, reply: Reply<Global>, end: Option<AdminEnd>) {
-        self.owed = Some(Owed {
-            reply,
-            written: 0,
-            end,
-        });
     }
 
     // Reads once, where no line is whole.
@@ -237,36 +186,71 @@ impl Session {
         }
     }
 
-    /// The reply that is owed is the one to the answer that this desk has now, for which it has
-    /// waited. It takes no memory.
-    pub(crate) fn settle<D: Desk>(&mut self, alloc: Global, desk: &mut D) {
-        let mut line = AdminSession::new();
-        let _ = line.take(LATE_LINE);
-        if let Some((LineReply::Whole(reply), _)) = line.next_reply(alloc, alloc, desk) {
-            if let Some(owed) = &mut self.owed {
-                owed.reply = reply;
+    /// Writes what is being written, if anything is; the next line may be asked for by `Again`.
+    pub(crate) fn pay(&mut self) -> SessionStep {
+        match mem::replace(&mut self.state, State::Reading) {
+            State::Reading => SessionStep::Again,
+            State::Replying(writing, end) => {
+                let (left, step) = self.write(writing, end);
+                if let Some(writing) = left {
+                    self.state = State::Replying(writing, end);
+                }
+                step
+            }
+            State::Listing(listing, line, end) => {
+                let (left, step) = match line {
+                    Some(writing) => self.write(writing, None),
+                    None => (None, SessionStep::Again),
+                };
+                self.state = State::Listing(listing, left, end);
+                step
+            }
+            State::Held => {
+                self.state = State::Held;
+                SessionStep::Waits
             }
         }
     }
 
-    /// Writes the reply that is owed, if there is one; the next line may be asked for by `Again`.
-    pub(crate) fn pay(&mut self) -> SessionStep {
-        match self.owed.take() {
-            Some(owed) => self.write(owed),
-            None => SessionStep::Again,
+    /// Has the desk answer the next line, or the next look of a listing, and what there is to write
+    /// is written from then on; or reads, where no line is whole. While something is being written,
+    /// or its line is answered later, it waits.
+    pub(crate) fn ask<D: SessionDesk>(&mut self, alloc: Global, desk: &mut D) -> SessionStep {
+        match mem::replace(&mut self.state, State::Reading) {
+            State::Reading => self.go_on(alloc, desk),
+            State::Listing(listing, None, end) => {
+                self.state = shown_on(alloc, desk, listing, end);
+                SessionStep::Again
+            }
+            other => {
+                self.state = other;
+                SessionStep::Waits
+            }
         }
     }
 
-    /// Has the desk answer the next line, or the next look of a listing, and owes what is to be
-    /// written from then on; or reads, where no line is whole. No reply is owed before.
-    pub(crate) fn ask<D: Desk>(&mut self, alloc: Global, desk: &mut D) -> SessionStep {
-        if self.answer(alloc, desk) {
-            return SessionStep::Again;
+    /// The answer to the line that waits for it: its reply is written from then on. Nothing changes
+    /// where no line waits for such an answer.
+    pub(crate) fn answer(&mut self, alloc: Global, answer: LateAnswer)
+        ensures taken { TakesNoAnswer answer self.old.lines
+            ⊎ (spec.is_held self.new.state ≡ false) }
+        ensures replies { TakesNoAnswer answer self.old.lines
+            ⊎ (spec.to_write self.new.state ≡ reply_text (of_late answer)) }
+        ensures kept { TakesNoAnswer answer self.old.lines → self.new.state ≡ self.old.state }
+    {
+        if let Some((reply, end)) = self.lines.answer(alloc, answer) {
+            self.state = begun(reply, end);
         }
-        if self.is_at_end {
-            return SessionStep::Over;
+    }
+
+    /// Whether its line is answered later.
+    pub(crate) fn is_held(&self) -> bool
+        ensures { result ≡ spec.is_held self.now.state }
+    {
+        match self.state {
+            State::Held => true,
+            _ => false,
         }
-        self.hear()
     }
 
     /// Whether bytes went either way since it was asked last.

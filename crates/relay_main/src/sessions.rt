@@ -7,7 +7,7 @@ ghost use Rattle.std.specs.Prelude.{IfErr, IfSome, IfNone};
 ghost use Rattle.relay_main.specs.Sessions.{IsQuietest, NoneMayLeave, are_held, is_held_at, patience};
 ghost use Rattle.relay_admin.specs.declared.serve_fault.ServeFault.{ServeFault};
 
-use crate::desk::RelayDesk;
+use crate::desk::{RelayDesk, late_answer};
 use crate::main_loop::MainLoop;
 use crate::main_task::MainTask;
 use crate::session::{Session, SessionStep};
@@ -35,8 +35,6 @@ struct Seated {
     token: u64,
     /// When it is ended, unless it gets on before.
     until: u64,
-    /// Its reply waits for the answer of a loop.
-    is_held: bool,
 }
 
 /// The sessions, by their places.
@@ -62,25 +60,23 @@ impl Seated {
             self.until = silence_end(now);
             main.host.arm(self.token, self.until);
         }
-        if step == SessionStep::Waits && !self.is_held && has_come(Some(self.until), now) {
+        if step == SessionStep::Waits
+            && !self.session.is_held()
+            && has_come(Some(self.until), now)
+        {
             return SessionStep::Over;
         }
         step
     }
 
-    // Has the next line answered, and its reply written, unless that is to wait.
+    // Has the next line answered, and its reply written, unless its answer comes later.
     fn ask<R>(&mut self, main: &mut MainLoop<R>, place: usize) -> SessionStep
     where
         R: Wait + Net + Files + Clock + Copy,
     {
         let alloc = main.alloc;
         let mut desk = RelayDesk::of(main, place);
-        let step = self.session.ask(alloc, &mut desk);
-        self.is_held = desk.is_held;
-        if self.is_held {
-            return SessionStep::Waits;
-        }
-        match step {
+        match self.session.ask(alloc, &mut desk) {
             SessionStep::Again => self.session.pay(),
             other => other,
         }
@@ -99,12 +95,12 @@ fn is_quieter(session: &Box<Seated>, found: Option<(usize, &Box<Seated>)>) -> bo
     }
 }
 
-// Whether the reply of the session at a place waits for a close.
+// Whether the session at a place waits for an answer.
 fn is_held(seat: &Option<Box<Seated>>) -> bool
     ensures { result ≡ is_held_at seat.now }
 {
     match seat {
-        Some(session) => session.is_held,
+        Some(seated) => seated.session.is_held(),
         None => false,
     }
 }
@@ -133,8 +129,8 @@ impl Sessions {
         None
     }
 
-    // The session that has got nowhere for longest, with its place. One whose reply waits for an
-    // answer isn't asked.
+    // The session that has got nowhere for longest, with its place. One that waits for an answer
+    // isn't asked.
     fn quietest(&self) -> Option<(usize, &Box<Seated>)>
         ensures longest { IfSome result (λ found.
             IsQuietest self.now.places.items found.0 found.1.now) }
@@ -144,7 +140,7 @@ impl Sessions {
         let mut found: Option<(usize, &Box<Seated>)> = None;
         for place in 0..self.places.len() {
             if let Some(session) = &self.places[place] {
-                if !session.is_held && is_quieter(session, found) {
+                if !session.session.is_held() && is_quieter(session, found) {
                     found = Some((place, session));
                 }
             }
@@ -192,30 +188,27 @@ impl Sessions {
         main.host.callers = came;
     }
 
-    // Whether the session at this place may go on: one whose reply waits for an answer, once that is
-    // there; any other, where it was named.
-    fn may_go_on<R>(&mut self, main: &mut MainLoop<R>, place: usize, is_named: bool) -> bool
+    // Whether the session at this place may go on: one that waits for an answer, once it has that;
+    // any other, where it was named.
+    fn may_go_on<R>(&mut self, main: &MainLoop<R>, place: usize, is_named: bool) -> bool
     where
         R: Wait + Net + Files + Clock + Copy,
     {
         let Some(Some(seated)) = self.places.get_mut(place) else {
             return false;
         };
-        if !seated.is_held {
+        if !seated.session.is_held() {
             return is_named;
         }
         let answer = main.host.shared.slots.lock(&main.host.rt).take(place);
         let Some(answer) = answer else {
             return false;
         };
-        let alloc = main.alloc;
-        let mut desk = RelayDesk::answering(main, place, answer);
-        seated.session.settle(alloc, &mut desk);
-        seated.is_held = false;
+        seated.session.answer(main.alloc, late_answer(answer));
         true
     }
 
-    /// Whether the reply of one of them waits for a close.
+    /// Whether one of them waits for an answer.
     pub(crate) fn are_held(&self) -> bool
         ensures { result ≡ are_held self.now.places.items }
     {
@@ -281,7 +274,6 @@ impl<R: Wait + Net + Files + Clock + Copy> MainLoop<R> {
             session: Session::over(self.alloc, sock)?,
             token,
             until,
-            is_held: false,
         };
         let seated = Box::new(self.alloc, seated).ok()?;
         if !self.host.arm(token, until) {

@@ -91,6 +91,14 @@ fn sized_by_default(loops: u64) -> Option<Capacity> {
     Some(Capacity { loops, pairs })
 }
 
+/// Targets have as long as the system takes, a rule as many connections as all, and no path gives
+/// way.
+const NO_SAFEGUARDS: Safeguards = Safeguards {
+    connect_ms: None,
+    per_rule: None,
+    replaces_stale: false,
+};
+
 /// A relay from its start to its end, of this size, with this log and these metrics.
 fn served<R>(
     rt: R,
@@ -119,7 +127,7 @@ where
         rules,
         admin,
         capacity,
-        Safeguards::by_default(),
+        NO_SAFEGUARDS,
         Given::none(rt.alloc()),
         outlets,
         &mut text,

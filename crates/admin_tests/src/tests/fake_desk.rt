@@ -1,10 +1,13 @@
 //! A desk for tests.
 
-ghost use Rattle.std.specs.Prelude.{None};
+ghost use Rattle.std.specs.Prelude.{◌≡◌, IfSome, None};
 
 use arrayvec::ArrayString;
-use relay_admin::{Addr, Desk, DeskAnswer, RulesFault, Shown, ShownSide, Verdict};
-use std::alloc::Global;
+use relay_admin::{
+    Addr, CloseAnswer, Desk, DeskAnswer, ReloadAnswer, RulesFault, SessionDesk, Shown, ShownSide,
+    SteerAnswer, TotalBytes, Verdict,
+};
+use std::alloc::{AllocError, Global};
 
 /// A text in a value of its own, and none of it where it is too long.
 pub(super) fn held<const N: usize>(text: &str) -> ArrayString<N> {
@@ -94,6 +97,34 @@ impl FakeDesk {
             _ => DeskAnswer::Unknown,
         }
     }
+
+    fn sight(id: u64) -> Option<Shown>
+        ensures { IfSome result (λ seen. seen.id ≡ id) }
+    {
+        match id {
+            2 => None,
+            // (the clause asks for this id, of which those below say nothing)
+            1_006.. => Some(Shown {
+                id,
+                ..shown_listener(id)
+            }),
+            _ => Some(Shown {
+                id,
+                ..shown_client(id)
+            }),
+        }
+    }
+
+    fn steered(&self, id: u64) -> SteerAnswer {
+        match id {
+            1 if self.is_drained => SteerAnswer::Draining,
+            1 => SteerAnswer::Fine,
+            2 => SteerAnswer::Closed,
+            3 => SteerAnswer::Busy,
+            4 => SteerAnswer::NoMemory,
+            _ => SteerAnswer::Unknown,
+        }
+    }
 }
 
 impl Desk for FakeDesk {
@@ -162,22 +193,11 @@ impl Desk for FakeDesk {
     }
 
     fn ids_to_show(&mut self, alloc: Global) -> DeskAnswer {
-        self.ids(alloc)
+        Desk::ids(self, alloc)
     }
 
     fn look(&mut self, id: u64) -> Option<Shown> {
-        match id {
-            2 => None,
-            // (likewise)
-            1_006.. => Some(Shown {
-                id,
-                ..shown_listener(id)
-            }),
-            _ => Some(Shown {
-                id,
-                ..shown_client(id)
-            }),
-        }
+        FakeDesk::sight(id)
     }
 
     fn reload(&mut self, _alloc: Global) -> DeskAnswer {
@@ -190,6 +210,82 @@ impl Desk for FakeDesk {
             4 => DeskAnswer::CannotListen(held("web-2")),
             5 => DeskAnswer::NoMemory,
             _ => DeskAnswer::Closed,
+        }
+    }
+}
+
+/// The same answers, each of the type of its question.
+impl SessionDesk for FakeDesk {
+    ghost exchanges = { λ _. None };
+
+    fn ids(&mut self, alloc: Global) -> Result<Vec<u64>, AllocError> {
+        self.count();
+        Vec::from_slice(alloc, self.ids)
+    }
+
+    fn totals(&mut self) -> TotalBytes {
+        self.count();
+        let (up, down) = self.totals;
+        TotalBytes { up, down }
+    }
+
+    fn close(&mut self, id: u64) -> Option<CloseAnswer> {
+        self.count();
+        Some(match id {
+            1 => CloseAnswer::Fine,
+            2 => CloseAnswer::Closed,
+            3 => CloseAnswer::Busy,
+            4 => CloseAnswer::NoMemory,
+            _ => CloseAnswer::Unknown,
+        })
+    }
+
+    fn drain(&mut self, id: u64) -> Option<SteerAnswer> {
+        self.count();
+        let answer = self.steered(id);
+        self.is_drained = self.is_drained || id == 1;
+        Some(answer)
+    }
+
+    fn deadline(&mut self, _alloc: Global, id: u64, _after_ms: Option<u32>) -> Option<SteerAnswer> {
+        self.count();
+        if id == 1 && self.is_drained {
+            return Some(SteerAnswer::Draining);
+        }
+        Some(SteerAnswer::Fine)
+    }
+
+    fn finish(&mut self, _after_ms: u64) {
+        self.count();
+    }
+
+    fn show(&mut self, id: u64) -> Option<Shown> {
+        self.count();
+        match id {
+            7 => FakeDesk::sight(id),
+            _ => None,
+        }
+    }
+
+    fn ids_to_show(&mut self, alloc: Global) -> Result<Vec<u64>, AllocError> {
+        self.count();
+        Vec::from_slice(alloc, self.ids)
+    }
+
+    fn look(&mut self, id: u64) -> Option<Shown> {
+        FakeDesk::sight(id)
+    }
+
+    fn reload(&mut self, _alloc: Global) -> ReloadAnswer {
+        self.count();
+        self.reloads = self.reloads.saturating_add(1);
+        match self.reloads {
+            1 => ReloadAnswer::Verdict(Verdict::Rules(2)),
+            2 => ReloadAnswer::Verdict(Verdict::Bad(RulesFault::SameName(65_536))),
+            3 => ReloadAnswer::CannotRead,
+            4 => ReloadAnswer::CannotListen(held("web-2")),
+            5 => ReloadAnswer::NoMemory,
+            _ => ReloadAnswer::Finishing,
         }
     }
 }

@@ -2,6 +2,7 @@
 mod devices;
 mod each_reply;
 mod in_pieces;
+mod later;
 
 use crate::tests::fake_desk::FakeDesk;
 use relay_admin::{AdminEnd, serve_admin};
@@ -91,13 +92,6 @@ const SESSIONS: &[(&str, &str, AdminEnd, u64)] = &[
         AdminEnd::Quit,
         3,
     ),
-    (
-        "show 2\nshow 3\nshow 4\nshow 01\nshow \nshow 7 2\n",
-        "error 409 closed\nerror 409 busy\nerror 507 out of memory\nerror 400 bad command\n\
-        error 400 bad command\nerror 400 bad command\n",
-        AdminEnd::End,
-        3,
-    ),
     // (the second id has gone when it is looked at)
     ("show\nlist\nshow", LISTED, AdminEnd::End, 3),
     (
@@ -113,6 +107,15 @@ const SESSIONS: &[(&str, &str, AdminEnd, u64)] = &[
         7,
     ),
 ];
+
+/// What a desk that answers anything to any question may answer to a `show`.
+const SHOW_REFUSED: (&str, &str, AdminEnd, u64) = (
+    "show 2\nshow 3\nshow 4\nshow 01\nshow \nshow 7 2\n",
+    "error 409 closed\nerror 409 busy\nerror 507 out of memory\nerror 400 bad command\n\
+    error 400 bad command\nerror 400 bad command\n",
+    AdminEnd::End,
+    3,
+);
 
 const SHOWN_AND_RELOADED: &str =
     "show 7 rule web side client peer tcp:127.0.0.1:51234 up 12 down 0 age 3500 quiet 1200\n\
@@ -150,6 +153,7 @@ fn lines_have_their_replies(rt: HostRuntime) {
     for session in SESSIONS {
         assert!(rt; plays(rt.alloc(), &[1, 2], session), "{}", session.0);
     }
+    assert!(rt; plays(rt.alloc(), &[1, 2], &SHOW_REFUSED));
 }
 
 /// Rows of ids, and the reply to `show`.

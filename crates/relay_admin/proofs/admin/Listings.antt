@@ -1,5 +1,5 @@
 -- Part after part of a listing, and what they come to.
-use Rattle.std.specs.Prelude.{◌≡◌, ◌∷◌, ◌++◌, ◌⊎◌}
+use Rattle.std.specs.Prelude.{◌≡◌, ◌∷◌, ◌++◌}
 use Rattle.relay_admin.proofs.Words.{◌∙◌, sym, ap, refl, subst, ℕ, List, [], length, take, Option, Some, None, inl, inr}
 use Rattle.relay_admin.proofs.Words.{append_assoc, append-nil, Appends, AppendsFront, appends_nothing, drop}
 use Rattle.relay_admin.proofs.Words.{take-append-drop, Ok, Err, Result}
@@ -9,7 +9,7 @@ use Rattle.std.proofs.lemmas.List.{take_at}
 use Rattle.relay_admin.specs.declared.admin.listing.Part.{Part}
 use Rattle.relay_admin.specs.declared.admin.listing.Part.TheVariants as part
 use Rattle.relay_admin.specs.declared.admin.reply_bytes.Reply.{Reply}
-use Rattle.relay_admin.specs.declared.admin.reply_text.TheConstants.{OUT_OF_MEMORY, SHOWN_ALL}
+use Rattle.relay_admin.specs.declared.admin.reply_text.TheConstants.{SHOWN_ALL}
 use Rattle.relay_admin.specs.admin.Listing.{AnswerComesTo, Comes, Said, Shows, each, gone, line, refused, shown_all, whole}
 use Rattle.relay_admin.specs.admin.Parts.{IsPartOf, PartComes}
 use Rattle.relay_admin.specs.admin.Progress.{Delivers, DeliversFront}

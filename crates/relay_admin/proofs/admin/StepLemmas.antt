@@ -1,20 +1,21 @@
 -- The reply to one line, and what it is to a session that writes it and to one whose caller does.
-use Rattle.std.specs.Prelude.{◌≡◌, ◌≢◌, ◌+◌, ◌≤◌, ◌<◌, ◌∷◌, ◌++◌, ◌⊎◌, unwrap_or}
-use Rattle.relay_admin.proofs.Words.{◌∙◌, sym, ap, refl, subst, ℕ, List, [], inl, inr}
-use Rattle.relay_admin.proofs.Words.{length, Option, Some, None, arith, append_assoc, append-nil}
-use Rattle.relay_admin.proofs.Words.{Appends, AppendsFront, Reading, Lacks, line_feed, lines_of, LineEnds, LineGrows}
-use Rattle.relay_admin.proofs.Words.{MAX_LINES, MAX_LINE_BYTES, AdminEnd, Exchange, bad_command}
-use Rattle.relay_admin.proofs.Words.{LineTranscript, ended, cut_off, Transcript, last_line, line_limit}
-use Rattle.relay_admin.proofs.Words.{Position, IsReady, AnswersLine, Advances, Closes}
+use Rattle.std.specs.Prelude.{◌≡◌, ◌≢◌, ◌<◌, ◌∷◌, ◌++◌, unwrap_or}
+use Rattle.relay_admin.proofs.Words.{◌∙◌, sym, ap, subst, ℕ, List, [], inl, inr}
+use Rattle.relay_admin.proofs.Words.{length, Option, Some, None}
+use Rattle.relay_admin.proofs.Words.{EndsLines, Reading, Lacks, line_feed, LineEnds}
+use Rattle.relay_admin.specs.admin.Later.{GoesBehind}
+use Rattle.relay_admin.proofs.Words.{AdminEnd, Exchange, bad_command}
+use Rattle.relay_admin.proofs.Words.{ended, cut_off, Transcript, last_line, line_limit}
+use Rattle.relay_admin.proofs.Words.{Position, IsReady, AnswersLine, Closes}
 use Rattle.relay_admin.specs.declared.admin.dialogue.Dialogue.{Dialogue}
 use Rattle.relay_admin.specs.declared.admin.end.AdminEnd.TheVariants as ends
 use Rattle.relay_admin.specs.declared.admin.dialogue.Step.TheVariants as step
 use Rattle.relay_admin.specs.admin.Listing.{Comes, Said, whole}
-use Rattle.relay_admin.specs.admin.Progress.{Asks, GoesOnBy, LastComesTo, NextComesTo, ReplyComesTo, ahead_of, position}
+use Rattle.relay_admin.specs.admin.Progress.{Asks, LastComesTo, NextComesTo, ReplyComesTo, ahead_of, position}
 use Rattle.relay_admin.specs.admin.Progress.{Delivers, DeliversFront, LineComesTo}
 use Rattle.relay_admin.proofs.admin.LineTranscripts.{adds_none, not_end, of_whole}
 use Rattle.relay_admin.proofs.admin.Listings.{some_comes}
-use Rattle.relay_admin.proofs.admin.SessionLemmas.{AreTooLong, LineMeanwhile, advances_line, advances_none, advances_part}
+use Rattle.relay_admin.proofs.admin.SessionLemmas.{AreTooLong, LineMeanwhile, advances_line, advances_none}
 use Rattle.relay_admin.proofs.admin.SessionLemmas.{closes_after, closes_line, closes_long, last_line_closes, last_line_ends}
 use Rattle.relay_admin.proofs.admin.SessionLemmas.{line_breaks, line_ends, line_is_last, line_written, ready_next}
 
@@ -47,7 +48,26 @@ pub reply_goes_on : (old new : Position) (k0 k1 k2 : Option (List Exchange)) (h0
 reply_goes_on old new k0 k1 k2 h0 h1 said d w =
     (d.0, d.1, line_written old.kept k0 k1 k2 h0 h1 said None d.2 w)
 
+-- ---- The reply to a line, and where the session goes by it
+
+pub reply_comes : (end result : Option AdminEnd) (old new : Position) (k0 k1 : Option (List Exchange)) (said : Said)
+    → AnswersLine k0 k1 old.kept said end → GoesBehind end result old new → ReplyComesTo result old new k0 k1 said
+reply_comes (Some end) result old new k0 k1 said are goes =
+    subst (λ (r : Option AdminEnd). ReplyComesTo r old new k0 k1 said) (sym goes.0) (goes.1, inl are)
+reply_comes None None old new k0 k1 said are goes = (goes.0, goes.1, are)
+reply_comes None (Some end) old new k0 k1 said are goes = (goes.2, inr (goes.0, goes.1, are))
+
 -- ---- The caller writes the reply
+
+-- these bytes end a line
+pub record EndsLine (old found : Reading) : Type 0 where
+  pub bytes : List ℕ
+  pub some : 0 < length bytes
+  pub cut : old.ahead ≡ bytes ++ found.ahead
+  pub ends : EndsLines old.held bytes (found.held ∷ []) []
+
+pub ends_line_of : (old found : Reading) → LineEnds old found → EndsLine old found
+ends_line_of old found l = record { bytes = l.bytes; some = l.some; cut = l.cut; ends = l.ends }
 
 pub ready_after : (end : Option AdminEnd) (old new : Position) (k0 k1 : Option (List Exchange)) (said : Said)
     → IsReady old → ReplyComesTo end old new k0 k1 said → IsReady new
@@ -56,7 +76,7 @@ ready_after (Some end) old new k0 k1 said ready d = subst IsReady (sym d.0) read
 
 -- a line closes the session, whatever follows the bytes that end it
 closes_by : (number : ℕ) (old found : Reading) (exchanges : List Exchange) (reply : List ℕ) (end : AdminEnd)
-    → LineEnds old found
+    → EndsLine old found
     → ((lines : List (List ℕ)) → Transcript number (found.held ∷ lines) exchanges reply (ended end))
     → Closes (record { number = number; kept = old.held }) old.ahead exchanges reply (ended end)
 closes_by number old found exchanges reply end l are =
@@ -66,7 +86,7 @@ closes_by number old found exchanges reply end l are =
     (closes_line number old.held found.held l.bytes exchanges reply (ended end) l.ends are))
 
 pub next_comes : (end : Option AdminEnd) (number : ℕ) (old found : Reading) (new : Dialogue)
-    (k0 k1 : Option (List Exchange)) (said : Said) → LineEnds old found → ahead_of new ≡ found.ahead
+    (k0 k1 : Option (List Exchange)) (said : Said) → EndsLine old found → ahead_of new ≡ found.ahead
     → ReplyComesTo end (record { number = number; kept = found.held }) (position new) k0 k1 said
     → NextComesTo (Some (said, end)) (record { number = number; lines = old }) new k0 k1
 next_comes None number old found new k0 k1 said l same d = record {

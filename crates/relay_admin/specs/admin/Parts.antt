@@ -26,6 +26,12 @@ IsPartOf part.Gone seen = ⊥
 IsPartOf (part.Line reply) seen = bytes_of reply ≡ shown_text seen
 IsPartOf (part.Last reply) seen = bytes_of reply ≡ OUT_OF_MEMORY.now
 
+-- a part is that of what was seen, or of an id that stands for nothing
+abbrev pub IsPartOfLook : {A : Type 0} → Part A → Option Particulars → Type 0
+IsPartOfLook part (Some seen) = IsPartOf part seen
+IsPartOfLook part.Gone None = Unit {0}
+IsPartOfLook part None = ⊥
+
 -- a part shows the next id, after a look at it; where no id is left it is the last
 abbrev pub PartComes : {A : Type 0} → Part A → List ℕ → List ℕ
     → Option (List Exchange) → Option (List Exchange) → Type 0

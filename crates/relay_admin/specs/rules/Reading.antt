@@ -1,6 +1,6 @@
 -- Reading a rules file, line by line and each from left to right, as the code does. Public clauses
 -- cite `address_at` alone, of which `laws::an_address_is_read_from_its_text` says what it reads.
-use Rattle.std.specs.Prelude.{◌≡◌, ◌<◌, ◌==◌, ◌++◌, ℕ, Bool, true, false, ◌&&◌, List, [], ◌∷◌}
+use Rattle.std.specs.Prelude.{◌≡◌, ◌<◌, ◌==◌, ◌++◌, ℕ, Bool, true, ◌&&◌, List, [], ◌∷◌}
 use Rattle.std.specs.Prelude.{length, Option, Some, None}
 use Rattle.std.specs.Prelude.{Result, Ok, Err, codes, if◌then◌else◌}
 use Rattle.std.specs.List.{list_any}

@@ -1,23 +1,29 @@
-//! A session, line by line. Who has one session has each reply written and flushed when its line is
-//! whole (`answer_lines`, `finish`); who has many takes each reply and writes it (`take`,
-//! `next_reply`, `last_reply`; `stepwise` has these for callers). The desk may take memory of
-//! `alloc`; replies take theirs of `memory`, which a session passes as the same.
+//! A session, line by line. A program with one session has each reply written and flushed when its
+//! line is whole (`answer_lines`, `finish`); one with many takes each reply and writes it (`take`,
+//! `next_reply`, `last_reply`; `stepwise` has these for callers), and its desk may answer later. The
+//! desk may take memory of `alloc`; replies take theirs of `memory`, which a session passes as the
+//! same.
 
-ghost use Rattle.std.specs.Prelude.{◌≡◌, ◌≢◌, length, min, option_map, take};
+ghost use Rattle.std.specs.Prelude.{◌≡◌, ◌≢◌, ◌≤◌, length, min, take};
 ghost use Rattle.relay_admin.specs.Words.{[], OnOk, OnErr, WriteStopped};
 ghost use Rattle.relay_admin.specs.admin.Devices.{IsFlushedOrUntouched};
+ghost use Rattle.relay_admin.specs.declared.admin.dialogue.TheConstants.{MAX_LINES};
+ghost use Rattle.relay_admin.specs.admin.Later.{GoesBehind, LastLineComesTo, NextLineComesTo};
+ghost use Rattle.relay_admin.specs.admin.Later.{WholeLineComesTo};
 ghost use Rattle.relay_admin.specs.admin.Parts.{said_of};
 ghost use Rattle.relay_admin.specs.admin.Progress.{EndComesTo, IsReady, LineComesTo, LinesComeTo};
-ghost use Rattle.relay_admin.specs.admin.Progress.{LastComesTo, NextComesTo, ReplyComesTo};
+ghost use Rattle.relay_admin.specs.admin.Progress.{ReplyComesTo};
 ghost use Rattle.relay_admin.specs.admin.Progress.{SinkAfter, ahead_of, position, start};
 ghost use Rattle.stream_base.specs.declared.line_reader.TheConstants.{CHUNK_BYTES};
 
 use crate::admin::desk::Desk;
 use crate::admin::end::AdminEnd;
-use crate::admin::line_answer::answer_line;
+use crate::admin::line_answer::{answer_line, ask_line};
 use crate::admin::line_reply::{LineReply, deliver};
+use crate::admin::next_line::NextLine;
 use crate::admin::reply_bytes::Reply;
 use crate::admin::reply_text::BAD_COMMAND;
+use crate::admin::session_desk::SessionDesk;
 use std::alloc::{Allocator, Global};
 use stream_base::line_reader::{Found, LineReader};
 use stream_base::sink::{Sink, SinkFault, deliver_to};
@@ -135,15 +141,26 @@ impl Dialogue {
         ensures ahead { ahead_of self.new ≡ ahead_of self.old }
     {
         let (reply, end) = answer_line(alloc, memory, desk, self.lines.line());
-        if end.is_some() {
-            return (reply, end);
+        let end = self.go_behind_line(end);
+        (reply, end)
+    }
+
+    /// Goes on behind the line, which is whole and ends the session so, if it does; and says how the
+    /// session ends. It does at line 65,536.
+    pub(crate) fn go_behind_line(&mut self, end: Option<AdminEnd>) -> Option<AdminEnd>
+        requires { (position self.old).number ≤ MAX_LINES }
+        ensures goes { GoesBehind end result (position self.old) (position self.new) }
+        ensures ahead { ahead_of self.new ≡ ahead_of self.old }
+    {
+        if let Some(end) = end {
+            return Some(end);
         }
         if self.number >= MAX_LINES {
-            return (reply, Some(AdminEnd::TooManyLines));
+            return Some(AdminEnd::TooManyLines);
         }
         self.number += 1;
         self.lines.start_line();
-        (reply, None)
+        None
     }
 
     /// Answers what has come of a last line that lacks its line feed: no byte is left.
@@ -186,46 +203,70 @@ impl Dialogue {
         self.lines.take(bytes)
     }
 
-    /// The reply to the next line among the bytes that were taken, and how the session ends by it,
-    /// if it does; none where no line is whole.
-    pub(crate) fn next_reply<A: Allocator + Copy, D: Desk>(
+    // What comes of the line, which is whole, at a desk that may answer later.
+    fn ask_line<A: Allocator + Copy, D: SessionDesk>(
         &mut self,
         alloc: Global,
         memory: A,
         desk: &mut D,
-    ) -> Option<(LineReply<A>, Option<AdminEnd>)>
+    ) -> NextLine<A>
         requires ready { IsReady (position self.old) }
-        ensures ready { IsReady (position self.new) }
-        ensures does { NextComesTo (option_map (λ told. (said_of told.0, told.1)) result)
-            self.old self.new (D.exchanges desk.old) (D.exchanges desk.new) }
+        ensures does { WholeLineComesTo result (position self.old) (position self.new)
+            (D.exchanges desk.old) (D.exchanges desk.new) }
+        ensures ahead { ahead_of self.new ≡ ahead_of self.old }
     {
-        match self.lines.find_line() {
-            Found::Unended => None,
-            Found::TooLong => {
-                let reply = LineReply::Whole(Reply::Fixed(BAD_COMMAND));
-                Some((reply, Some(AdminEnd::TooLong)))
+        match ask_line(alloc, memory, desk, self.lines.line()) {
+            NextLine::Reply(reply, end) => {
+                let end = self.go_behind_line(end);
+                NextLine::Reply(reply, end)
             }
-            Found::Line => Some(self.reply_to_line(alloc, memory, desk)),
+            other => other,
         }
     }
 
-    /// The same of a last line that lacks its line feed, once no byte is left; none where there is
-    /// none. The session ends here.
-    pub(crate) fn last_reply<A: Allocator + Copy, D: Desk>(
+    /// What has come of the next line among the bytes that were taken.
+    pub(crate) fn next_reply<A: Allocator + Copy, D: SessionDesk>(
         &mut self,
         alloc: Global,
         memory: A,
         desk: &mut D,
-    ) -> Option<(LineReply<A>, AdminEnd)>
+    ) -> NextLine<A>
         requires ready { IsReady (position self.old) }
         ensures ready { IsReady (position self.new) }
-        ensures does { LastComesTo (option_map (λ told. (said_of told.0, told.1)) result)
-            (position self.old) (D.exchanges desk.old) (D.exchanges desk.new) }
+        ensures does { NextLineComesTo result
+            self.old self.new (D.exchanges desk.old) (D.exchanges desk.new) }
+    {
+        match self.lines.find_line() {
+            Found::Unended => NextLine::Unended,
+            Found::TooLong => {
+                let reply = LineReply::Whole(Reply::Fixed(BAD_COMMAND));
+                NextLine::Reply(reply, Some(AdminEnd::TooLong))
+            }
+            Found::Line => self.ask_line(alloc, memory, desk),
+        }
+    }
+
+    /// What has come of a last line that lacks its line feed, once no byte is left. By its reply the
+    /// session ends.
+    pub(crate) fn last_reply<A: Allocator + Copy, D: SessionDesk>(
+        &mut self,
+        alloc: Global,
+        memory: A,
+        desk: &mut D,
+    ) -> NextLine<A>
+        requires ready { IsReady (position self.old) }
+        ensures ready { IsReady (position self.new) }
+        ensures does { LastLineComesTo result
+            self.old self.new (D.exchanges desk.old) (D.exchanges desk.new) }
     {
         if self.lines.line().is_empty() {
-            return None;
+            return NextLine::Unended;
         }
-        let (reply, end) = self.reply_to_line(alloc, memory, desk);
-        Some((reply, end.unwrap_or(AdminEnd::End)))
+        match self.ask_line(alloc, memory, desk) {
+            NextLine::Reply(reply, end) => {
+                NextLine::Reply(reply, Some(end.unwrap_or(AdminEnd::End)))
+            }
+            other => other,
+        }
     }
 }

@@ -1,8 +1,10 @@
 //! What one line of a session asks, and its reply.
 
-ghost use Rattle.std.specs.Prelude.{◌≤◌};
+ghost use Rattle.std.specs.Prelude.{◌≡◌, ◌≤◌};
 ghost use Rattle.relay_admin.specs.Words.{length};
 ghost use Rattle.relay_admin.specs.declared.admin.dialogue.TheConstants.{MAX_LINE_BYTES};
+ghost use Rattle.relay_admin.specs.admin.LineMeaning.{LineMeans};
+ghost use Rattle.relay_admin.specs.admin.Later.{LineComesBy};
 ghost use Rattle.relay_admin.specs.admin.Parts.{said_of};
 ghost use Rattle.relay_admin.specs.admin.Progress.{AnswersLine};
 
@@ -10,9 +12,34 @@ use crate::admin::command::Command;
 use crate::admin::desk::{Desk, ask};
 use crate::admin::end::AdminEnd;
 use crate::admin::line_reply::{LineReply, line_reply_to};
+use crate::admin::next_line::NextLine;
 use crate::admin::reply_bytes::Reply;
 use crate::admin::reply_text::{BAD_COMMAND, DONE};
+use crate::admin::session_desk::{SessionDesk, ask_session_desk};
 use std::alloc::{Allocator, Global};
+
+/// What a line is to a session.
+#[derive(Drop)]
+pub(crate) enum LineIs<A: Allocator> {
+    /// It asks nothing: its reply, and how the session ends by it, if it does.
+    Answered(LineReply<A>, Option<AdminEnd>),
+    /// It asks this.
+    Asks(Command),
+}
+
+// What a line without its line feed is.
+fn line_is<A: Allocator>(line: &[u8]) -> LineIs<A>
+    requires { length line.now ≤ MAX_LINE_BYTES }
+    ensures { LineMeans result line.now }
+{
+    let Some(command) = Command::parse(line) else {
+        return LineIs::Answered(LineReply::Whole(Reply::Fixed(BAD_COMMAND)), None);
+    };
+    match command.end() {
+        Some(end) => LineIs::Answered(LineReply::Whole(Reply::Fixed(DONE)), Some(end)),
+        None => LineIs::Asks(command),
+    }
+}
 
 /// Answers a line without its line feed: the reply, and how the session ends by it, if it does.
 /// The desk may take memory of `alloc`, the reply of `memory`.
@@ -26,14 +53,30 @@ pub(crate) fn answer_line<A: Allocator + Copy, D: Desk>(
     ensures { AnswersLine (D.exchanges desk.old) (D.exchanges desk.new)
         line.now (said_of result.0) result.1 }
 {
-    let Some(command) = Command::parse(line) else {
-        return (LineReply::Whole(Reply::Fixed(BAD_COMMAND)), None);
-    };
-    match command.end() {
-        Some(end) => (LineReply::Whole(Reply::Fixed(DONE)), Some(end)),
-        None => {
+    match line_is(line) {
+        LineIs::Answered(reply, end) => (reply, end),
+        LineIs::Asks(command) => {
             let answer = ask(alloc, desk, &command);
             (line_reply_to(memory, &command, answer), None)
         }
+    }
+}
+
+/// The same at a desk that may answer later.
+pub(crate) fn ask_line<A: Allocator + Copy, D: SessionDesk>(
+    alloc: Global,
+    memory: A,
+    desk: &mut D,
+    line: &[u8],
+) -> NextLine<A>
+    requires { length line.now ≤ MAX_LINE_BYTES }
+    ensures { LineComesBy result (D.exchanges desk.old) (D.exchanges desk.new) line.now }
+{
+    match line_is(line) {
+        LineIs::Answered(reply, end) => NextLine::Reply(reply, end),
+        LineIs::Asks(command) => match ask_session_desk(alloc, desk, &command) {
+            Some(answer) => NextLine::Reply(line_reply_to(memory, &command, answer), None),
+            None => NextLine::Held(command),
+        },
     }
 }

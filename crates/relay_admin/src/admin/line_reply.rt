@@ -99,7 +99,7 @@ fn deliver_each<A: Allocator + Copy, K: Sink, D: Desk>(
 {
     let mut listing = listing;
     'parts: loop {
-        match listing.next_part(memory, desk) {
+        match listing.next_part_at(memory, desk) {
             Part::Gone => {}
             Part::Line(reply) => match deliver_to(sink, reply.as_slice()) {
                 Ok(()) => {}

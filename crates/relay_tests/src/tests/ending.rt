@@ -3,8 +3,8 @@
 use super::live_threads::live_threads;
 use super::places::{Place, place_to};
 use super::watch::Watch;
-use super::{no_outlets, sized_by_default};
-use relay::{Safeguards, ServeFault};
+use super::{NO_SAFEGUARDS, no_outlets, sized_by_default};
+use relay::ServeFault;
 use relay_serve::{Given, serve};
 use std::fs::Files;
 use std::io;
@@ -60,7 +60,7 @@ where
         rules,
         admin,
         capacity,
-        Safeguards::by_default(),
+        NO_SAFEGUARDS,
         Given::none(rt.alloc()),
         outlets,
         &mut Broken,

@@ -1,7 +1,7 @@
 //! Sessions that are answered a line at a time, with their bytes in pieces.
 use super::SESSIONS;
 use crate::tests::fake_desk::FakeDesk;
-use relay_admin::{AdminEnd, AdminSession, LineReply, Listing, Part};
+use relay_admin::{AdminEnd, AdminSession, LineReply, Listing, NextLine, Part};
 use std::alloc::Global;
 
 /// More lines than a piece has.
@@ -50,7 +50,7 @@ fn answered(
     replies: &mut Vec<u8>,
 ) -> Option<Option<AdminEnd>> {
     for _ in 0..MOST_LINES {
-        let Some((reply, end)) = session.next_reply(alloc, alloc, desk) else {
+        let NextLine::Reply(reply, end) = session.next_reply(alloc, alloc, desk) else {
             return Some(None);
         };
         add(alloc, reply, desk, replies)?;
@@ -77,10 +77,11 @@ fn played(
         }
     }
     match session.last_reply(alloc, alloc, desk) {
-        None => Some(AdminEnd::End),
-        Some((reply, end)) => {
+        NextLine::Unended => Some(AdminEnd::End),
+        NextLine::Held(_) => None,
+        NextLine::Reply(reply, end) => {
             add(alloc, reply, desk, replies)?;
-            Some(end)
+            end
         }
     }
 }

@@ -1,4 +1,4 @@
-use Rattle.std.proofs.Common.{ap, subst}
+use Rattle.std.proofs.Common.{subst}
 use Rattle.relay_admin.specs.admin.Reply.{IsReplyTo, answer_of}
 use Rattle.relay_admin.specs.admin.ReplyBytes.{bytes_of}
 use Rattle.relay_admin.proofs.admin.Listings.{by_ids, by_whole}

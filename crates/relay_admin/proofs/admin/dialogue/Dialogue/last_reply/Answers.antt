@@ -13,13 +13,14 @@ returns-then-is_empty-clause-does g c =
     let empty : length c.line.result.now ≡ 0 = number_same _ 0 (sym c.is_empty.ensures ∙ c.if-is_empty.true) in
     (refl, no_last_line self.number self.lines.held (omega (arith, ap length c.line.ensures.bytes, empty)))
 
-pub returns-clause-does : goal.returns-clause-does
-returns-clause-does g c =
+pub returns-in-Reply-clause-does : goal.returns-in-Reply-clause-does
+returns-in-Reply-clause-does g c =
     let self = c.args.self.now in
     let some : 0 < length c.line.result.now = number_positive _ (sym c.is_empty.ensures ∙ c.if-is_empty.false) in
-    subst (λ end. LastComesTo (Some (said_of c.reply_to_line-reply.result.0, end)) (position self)
-    (g.D.Desk.exchanges c.args.desk.now) (g.D.Desk.exchanges c.reply_to_line-reply.new.desk)) (sym c.unwrap_or.ensures)
-    (last_comes c.reply_to_line-reply.result.1 self.number self.lines.held (position c.reply_to_line-reply.new.self)
-    (g.D.Desk.exchanges c.args.desk.now) (g.D.Desk.exchanges c.reply_to_line-reply.new.desk)
-    (said_of c.reply_to_line-reply.result.0) c.requires.ready.unended
-    (omega (arith, ap length c.line.ensures.bytes, some)) c.reply_to_line-reply.ensures.does)
+    subst (λ end. LastComesTo (Some (said_of c.in-Reply.reply, end)) (position self)
+    (g.D.SessionDesk.exchanges c.args.desk.now) (g.D.SessionDesk.exchanges c.ask_line.new.desk))
+    (sym c.unwrap_or.ensures)
+    (last_comes c.in-Reply.end self.number self.lines.held (position c.ask_line.new.self)
+    (g.D.SessionDesk.exchanges c.args.desk.now) (g.D.SessionDesk.exchanges c.ask_line.new.desk)
+    (said_of c.in-Reply.reply) c.requires.ready.unended
+    (omega (arith, ap length c.line.ensures.bytes, some)) c.in-Reply.ensures.does)

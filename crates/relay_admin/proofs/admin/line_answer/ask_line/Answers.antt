@@ -1,0 +1,15 @@
+use Rattle.relay_admin.specs.admin.Parts.{said_of}
+use Rattle.relay_admin.proofs.admin.LineTranscripts.{asked_line}
+use Rattle.relay_admin.proofs.admin.line_answer.ask_line.Goals as goal
+
+pub returns-in-Answered : goal.returns-in-Answered
+returns-in-Answered g c = c.in-Answered.ensures _
+
+pub returns-in-Some : goal.returns-in-Some
+returns-in-Some g c =
+    asked_line _ _ c.args.line.now c.in-Asks.command _ (said_of c.line_reply_to.result) c.requires c.in-Asks.ensures.0
+    c.in-Asks.ensures.1 c.in-Some.ensures.told c.in-Some.ensures.asked c.line_reply_to.ensures
+
+pub returns-in-None : goal.returns-in-None
+returns-in-None g c =
+    (record { spells = c.in-Asks.ensures.0; later = c.in-None.ensures.later }, c.in-None.ensures.told)
