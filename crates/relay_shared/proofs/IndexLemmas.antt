@@ -9,7 +9,7 @@ use Rattle.relay_shared.specs.declared.index.Standing.{Standing}
 use Rattle.relay_shared.specs.declared.index.Standing.TheVariants.{Connection, Listener}
 use Rattle.relay_admin.specs.declared.admin.shown.ShownSide.{ShownSide}
 use Rattle.relay_admin.specs.declared.admin.shown.ShownSide.TheVariants as side
-use Rattle.relay_shared.specs.Index.{Register, entered, ids_of, IsFound, IsFoundAt, Enters, Leaves}
+use Rattle.relay_shared.specs.Index.{Register, entered, ids_of, IsFoundAt, Enters, Leaves}
 use Rattle.relay_shared.specs.IndexLaws.{Move, Entered, Left, CameBy, Stands, WasGiven}
 use Rattle.relay_shared.specs.IndexLaws.{WhatIsFoundStands, IdsAreGivenOnce, AnIdNamesOne}
 use Rattle.relay_shared.proofs.IndexLists.{has_an_id}

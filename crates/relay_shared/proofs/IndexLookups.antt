@@ -3,7 +3,7 @@ use Rattle.std.proofs.Common.{◌≡◌, ◌≢◌, ◌⊎◌, ◌∙◌, sym, a
 use Rattle.std.proofs.Common.{Bool, true, false, cond, Option, Some, None, eqb-true}
 use Rattle.std.proofs.lemmas.Bool.{ne_eqb, eqb-false, eq-eqb}
 use Rattle.std.specs.Prelude.{not}
-use Rattle.std.specs.Ordering.{nat_cmp, is_eq}
+use Rattle.std.specs.Ordering.{nat_cmp}
 use Rattle.std.specs.Cmp.{unsigned_tied}
 use Rattle.std.specs.BTreeMap.{is_at}
 use Rattle.std.specs.Map.{lookup}

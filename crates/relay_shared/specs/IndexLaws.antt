@@ -1,5 +1,5 @@
 -- What the contracts of the index mean together, over all that was entered and left.
-use Rattle.std.specs.Prelude.{◌≡◌, ◌≢◌, ◌↔◌, ◌⊎◌, ◌+◌, ◌≤◌, ℕ, List, [], ◌∷◌, Option, None, Some}
+use Rattle.std.specs.Prelude.{◌≡◌, ◌≢◌, ◌↔◌, ◌⊎◌, ◌+◌, ◌≤◌, ℕ, List, [], ◌∷◌, Some}
 use Rattle.relay_shared.specs.declared.index.Standing.{Standing}
 use Rattle.relay_admin.specs.declared.admin.shown.ShownSide.{ShownSide}
 use Rattle.relay_shared.specs.Index.{Register, entered, ids_of, IsFound, Enters, Leaves}

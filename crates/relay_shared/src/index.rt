@@ -43,7 +43,7 @@ impl<C, L> Model for Index<C, L> {
 }
 
 /// That something stands under this id from now on. It can't be dropped: who has entered something
-/// keeps its id, or takes it back, so that nothing stands of which nobody knows.
+/// keeps its id, by which it leaves, so that nothing stands of which nobody knows.
 pub struct Entered {
     id: u64,
 }

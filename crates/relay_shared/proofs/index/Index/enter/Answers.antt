@@ -1,5 +1,5 @@
-use Rattle.std.proofs.Common.{◌≡◌, ◌∙◌, ◌+◌, refl, subst, ap, sym}
-use Rattle.relay_shared.specs.Index.{Register, register_of, Enters, IsConsistent, ids_of}
+use Rattle.std.proofs.Common.{◌∙◌, ◌+◌, refl, subst, ap}
+use Rattle.relay_shared.specs.Index.{register_of, Enters}
 use Rattle.relay_shared.proofs.IndexLists.{inserted_last, consistent_last}
 use Rattle.relay_shared.proofs.index.Index.enter.Goals as goal
 

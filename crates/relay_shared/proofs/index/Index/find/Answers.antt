@@ -1,4 +1,4 @@
-use Rattle.std.proofs.Common.{◌≡◌, ◌∙◌, ap, sym, refl, arith}
+use Rattle.std.proofs.Common.{◌∙◌, ap, sym, arith}
 use Rattle.relay_shared.specs.Index.{entered}
 use Rattle.relay_shared.proofs.index.Index.find.Goals as goal
 

@@ -1,4 +1,4 @@
-use Rattle.std.proofs.Common.{◌≡◌, ◌∙◌, ap, subst, sym}
+use Rattle.std.proofs.Common.{◌∙◌, ap, subst, sym}
 use Rattle.relay_shared.specs.Index.{register_of, IsConsistent, without}
 use Rattle.relay_shared.proofs.IndexLists.{removed_is_without, consistent_without}
 use Rattle.relay_shared.proofs.index.Index.leave.Goals as goal
