@@ -76,6 +76,7 @@ ROWS = (
     ("shell_lines", UNIT, END, "ExecReload=/usr/local/bin/pollrelay ctl --admin /a relaod\n", "`relaod` is no admin command"),
     ("shell_lines", GUIDE, END, "\n    wget http://127.0.0.1:9464/metrics\n", "no part of the tests tries `wget`"),
     ("shell_lines", "CONTRIBUTING.md", END, "\n    python3 tests/clauses.py\n", "there is no tests/clauses.py"),
+    ("shell_lines", GUIDE, r"\n    (pollrelay ctl --admin PATH deadline 3)", r"\n\1", "is a command, and isn't set off"),
     ("samples", "packaging/debian/rules.sample", END, "relay web tcp:0.0.0.0:80 never\n", "no rule"),
     ("samples", "examples/rules/web.rules", END, "relay app unix:/tmp/app.sock tcp:127.0.0.1:80 never\n", "the unit hides /tmp"),
     ("metrics", TEXTFILE, r"pollrelay_up and pollrelay_connections are", "pollrelay_up is", "its head says ['pollrelay_up']"),
