@@ -101,7 +101,7 @@ ROWS = (
     ("limits", CHANGES, END, "- A read takes up to 16,384 bytes from the first on.\n", "65,536, as `LOOP_BUFFER_BYTES` is"),
     ("figures", CHANGES, END, "- `--loops` of serve: loops.\n- `--loops` of serve: how many loops.\n", "tells `--loops` twice"),
     ("admin", GUIDE, END, "\nCommands are `list`, `totals`, `close ID`, `drain ID`, `deadline ID MS`, `quit`, `stop`.\n", "a list of commands lacks"),
-    ("man", MAN, r"\.It \"\\fBshow ID[^\0]*?(?=\.It)", "", "isn't what tools/man_page.py makes of docs/operations.md"),
+    ("man", MAN, r"\.It \"\\fB\\%show \\%ID[^\0]*?(?=\.It)", "", "isn't what tools/man_page.py makes of docs/operations.md"),
     ("man", MAN, r"Take the relay out of the balancer", "Say \\\\fBdeadline 1 0\\\\fP", "isn't what tools/man_page.py makes of docs/operations.md"),
     ("man", MAN, r"(?<=Kind: gauge\.\n)Event loops\.", "Labels: | event loops.", "isn't what tools/man_page.py makes of docs/operations.md"),
     ("man", GUIDE, r"`pollrelay_loops` \| gauge \| \|", "`pollrelay_loops` | gauge |", "a row of 3 cells below 4 heads"),
