@@ -12,6 +12,15 @@ ROWS = (
     (r"\btakes nobody more\b(?! for)", "takes no more clients"),
     (r"\bis dear\b", "is expensive"),
     (r"\bno proof knows\b", "proofs know nothing of"),
+    (r"\b(?:is|are|was|were) made so\b", "say how"),
+    (r"\band (?:its|their) like\b", "name them"),
+    (r"\bhasn't(?=[.,;|]| *$)|\bwhich \w+ hasn't\b", "say what it lacks, or doesn't have"),
+    (r"\bundestroyed\b", "without destroying them"),
+    (r"\b(?:has|takes) the place of the\b", "evicts"),
+    (r"\b(?:refuses|accepts) nobody\b", "say which client, or that no client is refused"),
+    (r"\b(?:is|are) told (?:at once|as (?:want|a want))\b", "is reported, or fails as"),
+    (r"\bat will\b", "with any answer"),
+    (r"\boutside the gate\b", "which isn't in the gate"),
 )
 
 
