@@ -87,10 +87,13 @@ ROWS = (
     ("names", "crates/admin_tests/src/.*", r"fn lines_have_their_replies", "fn lines_have_replies", "nothing is called `lines_have_their_replies`"),
     ("links", README, END, "\n[here](docs/nowhere.md)\n", "links to docs/nowhere.md"),
     ("links", README, END, "\n`tests/metrics_storm.py`\n", "names `tests/metrics_storm.py`"),
+    ("links", README, END, "\n`docs/operations.md` (Stopping, Beginning) has it.\n", "names Beginning of docs/operations.md, which has no such section"),
+    ("links", GUIDE, r"\n## Stopping\n", "\n## Ending\n", "which has no such section"),
     ("names", "docs/rattle-for-rust.md", END, "\n`FROM_JAVA.md`\n", "nothing is called `FROM_JAVA`"),
     ("links", "docs/nowhere.md", END, "# Nowhere\n", "doesn't list nowhere.md"),
     ("net_page", "docs/net.md", r"Closes the connection for all who share it", "Closes this clone", "isn't what tools/net_reference.py makes of crates/net/src"),
     ("voice", GUIDE, END, "\nThe log has a line for each row of faults.\n", "a series"),
+    ("voice", GUIDE, r"For operators: the reference", "The reference", "doesn't say in its first line for whom it is"),
     ("packaged", GUIDE, END, "\nSee `../packaging/deb.sh`.\n", "names ../packaging/deb.sh, which the package hasn't"),
     ("packaged", "packaging/deb.sh", r"git ls-files examples", "git ls-files examples/rules", "../examples/admin, which the package hasn't"),
     # What pages said once that wasn't so.

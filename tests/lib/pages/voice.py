@@ -1,7 +1,11 @@
-"""Turns of phrase that strangers stumbled over, each with the plain one: no page has them again."""
+"""Turns of phrase that strangers stumbled over, each with the plain one: no page has them again. A page of docs/ says first for whom it is."""
 
 import re
 
+from lib.pages.markdown import paragraphs
+
+# The list of all pages.
+INDEX = "docs/README.md"
 ROWS = (
     (r"[Ww]hoever", "name the thread, the client or the operator"),
     (r"(?:^|[.;:|] )[Ww]ho (?:doesn't|destroyed|waited|waits|reads|removes|takes)\b", "say what kind of thing it is"),
@@ -31,3 +35,6 @@ def check(tree, told):
             for words, plain in ROWS:
                 for it in re.finditer(words, said):
                     told.holds(False, page, f"“{it[0].strip()}”: {plain}", line)
+    for page in set(tree.paths(r"docs/[\w-]+\.md")) - {INDEX}:
+        first = next((it for _, it in paragraphs(tree.text(page)) if not it.startswith("#")), "")
+        told.holds(first.startswith("For "), page, "doesn't say in its first line for whom it is")
