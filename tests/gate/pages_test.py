@@ -93,6 +93,7 @@ ROWS = (
     ("links", "docs/nowhere.md", END, "# Nowhere\n", "doesn't list nowhere.md"),
     ("net_page", "docs/net.md", r"Closes the connection for all who share it", "Closes this clone", "isn't what tools/net_reference.py makes of crates/net/src"),
     ("voice", GUIDE, END, "\nThe log has a line for each row of faults.\n", "a series"),
+    ("voice", "docs/connection-table.md", END, "\nEach seat has a table.\n", "uses the word “seat”"),
     ("voice", GUIDE, r"For operators: the reference", "The reference", "doesn't say in its first line for whom it is"),
     ("packaged", GUIDE, END, "\nSee `../packaging/deb.sh`.\n", "names ../packaging/deb.sh, which the package hasn't"),
     ("packaged", "packaging/deb.sh", r"git ls-files examples", "git ls-files examples/rules", "../examples/admin, which the package hasn't"),

@@ -1,8 +1,9 @@
-"""Turns of phrase that strangers stumbled over, each with the plain one: no page has them again. A page of docs/ says first for whom it is."""
+"""Turns of phrase that strangers stumbled over, each with the plain one: no page has them again. A page of docs/ says first for whom it is,
+and what words mean that are ours alone."""
 
 import re
 
-from lib.pages.markdown import paragraphs
+from lib.pages.markdown import SPAN, paragraphs
 
 # The list of all pages.
 INDEX = "docs/README.md"
@@ -26,6 +27,14 @@ ROWS = (
     (r"\bat will\b", "with any answer"),
     (r"\boutside the gate\b", "which isn't in the gate"),
 )
+# Words of our own: how a page uses each, and how it says there what that is.
+TERMS = {
+    "half": (r"(?<![-\w`])hal(?:f|ves)\b(?!-| an| a | the | of (?:its|their))", r"half\*|halves\*|\bhalf is\b|reading (?:and|or) (?:the |its |a )?writing (?:half|side)|reading half|reads? and what writes"),
+    "seat": (r"(?<![\w`])seats?\b", r"seat\*|\b[Ss]eat is\b|`Seat`|\bseats? \("),
+    "stake": (r"(?<![\w`])stakes?\b", r"stake\*|\bstake is\b|`Stake`"),
+}
+# The list of such words, and a page for maintainers.
+WITHOUT_TERMS = {"docs/glossary.md", "docs/DECISIONS.md"}
 
 
 def check(tree, told):
@@ -38,3 +47,8 @@ def check(tree, told):
     for page in set(tree.paths(r"docs/[\w-]+\.md")) - {INDEX}:
         first = next((it for _, it in paragraphs(tree.text(page)) if not it.startswith("#")), "")
         told.holds(first.startswith("For "), page, "doesn't say in its first line for whom it is")
+    for page in set(tree.paths(r"README\.md|docs/[\w-]+\.md|crates/\w+/README\.md")) - WITHOUT_TERMS:
+        for word, (use, meaning) in TERMS.items():
+            text = tree.text(page)
+            is_used = re.search(use, SPAN.sub("", text))
+            told.holds(not is_used or re.search(meaning, text), page, f"uses the word “{word}”, and doesn't say what it is")
