@@ -125,6 +125,8 @@ ROWS = (
     ("figures", README, END, "\n| bytes | 2,267 | nginx 161,752 | 0.97 |\n", "has the figures [0.97, 2267.0, 161752.0]"),
     ("figures", README, r"\| 1,638 \| 2,163 \| 2,228 \|", "| 1,638 | 2,163 |", "of all relays"),
     ("figures", README, r"\| 3,666 \| 4,341 \| 6,105 \|", "| 3,666 | 4,341 | 4,105 |", "of all relays"),
+    ("figures", README, r"at 52 and 78 %", "at 109 and 78 %", "is at [52, 78] % of Go's splice"),
+    ("figures", README, r"by a factor of three", "by a factor of four", "by a factor of [3]"),
     ("figures", MEASURED, END, "\n| bytes (Y) | 10 | nginx 10 | 1.00 |\n", "of the run Y, of which nothing is said"),
     ("figures", MEASURED, END, "\n| Y | lately | `python3 bench/relay/run.py` |\n", "the run Y has no date"),
     ("figures", "docs/GATE.md", END, "\nIt tries 1,234 wrong bodies of 77 crates.\n", "1,234 wrong bodies: there are"),
