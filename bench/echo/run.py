@@ -24,7 +24,8 @@ sys.path[:0] = [f"{ROOT}/tests", f"{ROOT}/bench/relay"]
 from lib.packages import install  # noqa: E402
 from lib.sockets import free_port, is_served  # noqa: E402
 from lib.waiting import wait_until  # noqa: E402
-from run import Load, TICK_NS, text_of  # noqa: E402
+from load import Load  # noqa: E402
+from peers import TICK_NS, text_of  # noqa: E402
 
 CONNECTIONS = (1, 64, 500)
 REGISTRY = "/usr/share/cargo/registry"

@@ -11,8 +11,9 @@ import sys
 import tempfile
 import threading
 
-from run import Load, build_load, install_missing
-from lib.relay import Relay  # (run has put tests/ on the path)
+from load import Load, build_load
+from peers import install_missing
+from lib.relay import Relay  # (peers has put tests/ on the path)
 from lib.sockets import free_port
 
 TURNS = 63

@@ -1,7 +1,8 @@
-// A relay by Go's io.Copy, as a peer of the benchmark: go_relay LISTEN TARGET [copy|splice].
+// A relay by Go's io.Copy, as a peer of the benchmark: go_relay LISTEN TARGET copy|splice IDLE.
 //
 // Between two TCP connections io.Copy moves bytes in the kernel by splice. With the word copy each side is wrapped, so that
-// io.Copy sees a plain reader and a plain writer, and copies through its buffer.
+// io.Copy sees a plain reader and a plain writer, and copies through its buffer. IDLE is the idle time in seconds, or 0 for none;
+// the wrapped sides renew their deadlines by it at each call.
 package main
 
 import (
@@ -9,10 +10,29 @@ import (
 	"log"
 	"net"
 	"os"
+	"strconv"
+	"time"
 )
 
-type plainReader struct{ io.Reader }
-type plainWriter struct{ io.Writer }
+// The idle time, or 0.
+var idle time.Duration
+
+type plainReader struct{ conn *net.TCPConn }
+type plainWriter struct{ conn *net.TCPConn }
+
+func (side plainReader) Read(into []byte) (int, error) {
+	if idle > 0 {
+		side.conn.SetReadDeadline(time.Now().Add(idle))
+	}
+	return side.conn.Read(into)
+}
+
+func (side plainWriter) Write(data []byte) (int, error) {
+	if idle > 0 {
+		side.conn.SetWriteDeadline(time.Now().Add(idle))
+	}
+	return side.conn.Write(data)
+}
 
 func forward(to, from *net.TCPConn, splices bool, ended chan<- bool) {
 	var err error
@@ -47,6 +67,11 @@ func relay(client *net.TCPConn, target string, splices bool) {
 }
 
 func main() {
+	seconds, err := strconv.Atoi(os.Args[4])
+	if err != nil {
+		log.Fatal(err)
+	}
+	idle = time.Duration(seconds) * time.Second
 	listener, err := net.Listen("tcp", os.Args[1])
 	if err != nil {
 		log.Fatal(err)

@@ -13,7 +13,8 @@ import subprocess
 import sys
 import tempfile
 
-from run import Load, Started, build_go_relay, build_load, install_missing
+from load import Load, build_load
+from peers import Started, build_go_relay, install_missing
 
 SECONDS = 0.3
 

@@ -13,7 +13,9 @@ import statistics
 import sys
 import tempfile
 
-from run import PEERS, build_go_relay, build_load, install_missing, life, machine, text_of
+from load import build_load
+from peers import PEERS, build_go_relay, install_missing, text_of, versions
+from rows import life
 
 
 def scheduled(started):
@@ -53,7 +55,7 @@ def main():
     chosen = words.parse_args()
     names = chosen.only.split(",")
     install_missing()
-    machine()
+    print("\n".join(versions()), flush=True)
     found = {name: [] for name in names}
     with tempfile.TemporaryDirectory(prefix="tail-") as folder:
         build_load(folder)

@@ -5,8 +5,9 @@
     python3 tests/gate/plants.py --write                 writes the table of plants in docs/testing.md, and tries none
 
 All plants stand in one program, of which the environment has one on (`tests/lib/planted.py`). First each script and stage that a
-plant names is run with none on, and has to pass. Then each plant is on, and the check that it names has to fail. The last line is
-`N passed, M failed`, of runs.
+plant names is run with none on, and has to pass. Then each plant is on, and the check that it names has to fail. Plants that the
+tests of a crate see are tried in a copy of the sources, once without them and then with them. The last line is `N passed, M
+failed`, of runs.
 """
 import argparse
 import os
@@ -59,13 +60,25 @@ def is_seen(program, plant):
     return tell(plant.name, seen, began, "" if seen else f": `{plant.check}` of {plant.script} {plant.stage} didn't fail, but {failed[:2]}")
 
 
+def says_in_its_crate(plant, is_on):
+    """Whether the tests of a crate say what they have to: the row of the plant fails where it is on, and none where it isn't."""
+    began = time.monotonic()
+    said, passed = planted.tried_in_its_crate(plant, is_on, SECONDS)
+    is_well = not passed and f"    {plant.check}:" in said if is_on else passed
+    return tell(plant.name if is_on else f"{plant.script} without it", is_well, began, "" if is_well else f": {said[-300:]!r}")
+
+
 def try_all(chosen, times, lanes):
     """How many runs were as they have to be, of all."""
-    program = planted.program(planted.plants())
-    stages = sorted({(it.script, it.stage) for it in chosen})
+    of_crates = [it for it in chosen if it.is_for_a_crate()]
+    of_relay = [it for it in chosen if not it.is_for_a_crate()]
+    program = planted.program(planted.plants()) if of_relay else None
+    stages = sorted({(it.script, it.stage) for it in of_relay})
     with ThreadPoolExecutor(lanes) as pool:
         held = list(pool.map(lambda it: passes(program, it), stages))
-        held += pool.map(lambda it: is_seen(program, it), chosen * times)
+        held += pool.map(lambda it: says_in_its_crate(it, False), of_crates)
+        held += pool.map(lambda it: is_seen(program, it), of_relay * times)
+        held += pool.map(lambda it: says_in_its_crate(it, True), of_crates * times)
     return sum(held), len(held)
 
 

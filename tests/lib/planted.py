@@ -3,6 +3,9 @@
 A plant is a file of `tests/plants`, named for what it does. Its line `seen: SCRIPT STAGE: CHECK` says which check of
 `tests/system` has to fail. Its other lines are as in `crates/NAME/wrong-bodies`, with paths from the top; in a line `new:` the
 word `planted` stands for whether the plant is on. The environment of the program says that, by the plant's number (`PLANT`).
+
+What a library decides and no relay brings about is seen by the library's tests: there `seen: CRATE TEST: ROW` names the crate
+of the tests, the test and the row that fails, and the plant is on in a copy of the sources.
 """
 import hashlib
 import os
@@ -34,8 +37,13 @@ pub fn is_on(number: u32) -> bool {{
 """
 SEEN = re.compile(r"^seen: (\w+) (\w+): (.+)$", re.M)
 
-# A plant: its name and number, the edit, and the script, the stage and the beginning of the check that has to see it.
-Plant = namedtuple("Plant", "name number edit script stage check")
+class Plant(namedtuple("Plant", "name number edit script stage check")):
+    """A plant: its name and number, the edit, and the script, the stage and the beginning of the check that has to see it, or the crate
+    of tests, the test and the row.
+    """
+
+    def is_for_a_crate(self):
+        return self.script.endswith("_tests")
 
 
 class PlantFault(RuntimeError):
@@ -47,13 +55,18 @@ def text_at(path):
         return file.read()
 
 
+def switched(number):
+    """Whether the plant of this number is on, as a source asks it."""
+    return f"{SWITCH}::is_on({number})"
+
+
 def read_plant(path, number):
     edit = read_edit("", path)
     with open(path, encoding="utf-8") as file:
         seen = SEEN.search(file.read())
     if not seen:
         raise PlantFault(f"{edit.name}: its line `seen:` isn't `SCRIPT STAGE: CHECK`")
-    pairs = tuple((file, old, re.sub(rf"\b{SWITCH}\b", f"{SWITCH}::is_on({number})", new)) for file, old, new in edit.pairs)
+    pairs = tuple((file, old, re.sub(rf"\b{SWITCH}\b", switched(number), new)) for file, old, new in edit.pairs)
     if any(new == before for (_, _, new), (_, _, before) in zip(pairs, edit.pairs)):
         raise PlantFault(f"{edit.name}: a line `new:` doesn't ask whether it is `{SWITCH}`")
     return Plant(edit.name, number, edit._replace(pairs=pairs, refused=seen[0]), *seen.groups())
@@ -91,7 +104,7 @@ def write(path, text):
 
 
 def make_tree(folder, texts):
-    """What a program is built of, with these texts in place of others, and the switch."""
+    """What crates and programs are built of, with these texts in place of others."""
     for crate in os.listdir(f"{ROOT}/crates"):
         for part in ("src", "specs"):
             if os.path.isdir(f"{ROOT}/crates/{crate}/{part}"):
@@ -102,6 +115,11 @@ def make_tree(folder, texts):
         copy(f"{ROOT}/{path}", f"{folder}/{path}")
     for path, text in texts.items():
         write(f"{folder}/{path}", text)
+
+
+def make_program_tree(folder, texts):
+    """What a program is built of, with these texts in place of others, and the switch."""
+    make_tree(folder, texts)
     write(f"{folder}/crates.txt", with_switch(text_at("crates.txt"), {path.split("/")[1] for path in texts}))
     write(f"{folder}/crates/{SWITCH}/src/lib.rt", SWITCH_TEXT)
     os.makedirs(f"{folder}/crates/{SWITCH}/c")
@@ -122,7 +140,7 @@ def program(all_plants):
     if not os.path.isfile(f"{made}/stamp") or text_at(f"crates/pollrelay/out/{SWITCH}/stamp") != now:
         shutil.rmtree(made, ignore_errors=True)
         with tempfile.TemporaryDirectory(prefix=f"{SWITCH}-") as folder:
-            make_tree(folder, texts)
+            make_program_tree(folder, texts)
             words = [sys.executable, f"{folder}/tools/unproved.py"]
             built = subprocess.run(words, env={**os.environ, "RT_ALLOW_C": SWITCH}, stdout=subprocess.PIPE, text=True, check=False)
             if built.returncode:
@@ -131,3 +149,16 @@ def program(all_plants):
             shutil.copy(built.stdout.split()[-1], f"{made}/pollrelay")
         write(f"{made}/stamp", now)
     return f"{made}/pollrelay"
+
+
+def tried_in_its_crate(plant, is_on, seconds):
+    """What the tests of the crate that a plant names say, where the plant is on or isn't, and whether all of them passed."""
+    pairs = tuple((file, old, new.replace(switched(plant.number), "true")) for file, old, new in plant.edit.pairs)
+    texts = applied_together([plant.edit._replace(pairs=pairs)], text_at) if is_on else {}
+    with tempfile.TemporaryDirectory(prefix=f"{SWITCH}-") as folder:
+        make_tree(folder, texts)
+        for name in ("crates.txt", "HANDLES"):
+            shutil.copy(f"{ROOT}/{name}", folder)
+        words, where = ["rt", "try", "--test"], f"{folder}/crates/{plant.script}"
+        ran = subprocess.run(words, cwd=where, stdout=subprocess.PIPE, stderr=subprocess.STDOUT, text=True, timeout=seconds, check=False)
+        return ran.stdout, ran.returncode == 0

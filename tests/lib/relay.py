@@ -14,8 +14,8 @@ from lib.activation import started_with
 from lib.places import PROGRAM
 from lib.sockets import REPLY_SECONDS, connect
 
-# Of threads that go last, as `nice` counts: on a machine that is full of other work the least, 19, leaves them next to nothing.
-LOW_PRIORITY, LEAST_PRIORITY = 10, 19
+# Of threads that go last, as `nice` counts: on a machine that is full of other work the least, 19, would leave them next to nothing.
+LOW_PRIORITY = 10
 # 2,000 pairs and 64 listeners take more descriptors than the 1,024 that a shell often gives.
 DESCRIPTORS = 8192
 
@@ -163,14 +163,14 @@ class Relay:
         with open(path, encoding="ascii") as file:
             return [int(word) for word in file.read().split()]
 
-    def have_loops_go_last(self, priority=LOW_PRIORITY):
+    def have_loops_go_last(self):
         """Has all its threads share a processor, of which the loops have what the main thread leaves: so what a loop is told to do isn't
         done by the time that the main thread goes on."""
         processor = {random.choice(sorted(os.sched_getaffinity(0)))}
         for thread in map(int, os.listdir(f"/proc/{self.process.pid}/task")):
             os.sched_setaffinity(thread, processor)
             if thread != self.process.pid:
-                os.setpriority(os.PRIO_PROCESS, thread, priority)
+                os.setpriority(os.PRIO_PROCESS, thread, LOW_PRIORITY)
 
     @contextlib.contextmanager
     def stopped(self):

@@ -1,12 +1,11 @@
 #!/usr/bin/env python3
-"""Closes by admin sessions, where loops are slow, busy, or about to sleep: each is done once it is answered, and closes nothing else.
+"""Closes by admin sessions, where loops are slow or about to sleep: each is done once it is answered, and closes nothing else.
 
     python3 tests/system/closing.py [STAGE]..
 
-done        an answered close is done, also where the main thread is faster than the loop, or has other sessions to serve.
-others      a close ends no other connection that a session does something to at the same time.
-woken       a close reaches a loop that is about to sleep.
-many_names  a close behind more commands than a loop is told one by one reaches one that is busy.
+done    an answered close is done, also where the main thread is faster than the loop, or has other sessions to serve.
+others  a close ends no other connection that a session does something to at the same time.
+woken   a close reaches a loop that is about to sleep.
 """
 import random
 import sys
@@ -15,7 +14,7 @@ import time
 
 sys.path.insert(1, f"{sys.path[0]}/..")
 from lib.checks import Checks
-from lib.relay import LEAST_PRIORITY, Session, allow_descriptors
+from lib.relay import Session, allow_descriptors
 from lib.sockets import connect, read_to_end
 from lib.stages import options, run_stages
 from lib.talk import hears, says
@@ -27,9 +26,7 @@ CLOSES, BUSY_LINES = 30, 500
 BESIDE, OTHERS = 6, 4
 # Closes that come while the loop is about to sleep: so many at most, or as many as come in so many seconds. A loop that isn't told wakes a
 # second later; the longest that a close may take, and on a machine that is full of other work some rounds have a longer one.
-WOKEN, AT_ONCE, SECONDS, LONGEST, ROUNDS = 3_000, 50, 10, 0.7, 3
-# Connections with two names each, more than a loop is told one by one also where it takes some of them out meanwhile; and closes behind these.
-NAMED, BEHIND = 450, 6
+WOKEN, AT_ONCE, SECONDS, LONGEST, ROUNDS = 3_000, 50, 30, 0.7, 3
 
 
 class Busy(threading.Thread):
@@ -124,70 +121,7 @@ def woken(checks, _):
         it.stop()
 
 
-class Bulk:
-    """A connection over which bytes go up as fast as they can."""
-
-    def __init__(self, ends):
-        self.ends = ends
-        self.threads = [threading.Thread(target=it, daemon=True) for it in (self.send, self.take)]
-
-    def send(self):
-        while says(self.ends.client, bytes(1 << 18)):
-            pass
-
-    def take(self):
-        read_to_end_of(self.ends.peer)
-
-    def __enter__(self):
-        for it in self.threads:
-            it.start()
-        return self
-
-    def __exit__(self, *_):
-        self.ends.close()
-        for it in self.threads:
-            it.join()
-
-
-def read_to_end_of(sock):
-    """Reads until nothing more comes, and keeps nothing."""
-    try:
-        while sock.recv(1 << 18):
-            pass
-    except OSError:
-        pass
-
-
-def many_names(checks, _):
-    with Tried(checks, "many names", loops=1, options=("--connections", "1000")) as it, Session(it.relay.admin) as session:
-        session.sock.settimeout(WAIT_SECONDS)
-        stay = [it.talking() for _ in range(NAMED)]
-        names = "".join(f"deadline {id} never\n" for id in range(2, 2 + 2 * NAMED))
-        it.relay.have_loops_go_last(LEAST_PRIORITY)
-        with Bulk(it.ends()):
-            behind = [it.talking() for _ in range(BEHIND)]
-            first = 2 + 2 * (NAMED + 1)
-            for client in range(first, first + 2 * BEHIND, 2):
-                session.sock.sendall(f"{names}close {client}\n".encode())
-                if not answered(session, 2 * NAMED + 1):
-                    it.holds("a close behind them is done", False, f"that of {client} isn't")
-                    break
-            else:
-                it.are_over(*(one.client for one in behind), what="a close behind them is done")
-        it.holds("others go on", all(one.pass_both() for one in stay[:: NAMED // 3]), "one doesn't")
-        it.answers("stop\n", "ok\n")
-        it.end()
-
-
-def answered(session, count):
-    """Whether so many commands are well."""
-    try:
-        return all(session.line("a command") == "ok" for _ in range(count))
-    except (OSError, EOFError):
-        return False
-
-
-STAGES = {it.__name__: it for it in (done, others, woken, many_names)}
+STAGES = {it.__name__: it for it in (done, others, woken)}
 
 
 def main():

@@ -23,6 +23,8 @@ from lib.tried import WAIT_SECONDS, Tried
 
 # Longer than the first pauses of a rule, and so long is looked at what it takes of a processor then.
 UNTIL_IT_PAUSES, LOOKED = 0.1, 0.7
+# Each of these clients comes when the rule's pause before is over, and has it fail and pause for twice as long, so that the last pause is no short one.
+FAILS_AFTER = (0.02, 0.03, 0.05, 0.1, 0.2, 0.4)
 # The relay's clock goes so many times as fast, so that its minute is a second and a half.
 FAST, MINUTE = 40, 60 / 40
 # How often a session says something in its minute, and how many minutes it does; where this process was too slow for that it is tried anew.
@@ -40,8 +42,12 @@ def rule(checks, _):
         time.sleep(LOOKED)
         took, passed = (sum(it.relay.nanoseconds()) - before) / 1e9, time.monotonic() - began
         it.holds("it sleeps between accepts that fail", took * 8 < passed, f"{took:.3f} s of a processor in {passed:.1f} s")
+        client = it.client()
+        for seconds in FAILS_AFTER:
+            time.sleep(seconds)
+            it.client()
         with it.relay.stopped():
-            client = it.client()
+            it.client()
             session.sendall(b"deadline 1 never\n")
         it.holds("the deadline is lifted", hears(session, b"ok\n"), "it isn't")
         came, _, _ = select.select([it.accepts], [], [], WAIT_SECONDS)

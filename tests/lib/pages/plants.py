@@ -5,7 +5,7 @@ import re
 from lib.planted import plants
 
 PAGE = "docs/testing.md"
-HEAD = "| Plant | Script and stage | Check that fails |\n|---|---|---|\n"
+HEAD = "| Plant | Script and stage, or crate and test | Check or row that fails |\n|---|---|---|\n"
 TABLE = re.compile(rf"^{re.escape(HEAD)}(?:\|.*\n)*", re.M)
 
 

@@ -136,6 +136,16 @@ pub(super) const ROWS: &[(&str, &[Step])] = &[
         ],
     ),
     (
+        "also where one gave way before",
+        &[
+            Put(0),
+            Put(0),
+            Again(1),
+            TellNobody(300),
+            Turn(0, &[Back(1), Told(0), Told(1)]),
+        ],
+    ),
+    (
         "as many are told as the list holds, so that the others aren't looked at",
         &[
             Put(0),
