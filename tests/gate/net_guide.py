@@ -79,7 +79,7 @@ class Guide(Follower):
         crate = EXAMPLES.get(self.step)
         if crate:
             wanted = text_of(f"{ROOT}/crates/{crate}/src/main.rt").replace(f"`{crate} ", "`echo ")
-            self.checks.holds(f"step {self.step}: it is the program of crates/{crate}", program == wanted, "it differs")
+            self.checks.holds(f"step {self.step}: it is the program of crates/{crate}", program == wanted, f"docs/net-guide.md has another text than crates/{crate}/src/main.rt")
             self.server = Ready(crate, words, made)
         else:
             self.server = Trial(self.at, words, made)
