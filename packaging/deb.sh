@@ -54,7 +54,8 @@ put 644 packaging/debian/copyright $docs/copyright
 put_zipped $changes $docs/changelog.Debian
 put_zipped CHANGELOG.md $docs/changelog
 for page in quickstart operations from-haproxy-nginx-socat rules-file admin-protocol trace-script; do put 644 docs/$page.md $docs/$page.md; done
-# (what pages and samples name as a sample is there: tests/lib/pages/packaged.py)
+# (there the samples stand beside the pages. What pages and samples name as a sample is there: tests/lib/pages/packaged.py)
+sed -i 's#\.\./examples#examples#g' "$root/$docs"/*.md
 for file in $(git ls-files examples); do put 644 "$file" $docs/$file; done
 
 mkdir "$root/DEBIAN" "$scratch/debian"

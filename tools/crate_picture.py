@@ -12,7 +12,7 @@ import sys
 import textwrap
 from xml.sax.saxutils import escape
 
-BOX, TALL, GAP, ROW, BEND, MARGIN, ROUNDS = 206, 66, 24, 110, 14, 20, 40
+BOX, TALL, GAP, ROW, BEND, MARGIN, ROUNDS = 206, 80, 24, 124, 14, 20, 40
 BESIDE = re.compile(r"_tests$|^bench_")
 
 
@@ -105,7 +105,7 @@ def drawn(purposes, below):
         x, y = at[name] - BOX / 2, high[name]
         out.append(f'<rect x="{x:.0f}" y="{y:.0f}" width="{BOX}" height="{TALL}" rx="6" fill="#eef3f9" stroke="#4a6b91"/>')
         out.append(text(x + 8, y + 17, name, 13, ' font-weight="bold"'))
-        lines = textwrap.wrap(purposes[name], 34, max_lines=3, placeholder=" ..")
+        lines = textwrap.wrap(purposes[name], 35, max_lines=4, placeholder=" ..")
         out += [text(x + 8, y + 32 + 13 * number, line) for number, line in enumerate(lines)]
     beside = ["Tests and benchmarks:", *(name for name in below if BESIDE.search(name))]
     out += [text(side, MARGIN + 17 + 19 * number, line, 13) for number, line in enumerate(beside)]

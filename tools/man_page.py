@@ -19,6 +19,15 @@ NAMES = {"Messages": "DIAGNOSTICS"}
 # Heads of cells that say by themselves what they are.
 PLAIN = {"What it does", "What it is", "What it counts"}
 WIDTH = 78
+# How wide a line that is set off may be beside its indent, and how one begins that may be broken.
+LITERAL_WIDTH = 66
+COMMAND = re.compile(r"(?:pollrelay|python3|sh|install|docker|systemctl) ")
+# What keeps a word whole.
+WHOLE = "\\%"
+# A space at which no line is broken: in the guide's words while they are put into lines, and in the man page.
+UNBROKEN, KEPT = "\x1f", "\\~"
+# Where the Debian package has what the guide names beside itself.
+DOCS = "/usr/share/doc/pollrelay"
 INLINE = re.compile(r"`([^`]+)`|\*\*([^*]+)\*\*")
 
 
@@ -26,13 +35,20 @@ def escaped(text):
     return text.replace("\\", "\\e").replace("-", "\\-")
 
 
+def whole(text):
+    """Words that no hyphen parts: a command that one parts can't be copied."""
+    return " ".join(f"{WHOLE}{it}" for it in text.split(" "))
+
+
 def inline(text):
     """Words set off, in bold."""
     parts, at = [], 0
     for found in INLINE.finditer(text):
-        parts += [text[at : found.start()].replace("\\", "\\e"), f"\\fB{escaped(found[1] or found[2])}\\fP"]
+        parts += [text[at : found.start()].replace("\\", "\\e"), f"\\fB{whole(escaped(found[1] or found[2]))}\\fP"]
         at = found.end()
-    return "".join(parts) + text[at:].replace("\\", "\\e")
+    made = "".join(parts) + text[at:].replace("\\", "\\e")
+    # (amid a word the sign would be a place for a hyphen: it goes ahead of a bracket)
+    return re.sub(r"(?<!\S)([^\s\\]+\\fB)\\%", lambda it: WHOLE + it[1], made)
 
 
 def width(text):
@@ -96,16 +112,31 @@ def listed(kind, lines):
     return [*made, ".El"]
 
 
+def continued(line):
+    """A command in lines that are narrow enough, each but the last with a backslash at its end."""
+    made = [""]
+    for word in line.split(" "):
+        if made[-1] and len(made[-1]) + len(word) + 3 > LITERAL_WIDTH:
+            made[-1] += " \\"
+            made.append("   ")
+        made[-1] += f" {word}" if made[-1] else word
+    return made
+
+
 def literal(lines):
-    shown = [it[4:].replace("\\", "\\e") for it in lines]
-    return [".Bd -literal -offset indent", *(f"\\&{it}" if it[:1] in (".", "'") else it for it in shown), ".Ed"]
+    shown = [part for it in lines for part in (continued(it[4:]) if COMMAND.match(it[4:]) else [it[4:]])]
+    # (a line that can't be broken, as one of a log, has no indent)
+    indent = [" -offset indent"] * all(len(it) <= LITERAL_WIDTH for it in shown)
+    shown = [it.replace("\\", "\\e") for it in shown]
+    return ["".join([".Bd -literal", *indent]), *(f"\\&{it}" if it[:1] in (".", "'") else it for it in shown), ".Ed"]
 
 
 def synopsis(lines):
     """Each way to call the program, a line each."""
     made = []
     for at, line in enumerate(lines):
-        made += [".br"] * (at > 0) + broken(f"\\fBpollrelay\\fP {escaped(line.strip().removeprefix('pollrelay '))}")
+        words = re.sub(r"\[[^]]*\]", lambda it: it[0].replace(" ", UNBROKEN), line.strip().removeprefix("pollrelay "))
+        made += [".br"] * (at > 0) + broken(f"\\fBpollrelay\\fP {whole(escaped(words)).replace(UNBROKEN, KEPT)}")
     return made
 
 
@@ -148,6 +179,7 @@ def date():
 def page(text):
     made = ['.\\" Made of docs/operations.md by tools/man_page.py. Look at it: man man/pollrelay.1']
     made += [f".Dd {date()}", ".Dt POLLRELAY 1", ".Os"]
+    text = re.sub(r"`(?:\.\./(?=examples)|(?=[\w-]+\.md`))", f"`{DOCS}/", text)
     for head, blocks in sections(text):
         made.append(f".Sh {NAMES.get(head, head.upper())}")
         for at, lines in enumerate(blocks):

@@ -168,7 +168,7 @@ def page():
         "# The library net",
         "",
         "For authors of programs on sockets: the reference of each call. `tools/net_reference.py` makes this page of the doc comments and",
-        "contracts in `crates/net/src`. `sockets.md` is the guide, `../crates/net/README.md` the overview.",
+        "contracts in `crates/net/src`. `net-guide.md` builds a server in four steps; `sockets.md` says more of tasks.",
         "",
         "A connection is shared by clones, one a thread; a clone is a `Read` and a `Write`. Clones share time-outs and the deadline; the earlier",
         "one wins. A time-out starts once a call has its direction to itself. A read answers `Ok(0)` at the peer's end.",
@@ -182,7 +182,7 @@ def page():
         "|---|---|",
         *(f"| `{kind}` | {when} |" for kind, when in WHEN.items()),
         "",
-        "A write that is cut off after some bytes answers how many were taken; the next write of that clone tells why, once, and writes nothing.",
+        "A write that is cut off after some bytes returns how many were taken; the next write of that clone returns the error, once, and writes nothing.",
         "",
     ]
     for head, names in SECTIONS.items():

@@ -1,7 +1,8 @@
 """Follows a page as its reader does: writes its files, gives its commands, and looks for what they have to print.
 
 A block of `sh` is commands, in the folder where the block before ended. A block below a line with a path alone is that file. A
-block of `text` behind commands is what they print: each of its lines has to come, in their order.
+block of `text` behind commands is what they print: each of its lines has to come, in their order. In such a line `..` stands for
+anything.
 """
 import os
 import re
@@ -56,6 +57,6 @@ class Follower:
         """The lines of a text, each behind the one before."""
         at = 0
         for wanted in text.splitlines() if self.printed is not None else ():
-            found = self.printed.find(wanted, at)
-            self.checks.holds(f"line {line}: {wanted}", found >= 0, f"not in {self.printed!r}")
-            at = max(at, found)
+            found = re.compile(re.escape(wanted).replace(r"\.\.", ".*")).search(self.printed, at)
+            self.checks.holds(f"line {line}: {wanted}", found, f"not in {self.printed!r}")
+            at = found.end() if found else at

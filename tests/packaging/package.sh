@@ -35,6 +35,14 @@ for file in usr/bin/pollrelay usr/bin/pollrelay-run usr/share/man/man1/pollrelay
     usr/share/doc/pollrelay/examples/systemd/pollrelay.socket; do
     holds "$file" test -s "$unpacked/$file"
 done
+# What pages and the man page name as a sample or a page is there, by its path from theirs.
+docs=usr/share/doc/pollrelay
+for path in $(grep -oh '`\.\{0,2\}/\{0,1\}examples/[^` ]*`' "$unpacked/$docs"/*.md | tr -d '`' | sort -u); do
+    holds "sample $path" test -e "$unpacked/$docs/$path"
+done
+for path in $(zcat "$unpacked/usr/share/man/man1/pollrelay.1.gz" | sed 's/\\-/-/g' | grep -o "/$docs/[a-zA-Z_./-]*[a-zA-Z]" | sort -u); do
+    holds "the man page's $path" test -e "$unpacked$path"
+done
 holds "the unpacked program" runs "$unpacked/usr/bin/pollrelay" "$unpacked/etc/pollrelay/rules"
 holds "a connection" without_kit POLLRELAY="$unpacked/usr/bin/pollrelay" sh examples/first_connection.sh
 sed "s#/usr/bin/#$unpacked/usr/bin/#" "$unpacked/lib/systemd/system/pollrelay.service" >"$scratch/pollrelay.service"

@@ -96,3 +96,8 @@ def restarts(tree, told):
     remarks = re.search(r"^#.*?(?=^[^#])", tree.text(BALANCER), re.S | re.M)
     given = steps(remarks[0]) if remarks else []
     told.holds(given == wanted, BALANCER, f"a rolling restart goes {given}, and in {GUIDE} {wanted}")
+    asked = set(re.findall(r"--metrics tcp:[\d.]+:(\d+)", tree.text(BALANCER)))
+    for it in re.findall(r"^ +server .*$", tree.text(BALANCER), re.M):
+        port = re.search(r" check port (\d+)", it)
+        told.holds(port and port[1] in asked, BALANCER, f"`{it.strip()}` checks the relayed port, which makes each check a client")
+    told.holds("option httpchk GET /healthz" in tree.text(BALANCER), BALANCER, "its checks don't ask /healthz")

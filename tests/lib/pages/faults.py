@@ -13,6 +13,11 @@ FORMATS = {"docs/rules-file.md": r"bad rules", "docs/trace-script.md": r"trace f
 BAD_LINE = "crates/lockword_script/src/printed_line.rt"
 HEADS = re.compile(r"(?:bad (?:rules|command|line)|cannot \w+|relay fault|trace fault)\b")
 MAIN = "crates/pollrelay/src/main.rt"
+# What `serve` checks, in the guide's words, and the call of the code that checks it.
+SERVING = "crates/relay_serve/src/serving.rt"
+CHECKS = {
+    "rules file": "Config::read(", "poller": "Server::new(", "admin socket": "server.open(", "log": ".start_log(", "address for metrics": ".serve_metrics(",
+}
 
 
 def lines(tree):
@@ -56,6 +61,19 @@ def check(tree, told):
         faults_in(told, page, tree.text(page), every)
     check_statuses(tree, told)
     in_tables(tree, told, every, statuses(tree))
+    check_order(tree, told)
+
+
+def check_order(tree, told):
+    """The guide says in which order `serve` checks what it is given, as the code does."""
+    said = re.search(r"`serve` checks in this order: (.*?)\.", tree.text(GUIDE))
+    found = functions(tree.text(SERVING))
+    # (what `serve` does ahead of its call of `run`, and then what that does)
+    code = found.get("serve", "").split(" = run(")[0] + found.get("run", "")
+    if told.reads(all(it in code for it in CHECKS.values()), SERVING, __file__):
+        wanted = sorted(CHECKS, key=lambda it: code.index(CHECKS[it]))
+        given = [it for it in said[1].split(", ") if it in CHECKS] if said else []
+        told.holds(given == wanted, GUIDE, f"`serve` checks in the order {wanted}, and it says {given}")
 
 
 def faults_in(told, page, text, every):

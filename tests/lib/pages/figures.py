@@ -1,5 +1,5 @@
-"""Figures and counts that pages repeat: ratios are those of docs/performance.md's rows, which are what their figures give; counts are
-as they are counted; how long the first build takes is said in one way; and the CHANGELOG tells nothing twice."""
+"""Figures and counts that pages repeat: ratios are those of docs/performance.md's rows, which are what their figures give, and what the
+README says of them in words is so; counts are as they are counted; how long the first build takes is said in one way; and the CHANGELOG tells nothing twice."""
 
 import datetime
 import re
@@ -27,6 +27,7 @@ def check(tree, told):
     table = [(line, [bare(it) for it in cells]) for line, cells in rows(tree.text(MEASURED))]
     made_of_their_figures(told, table)
     quoted(told, tree.text(README), table)
+    in_words(told, tree.text(README))
     letters(told, tree.text(MEASURED), table)
     counts(tree, told)
     build_times(tree, told)
@@ -59,6 +60,17 @@ def quoted(told, text, table):
         if PEERS.search(said) and not said.startswith("|"):
             for it in RATIO.findall(said):
                 told.holds(float(it) in every, README, f"no row of {MEASURED} has the ratio {it}", line)
+
+
+def in_words(told, text):
+    """What the README says of its rows in words is what their figures give. A row ends with Go's splice."""
+    found = {bare(cells[0]): numbers(" ".join(cells[1:])) for _, cells in rows(text) if len(cells) == RELAYS + 1}
+    parts = [round(100 * it[0] / it[-1]) for name, it in found.items() if name.startswith("MB/s")]
+    for said in re.findall(r"at (\d+) and (\d+) % of Go's splice", text):
+        told.holds([int(it) for it in said] == parts, README, f"is at {parts} % of Go's splice by its rows, and it says {said}")
+    factors = [int(min(it[1:]) / it[0]) for name, it in found.items() if name.startswith("MiB") and it]
+    for said in re.findall(r"least memory by a factor of (\w+)", text):
+        told.holds([WORDS.get(said)] == factors, README, f"has less memory by a factor of {factors} by its row, and it says {said}")
 
 
 def letters(told, text, table):

@@ -1,4 +1,4 @@
-"""Files and folders that pages name or link to are there, and the index of docs/ has each page."""
+"""Files, folders and sections that pages name or link to are there, and the index of docs/ has each page."""
 
 import functools
 import os
@@ -18,6 +18,9 @@ ANY = re.compile(r"(?<![\w.-])[A-Z][A-Z_]*(?=[/_.]|$)")
 # What isn't there before something was built or made, and what stands elsewhere.
 MADE = re.compile(r"(?:^|/)out(?:/|$)|^crates/NAME|bench/target|/run/|^etc/|^usr/|^lib/systemd")
 CHANGES = "CHANGELOG.md"
+# A page with sections of it: in brackets, in quotation marks, or behind a comma.
+SECTIONS = re.compile(r"`([\w./-]+\.md)`(?: \(([A-Z][^)`]*)\)|, [“\"]([^”\"]+)[”\"]|, ([A-Z][\w ]*(?:, [A-Z][\w ]*)*)(?=[).]))")
+HEADING = re.compile(r"^#+ (.*)$", re.M)
 # Packages of Go.
 OF_GO = {"internal/poll", "net/http", "net/netip"}
 
@@ -63,6 +66,20 @@ def named_files(text):
             yield line, word.strip("'\",:")
 
 
+def named_sections(text):
+    """The sections that a page names, each with its line and the page where it has to be."""
+    for it in SECTIONS.finditer(text):
+        for name in [it[3]] if it[3] else re.split(r", | and ", it[2] or it[4]):
+            yield text.count("\n", 0, it.start()) + 1, it[1], name
+
+
+def has_section(tree, page, path, name):
+    """Whether a heading of the page, which is named from another or from the top, begins so."""
+    paths = os.path.normpath(os.path.join(os.path.dirname(page), path)), path, f"docs/{path}"
+    text = next((tree.text(it) for it in paths if tree.has(it)), "")
+    return any(it.replace("`", "").lower().startswith(name.lower()) for it in HEADING.findall(text))
+
+
 def check(tree, told):
     names = Names(tree)
     for page in tree.pages():
@@ -76,6 +93,8 @@ def check(tree, told):
             if "://" not in it[1]:
                 path = os.path.normpath(os.path.join(os.path.dirname(page), it[1]))
                 told.holds(tree.has(path), page, f"links to {it[1]}, which isn't there", text.count("\n", 0, it.start()) + 1)
+        for line, path, name in named_sections(text):
+            told.holds(has_section(tree, page, path, name), page, f"names {name} of {path}, which has no such section", line)
     index = tree.text("docs/README.md")
     for page in tree.paths(r"docs/[\w-]+\.md"):
         name = os.path.basename(page)

@@ -8,7 +8,7 @@ from collections import namedtuple
 
 from lib.pages import options, tools
 from lib.pages.admin import counts
-from lib.pages.markdown import SHELL, fences, indented, spans
+from lib.pages.markdown import FENCE, SHELL, fences, indented, spans
 from lib.pages.tree import FOLLOWED
 
 # The page, the line in it, the simple command's words, and whether it stands in running text, where it may be a name alone.
@@ -31,6 +31,8 @@ WRAPPER, WRAPPED = "pollrelay-run", "packaging/pollrelay-run"
 SAID = r"^pollrelay ended with|^rt ?[:,.]"
 CALLS = re.compile(rf"\b(?:{'|'.join((options.PROGRAM, *tools.CALLED, *tools.OTHERS))})\b")
 ENDS = {"&&", "||", ";", "|", "&", ";;"}
+# A command that begins a paragraph.
+BARE = re.compile(rf"(?:{options.PROGRAM} (?:serve|ctl|check|trace)|python3|sh|systemctl|docker|curl) \S")
 # What stands for a word of the reader's own.
 PLACE = re.compile(r"[A-Z][A-Z_]*(?:\.\.)?|\d+|never|[<$/{].*|.*/.*")
 
@@ -107,6 +109,11 @@ def check(tree, told):
         told.holds(not said, it.page, f"`{' '.join(it.words)}`: {said}", it.line)
     told.reads(count > 50, "README.md", __file__)
     scripts.check_tables(told)
+    for page in tree.pages():
+        told.passed += 1
+        for line, said in enumerate(FENCE.sub(lambda it: "\n" * it[0].count("\n"), tree.text(page)).splitlines(), 1):
+            if BARE.match(said):
+                told.holds(False, page, f"`{said}` is a command, and isn't set off", line)
 
 
 def with_wrapper(tree, found):

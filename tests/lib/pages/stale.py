@@ -9,6 +9,8 @@ ROWS = (
     ("crates/readiness/src/holding.rt", r"pub struct HeldSocket", r"entry for it \(`Held`\)", "the entry of a table is `HeldSocket`"),
     # (an author who looks for that thread's locks finds none)
     ("crates/relay_main/src/admin.rt", r"pub struct AdminTask", r"the admin thread", "admin sessions are tasks of the main thread"),
+    # (a sceptic finds a program that was built and proved by nobody)
+    ("tools/unproved.py", r"checks in place of proofs", r"prover checks before the program is built|built only after a prover|aren't all proved isn't built", "`rt try` builds a program with nothing proved"),
     # (a listener that came by a reload has a greater id than connections that stand)
     ("crates/relay_admin/src/admin/command.rt", r'b"reload"', r"whose ids come first", "after a reload a listener may have any id"),
 )

@@ -13,8 +13,8 @@ LEFT_OUT = {".git", "out", "target", "__pycache__", "corpus", "vendor"}
 # The operator's guide, the man page that is made of it, and what the program says of itself.
 GUIDE, MAN = "docs/operations.md", "man/pollrelay.1"
 UNIT = "examples/systemd/pollrelay.service"
-# Pages whose commands `own_program` and `quickstart` give as their reader does.
-FOLLOWED = ("docs/your-own-program.md", "docs/quickstart.md")
+# Pages whose commands `own_program`, `quickstart` and `net_guide` give as their reader does.
+FOLLOWED = ("docs/your-own-program.md", "docs/quickstart.md", "docs/net-guide.md")
 HELP = "crates/relay_command/src/usage.rt"
 # A page that names pages of the kit beside the repository's own.
 ON_KIT = "docs/rattle-for-rust.md"

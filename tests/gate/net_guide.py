@@ -1,0 +1,148 @@
+#!/usr/bin/env python3
+"""Follows docs/net-guide.md in an empty folder: writes each step of its server, builds it with nothing proved, and plays its session.
+
+    python3 tests/gate/net_guide.py
+
+Steps 2 and 4 have to be the programs of `crates/echo_server` and `crates/loop_echo_server`, but for their names in the head; what
+`tools/unproved.py` builds of these is run. The other steps are built by `rt try`, as their reader does.
+"""
+import re
+import shlex
+import subprocess
+import sys
+import tempfile
+
+sys.path.insert(1, f"{sys.path[0]}/..")
+from lib.checks import Checks
+from lib.follower import Follower
+from lib.places import ROOT
+from lib.sockets import connect, free_port, is_served
+from lib.talk import has_ended, heard, hears, says
+from lib.trial import Trial
+from lib.waiting import comes
+
+PAGE = f"{ROOT}/docs/net-guide.md"
+START = re.compile(r"^rt try -- (.*)$", re.M)
+# Which step is which crate's program.
+EXAMPLES = {2: "echo_server", 4: "loop_echo_server"}
+SAYS = re.compile(r"(?P<who>[A-Z]\w+) (?P<does>connects to|sends|gets|leaves)(?: (?P<what>.*))?|the server prints (?P<said>.*)")
+# The page's ports, in place of which free ones are taken.
+PORT = re.compile(r"70\d\d")
+QUIET_SECONDS = 0.3
+
+
+def text_of(path):
+    with open(path, encoding="utf-8") as file:
+        return file.read()
+
+
+class Ready:
+    """A program that stands already, with these words."""
+
+    def __init__(self, crate, words, made):
+        built = subprocess.run([sys.executable, f"{ROOT}/tools/unproved.py", crate], capture_output=True, text=True, check=True)
+        self.made = made
+        with open(f"{made}/said", "wb") as said:
+            self.process = subprocess.Popen([built.stdout.strip(), *words], stdin=subprocess.DEVNULL, stdout=said, stderr=said)
+
+    def comes_to(self, is_so):
+        return comes(is_so)
+
+    def text(self):
+        return text_of(f"{self.made}/said")
+
+    def end(self):
+        self.process.kill()
+        self.process.wait()
+
+
+class Guide(Follower):
+    """A reader of the guide, with the server of the step that he is at, and its clients by their names."""
+
+    def __init__(self, checks, folder):
+        super().__init__(checks, folder, {"HOBRINTZA": ROOT})
+        self.step, self.server, self.clients, self.ports = 0, None, {}, {}
+
+    def give(self, line, text):
+        start = START.fullmatch(text.strip())
+        if not start:
+            super().give(line, text)
+            return
+        self.end()
+        self.step += 1
+        words = shlex.split(start[1])
+        self.ports = {it: str(free_port()) for it in words if PORT.fullmatch(it)}
+        self.start([self.ports.get(it, it) for it in words])
+
+    def start(self, words):
+        program, made = text_of(f"{self.at}/src/main.rt"), tempfile.mkdtemp(dir=self.top)
+        crate = EXAMPLES.get(self.step)
+        if crate:
+            wanted = text_of(f"{ROOT}/crates/{crate}/src/main.rt").replace(f"`{crate} ", "`echo ")
+            self.checks.holds(f"step {self.step}: it is the program of crates/{crate}", program == wanted, f"docs/net-guide.md has another text than crates/{crate}/src/main.rt")
+            self.server = Ready(crate, words, made)
+        else:
+            self.server = Trial(self.at, words, made)
+        is_there = self.server.comes_to(lambda: is_served(self.address(words[0])))
+        self.checks.holds(f"step {self.step}: it serves", is_there, self.server.text()[-2_000:])
+
+    def look_for(self, line, text):
+        if self.server:
+            for at, said in enumerate(text.splitlines(), line):
+                self.checks.holds(f"line {at}: {said}", self.plays(said), "it doesn't")
+
+    def plays(self, said):
+        """Whether what a line of a session says comes about."""
+        it = SAYS.fullmatch(said)
+        if not it:
+            return False
+        if it["said"]:
+            return comes(lambda: it["said"] in self.server.text().splitlines())
+        return self.client(it["who"], it["does"], it["what"])
+
+    @staticmethod
+    def address(port):
+        return f"tcp:127.0.0.1:{port}"
+
+    def client(self, name, does, what):
+        port = self.ports[what] if does == "connects to" else next(iter(self.ports.values()))
+        if name not in self.clients:
+            self.clients[name] = connect(self.address(port))
+        sock = self.clients[name]
+        if does == "connects to":
+            return True
+        if does == "sends":
+            return says(sock, f"{what}\n".encode())
+        if does == "leaves":
+            return self.clients.pop(name).close() is None
+        if what == "nothing yet":
+            last, quiet = sock.gettimeout(), heard(sock, QUIET_SECONDS)
+            sock.settimeout(last)
+            return quiet is None
+        return has_ended(sock) if what == "the end" else hears(sock, f"{what}\n".encode())
+
+    def end(self):
+        """Ends the server, and its clients."""
+        for sock in self.clients.values():
+            sock.close()
+        if self.server:
+            self.server.end()
+        self.server, self.clients = None, {}
+
+
+def main():
+    checks = Checks()
+    with tempfile.TemporaryDirectory(prefix="net-guide-", ignore_cleanup_errors=True) as folder:
+        guide = Guide(checks, folder)
+        try:
+            guide.follow(text_of(PAGE))
+        except OSError as fault:
+            checks.holds(f"step {guide.step}", False, f"cut short by {fault!r}")
+        finally:
+            guide.end()
+    checks.expect("its steps", 4, guide.step)
+    return checks.end()
+
+
+if __name__ == "__main__":
+    sys.exit(main())

@@ -1,0 +1,55 @@
+"""A server that `rt try` builds, with checks in place of proofs, and runs: until it listens, and to its end."""
+import contextlib
+import glob
+import os
+import shutil
+import signal
+import subprocess
+import time
+
+# How long rt may take until the server listens, and how long it lets it run.
+BUILD_SECONDS, RUN_SECONDS = 1_200, 60
+
+
+class Trial:
+    """`rt try` of the crate in a folder, with these words. All that it makes stands below another folder."""
+
+    def __init__(self, crate, words, made):
+        self.made, self.said = made, open(f"{made}/said", "w+", encoding="utf-8", errors="replace")
+        self.process = subprocess.Popen(
+            [shutil.which("rt"), "try", "--", *words], cwd=crate,
+            env={**os.environ, "TMPDIR": made, "RT_SECONDS": str(RUN_SECONDS)},
+            stdin=subprocess.DEVNULL, stdout=self.said, stderr=subprocess.STDOUT,
+        )
+
+    def comes_to(self, is_so):
+        """Whether this comes to hold while rt builds and runs."""
+        end, holds = time.monotonic() + BUILD_SECONDS, False
+        while self.process.poll() is None and not holds and time.monotonic() < end:
+            time.sleep(0.1)
+            holds = is_so()
+        return holds
+
+    def program(self):
+        """The file that rt runs."""
+        found = glob.glob(f"{self.made}/**/program", recursive=True)
+        if len(found) != 1:
+            raise RuntimeError(f"rt try ran {len(found)} programs below {self.made}")
+        return found[0]
+
+    def text(self):
+        """What rt and the server have said."""
+        with open(f"{self.made}/said", encoding="utf-8", errors="replace") as file:
+            return file.read()
+
+    def end(self):
+        """Ends rt and what it has started: that is in a session of its own, and goes on without rt."""
+        self.process.kill()
+        self.process.wait()
+        self.said.close()
+        for path in glob.glob("/proc/[0-9]*/cmdline"):
+            with contextlib.suppress(OSError):
+                with open(path, "rb") as file:
+                    is_of_it = self.made.encode() in file.read()
+                if is_of_it:
+                    os.kill(int(path.split("/")[2]), signal.SIGKILL)
