@@ -121,7 +121,7 @@ ROWS = (
     ("stale", README, END, "\nRattle has contracts, which a prover checks before the program is built.\n", "builds a program with nothing proved"),
     ("metrics", TEXTFILE, r"way=", "direction=", "has no label ['direction']"),
     ("samples", TEXTFILE, r"connections = sum\(.*\)", "connections = (len(shown) + 1) // 2", "2 connections stand"),
-    ("limits", UNIT, END, "# 9,000 pairs take 18,216 at most.\n", "below what a remark in the unit asks for: 18216"),
+    ("limits", UNIT, END, "# 90,000 pairs take 180,216 at most.\n", "below what a remark in the unit asks for: 180216"),
     ("figures", MEASURED, END, "| bytes (A) | 10 | nginx 20 | 0.75 |\n", "is 0.50, not 0.75"),
     ("figures", README, END, "\nIt has 0.33 of the memory of HAProxy.\n", "has the ratio 0.33"),
     ("figures", README, END, "\n| bytes | 2,267 | nginx 161,752 | 0.97 |\n", "has the figures [0.97, 2267.0, 161752.0]"),
