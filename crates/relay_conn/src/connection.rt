@@ -100,6 +100,23 @@ fn close_sides<A: Alarms + Drop, R: Wait>(
     alarms.disarm(place.second, Dirs::Both);
 }
 
+// Counts how a connection ended whose sides had these ids, and tells the log.
+fn note_ended<R: Wait + Clock>(
+    rt: &R,
+    log: &Option<Arc<Log>>,
+    facts: &ConnectionFacts,
+    ids: (u64, u64),
+    now: u64,
+    how: How,
+) {
+    if let Some(counts) = facts.counts() {
+        counts.note_end(how);
+    }
+    if let Some(log) = log {
+        tell_end(rt, log, facts, ids, now, how);
+    }
+}
+
 /// A connection: both its sides, how far its ways are, and the ways; and what others know of it.
 #[derive(Drop)]
 pub struct Connection<U: Ledger, D: Ledger, R: Wait + Clock + Copy> {
@@ -292,12 +309,7 @@ impl<U: Ledger, D: Ledger, R: Wait + Clock + Copy> Connection<U, D, R> {
         close_sides(rt, up, down, place);
         books.up.settle(up_share);
         books.down.settle(down_share);
-        if let Some(counts) = facts.counts() {
-            counts.note_end(how);
-        }
-        if let Some(log) = log {
-            tell_end(rt, log, &facts, (client_id, target_id), now, how);
-        }
+        note_ended(rt, log, &facts, (client_id, target_id), now, how);
         gone
     }
 }

@@ -9,6 +9,7 @@ ghost use Rattle.readiness.specs.EventLoop.{remote_of};
 ghost use Rattle.relay_core.specs.declared.pair_tasks.FlowState.{FlowState};
 ghost use Rattle.relay_ledger.specs.Book.{OpensOne};
 ghost use Rattle.relay_conn.specs.SetUp.{IsSetUp};
+ghost use Rattle.relay_shared.specs.Index.{entered_id};
 
 use crate::connection::{Connection, Flow, Gate};
 use crate::idle_time::IdleTime;
@@ -25,7 +26,7 @@ use relay_facts::books::LoopBooks;
 use relay_facts::clock::RelayClock;
 use relay_facts::connection_facts::ConnectionFacts;
 use relay_ledger::CarriedShare;
-use relay_shared::index::Standing;
+use relay_shared::index::{Entered, Standing};
 use relay_shared::standing::{Connected, RelayIndex};
 use std::alloc::Global;
 use std::sync::ledger::Ledger;
@@ -67,10 +68,9 @@ struct BothWays<R: Wait + Clock + Copy> {
     down: NewWay<R>,
 }
 
-/// What a connection is given last: its client's id, and its shares.
-#[derive(Drop)]
+/// What a connection is given last: its shares, and its entry, which can't be dropped.
 struct Given<U: Ledger, D: Ledger> {
-    id: u64,
+    entered: Entered,
     up: CarriedShare<U>,
     down: CarriedShare<D>,
 }
@@ -174,9 +174,9 @@ impl<'a, R: Wait + Clock + Copy> SetUp<'a, R> {
             .ok_or(Refused::Memory)
     }
 
-    // Enters a connection, and gives its client's id. From then on it is found.
-    fn enter(&self, facts: &Arc<ConnectionFacts>, place: Place) -> Option<u64>
-        ensures fits { IfSome result (λ id. id + 1 < 2 ^ 64) }
+    // Enters a connection under its client's id. From then on it is found.
+    fn enter(&self, facts: &Arc<ConnectionFacts>, place: Place) -> Option<Entered>
+        ensures fits { IfSome result (λ entered. entered_id entered + 1 < 2 ^ 64) }
     {
         let connected = Connected {
             facts: Arc::try_clone(facts).ok()?,
@@ -196,11 +196,11 @@ impl<'a, R: Wait + Clock + Copy> SetUp<'a, R> {
     ) -> Option<Given<U, D>>
         ensures up { IfSome result (λ _. OpensOne books.old.up.book books.new.up.book) }
         ensures down { IfSome result (λ _. OpensOne books.old.down.book books.new.down.book) }
-        ensures fits { IfSome result (λ given. given.id + 1 < 2 ^ 64) }
+        ensures fits { IfSome result (λ given. entered_id given.entered + 1 < 2 ^ 64) }
     {
         let (up, down) = books.open_shares()?;
         match self.enter(facts, place) {
-            Some(id) => Some(Given { id, up, down }),
+            Some(entered) => Some(Given { entered, up, down }),
             None => {
                 books.up.settle(Some(up));
                 books.down.settle(Some(down));
@@ -225,15 +225,17 @@ impl<'a, R: Wait + Clock + Copy> SetUp<'a, R> {
         let Some(given) = self.give(books, &facts, place) else {
             return Err(Refused::Memory);
         };
+        let Given { entered, up, down } = given;
+        let client_id = entered.keep();
         Ok(Connection {
-            client_id: given.id,
-            target_id: given.id + 1,
+            client_id,
+            target_id: client_id + 1,
             place,
             client: ways.client,
             target: ways.target,
             tasks: reading_tasks(),
-            up: ways.up.with_share(given.up),
-            down: ways.down.with_share(given.down),
+            up: ways.up.with_share(up),
+            down: ways.down.with_share(down),
             facts,
             reach: Reach::Reached,
             failure: None,

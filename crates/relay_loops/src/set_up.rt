@@ -134,9 +134,7 @@ impl<U: Ledger, D: Ledger, R: Wait + Net + Clock + Copy> LoopHost<U, D, R> {
         task.connection.begin(reach);
         match tasks.put(task) {
             Ok(place) => self.wait_for_target(tasks, reach, place.first),
-            Err(task) => {
-                let _ = self.end(task);
-            }
+            Err(task) => drop(self.end(task)),
         }
     }
 

@@ -10,7 +10,7 @@ use crate::main_task::MainTask;
 use crate::rule_task::{RuleListener, RuleTask};
 use arrayvec::ArrayString;
 use fd_descriptor::{FdHandle, TaskReader};
-use readiness::{EventLoop, HoldFault, Listen, ListenRes};
+use readiness::{EventLoop, HoldFault, Listen, ListenRes, Poller};
 use relay_admin::{Addr, ServeFault};
 use relay_core::Accepting;
 use relay_facts::bound_path::BoundPath;
@@ -38,6 +38,20 @@ fn bind<R: Wait + Net + Files>(
     }
 }
 
+// A descriptor of a listener, of which the poller tells under this token.
+fn opened(
+    poller: &Poller,
+    alloc: Global,
+    socket: Listen,
+    token: u64,
+) -> Result<FdHandle<ListenRes>, ServeFault> {
+    match poller.open_listener(alloc, socket, token) {
+        Ok(handle) => Ok(handle),
+        Err(HoldFault::Device(_)) => Err(ServeFault::Device),
+        Err(_) => Err(ServeFault::Memory),
+    }
+}
+
 // A descriptor of a rule's listener, which stands in the index.
 fn listener_in<R: Wait + Copy>(
     rt: R,
@@ -47,9 +61,9 @@ fn listener_in<R: Wait + Copy>(
 ) -> Option<RuleListener<R>> {
     let cell = handle.cell().ok()?;
     let known = Arc::try_clone(served).ok()?;
-    let id = index.enter(Standing::Listener(known)).ok()?;
+    let entered = index.enter(Standing::Listener(known)).ok()?;
     Some(RuleListener {
-        id,
+        id: entered.keep(),
         cell,
         half: TaskReader::new(rt, handle),
     })
@@ -69,16 +83,9 @@ fn hold_rule<R: Wait + Copy>(
     let Ok(place) = tasks.vacant() else {
         return Err(ServeFault::Memory);
     };
-    let opened = tasks.poller().open_listener(alloc, socket, place.first);
-    let handle = match opened {
-        Ok(handle) => handle,
-        Err(HoldFault::Device(_)) => return Err(ServeFault::Device),
-        Err(_) => return Err(ServeFault::Memory),
-    };
+    let handle = opened(tasks.poller(), alloc, socket, place.first)?;
     let task_served = Arc::try_clone(served)?;
-    let Some(listener) = listener_in(rt, index, handle, served) else {
-        return Err(ServeFault::Memory);
-    };
+    let listener = listener_in(rt, index, handle, served).ok_or(ServeFault::Memory)?;
     let id = listener.id;
     let task = RuleTask {
         served: task_served,

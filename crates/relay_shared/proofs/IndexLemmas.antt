@@ -1,123 +1,154 @@
 -- What was entered and left, by induction over it.
-use Rattle.std.proofs.Common.{◌≡◌, ◌≢◌, ◌⊎◌, ◌∙◌, sym, ap, subst, refl, inl, inr, ℕ, ◌+◌, ◌<◌, ◌≤◌, List, [], ◌∷◌, Option, Some, None, arith}
+use Rattle.std.proofs.Common.{◌≡◌, ◌≢◌, ◌⊎◌, ◌∙◌, sym, ap, subst, inl, inr, ℕ, ◌+◌, ◌<◌, ◌≤◌, refl}
+use Rattle.std.proofs.Common.{List, [], ◌∷◌, ◌++◌, Option, Some, None, arith}
 use Rattle.std.proofs.lemmas.Bool.Decides.{eqb_tells, leb_tells}
-use Rattle.relay_shared.specs.declared.index.Index.{Index}
+use Rattle.std.specs.Ordering.{nat_cmp}
+use Rattle.std.specs.BTreeMap.{is_at}
+use Rattle.std.specs.Map.{lookup}
 use Rattle.relay_shared.specs.declared.index.Standing.{Standing}
 use Rattle.relay_shared.specs.declared.index.Standing.TheVariants.{Connection, Listener}
 use Rattle.relay_admin.specs.declared.admin.shown.ShownSide.{ShownSide}
 use Rattle.relay_admin.specs.declared.admin.shown.ShownSide.TheVariants as side
-use Rattle.relay_shared.specs.Index.{entered, next_id_of, ids_of, IsFound, IsFoundAt, KeepsOthers}
+use Rattle.relay_shared.specs.Index.{Register, entered, ids_of, IsFoundAt, Enters, Leaves}
 use Rattle.relay_shared.specs.IndexLaws.{Move, Entered, Left, CameBy, Stands, WasGiven}
 use Rattle.relay_shared.specs.IndexLaws.{WhatIsFoundStands, IdsAreGivenOnce, AnIdNamesOne}
+use Rattle.relay_shared.proofs.IndexLists.{has_an_id}
+use Rattle.relay_shared.proofs.IndexLookups.{found_behind, found_without, found_last, found_still, still_found}
 
 -- an id is another, or not
 same_or_not : (at id : ℕ) → (at ≡ id) ⊎ (at ≢ id)
 same_or_not at id = elim (eqb_tells at id) [ inl same ↦ inl same.1 | inr other ↦ inr other.1 ]
 
 module _ {C L : Type 0} where
-  -- what stands under another id stood there before
-  stood_before : (at id : ℕ) (old new : Index C L) (standing : Standing C L)
-      → KeepsOthers old new at → at ≢ id → entered new id ≡ Some standing
-      → entered old id ≡ Some standing
-  stood_before at id old new standing others other is =
-      let kept : entered new id ≡ entered old id = others id (λ same. other (sym same)) in cc
+  -- nothing stands in an empty index
+  nothing_stands : (index : Register C L) (id : ℕ) → index.entries ≡ [] → entered index id ≡ None
+  nothing_stands index id none = ap (λ entries. lookup (is_at (nat_cmp id)) entries) none
 
-  stands : (moves : List (Move C L)) (index : Index C L) → CameBy moves index
-      → (id : ℕ) (standing : Standing C L) → entered index id ≡ Some standing
-      → Stands moves id standing
-  stands [] index none id standing is = let nothing : entered index id ≡ None = none id in absurd (cc)
-  stands (Entered at given ∷ before) index came id standing is =
-      elim (same_or_not at id) [
-        | inl same ↦ (let now = came.2.stands in inl (same, cc))
-        | inr other ↦ inr (
-          other,
-          stands before came.0 came.1 id standing
-              (stood_before at id came.0 index standing came.2.others other is),
-        )
-      ]
-  stands (Left at ∷ before) index came id standing is =
-      elim (same_or_not at id) [
-        | inl same ↦ (let gone = came.2.gone in absurd (cc))
-        | inr other ↦ (
-          other,
-          stands before came.0 came.1 id standing
-              (stood_before at id came.0 index standing came.2.others other is),
-        )
-      ]
+  -- what stands after an entry stood before, or is what was entered
+  before_entry : (at id : ℕ) (old new : Register C L) (given standing : Standing C L)
+      → Enters old new at given → entered new id ≡ Some standing
+      → (entered old id ≡ Some standing) ⊎ ((at ≡ id) × (given ≡ standing))
+  before_entry at id old new given standing enters is =
+      found_behind id at given standing old.entries
+      (sym (ap (λ entries. lookup (is_at (nat_cmp id)) entries) enters.entries) ∙ is)
+
+  -- what stands after something has left stood before, under another id
+  before_leaving : (at id : ℕ) (old new : Register C L) (standing : Standing C L)
+      → Leaves old new at → entered new id ≡ Some standing
+      → (at ≢ id) × (entered old id ≡ Some standing)
+  before_leaving at id old new standing leaves is =
+      found_without id at standing old.entries
+      (sym (ap (λ index. lookup (is_at (nat_cmp id)) index.entries) leaves) ∙ is)
 
   -- what stands has ids below the next
-  stands_below : (moves : List (Move C L)) (index : Index C L) → CameBy moves index
+  stands_below : (moves : List (Move C L)) (index : Register C L) → CameBy moves index
       → (id : ℕ) (standing : Standing C L) → entered index id ≡ Some standing
-      → id + ids_of standing ≤ next_id_of index
+      → id + ids_of standing ≤ index.next_id
   stands_below [] index none id standing is =
-      let nothing : entered index id ≡ None = none id in absurd (cc)
+      let nothing = nothing_stands index id none in absurd (cc)
   stands_below (Entered at given ∷ before) index came id standing is =
-      let is_next = came.2.given in let next = came.2.next in
-      elim (same_or_not at id) [
-        | inl same ↦ (let now = came.2.stands in let one : given ≡ standing = cc in
-            let count : ids_of given ≡ ids_of standing = ap ids_of one in
-            omega (arith, same, is_next, next, count))
-        | inr other ↦ (let below = stands_below before came.0 came.1 id standing
-            (stood_before at id came.0 index standing came.2.others other is) in
+      let is_next = came.2.given in let next = came.2.next_id in
+      elim (before_entry at id came.0 index given standing came.2 is) [
+        | inl earlier ↦ (let below = stands_below before came.0 came.1 id standing earlier in
             omega (arith, below, next))
+        | inr now ↦ (let same = now.0 in let count : ids_of given ≡ ids_of standing = ap ids_of now.1 in
+            omega (arith, same, is_next, next, count))
       ]
   stands_below (Left at ∷ before) index came id standing is =
-      let next = came.2.next in
-      elim (same_or_not at id) [
-        | inl same ↦ (let gone = came.2.gone in absurd (cc))
-        | inr other ↦ (let below = stands_below before came.0 came.1 id standing
-            (stood_before at id came.0 index standing came.2.others other is) in
-            omega (arith, below, next))
+      let next : index.next_id ≡ came.0.next_id = ap (λ i. i.next_id) came.2 in
+      let below = stands_below before came.0 came.1 id standing
+      (before_leaving at id came.0 index standing came.2 is).1 in
+      omega (arith, below, next)
+
+  stands : (moves : List (Move C L)) (index : Register C L) → CameBy moves index
+      → (id : ℕ) (standing : Standing C L) → entered index id ≡ Some standing
+      → Stands moves id standing
+  stands [] index none id standing is =
+      let nothing = nothing_stands index id none in absurd (cc)
+  stands (Entered at given ∷ before) index came id standing is =
+      elim (before_entry at id came.0 index given standing came.2 is) [
+        | inl earlier ↦ (let below = stands_below before came.0 came.1 id standing earlier in
+            let is_next = came.2.given in let some = has_an_id standing in
+            inr (
+              (λ same. omega (arith, below, is_next, some, same)),
+              stands before came.0 came.1 id standing earlier,
+            ))
+        | inr now ↦ inl now
       ]
+  stands (Left at ∷ before) index came id standing is =
+      let stood = before_leaving at id came.0 index standing came.2 is in
+      (stood.0, stands before came.0 came.1 id standing stood.1)
+
+  -- nothing stands under the next id
+  next_is_free : (moves : List (Move C L)) (index : Register C L) → CameBy moves index
+      → (found : Option (Standing C L)) → entered index index.next_id ≡ found
+      → entered index index.next_id ≡ None
+  next_is_free moves index came None is = is
+  next_is_free moves index came (Some standing) is =
+      let below = stands_below moves index came index.next_id standing is in
+      let some = has_an_id standing in absurd (omega (arith, below, some))
+
+  is_found : (moves : List (Move C L)) (index : Register C L) → CameBy moves index
+      → (id : ℕ) (standing : Standing C L) → Stands moves id standing
+      → entered index id ≡ Some standing
+  is_found [] index none id standing is = absurd is
+  is_found (Entered at given ∷ before) index came id standing is =
+      ap (λ entries. lookup (is_at (nat_cmp id)) entries) came.2.entries
+      ∙ elim is [
+        | inl now ↦ (let free : entered came.0 at ≡ None =
+            subst (λ n. entered came.0 n ≡ None) (sym came.2.given)
+            (next_is_free before came.0 came.1 (entered came.0 came.0.next_id) refl) in
+            subst (λ n. lookup (is_at (nat_cmp n)) (came.0.entries ++ (at, given) ∷ []) ≡ Some standing) now.0
+            (found_last at given came.0.entries free ∙ ap Some now.1))
+        | inr earlier ↦ still_found id at given standing came.0.entries
+            (is_found before came.0 came.1 id standing earlier.1)
+      ]
+  is_found (Left at ∷ before) index came id standing is =
+      ap (λ i. lookup (is_at (nat_cmp id)) i.entries) came.2
+      ∙ found_still id at standing came.0.entries is.0 (is_found before came.0 came.1 id standing is.1)
 
   -- the ids of what stands are apart
-  stand_apart : (moves : List (Move C L)) (index : Index C L) → CameBy moves index
+  stand_apart : (moves : List (Move C L)) (index : Register C L) → CameBy moves index
       → (low high : ℕ) (one other : Standing C L) → entered index low ≡ Some one
       → entered index high ≡ Some other → low < high → low + ids_of one ≤ high
   stand_apart [] index none low high one other is has below =
-      let nothing : entered index low ≡ None = none low in absurd (cc)
+      let nothing = nothing_stands index low none in absurd (cc)
   stand_apart (Entered at given ∷ before) index came low high one other is has below =
       let is_next = came.2.given in
-      elim (same_or_not at low) [
-        | inl same ↦ elim (same_or_not at high) [
-          | inl too ↦ absurd (omega (arith, same, too, below))
-          | inr apart ↦ (let under = stands_below before came.0 came.1 high other
-              (stood_before at high came.0 index other came.2.others apart has) in
-              absurd (omega (arith, under, same, is_next, below)))
+      elim (before_entry at low came.0 index given one came.2 is) [
+        | inl earlier ↦ elim (before_entry at high came.0 index given other came.2 has) [
+          | inl too ↦ stand_apart before came.0 came.1 low high one other earlier too below
+          | inr now ↦ (let same = now.0 in
+              let under = stands_below before came.0 came.1 low one earlier in
+              omega (arith, under, same, is_next))
         ]
-        | inr distinct ↦ elim (same_or_not at high) [
-          | inl too ↦ (let under = stands_below before came.0 came.1 low one
-              (stood_before at low came.0 index one came.2.others distinct is) in
-              omega (arith, under, too, is_next))
-          | inr apart ↦ stand_apart before came.0 came.1 low high one other
-              (stood_before at low came.0 index one came.2.others distinct is)
-              (stood_before at high came.0 index other came.2.others apart has) below
+        | inr now ↦ elim (before_entry at high came.0 index given other came.2 has) [
+          | inl earlier ↦ (let same = now.0 in let some = has_an_id other in
+              let under = stands_below before came.0 came.1 high other earlier in
+              absurd (omega (arith, under, some, same, is_next, below)))
+          | inr too ↦ (let same = now.0 in let equal = too.0 in
+              absurd (omega (arith, same, equal, below)))
         ]
       ]
   stand_apart (Left at ∷ before) index came low high one other is has below =
-      elim (same_or_not at low) [
-        | inl same ↦ (let gone = came.2.gone in absurd (cc))
-        | inr distinct ↦ elim (same_or_not at high) [
-          | inl too ↦ (let gone = came.2.gone in absurd (cc))
-          | inr apart ↦ stand_apart before came.0 came.1 low high one other
-              (stood_before at low came.0 index one came.2.others distinct is)
-              (stood_before at high came.0 index other came.2.others apart has) below
-        ]
-      ]
+      stand_apart before came.0 came.1 low high one other
+      (before_leaving at low came.0 index one came.2 is).1
+      (before_leaving at high came.0 index other came.2 has).1 below
 
   -- the ids that were given are below the next
-  given_below : (moves : List (Move C L)) (index : Index C L) → CameBy moves index → (id : ℕ)
-      → WasGiven moves id → id < next_id_of index
+  given_below : (moves : List (Move C L)) (index : Register C L) → CameBy moves index → (id : ℕ)
+      → WasGiven moves id → id < index.next_id
   given_below [] index none id given = absurd given
   given_below (Entered at standing ∷ before) index came id given =
-      let is_next = came.2.given in let next = came.2.next in
+      let is_next = came.2.given in let next = came.2.next_id in
       elim given [
         | inl now ↦ (let last = now.1 in omega (arith, last, is_next, next))
         | inr earlier ↦ (let below = given_below before came.0 came.1 id earlier in
             omega (arith, below, next))
       ]
   given_below (Left at ∷ before) index came id given =
-      let next = came.2.next in let below = given_below before came.0 came.1 id given in
+      let next : index.next_id ≡ came.0.next_id = ap (λ i. i.next_id) came.2 in
+      let below = given_below before came.0 came.1 id given in
       omega (arith, below, next)
 
   -- it is found within its ids
@@ -149,7 +180,7 @@ module _ {C L : Type 0} where
   found_as_one (Listener listener) side.Listener side.Listener behind is has = refl
 
   -- what an id names was entered under one id
-  one_first : (moves : List (Move C L)) (index : Index C L) → CameBy moves index
+  one_first : (moves : List (Move C L)) (index : Register C L) → CameBy moves index
       → (low high near far : ℕ) (one other : Standing C L) (first second : ShownSide)
       → low + near ≡ high + far → entered index low ≡ Some one → entered index high ≡ Some other
       → IsFoundAt one first near → IsFoundAt other second far → low < high → ⊥
@@ -159,7 +190,8 @@ module _ {C L : Type 0} where
       omega (arith, apart, within, same)
 
 pub what_is_found_stands : {C L : Type 0} → WhatIsFoundStands C L
-what_is_found_stands moves index came id standing is = stands moves index came id standing is
+what_is_found_stands moves index came id standing =
+    (stands moves index came id standing, is_found moves index came id standing)
 
 pub ids_are_given_once : {C L : Type 0} → IdsAreGivenOnce C L
 ids_are_given_once at standing before index came id from given =

@@ -1,2 +1,4 @@
 pub mod IndexLemmas
+pub mod IndexLists
+pub mod IndexLookups
 pub mod RequestsLemmas

@@ -1,5 +1,5 @@
 -- What was done to the slots of sessions, by induction over it.
-use Rattle.std.proofs.Common.{◌≡◌, ◌≢◌, ◌⊎◌, ◌∙◌, sym, inl, inr, ℕ, ◌+◌, ◌<◌, List, [], ◌∷◌, Option, Some, arith}
+use Rattle.std.proofs.Common.{◌≡◌, ◌≢◌, ◌⊎◌, sym, inl, inr, ℕ, ◌<◌, List, [], ◌∷◌, Some, arith}
 use Rattle.std.proofs.lemmas.Bool.Decides.{eqb_tells}
 use Rattle.relay_shared.specs.declared.requests.Answer.{Answer}
 use Rattle.relay_shared.specs.declared.requests.Slot.{Slot}

@@ -1,31 +1,57 @@
 -- What stands under which id.
-use Rattle.std.specs.Prelude.{◌≡◌, ◌≢◌, ◌+◌, ◌++◌, ℕ, List, [], ◌∷◌, Option, Some, None}
+use Rattle.std.specs.Prelude.{◌≡◌, ◌==◌, ◌≤◌, ◌+◌, ◌++◌, ℕ, not, List, [], ◌∷◌, Option, Some}
+use Rattle.std.specs.Prelude.{All, AllPairs, filter}
 use Rattle.std.specs.Ordering.{nat_cmp}
-use Rattle.std.specs.BTreeMap.{get}
+use Rattle.std.specs.BTreeMap.{is_at}
+use Rattle.std.specs.Map.{lookup}
+use Rattle.relay_shared.specs.declared.index.Entered.{Entered}
 use Rattle.relay_shared.specs.declared.index.Gone.{Gone}
-use Rattle.relay_shared.specs.declared.index.Index.{Index}
 use Rattle.relay_shared.specs.declared.index.Standing.{Standing}
 use Rattle.relay_shared.specs.declared.index.Standing.TheVariants.{Connection, Listener}
 use Rattle.relay_admin.specs.declared.admin.shown.ShownSide.{ShownSide}
 use Rattle.relay_admin.specs.declared.admin.shown.ShownSide.TheVariants as side
 
+-- the id under which something was entered
+abbrev pub entered_id : Entered → ℕ
+entered_id entered = entered.id
+
 -- the id under which what has gone was entered
 abbrev pub gone_id : Gone → ℕ
 gone_id gone = gone.id
 
-module _ {C L : Type 0} where
-  -- what stands that was entered under this id
-  abbrev pub entered : Index C L → ℕ → Option (Standing C L)
-  entered index id = get nat_cmp index.entries id
+-- what a caller sees of an index: what stands, with the id under which it was entered, in the order
+-- in which that was; and the next id
+pub record Register (C L : Type 0) : Type 0 where
+  pub entries : List (ℕ × Standing C L)
+  pub next_id : ℕ
 
-  -- the next id
-  abbrev pub next_id_of : Index C L → ℕ
-  next_id_of index = index.next_id
+module _ {C L : Type 0} where
+  -- the register of these entries, with this next id
+  abbrev pub register_of : List (ℕ × Standing C L) → ℕ → Register C L
+  register_of entries next_id = record { entries = entries; next_id = next_id }
+
+  -- what stands that was entered under this id
+  abbrev pub entered : Register C L → ℕ → Option (Standing C L)
+  entered index id = lookup (is_at (nat_cmp id)) index.entries
 
   -- how many ids it has
   abbrev pub ids_of : Standing C L → ℕ
   ids_of (Connection connection) = 2
   ids_of (Listener listener) = 1
+
+  -- the ids of an entry are from 1 to below the next
+  abbrev pub HasGivenIds : ℕ → ℕ × Standing C L → Type 0
+  HasGivenIds next entry = (1 ≤ entry.0) × (entry.0 + ids_of entry.1 ≤ next)
+
+  -- the ids of an entry come before those of a later one
+  abbrev pub ComesBefore : ℕ × Standing C L → ℕ × Standing C L → Type 0
+  ComesBefore entry later = entry.0 + ids_of entry.1 ≤ later.0
+
+  -- what holds of every index
+  pub record IsConsistent (index : Register C L) : Type 0 where
+    pub first : 1 ≤ index.next_id
+    pub given : All (HasGivenIds index.next_id) index.entries
+    pub rising : AllPairs ComesBefore index.entries
 
   -- it is found so by the id that many behind the one under which it was entered
   abbrev pub IsFoundAt : Standing C L → ShownSide → (behind : ℕ) → Type 0
@@ -37,31 +63,23 @@ module _ {C L : Type 0} where
   IsFoundAt (Listener listener) side.Listener behind = behind ≡ 0
 
   -- this stands, and the id names it so
-  abbrev pub IsFound : Index C L → ℕ → ShownSide → Standing C L → Type 0
+  abbrev pub IsFound : Register C L → ℕ → ShownSide → Standing C L → Type 0
   IsFound index id shown standing = (first behind : ℕ) × (id ≡ first + behind)
       × (entered index first ≡ Some standing) × IsFoundAt standing shown behind
 
-  -- under all other ids stands what stood there
-  abbrev pub KeepsOthers : Index C L → Index C L → ℕ → Type 0
-  KeepsOthers old new id = (other : ℕ) → other ≢ id → entered new other ≡ entered old other
+  -- this is entered last, under the next id, and the next id is behind all its own
+  pub record Enters (old new : Register C L) (id : ℕ) (standing : Standing C L) : Type 0 where
+    pub given : id ≡ old.next_id
+    pub entries : new.entries ≡ old.entries ++ (id, standing) ∷ []
+    pub next_id : new.next_id ≡ old.next_id + ids_of standing
 
-  -- this is entered under the next id, and the next id is behind all its own
-  pub record Enters (old new : Index C L) (id : ℕ) (standing : Standing C L) : Type 0 where
-    pub given : id ≡ next_id_of old
-    pub stands : entered new id ≡ Some standing
-    pub others : KeepsOthers old new id
-    pub next : next_id_of new ≡ next_id_of old + ids_of standing
+  -- the entries of all other ids, in their order
+  abbrev pub without : ℕ → List (ℕ × Standing C L) → List (ℕ × Standing C L)
+  without id entries = filter (λ entry. not (id == entry.0)) entries
 
-  -- nothing stands under this id any more
-  pub record Leaves (old new : Index C L) (id : ℕ) : Type 0 where
-    pub gone : entered new id ≡ None
-    pub others : KeepsOthers old new id
-    pub next : next_id_of new ≡ next_id_of old
-
-  -- nothing changes
-  pub record IsKept (old new : Index C L) : Type 0 where
-    pub stands : (id : ℕ) → entered new id ≡ entered old id
-    pub next : next_id_of new ≡ next_id_of old
+  -- what was entered under this id is taken out, if it stands, and nothing else changes
+  abbrev pub Leaves : Register C L → Register C L → ℕ → Type 0
+  Leaves old new id = new ≡ record old { entries = without id old.entries }
 
   -- the ids of what was entered under this one
   abbrev pub ids_from : ℕ → Standing C L → List ℕ
@@ -72,7 +90,3 @@ module _ {C L : Type 0} where
   abbrev pub ids_in : List (ℕ × Standing C L) → List ℕ
   ids_in [] = []
   ids_in (entry ∷ entries) = ids_from entry.0 entry.1 ++ ids_in entries
-
-  -- all ids, in the order of the entries
-  abbrev pub all_ids : Index C L → List ℕ
-  all_ids index = ids_in index.entries.entries

@@ -7,8 +7,7 @@ use Rattle.readiness.specs.declared.loop_token.Place.{Place}
 use Rattle.relay_admin.specs.declared.admin.shown.ShownSide.{ShownSide}
 use Rattle.relay_admin.specs.declared.admin.shown.ShownSide.TheVariants.{Target}
 use Rattle.relay_facts.specs.declared.served_rule.ServedRule.{ServedRule}
-use Rattle.relay_shared.specs.Index.{IsFound}
-use Rattle.relay_shared.specs.declared.index.Index.{Index}
+use Rattle.relay_shared.specs.Index.{Register, IsFound}
 use Rattle.relay_shared.specs.declared.index.Standing.{Standing}
 use Rattle.relay_shared.specs.declared.index.Standing.TheVariants.{Connection, Listener}
 use Rattle.relay_shared.specs.declared.standing.Connected.{Connected}
@@ -20,14 +19,14 @@ token_on Target place = place.second
 token_on other place = place.first
 
 -- the id names a side of a connection, whose loop and task are these
-abbrev pub IsWhere : Index Connected (Arc ServedRule Global) → ℕ → Whereabouts → Type 0
+abbrev pub IsWhere : Register Connected (Arc ServedRule Global) → ℕ → Whereabouts → Type 0
 IsWhere index id at = (side : ShownSide) × (connected : Connected)
     × IsFound index id side (Connection connected)
     × (at.loop_place ≡ (arc_value connected.facts).loop_place)
     × (at.token ≡ token_on side connected.place)
 
 -- the id names nothing, or a listener
-abbrev pub NamesNoSide : Index Connected (Arc ServedRule Global) → ℕ → Type 0
+abbrev pub NamesNoSide : Register Connected (Arc ServedRule Global) → ℕ → Type 0
 NamesNoSide index id =
     ((side : ShownSide) (standing : Standing Connected (Arc ServedRule Global))
     → IsFound index id side standing → ⊥)

@@ -5,17 +5,17 @@
 //! stands for both ids of a connection, so that it is entered and left as one. Ids rise, and none is
 //! given twice.
 
-ghost use Rattle.std.specs.Prelude.{◌≡◌, ◌<◌, ◌+◌, ◌^◌, ◌++◌, ℕ, IfOk, OnOk, OnErr, IfSome, IfNone, None, []};
+ghost use Rattle.std.specs.Prelude.{◌≡◌, ◌<◌, ◌+◌, ◌^◌, ◌++◌, IfOk, OnOk, OnErr, IfSome, IfNone, []};
 ghost use Rattle.relay_shared.specs.declared.index.Standing.{Standing};
 ghost use Rattle.relay_admin.specs.declared.admin.shown.ShownSide.{ShownSide};
-ghost use Rattle.relay_shared.specs.Index.{entered, next_id_of, ids_of, ids_from, all_ids};
-ghost use Rattle.relay_shared.specs.Index.{gone_id};
-ghost use Rattle.relay_shared.specs.Index.{Enters, Leaves, IsKept, IsFound, IsFoundAt};
+ghost use Rattle.relay_shared.specs.Index.{Enters, Leaves, IsFound, IsFoundAt};
+ghost use Rattle.relay_shared.specs.Index.{entered_id, gone_id, ids_of, ids_from, ids_in};
 
 use base_types::OutOfMemory;
 use relay_admin::ShownSide;
 use std::alloc::Global;
 use std::collections::BTreeMap;
+use std::marker::Model;
 
 /// What stands.
 #[derive(Clone, Copy, Debug, PartialEq, Eq, Drop)]
@@ -24,11 +24,28 @@ pub enum Standing<C, L> {
     Listener(L),
 }
 
-/// Connections and listeners by their ids.
+/// Connections and listeners by their ids. Contracts see the list of the entries, in the order in
+/// which they were entered, and the next id.
 #[derive(Drop)]
 pub struct Index<C, L> {
     entries: BTreeMap<u64, Standing<C, L>>,
     next_id: u64,
+}
+
+impl<C, L> Model for Index<C, L> {
+    ghost use Rattle.relay_shared.specs.Index.{Register, register_of, IsConsistent};
+
+    ghost Value = { Register C L };
+
+    ghost view = { λ index. register_of index.entries.entries index.next_id };
+
+    ghost invariant = { λ index. IsConsistent (register_of index.entries.entries index.next_id) };
+}
+
+/// That something stands under this id from now on. It can't be dropped: who has entered something
+/// keeps its id, by which it leaves, so that nothing stands of which nobody knows.
+pub struct Entered {
+    id: u64,
 }
 
 /// That what was entered under this id has left an index: nobody finds it any more. `leave` alone
@@ -36,6 +53,16 @@ pub struct Index<C, L> {
 #[derive(Clone, Copy, Debug, PartialEq, Eq, Drop)]
 pub struct Gone {
     id: u64,
+}
+
+impl Entered {
+    /// The id, from which who keeps it has it leave.
+    pub fn keep(self) -> u64
+        ensures { result ≡ entered_id self }
+    {
+        let Entered { id } = self;
+        id
+    }
 }
 
 impl<C, L> Standing<C, L> {
@@ -78,9 +105,8 @@ fn list<C, L>(ids: &mut Vec<u64>, id: u64, standing: &Standing<C, L>) -> Result<
 impl<C, L> Index<C, L> {
     /// Nothing stands, and the first id is 1.
     pub fn new(alloc: Global) -> Index<C, L>
-        ensures none { (id : ℕ) → entered result id ≡ None }
-        ensures first { next_id_of result ≡ 1 }
-        ensures no_ids { all_ids result ≡ [] }
+        ensures none { result.entries ≡ [] }
+        ensures first { result.next_id ≡ 1 }
     {
         Index {
             entries: BTreeMap::new(alloc),
@@ -88,15 +114,15 @@ impl<C, L> Index<C, L> {
         }
     }
 
-    /// Enters what stands from now on, and gives its first id. Refused is only memory, or no id is
-    /// left; then nothing changes.
-    pub fn enter(&mut self, standing: Standing<C, L>) -> Result<u64, OutOfMemory>
+    /// Enters what stands from now on. Refused is only memory, or no id is left; then nothing changes.
+    pub fn enter(&mut self, standing: Standing<C, L>) -> Result<Entered, OutOfMemory>
     where
         C: Drop,
         L: Drop,
-        ensures entered { IfOk result (λ id. Enters self.old self.new id standing) }
-        ensures fits { IfOk result (λ id. id + ids_of standing < 2 ^ 64) }
-        ensures kept { OnErr result (IsKept self.old self.new) }
+        ensures entered { IfOk result (λ entered.
+            Enters self.old self.new (entered_id entered) standing) }
+        ensures fits { IfOk result (λ entered. entered_id entered + ids_of standing < 2 ^ 64) }
+        ensures kept { OnErr result (self.new ≡ self.old) }
     {
         let id = self.next_id;
         let Some(next) = id.checked_add(standing.ids()) else {
@@ -105,7 +131,7 @@ impl<C, L> Index<C, L> {
         match self.entries.insert(id, standing) {
             Ok(_) => {
                 self.next_id = next;
-                Ok(id)
+                Ok(Entered { id })
             }
             Err(_) => Err(OutOfMemory),
         }
@@ -141,7 +167,7 @@ impl<C, L> Index<C, L> {
 
     /// All ids that name anything, rising; or want of memory.
     pub fn ids(&self, alloc: Global) -> Result<Vec<u64>, OutOfMemory>
-        ensures { IfOk result (λ ids. ids.items ≡ all_ids self.now) }
+        ensures { IfOk result (λ ids. ids.items ≡ ids_in self.now.entries) }
     {
         let mut ids = Vec::new(alloc);
         for (id, standing) in self.entries.iter() {

@@ -15,7 +15,8 @@ pub fn numbers_are_given_once()
     ensures { NumbersAreGivenOnce }
 {}
 
-/// However entries come and go, what is found was entered under its id, and hasn't left since.
+/// However entries come and go, what is found under an id is what was entered under it and hasn't
+/// left since.
 pub fn what_is_found_stands<C, L>()
     ensures { WhatIsFoundStands C L }
 {}

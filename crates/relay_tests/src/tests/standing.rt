@@ -22,12 +22,18 @@ fn names(index: &Index<u32, u32>) -> Names {
     all
 }
 
+/// Enters this, and gives its id.
+fn entered(index: &mut Index<u32, u32>, standing: Standing<u32, u32>) -> Option<u64> {
+    let entered = index.enter(standing).ok()?;
+    Some(entered.keep())
+}
+
 #[test]
 fn a_connection_has_two_ids_and_none_is_given_again(rt: HostRuntime) {
     let mut index = Index::new(rt.alloc());
-    holds!(rt; index.enter(Standing::Listener(7)) == Ok(1));
-    holds!(rt; index.enter(Standing::Connection(8)) == Ok(2));
-    holds!(rt; index.enter(Standing::Listener(9)) == Ok(4));
+    holds!(rt; entered(&mut index, Standing::Listener(7)) == Some(1));
+    holds!(rt; entered(&mut index, Standing::Connection(8)) == Some(2));
+    holds!(rt; entered(&mut index, Standing::Listener(9)) == Some(4));
     let listener = Some((ShownSide::Listener, 7));
     let client = Some((ShownSide::Client, 8));
     let target = Some((ShownSide::Target, 8));
@@ -38,5 +44,5 @@ fn a_connection_has_two_ids_and_none_is_given_again(rt: HostRuntime) {
     let _ = index.leave(2);
     let _ = index.leave(3);
     holds!(rt; names(&index) == [None, listener, None, None, last, None]);
-    holds!(rt; index.enter(Standing::Connection(8)) == Ok(5));
+    holds!(rt; entered(&mut index, Standing::Connection(8)) == Some(5));
 }
