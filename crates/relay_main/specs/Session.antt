@@ -43,6 +43,14 @@ abbrev pub is_held : State → Bool
 is_held does.Held = true
 is_held other = false
 
+-- it has something to write, or its line is answered later: no line is answered before
+abbrev pub is_busy : State → Bool
+is_busy does.Reading = false
+is_busy (does.Replying writing end) = true
+is_busy (does.Listing listing None end) = false
+is_busy (does.Listing listing (Some writing) end) = true
+is_busy does.Held = true
+
 -- how it ends behind what it does, if it does
 abbrev pub end_behind : State → Option AdminEnd
 end_behind (does.Replying writing end) = end

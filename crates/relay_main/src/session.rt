@@ -2,12 +2,13 @@
 //! reply before is written; a listing is a line of it at a time. Where an answer comes later, nothing
 //! is read and nothing answered until then. No call of it waits.
 
-ghost use Rattle.std.specs.Prelude.{◌≡◌, ◌↔◌, ◌⊎◌, IfSome, IsSome, false, true};
+ghost use Rattle.std.specs.Prelude.{◌≡◌, ◌≤◌, ◌↔◌, ◌⊎◌, IfSome, IsSome, false, true};
 ghost use Rattle.relay_admin.specs.admin.Answers.{of_late};
 ghost use Rattle.relay_admin.specs.admin.Later.{TakesNoAnswer};
 ghost use Rattle.relay_admin.specs.admin.Reply.{reply_text};
 ghost use Rattle.readiness.specs.Sockets.{read_from, written_to};
 ghost use Rattle.relay_main.specs.Session as spec;
+ghost use Rattle.relay_main.specs.declared.session.SessionStep.{SessionStep};
 
 use crate::session_state::{State, Writing, begun, rest_of, shown_on};
 use fd_descriptor::HalfClose;
@@ -122,6 +123,8 @@ impl Session {
     // Writes what isn't written yet, gives what is left, and says what follows where the session ends
     // so behind it, if it does.
     fn write(&mut self, writing: Writing, end: Option<AdminEnd>) -> (Option<Writing>, SessionStep)
+        ensures left { IfSome result.0 (λ left. (left.reply ≡ writing.reply)
+            × (writing.written ≤ left.written) × (result.1 ≡ spec.while_owed end)) }
         ensures lines { self.new.lines ≡ self.old.lines }
         ensures state { self.new.state ≡ self.old.state }
     {
@@ -169,7 +172,9 @@ impl Session {
     }
 
     // Reads once, where no line is whole.
-    fn hear(&mut self) -> SessionStep {
+    fn hear(&mut self) -> SessionStep
+        ensures { self.new.state ≡ self.old.state }
+    {
         let mut chunk = [0u8; CHUNK_BYTES];
         match told_of_read(read_now(&mut self.input, &mut chunk)) {
             Heard::Nothing => SessionStep::Waits,
@@ -186,8 +191,14 @@ impl Session {
         }
     }
 
-    /// Writes what is being written, if anything is; the next line may be asked for by `Again`.
-    pub(crate) fn pay(&mut self) -> SessionStep {
+    /// Writes what is being written, if anything is; the next line may be asked for by `Again`. While
+    /// its line is answered later, nothing is written.
+    pub(crate) fn pay(&mut self) -> SessionStep
+        ensures free { result ≡ SessionStep.Again → spec.is_busy self.new.state ≡ false }
+        ensures lines { self.new.lines ≡ self.old.lines }
+        ensures held { spec.is_held self.old.state ≡ true
+            → (result ≡ SessionStep.Waits) × (self.new ≡ self.old) }
+    {
         match mem::replace(&mut self.state, State::Reading) {
             State::Reading => SessionStep::Again,
             State::Replying(writing, end) => {
@@ -215,7 +226,10 @@ impl Session {
     /// Has the desk answer the next line, or the next look of a listing, and what there is to write
     /// is written from then on; or reads, where no line is whole. While something is being written,
     /// or its line is answered later, it waits.
-    pub(crate) fn ask<D: SessionDesk>(&mut self, alloc: Global, desk: &mut D) -> SessionStep {
+    pub(crate) fn ask<D: SessionDesk>(&mut self, alloc: Global, desk: &mut D) -> SessionStep
+        ensures busy { spec.is_busy self.old.state ≡ true
+            → (result ≡ SessionStep.Waits) × (self.new ≡ self.old) × (desk.new ≡ desk.old) }
+    {
         match mem::replace(&mut self.state, State::Reading) {
             State::Reading => self.go_on(alloc, desk),
             State::Listing(listing, None, end) => {
