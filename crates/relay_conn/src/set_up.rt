@@ -1,6 +1,6 @@
 //! Setting a connection up between two sockets: first what only it knows, then what others find.
 
-ghost use Rattle.std.specs.Prelude.{◌≡◌, ◌<◌, ◌+◌, ◌^◌, IfOk, OnOk, IfSome};
+ghost use Rattle.std.specs.Prelude.{◌≡◌, ◌<◌, ◌+◌, ◌^◌, Some, IfOk, OnOk, IfSome};
 ghost use Rattle.std.specs.Arc.{arc_value};
 ghost use Rattle.base_types.specs.declared.direction.Dir.{Dir};
 ghost use Rattle.fd_descriptor.specs.CellKey.{key_of_cell};
@@ -89,7 +89,11 @@ fn reading_tasks() -> PairTasks
 
 impl<R: Wait + Clock + Copy> NewWay<R> {
     // The same with its share.
-    fn with_share<L: Ledger>(self, share: CarriedShare<L>) -> Flow<L, R> {
+    fn with_share<L: Ledger>(self, share: CarriedShare<L>) -> Flow<L, R>
+        ensures gate { result.gate ≡ self.gate }
+        ensures share { result.share ≡ Some share }
+        ensures unpassed { result.passed ≡ 0 }
+    {
         let NewWay { gate, copying } = self;
         Flow {
             gate,

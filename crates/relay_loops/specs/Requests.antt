@@ -22,7 +22,7 @@ module _ {U D R : Type 0} where
       × (task_in tasks question.token ≡ Some task)
       × (id_on task.connection (side_in question.token) ≡ question.id)
 
-  -- where there was a task, a close is told that it has ended
+  -- where there was a task, a close is told that its connection has left the index
   abbrev pub TellsClose : Option (ConnTask U D R) → Answer → Type 0
   TellsClose None told = told ≡ answer.Close None
   TellsClose (Some task) (answer.Close (Some gone)) =

@@ -47,6 +47,8 @@ impl<U: Ledger, D: Ledger, R: Wait + Clock + Copy> LoopHost<U, D, R> {
         ensures done { IsHere (tasks_of tasks.old) question → IsCarriedOut question.asks result }
         ensures closed { IsHere (tasks_of tasks.old) question → question.asks ≡ Asks.Close
             → task_in (tasks_of tasks.new) question.token ≡ None }
+        ensures ended { IsHere (tasks_of tasks.old) question → question.asks ≡ Asks.Close
+            → TellsClose (task_in (tasks_of tasks.old) question.token) result }
         ensures others { OthersKept (tasks_of tasks.old) (tasks_of tasks.new) question.token }
     {
         if !is_here(tasks, &question) {

@@ -9,8 +9,8 @@ use Rattle.relay_shared.specs.declared.index.Standing.{Standing}
 use Rattle.relay_shared.specs.declared.index.Standing.TheVariants.{Connection, Listener}
 use Rattle.relay_admin.specs.declared.admin.shown.ShownSide.{ShownSide}
 use Rattle.relay_admin.specs.declared.admin.shown.ShownSide.TheVariants as side
-use Rattle.relay_shared.specs.Index.{Register, entered, ids_of, IsFoundAt, Enters, Leaves}
-use Rattle.relay_shared.specs.IndexLaws.{Move, Entered, Left, CameBy, Stands, WasGiven}
+use Rattle.relay_shared.specs.Index.{Register, entered, id_count, IsFoundAt, EntersIndex, LeavesIndex}
+use Rattle.relay_shared.specs.IndexLaws.{Move, Entered, Left, CameByMoves, Stands, WasGiven}
 use Rattle.relay_shared.specs.IndexLaws.{WhatIsFoundStands, IdsAreGivenOnce, AnIdNamesOne}
 use Rattle.relay_shared.proofs.IndexLists.{has_an_id}
 use Rattle.relay_shared.proofs.IndexLookups.{found_behind, found_without, found_last, found_still, still_found}
@@ -26,7 +26,7 @@ module _ {C L : Type 0} where
 
   -- what stands after an entry stood before, or is what was entered
   before_entry : (at id : ℕ) (old new : Register C L) (given standing : Standing C L)
-      → Enters old new at given → entered new id ≡ Some standing
+      → EntersIndex old new at given → entered new id ≡ Some standing
       → (entered old id ≡ Some standing) ⊎ ((at ≡ id) × (given ≡ standing))
   before_entry at id old new given standing enters is =
       found_behind id at given standing old.entries
@@ -34,16 +34,16 @@ module _ {C L : Type 0} where
 
   -- what stands after something has left stood before, under another id
   before_leaving : (at id : ℕ) (old new : Register C L) (standing : Standing C L)
-      → Leaves old new at → entered new id ≡ Some standing
+      → LeavesIndex old new at → entered new id ≡ Some standing
       → (at ≢ id) × (entered old id ≡ Some standing)
   before_leaving at id old new standing leaves is =
       found_without id at standing old.entries
       (sym (ap (λ index. lookup (is_at (nat_cmp id)) index.entries) leaves) ∙ is)
 
   -- what stands has ids below the next
-  stands_below : (moves : List (Move C L)) (index : Register C L) → CameBy moves index
+  stands_below : (moves : List (Move C L)) (index : Register C L) → CameByMoves moves index
       → (id : ℕ) (standing : Standing C L) → entered index id ≡ Some standing
-      → id + ids_of standing ≤ index.next_id
+      → id + id_count standing ≤ index.next_id
   stands_below [] index none id standing is =
       let nothing = nothing_stands index id none in absurd (cc)
   stands_below (Entered at given ∷ before) index came id standing is =
@@ -51,7 +51,7 @@ module _ {C L : Type 0} where
       elim (before_entry at id came.0 index given standing came.2 is) [
         | inl earlier ↦ (let below = stands_below before came.0 came.1 id standing earlier in
             omega (arith, below, next))
-        | inr now ↦ (let same = now.0 in let count : ids_of given ≡ ids_of standing = ap ids_of now.1 in
+        | inr now ↦ (let same = now.0 in let count : id_count given ≡ id_count standing = ap id_count now.1 in
             omega (arith, same, is_next, next, count))
       ]
   stands_below (Left at ∷ before) index came id standing is =
@@ -60,7 +60,7 @@ module _ {C L : Type 0} where
       (before_leaving at id came.0 index standing came.2 is).1 in
       omega (arith, below, next)
 
-  stands : (moves : List (Move C L)) (index : Register C L) → CameBy moves index
+  stands : (moves : List (Move C L)) (index : Register C L) → CameByMoves moves index
       → (id : ℕ) (standing : Standing C L) → entered index id ≡ Some standing
       → Stands moves id standing
   stands [] index none id standing is =
@@ -80,7 +80,7 @@ module _ {C L : Type 0} where
       (stood.0, stands before came.0 came.1 id standing stood.1)
 
   -- nothing stands under the next id
-  next_is_free : (moves : List (Move C L)) (index : Register C L) → CameBy moves index
+  next_is_free : (moves : List (Move C L)) (index : Register C L) → CameByMoves moves index
       → (found : Option (Standing C L)) → entered index index.next_id ≡ found
       → entered index index.next_id ≡ None
   next_is_free moves index came None is = is
@@ -88,7 +88,7 @@ module _ {C L : Type 0} where
       let below = stands_below moves index came index.next_id standing is in
       let some = has_an_id standing in absurd (omega (arith, below, some))
 
-  is_found : (moves : List (Move C L)) (index : Register C L) → CameBy moves index
+  is_found : (moves : List (Move C L)) (index : Register C L) → CameByMoves moves index
       → (id : ℕ) (standing : Standing C L) → Stands moves id standing
       → entered index id ≡ Some standing
   is_found [] index none id standing is = absurd is
@@ -108,9 +108,9 @@ module _ {C L : Type 0} where
       ∙ found_still id at standing came.0.entries is.0 (is_found before came.0 came.1 id standing is.1)
 
   -- the ids of what stands are apart
-  stand_apart : (moves : List (Move C L)) (index : Register C L) → CameBy moves index
+  stand_apart : (moves : List (Move C L)) (index : Register C L) → CameByMoves moves index
       → (low high : ℕ) (one other : Standing C L) → entered index low ≡ Some one
-      → entered index high ≡ Some other → low < high → low + ids_of one ≤ high
+      → entered index high ≡ Some other → low < high → low + id_count one ≤ high
   stand_apart [] index none low high one other is has below =
       let nothing = nothing_stands index low none in absurd (cc)
   stand_apart (Entered at given ∷ before) index came low high one other is has below =
@@ -136,7 +136,7 @@ module _ {C L : Type 0} where
       (before_leaving at high came.0 index other came.2 has).1 below
 
   -- the ids that were given are below the next
-  given_below : (moves : List (Move C L)) (index : Register C L) → CameBy moves index → (id : ℕ)
+  given_below : (moves : List (Move C L)) (index : Register C L) → CameByMoves moves index → (id : ℕ)
       → WasGiven moves id → id < index.next_id
   given_below [] index none id given = absurd given
   given_below (Entered at standing ∷ before) index came id given =
@@ -153,7 +153,7 @@ module _ {C L : Type 0} where
 
   -- it is found within its ids
   found_within : (standing : Standing C L) (shown : ShownSide) (behind : ℕ)
-      → IsFoundAt standing shown behind → behind + 1 ≤ ids_of standing
+      → IsFoundAt standing shown behind → behind + 1 ≤ id_count standing
   found_within (Connection connection) side.Client behind is = omega (arith, is)
   found_within (Connection connection) side.Target behind is = omega (arith, is)
   found_within (Connection connection) side.Listener behind is = absurd is
@@ -180,7 +180,7 @@ module _ {C L : Type 0} where
   found_as_one (Listener listener) side.Listener side.Listener behind is has = refl
 
   -- what an id names was entered under one id
-  one_first : (moves : List (Move C L)) (index : Register C L) → CameBy moves index
+  one_first : (moves : List (Move C L)) (index : Register C L) → CameByMoves moves index
       → (low high near far : ℕ) (one other : Standing C L) (first second : ShownSide)
       → low + near ≡ high + far → entered index low ≡ Some one → entered index high ≡ Some other
       → IsFoundAt one first near → IsFoundAt other second far → low < high → ⊥

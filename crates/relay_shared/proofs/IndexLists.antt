@@ -13,11 +13,11 @@ use Rattle.std.proofs.lemmas.List.Kept.{AllPairs-filter}
 use Rattle.std.proofs.lemmas.List.Quantifiers.{all_pairs_push}
 use Rattle.relay_shared.specs.declared.index.Standing.{Standing}
 use Rattle.relay_shared.specs.declared.index.Standing.TheVariants.{Connection, Listener}
-use Rattle.relay_shared.specs.Index.{Register, register_of, ids_of, HasGivenIds, ComesBefore, IsConsistent, Enters, without}
+use Rattle.relay_shared.specs.Index.{Register, register_of, id_count, HasGivenIds, ComesBefore, IsRegister, EntersIndex, without}
 
 module _ {C L : Type 0} where
   -- everything has an id
-  pub has_an_id : (standing : Standing C L) → 1 ≤ ids_of standing
+  pub has_an_id : (standing : Standing C L) → 1 ≤ id_count standing
   has_an_id (Connection connection) = omega arith
   has_an_id (Listener listener) = omega arith
 
@@ -38,14 +38,14 @@ module _ {C L : Type 0} where
 
   -- and the index is as every index is
   pub consistent_last : (old new : Register C L) (id : ℕ) (standing : Standing C L)
-      → IsConsistent old → Enters old new id standing → IsConsistent new
+      → IsRegister old → EntersIndex old new id standing → IsRegister new
   consistent_last old new id standing was enters =
       let is_next = enters.given in let next = enters.next_id in
       record {
         first = (let first = was.first in omega (arith, first, next));
-        given = rw (enters.entries) (rw next (All-push (HasGivenIds (old.next_id + ids_of standing)) old.entries
+        given = rw (enters.entries) (rw next (All-push (HasGivenIds (old.next_id + id_count standing)) old.entries
             (id, standing)
-            (All-weaker (HasGivenIds old.next_id) (HasGivenIds (old.next_id + ids_of standing))
+            (All-weaker (HasGivenIds old.next_id) (HasGivenIds (old.next_id + id_count standing))
             (λ entry h. (h.0, omega (arith, h))) old.entries was.given)
             (omega (arith, is_next, was.first), omega (arith, is_next))));
         rising = rw (enters.entries) (all_pairs_push ComesBefore old.entries (id, standing) was.rising
@@ -86,8 +86,8 @@ module _ {C L : Type 0} where
       by_test false is rest = ap (λ list. entry ∷ list) rest
 
   -- what is left of an index is as every index is
-  pub consistent_without : (index : Register C L) (id : ℕ) → IsConsistent index
-      → IsConsistent (register_of (without id index.entries) index.next_id)
+  pub consistent_without : (index : Register C L) (id : ℕ) → IsRegister index
+      → IsRegister (register_of (without id index.entries) index.next_id)
   consistent_without index id was = record {
     first = was.first;
     given = All-filter (λ entry. not (id == entry.0)) (HasGivenIds index.next_id) index.entries was.given;

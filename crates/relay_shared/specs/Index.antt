@@ -35,20 +35,20 @@ module _ {C L : Type 0} where
   entered index id = lookup (is_at (nat_cmp id)) index.entries
 
   -- how many ids it has
-  abbrev pub ids_of : Standing C L → ℕ
-  ids_of (Connection connection) = 2
-  ids_of (Listener listener) = 1
+  abbrev pub id_count : Standing C L → ℕ
+  id_count (Connection connection) = 2
+  id_count (Listener listener) = 1
 
   -- the ids of an entry are from 1 to below the next
   abbrev pub HasGivenIds : ℕ → ℕ × Standing C L → Type 0
-  HasGivenIds next entry = (1 ≤ entry.0) × (entry.0 + ids_of entry.1 ≤ next)
+  HasGivenIds next entry = (1 ≤ entry.0) × (entry.0 + id_count entry.1 ≤ next)
 
   -- the ids of an entry come before those of a later one
   abbrev pub ComesBefore : ℕ × Standing C L → ℕ × Standing C L → Type 0
-  ComesBefore entry later = entry.0 + ids_of entry.1 ≤ later.0
+  ComesBefore entry later = entry.0 + id_count entry.1 ≤ later.0
 
   -- what holds of every index
-  pub record IsConsistent (index : Register C L) : Type 0 where
+  pub record IsRegister (index : Register C L) : Type 0 where
     pub first : 1 ≤ index.next_id
     pub given : All (HasGivenIds index.next_id) index.entries
     pub rising : AllPairs ComesBefore index.entries
@@ -63,23 +63,23 @@ module _ {C L : Type 0} where
   IsFoundAt (Listener listener) side.Listener behind = behind ≡ 0
 
   -- this stands, and the id names it so
-  abbrev pub IsFound : Register C L → ℕ → ShownSide → Standing C L → Type 0
-  IsFound index id shown standing = (first behind : ℕ) × (id ≡ first + behind)
+  abbrev pub IsNamed : Register C L → ℕ → ShownSide → Standing C L → Type 0
+  IsNamed index id shown standing = (first behind : ℕ) × (id ≡ first + behind)
       × (entered index first ≡ Some standing) × IsFoundAt standing shown behind
 
   -- this is entered last, under the next id, and the next id is behind all its own
-  pub record Enters (old new : Register C L) (id : ℕ) (standing : Standing C L) : Type 0 where
+  pub record EntersIndex (old new : Register C L) (id : ℕ) (standing : Standing C L) : Type 0 where
     pub given : id ≡ old.next_id
     pub entries : new.entries ≡ old.entries ++ (id, standing) ∷ []
-    pub next_id : new.next_id ≡ old.next_id + ids_of standing
+    pub next_id : new.next_id ≡ old.next_id + id_count standing
 
   -- the entries of all other ids, in their order
   abbrev pub without : ℕ → List (ℕ × Standing C L) → List (ℕ × Standing C L)
   without id entries = filter (λ entry. not (id == entry.0)) entries
 
   -- what was entered under this id is taken out, if it stands, and nothing else changes
-  abbrev pub Leaves : Register C L → Register C L → ℕ → Type 0
-  Leaves old new id = new ≡ record old { entries = without id old.entries }
+  abbrev pub LeavesIndex : Register C L → Register C L → ℕ → Type 0
+  LeavesIndex old new id = new ≡ record old { entries = without id old.entries }
 
   -- the ids of what was entered under this one
   abbrev pub ids_from : ℕ → Standing C L → List ℕ

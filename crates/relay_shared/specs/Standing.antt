@@ -7,7 +7,7 @@ use Rattle.readiness.specs.declared.loop_token.Place.{Place}
 use Rattle.relay_admin.specs.declared.admin.shown.ShownSide.{ShownSide}
 use Rattle.relay_admin.specs.declared.admin.shown.ShownSide.TheVariants.{Target}
 use Rattle.relay_facts.specs.declared.served_rule.ServedRule.{ServedRule}
-use Rattle.relay_shared.specs.Index.{Register, IsFound}
+use Rattle.relay_shared.specs.Index.{Register, IsNamed}
 use Rattle.relay_shared.specs.declared.index.Standing.{Standing}
 use Rattle.relay_shared.specs.declared.index.Standing.TheVariants.{Connection, Listener}
 use Rattle.relay_shared.specs.declared.standing.Connected.{Connected}
@@ -21,7 +21,7 @@ token_on other place = place.first
 -- the id names a side of a connection, whose loop and task are these
 abbrev pub IsWhere : Register Connected (Arc ServedRule Global) → ℕ → Whereabouts → Type 0
 IsWhere index id at = (side : ShownSide) × (connected : Connected)
-    × IsFound index id side (Connection connected)
+    × IsNamed index id side (Connection connected)
     × (at.loop_place ≡ (arc_value connected.facts).loop_place)
     × (at.token ≡ token_on side connected.place)
 
@@ -29,6 +29,6 @@ IsWhere index id at = (side : ShownSide) × (connected : Connected)
 abbrev pub NamesNoSide : Register Connected (Arc ServedRule Global) → ℕ → Type 0
 NamesNoSide index id =
     ((side : ShownSide) (standing : Standing Connected (Arc ServedRule Global))
-    → IsFound index id side standing → ⊥)
+    → IsNamed index id side standing → ⊥)
     ⊎ ((side : ShownSide) × (served : Arc ServedRule Global)
-    × IsFound index id side (Listener served))
+    × IsNamed index id side (Listener served))

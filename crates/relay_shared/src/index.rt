@@ -8,8 +8,8 @@
 ghost use Rattle.std.specs.Prelude.{◌≡◌, ◌<◌, ◌+◌, ◌^◌, ◌++◌, IfOk, OnOk, OnErr, IfSome, IfNone, []};
 ghost use Rattle.relay_shared.specs.declared.index.Standing.{Standing};
 ghost use Rattle.relay_admin.specs.declared.admin.shown.ShownSide.{ShownSide};
-ghost use Rattle.relay_shared.specs.Index.{Enters, Leaves, IsFound, IsFoundAt};
-ghost use Rattle.relay_shared.specs.Index.{entered_id, gone_id, ids_of, ids_from, ids_in};
+ghost use Rattle.relay_shared.specs.Index.{EntersIndex, LeavesIndex, IsNamed, IsFoundAt};
+ghost use Rattle.relay_shared.specs.Index.{entered_id, gone_id, id_count, ids_from, ids_in};
 
 use base_types::OutOfMemory;
 use relay_admin::ShownSide;
@@ -33,13 +33,13 @@ pub struct Index<C, L> {
 }
 
 impl<C, L> Model for Index<C, L> {
-    ghost use Rattle.relay_shared.specs.Index.{Register, register_of, IsConsistent};
+    ghost use Rattle.relay_shared.specs.Index.{Register, register_of, IsRegister};
 
     ghost Value = { Register C L };
 
     ghost view = { λ index. register_of index.entries.entries index.next_id };
 
-    ghost invariant = { λ index. IsConsistent (register_of index.entries.entries index.next_id) };
+    ghost invariant = { λ index. IsRegister (register_of index.entries.entries index.next_id) };
 }
 
 /// That something stands under this id from now on. It can't be dropped: who has entered something
@@ -68,7 +68,7 @@ impl Entered {
 impl<C, L> Standing<C, L> {
     // How many ids it has.
     fn ids(&self) -> u64
-        ensures { result ≡ ids_of self.now }
+        ensures { result ≡ id_count self.now }
     {
         match self {
             Standing::Connection(_) => 2,
@@ -114,14 +114,14 @@ impl<C, L> Index<C, L> {
         }
     }
 
-    /// Enters what stands from now on. Refused is only memory, or no id is left; then nothing changes.
+    /// EntersIndex what stands from now on. Refused is only memory, or no id is left; then nothing changes.
     pub fn enter(&mut self, standing: Standing<C, L>) -> Result<Entered, OutOfMemory>
     where
         C: Drop,
         L: Drop,
         ensures entered { IfOk result (λ entered.
-            Enters self.old self.new (entered_id entered) standing) }
-        ensures fits { IfOk result (λ entered. entered_id entered + ids_of standing < 2 ^ 64) }
+            EntersIndex self.old self.new (entered_id entered) standing) }
+        ensures fits { IfOk result (λ entered. entered_id entered + id_count standing < 2 ^ 64) }
         ensures kept { OnErr result (self.new ≡ self.old) }
     {
         let id = self.next_id;
@@ -142,7 +142,7 @@ impl<C, L> Index<C, L> {
     where
         C: Drop,
         L: Drop,
-        ensures left { Leaves self.old self.new id }
+        ensures left { LeavesIndex self.old self.new id }
         ensures gone { gone_id result ≡ id }
     {
         let _ = self.entries.remove(&id);
@@ -151,9 +151,9 @@ impl<C, L> Index<C, L> {
 
     /// What this id names, and as what, if it names anything.
     pub fn find(&self, id: u64) -> Option<(ShownSide, &Standing<C, L>)>
-        ensures found { IfSome result (λ found. IsFound self.now id found.0 found.1.now) }
+        ensures found { IfSome result (λ found. IsNamed self.now id found.0 found.1.now) }
         ensures none { IfNone result ((side : ShownSide) (standing : Standing C L)
-            → IsFound self.now id side standing → ⊥) }
+            → IsNamed self.now id side standing → ⊥) }
     {
         if let Some(standing) = self.entries.get(&id) {
             return Some((standing.first_side(), standing));

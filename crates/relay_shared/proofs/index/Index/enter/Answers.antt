@@ -1,5 +1,5 @@
 use Rattle.std.proofs.Common.{◌∙◌, ◌+◌, refl, subst, ap}
-use Rattle.relay_shared.specs.Index.{register_of, Enters}
+use Rattle.relay_shared.specs.Index.{register_of, EntersIndex}
 use Rattle.relay_shared.proofs.IndexLists.{inserted_last, consistent_last}
 use Rattle.relay_shared.proofs.index.Index.enter.Goals as goal
 
@@ -16,7 +16,7 @@ invariant_of-self g c =
 
 pub returns-in-Ok-clause-entered : goal.returns-in-Ok-clause-entered
 returns-in-Ok-clause-entered g c =
-    subst (λ old. Enters old (register_of c.insert.new.self.entries c.in-Some.next) c.self.inside.next_id
+    subst (λ old. EntersIndex old (register_of c.insert.new.self.entries c.in-Some.next) c.self.inside.next_id
     c.args.standing) c.self.view_is
     (record {
       given = refl;

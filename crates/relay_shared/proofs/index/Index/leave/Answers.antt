@@ -1,11 +1,11 @@
 use Rattle.std.proofs.Common.{◌∙◌, ap, subst, sym}
-use Rattle.relay_shared.specs.Index.{register_of, IsConsistent, without}
+use Rattle.relay_shared.specs.Index.{register_of, IsRegister, without}
 use Rattle.relay_shared.proofs.IndexLists.{removed_is_without, consistent_without}
 use Rattle.relay_shared.proofs.index.Index.leave.Goals as goal
 
 pub invariant_of-self : goal.invariant_of-self
 invariant_of-self g c =
-    subst (λ entries. IsConsistent (register_of entries c.self.inside.next_id))
+    subst (λ entries. IsRegister (register_of entries c.self.inside.next_id))
     (sym (c.remove.ensures.entries
     ∙ removed_is_without c.args.id c.self.inside.entries.entries c.self.invariant.rising))
     (consistent_without (register_of c.self.inside.entries.entries c.self.inside.next_id) c.args.id c.self.invariant)
