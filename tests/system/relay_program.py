@@ -33,6 +33,8 @@ RULE = "relay {} tcp:127.0.0.1:{} tcp:127.0.0.1:9 never\n"
 MOST_LINES = 65_536
 # The most admin sessions at once.
 MOST_SESSIONS = 32
+# Who waits for a session that is silent waits for its minute, in seconds. A machine that is full of other work takes some seconds too.
+HALF_A_MINUTE = 30
 
 # The bytes of a stream, and the processor time that a thread which copied one has taken at least, beside an eighth of all.
 STREAM = 64 << 20
@@ -651,7 +653,7 @@ def many_sessions(checks, _):
             sock.sendall(b"l")
             checks.expect("many sessions: another is answered", b"ids\n", session(relay.admin, b"list\n"))
         took = time.monotonic() - began
-        checks.holds("many sessions: at once", took < 5, f"{len(held[1::2])} in {took:.1f} s")
+        checks.holds("many sessions: none waits for another", took < HALF_A_MINUTE, f"{len(held[1::2])} in {took:.1f} s")
         held.append(connect(f"unix:{relay.admin}"))
         held[-1].sendall(b"list\n")
         checks.expect("many sessions: the last", b"ids\n", received(held[-1]))

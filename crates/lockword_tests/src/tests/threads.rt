@@ -1,4 +1,4 @@
-//! Eight threads add one to the halves, a thousand times each.
+//! Eight threads add one to the halves, many times each.
 
 ghost use Rattle.lockword.specs.Places.{seat_place};
 ghost use Rattle.lockword.specs.TransitionOutcomes.{IsSeatOf};
@@ -15,6 +15,10 @@ use std::test::Fail;
 use std::thread;
 use std::thread::Threads;
 use std::time::Clock;
+
+/// How often each adds. Each time may wait until another thread has run: on a machine that is full of
+/// other work that takes milliseconds.
+const TIMES: u64 = 200;
 
 /// Adds one, and lets other threads run between the load and the store.
 pub(super) fn add_slowly(half: &mut u64) {
@@ -43,11 +47,11 @@ fn add_one<R: Wait + Abort>(rt: &R, word: &Counters, seat: CounterSeat, dir: Dir
     kept(rt, word, freed)
 }
 
-fn add_a_thousand<R: Wait + Abort>(rt: &R, word: &Counters, seat: CounterSeat, dir: Dir)
+fn add_often<R: Wait + Abort>(rt: &R, word: &Counters, seat: CounterSeat, dir: Dir)
     requires seat { IsSeatOf word.now (seat_place seat) }
 {
     let mut seat = seat;
-    for _ in 0..1_000 {
+    for _ in 0..TIMES {
         seat = add_one(rt, word, seat, dir);
     }
 }
@@ -58,11 +62,11 @@ struct Adds(Dir);
 
 impl<R: Wait + Abort> Worker<R, ()> for Adds {
     fn work(&self, rt: &R, word: &Counters, seat: CounterSeat, _tally: &()) {
-        add_a_thousand(rt, word, seat, self.0);
+        add_often(rt, word, seat, self.0);
     }
 }
 
-/// The halves, from 0 each, after eight threads each added a thousand to that of its direction.
+/// The halves, from 0 each, after eight threads each added to that of its direction.
 fn halves_after<R: Threads + Wait + Abort + Clock + Sync>(
     rt: &R,
     alloc: Global,
@@ -78,14 +82,14 @@ fn halves_after<R: Threads + Wait + Abort + Clock + Sync>(
 #[test]
 fn no_addition_under_the_read_lock_is_lost(rt: HostRuntime) -> Result<(), Fail> {
     let halves = halves_after(&rt, rt.alloc(), &[Adds(Dir::Read); 8])?;
-    assert!(rt; halves.0 == 8_000 && halves.1 == 0, "{halves:?}");
+    assert!(rt; halves.0 == 8 * TIMES && halves.1 == 0, "{halves:?}");
     Ok(())
 }
 
 #[test]
 fn no_addition_under_the_write_lock_is_lost(rt: HostRuntime) -> Result<(), Fail> {
     let halves = halves_after(&rt, rt.alloc(), &[Adds(Dir::Write); 8])?;
-    assert!(rt; halves.0 == 0 && halves.1 == 8_000, "{halves:?}");
+    assert!(rt; halves.0 == 0 && halves.1 == 8 * TIMES, "{halves:?}");
     Ok(())
 }
 
@@ -105,6 +109,6 @@ fn both_directions_run_at_once(rt: HostRuntime) -> Result<(), Fail> {
             Adds(Dir::Write),
         ],
     )?;
-    assert!(rt; halves.0 == 4_000 && halves.1 == 4_000, "{halves:?}");
+    assert!(rt; halves.0 == 4 * TIMES && halves.1 == 4 * TIMES, "{halves:?}");
     Ok(())
 }

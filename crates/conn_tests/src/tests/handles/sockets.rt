@@ -129,7 +129,7 @@ impl<R: Wait + Clock + Abort + Copy + Drop> Scene<R> {
     /// Writes many bytes under a deadline, which leaves some. On a busy machine a short one may
     /// come before the first byte: then a longer one is set.
     fn cuts(&mut self, bytes: &[u8]) -> bool {
-        for ms in [200, 2_000, 20_000] {
+        for ms in [200, 1_000, 5_000] {
             if !self.limits(ms) {
                 return false;
             }
@@ -209,13 +209,13 @@ fn plays<R>(rt: R, alloc: Global, addr: &Addr, row: &'static str, steps: &[Step]
 where
     R: Wait + Threads + Net + Files + Clock + Abort + Copy + Drop + Send + Sync + 'static,
 {
-    let watch = Watch::over(rt, alloc, row);
     let mut scene = Scene::on(rt, alloc, open(rt, alloc, socks(&rt, addr)), addr);
     for (at, step) in steps.iter().enumerate() {
+        let watch = Watch::over(rt, alloc, row);
         assert!(rt; scene.takes(*step), "{row}: step {at} over {addr:?}");
+        watch.end(&rt);
     }
     scene.world.stop(&rt);
-    watch.end(&rt);
 }
 
 /// Does each row over TCP and over a Unix socket.
