@@ -109,6 +109,9 @@ fn both_directions_run_at_once(rt: HostRuntime) -> Result<(), Fail> {
             Adds(Dir::Write),
         ],
     )?;
-    assert!(rt; halves.0 == 4 * TIMES && halves.1 == 4 * TIMES, "{halves:?}");
+    assert!(rt;
+        halves.0 == 4 * TIMES && halves.1 == 4 * TIMES,
+        "{halves:?}"
+    );
     Ok(())
 }
