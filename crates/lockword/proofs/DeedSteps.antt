@@ -182,15 +182,7 @@ wake_tells : (d : Dir) (c : Census)
     → TellsOutcome c (stake.Waits d) (op.Wake d) (allowed_outcome c (stake.Waits d) (op.Wake d))
 wake_tells d c =
     by_test c (stake.Waits d) (op.Wake d) (signals_in d c.signals == 0) _ _ (λ _. refl)
-    (λ _. record {
-      fits = only answer.Woken;
-      closes = refl;
-      drains = refl;
-      destroys = refl;
-      refs = refl;
-      duties = refl;
-      last = λ e. absurd (cc);
-    })
+    (λ _. record { fits = only answer.Woken; closes = refl; drains = refl; destroys = refl; refs = refl; duties = refl; last = λ e. absurd (cc) })
 
 allowed_tells : (c : Census) (own : Stake) (o : Op) → allows own o ≡ true
     → TellsOutcome c own o (allowed_outcome c own o)
