@@ -114,7 +114,8 @@ impl<C, L> Index<C, L> {
         }
     }
 
-    /// EntersIndex what stands from now on. Refused is only memory, or no id is left; then nothing changes.
+    /// Enters what stands from now on. It is refused where memory is, or where no id is left; then nothing
+    /// changes.
     pub fn enter(&mut self, standing: Standing<C, L>) -> Result<Entered, OutOfMemory>
     where
         C: Drop,
