@@ -3,7 +3,7 @@ import resource
 import tempfile
 import time
 
-from lib.relay import Relay
+from lib.relay import DESCRIPTORS, Relay
 from lib.sockets import connect, free_port, listener
 from lib.talk import both_ways, seconds_until_end
 from lib.waiting import processor_seconds, wait_until
@@ -62,9 +62,9 @@ def ended_seconds():
     return used.ru_utime + used.ru_stime
 
 
-def so_many_pairs(checks, name, count, *options):
+def so_many_pairs(checks, name, count, *options, descriptors=DESCRIPTORS, stop_within=2):
     """So many pairs stand at once and carry a byte each way; one more is dropped, until one of them ends."""
-    with Served("never", "never", options=options) as served:
+    with Served("never", "never", options=options, descriptors=descriptors) as served:
         relay = served.relay
         held = [served.open(at % 2) for at in range(count)]
         all_ids = 2 + 2 * count
@@ -82,6 +82,6 @@ def so_many_pairs(checks, name, count, *options):
         checks.holds(f"{name}: room again", opens(served, 0), "no byte came back")
         status, totals, seconds = stop_seconds(relay)
         checks.expect(f"{name}: status and totals", (0, (count + 2, count + 2)), (status, totals))
-        checks.holds(f"{name}: stopped within 2 s of a processor", seconds <= 2, f"{seconds:.2f} s")
+        checks.holds(f"{name}: stopped within {stop_within} s of a processor", seconds <= stop_within, f"{seconds:.2f} s")
         for sock in [sock for pair in held for sock in pair]:
             sock.close()

@@ -5,6 +5,7 @@
 """
 import os
 import random
+import resource
 import signal
 import socket
 import sys
@@ -22,6 +23,8 @@ from lib.waiting import wait_until
 # How much later than its moment a deadline may end a connection.
 LATE_SECONDS = 0.15
 DEFAULT_PAIRS = 512
+# As many descriptors as a row asks for, and what a process has beside its pairs'.
+MOST_DESCRIPTORS, OTHER_DESCRIPTORS = 20_000, 300
 
 
 def hello(checks, _):
@@ -375,6 +378,14 @@ def pairs(checks, _):
     so_many_pairs(checks, "pairs", DEFAULT_PAIRS)
 
 
+def most_pairs(checks, _):
+    """As many pairs stand as 20,000 descriptors let, or those that this machine allows."""
+    allow_descriptors(MOST_DESCRIPTORS)
+    count = (resource.getrlimit(resource.RLIMIT_NOFILE)[0] - OTHER_DESCRIPTORS) // 2
+    so_many_pairs(checks, f"{count} pairs", count, f"--connections={count}", descriptors=MOST_DESCRIPTORS, stop_within=5)
+    allow_descriptors()
+
+
 def end_targets(accepts):
     """Ends the connections that wait for the target to accept them."""
     accepts.settimeout(0.3)
@@ -424,7 +435,7 @@ def sessions(checks, _):
 
 ROWS = {it.__name__: it for it in (
     hello, read_stops, ids, many_ids, deadlines, lifted, idle, listeners, drains, drained_in_time, drained_listeners, descriptors,
-    sessions, pairs,
+    sessions, pairs, most_pairs,
 )}
 
 
