@@ -21,7 +21,8 @@ side_of_pair First = Client
 side_of_pair Second = Target
 
 -- what a loop heard has this way go on: an event or a due timer of the side that it calls, in the
--- direction that it waits for; a name, unless it has ended; its next turn, where it gave way
+-- direction that it waits for; a name, unless it has ended; its next turn, where it gave way. A
+-- connection awaits no moment of its own, by which none goes on
 abbrev pub GoesOn : PairTasks → Why → Way → Type 0
 GoesOn tasks (why.Ready side read write stop_ahead) way =
     WaitsForEvent (flow_state_of tasks way) way (side_of_pair side) read write
@@ -29,6 +30,7 @@ GoesOn tasks (why.Due side dir.Read now) way =
     WaitsForEvent (flow_state_of tasks way) way (side_of_pair side) true false
 GoesOn tasks (why.Due side dir.Write now) way =
     WaitsForEvent (flow_state_of tasks way) way (side_of_pair side) false true
+GoesOn tasks (why.Time now) way = ⊥
 GoesOn tasks why.Named way = flow_state_of tasks way ≢ Over
 GoesOn tasks why.Again way = flow_state_of tasks way ≡ Ready
 

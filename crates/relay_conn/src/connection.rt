@@ -151,6 +151,10 @@ impl<U: Ledger, D: Ledger, R: Wait + Clock + Copy> Connection<U, D, R> {
                 Dir::Read => self.tasks.woken_by(pair_side(side), true, false),
                 Dir::Write => self.tasks.woken_by(pair_side(side), false, true),
             },
+            Why::Time { .. } => Ways {
+                up: false,
+                down: false,
+            },
             Why::Named => self.tasks.not_over(),
             Why::Again => self.tasks.ready(),
         }

@@ -80,7 +80,12 @@ pub(crate) struct LoopHost<U: Ledger, D: Ledger, R: Wait + Clock + Copy> {
 }
 
 impl<U: Ledger, D: Ledger, R: Wait + Clock + Copy> Host for LoopHost<U, D, R> {
+    ghost use Rattle.std.specs.Prelude.{None};
+
     type Task = ConnTask<U, D, R>;
+
+    // A task awaits no moment of its own.
+    ghost awaited = { λ _. None };
 
     fn cell<'a>(&self, task: &'a ConnTask<U, D, R>, side: Side) -> Option<&'a PollCell> {
         Some(task.connection.cell(side))
@@ -88,6 +93,10 @@ impl<U: Ledger, D: Ledger, R: Wait + Clock + Copy> Host for LoopHost<U, D, R> {
 
     fn resume(&mut self, task: &mut ConnTask<U, D, R>, why: Why) -> Turn {
         self.go_on_with(&mut task.connection, why)
+    }
+
+    fn until(&self, _task: &ConnTask<U, D, R>) -> Option<u64> {
+        None
     }
 
     fn over(&mut self, task: ConnTask<U, D, R>) {
