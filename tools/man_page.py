@@ -132,11 +132,12 @@ def literal(lines):
 
 
 def synopsis(lines):
-    """Each way to call the program, a line each."""
+    """Each way to call a program, a line each."""
     made = []
     for at, line in enumerate(lines):
-        words = re.sub(r"\[[^]]*\]", lambda it: it[0].replace(" ", UNBROKEN), line.strip().removeprefix("pollrelay "))
-        made += [".br"] * (at > 0) + broken(f"\\fBpollrelay\\fP {whole(escaped(words)).replace(UNBROKEN, KEPT)}")
+        program, _, words = line.strip().partition(" ")
+        words = re.sub(r"\[[^]]*\]", lambda it: it[0].replace(" ", UNBROKEN), words)
+        made += [".br"] * (at > 0) + broken(f"\\fB{escaped(program)}\\fP {whole(escaped(words)).replace(UNBROKEN, KEPT)}")
     return made
 
 

@@ -40,7 +40,7 @@ GO = {
     "Listener::local_addr": "`Listener.Addr`", "Conn": "`net.Conn`", "Conn::connect": "`net.DialTimeout`", "Conn::read": "`Conn.Read`",
     "Conn::write": "`Conn.Write`", "Conn::set_deadline": "`Conn.SetDeadline`, by a moment; all times here are lengths from now",
     "Conn::set_read_timeout": "none: `SetReadDeadline` before each read", "Conn::set_write_timeout": "none: `SetWriteDeadline` before each write",
-    "Conn::close_write": "`TCPConn.CloseWrite`", "Conn::close": "`Conn.Close`, which doesn't wait for calls under way",
+    "Conn::close_write": "`TCPConn.CloseWrite`", "Conn::close": "`Conn.Close`, which also ends the calls under way and waits for them",
     "Conn::peer_addr": "`Conn.RemoteAddr`", "Conn::local_addr": "`Conn.LocalAddr`", "Conn::try_clone": "none: goroutines share one value",
     "Net": "none: its runtime has the poller", "Net::serve": "none: a goroutine a connection", "address_of": "`net.ResolveTCPAddr`, which looks names up",
 }
@@ -57,7 +57,7 @@ TIMES = {
 FAILS = {
     "Net::start": "`OutOfMemory`, or the system's error for a poller or a thread",
     "Net::serve": "`OutOfMemory`, what `Task::begin` answers, or the system's error for a thread",
-    "Listener::bind": "`OutOfMemory`, or the system's error: the address is taken, isn't this machine's, or isn't allowed",
+    "Listener::bind": "`OutOfMemory`, `Other` where the net has its 4,096 sockets, or the system's error: the address is taken, isn't this machine's, or isn't allowed",
     "Listener::accept": "`OutOfMemory`, or the system's error where the poller refuses the socket",
     "Conn::connect": "`OutOfMemory`, or the system's error; `WouldBlock` where the queue at a Unix path is full",
     "Conn::flush": "never", "Task::begin": "as the program's own does",
@@ -74,7 +74,7 @@ WHEN = {
     "ConnectionAborted": "the system gave the connection up",
     "BrokenPipe": "the peer takes no more bytes, or this side was shut",
     "ConnectionRefused": "nobody listens at the address",
-    "Other": "no reference or place to wait is left (16,777,215 and 262,143), or the system interrupted the call 1,025 times in a row; another error of the system keeps its own kind and number, and is never `Interrupted` or `WouldBlock`",
+    "Other": "the net has its 4,096 sockets (`bind`, `accept`, `connect`), no reference or place to wait is left (16,777,215 and 262,143), or the system interrupted the call 1,025 times in a row; another error of the system keeps its own kind and number, and is never `Interrupted` or `WouldBlock`",
     "OutOfMemory": "memory was refused; the connection is as before",
 }
 HEAD = re.compile(
@@ -172,6 +172,9 @@ def page():
         "",
         "A connection is shared by clones, one a thread; a clone is a `Read` and a `Write`. Clones share time-outs and the deadline; the earlier",
         "one wins. A time-out starts once a call has its direction to itself. A read answers `Ok(0)` at the peer's end.",
+        "",
+        "A net has at most 4,096 sockets: listeners, connections, and those of its services. A service closes a connection that comes beyond.",
+        "A program may have several nets.",
         "",
         "## Errors",
         "",

@@ -142,10 +142,15 @@ TOLD = {
 }
 
 
+def listed_often(before, more=()):
+    """The names that have several definitions in the list, with these keys added to it."""
+    return clause_texts.defined_often([*(key for key, digests in before.items() for _ in range(sum(digests.values()))), *more])
+
+
 def compare(promises):
     """Prints what isn't as it was and that no line of changes names, and says how many passed and failed."""
     before = listed()
-    often = clause_texts.defined_often([key for key, digests in before.items() for _ in range(sum(digests.values()))])
+    often = listed_often(before)
     now = standing(promises, often)
     said, wrong = said_of(read(CHANGES))
     before, moved = with_moves(before, said, promises, often)
@@ -177,11 +182,14 @@ def write_list(lines):
 
 
 def added(promises):
-    """The lines of the list, and those of what is new and asks for no reason."""
-    before, often = listed(), clause_texts.defined_often([it.key for it in promises])
+    """The lines of the list, and those of what is new and asks for no reason. A second definition of a name asks for one, and so
+    doesn't count where digests say from where a name is."""
+    before = listed()
+    often = listed_often(before)
     before, _ = with_moves(before, said_of(read(CHANGES))[0], promises, often)
     known = before.keys() | differences(before, standing(promises, often)).keys()
-    return read(LIST) + lines_of([it for it in promises if it.key not in known], often)
+    came = [it for it in promises if it.key not in known]
+    return read(LIST) + lines_of(came, listed_often(listed(), [it.key for it in came]))
 
 
 def main(words):

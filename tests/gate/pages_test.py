@@ -5,7 +5,7 @@ import unittest
 from unittest import mock
 
 import pages
-from lib.pages import kit
+from lib.pages import kit, tools
 from lib.pages.links import CHANGES
 from lib.pages.tree import GUIDE, HELP, MAN, TRUSTED, UNIT, Tree
 
@@ -56,6 +56,18 @@ ROWS = (
     ("headline", "crates/lockword/specs/Headline.antt", r"\npub record Headline", "\n-- more\n" * 45 + r"\g<0>", "at most 200 are allowed"),
     ("kit", README, END, "\nIt was tried with `rattle-kit-1`.\n", "names rattle-kit-1, and the kits that were tried are"),
     ("kit", README, END, "\nIt needs `logic 0123456789abcdef`.\n", "asks for logic 0123456789abcdef"),
+    ("kit", TRUSTED, r"`slab`, `arrayvec`,", "`arrayvec`,", "what is trusted lacks or has too much: ['slab']"),
+    ("kit", "crates.txt", r"(?m)^(conntable\b.*)$", r"\1 indexmap", "what is trusted lacks or has too much: ['indexmap']"),
+    ("listed", "docs/wake-ups.md", r"\b\d+ mutants", "7 mutants", "says 7, and tests/gate/wakeups.sh has"),
+    ("listed", "tests/README.md", r"\| `figures` \| quick \| 5 \| program \|", "| `figures` | quick | 5 | program, jq |", "the quick tests need ['curl', 'gcc', 'jq', 'mandoc']"),
+    ("listed", "tests/gate/wakeups.sh", r"(?m)^# harmless \|", "# sound |", "harmless changes, and tests/gate/wakeups.sh has others"),
+    ("listed", "tests/system/system_faults.py", r'    "nanosleep": "EINTR",\n', "", "docs/testing.md: says 25, and tests/system/system_faults.py has 24"),
+    ("listed", "crates/lockword/specs/Headline.antt", END, "-- more\n", "CHANGELOG.md: says 120, and"),
+    ("limits", "crates/conntable/src/token.rt", r"KEYS: u64 = 4096", "KEYS: u64 = 2048", "2,048, as `KEYS` is"),
+    ("limits", "crates/relay_core/src/buffers.rt", r"BUFFER_BYTES: usize = 16_384", "BUFFER_BYTES: usize = 8_192", "8,192, as `BUFFER_BYTES` is"),
+    ("limits", "packaging/pollrelay-run", r"finish=30000", "finish=20000", "20,000, as `FINISH_MS` is"),
+    ("limits", "crates/relay_ledger/src/book.rt", r"PARTS - 1", "PARTS - 2", "4,294,967,294, as `MAX_SHARES` is"),
+    ("options", "crates/relay_command/src/grammar.rt", r'"replace-stale"', '"help"', "says that an option is refused which the code has: ['help']"),
     ("kit", TRUSTED, r"logic [0-9a-f]{16}", "logic", "what tests/lib/pages/kit.py reads here isn't there any more"),
     ("admin", CHANGES, END, "- A socket: `list`, `totals`, `show ID`, `close ID`, `drain ID`, `deadline ID MS`.\n", "a list of commands lacks ['"),
     ("limits", HELP, r"1 to 50000", "1 to 3000", "50,000, as `MAX_PAIRS` is"),
@@ -104,6 +116,8 @@ ROWS = (
     ("stale", "docs/DECISIONS.md", END, "| What are `--` and `-- trace` on the command line? | Refused, though clap takes them |\n", "a `--` at the end is taken"),
     ("stale", CHANGES, END, "- One call (`Poller::hold`), and an entry for it (`Held`).\n", "the entry of a table is `HeldSocket`"),
     ("stale", "docs/wake-ups.md", END, "\nA loop, the admin thread and the main thread.\n", "admin sessions are tasks of the main thread"),
+    ("stale", "crates/readiness/src/sock.rt", r"stream\.set_nodelay\(true\)", "stream.set_keepalive(true)", "says “TCP keepalive is off”, and"),
+    ("stale", "crates/readiness/src/sock.rt", r"stream\.set_nodelay\(true\)", "stream.set_nodelay(false)", "says “TCP connections have `TCP_NODELAY`”, and"),
     ("limits", CHANGES, END, "- A read takes up to 16,384 bytes from the first on.\n", "65,536, as `LOOP_BUFFER_BYTES` is"),
     ("figures", CHANGES, END, "- `--loops` of serve: loops.\n- `--loops` of serve: how many loops.\n", "tells `--loops` twice"),
     ("admin", GUIDE, END, "\nCommands are `list`, `totals`, `close ID`, `drain ID`, `deadline ID MS`, `quit`, `stop`.\n", "a list of commands lacks"),
@@ -120,6 +134,8 @@ ROWS = (
     ("faults", "crates/relay_serve/src/serving.rt", r"(    server\.open\(admin\)\?;\n)(.*\n)(.*start_log.*\n)", r"\3\2\1", "`serve` checks in the order ["),
     ("stale", README, END, "\nRattle has contracts, which a prover checks before the program is built.\n", "builds a program with nothing proved"),
     ("metrics", TEXTFILE, r"way=", "direction=", "has no label ['direction']"),
+    ("samples", UNIT, r"RuntimeDirectory=pollrelay", "RuntimeDirectory=relay", "says /run/pollrelay, and the unit has RuntimeDirectory=relay"),
+    ("samples", "examples/kubernetes/pollrelay.yaml", r"path: /metrics", "path: /healthz", "its row liveness hasn't /healthz"),
     ("samples", TEXTFILE, r"connections = sum\(.*\)", "connections = (len(shown) + 1) // 2", "2 connections stand"),
     ("limits", UNIT, END, "# 90,000 pairs take 180,216 at most.\n", "below what a remark in the unit asks for: 180216"),
     ("figures", MEASURED, END, "| bytes (A) | 10 | nginx 20 | 0.75 |\n", "is 0.50, not 0.75"),
@@ -131,6 +147,8 @@ ROWS = (
     ("figures", README, r"by a factor of three", "by a factor of four", "by a factor of [3]"),
     ("figures", MEASURED, END, "\n| bytes (Y) | 10 | nginx 10 | 1.00 |\n", "of the run Y, of which nothing is said"),
     ("figures", MEASURED, END, "\n| Y | lately | `python3 bench/relay/run.py` |\n", "the run Y has no date"),
+    ("figures", MEASURED, r"\n\| p50 over 16 \| nginx by[^\n]*", "", "behind in p50 over 16, "),
+    ("figures", MEASURED, r"\| 279 \| 345 \| 295 \|", "| 299 | 345 | 295 |", "behind in p50 over 64, "),
     ("figures", "docs/GATE.md", END, "\nIt tries 1,234 wrong bodies of 77 crates.\n", "1,234 wrong bodies: there are"),
     ("figures", "docs/GATE.md", END, "\nIt tries 1,234 wrong bodies of 77 crates.\n", "77 crates: there are"),
     ("plants", "docs/testing.md", r"\| finish takes no last clients \|", "| finish takes clients |", "aren't those of `tests/plants`"),
@@ -170,6 +188,19 @@ class Planted(unittest.TestCase):
             with self.subTest(said), mock.patch.object(kit, "version_here", return_value=said):
                 told = pages.told_of(self.tree, ["kit"])
                 self.assertEqual((told.lines, len(told.notes)), ([], int(is_noted)))
+
+    def test_without_a_kit_the_pages_are_checked_all_the_same(self):
+        def forget():
+            kit.pages_of_kit.cache_clear()
+            tools.words_of_kit.cache_clear()
+
+        self.addCleanup(forget)
+        forget()
+        with mock.patch.object(kit, "said_by_kit", return_value=""), mock.patch.object(tools, "said_by_kit", return_value=""):
+            told = pages.told_of(self.tree, ["kit", "links", "names", "shell_lines"])
+            self.assertEqual((told.lines, len(told.notes)), ([], 1))
+            unknown = self.tree.having(README, self.tree.text(README) + "\n`docs/nowhere.md`\n")
+            self.assertEqual(len(pages.told_of(unknown, ["links"]).lines), 1)
 
     def test_each_subject_has_a_row(self):
         self.assertEqual({it[0] for it in ROWS}, set(pages.SUBJECTS))

@@ -245,3 +245,21 @@ finish
 # fails | short_reads | -DPOLLER_TELLS_NO_URGENT_DATA | the poller doesn't tell of urgent data
 # fails | short_reads | -DSTOP_AHEAD_IS_FORGOTTEN | what was told of a stop holds for one turn alone
 # fails | short_reads | -DRESUMED_SOURCE_STAYS_EMPTY | a source that was empty isn't read when its task is resumed
+#
+# The moments that a loop's tasks await, its timers, and its looks without a lock.
+# sound | moments | | two tasks await moments; another thread arms and disarms a timer, and names a task
+# sound | moments | -DSETTINGS=3 -DNAMINGS=2 | more timers and names
+# ends | moments | | no alarm keeps a loop awake for ever
+# fails | moments | -DALARM_THAT_CAME_STAYS_NOTED | an alarm that came is still noted as armed
+# fails | moments | -DTASK_IS_NOT_ASKED_AGAIN | a resumed task isn't asked for its moment
+# fails | moments | -DEARLIER_MOMENT_KEEPS_THE_LATER_ALARM | an alarm is left that comes after the moment
+# fails | moments | -DLOOP_SLEEPS_PAST_ITS_OWN_ALARMS | a loop sleeps until the first timer alone
+# endless | moments | -DLATE_TASKS_ARE_LEFT_OUT | a turn resumes no task whose alarm is due
+# endless | moments | -DALARM_THAT_CAME_IS_LEFT | an alarm that came is left as it is
+# fails | moments | -DFIRST_MOMENT_ISNT_STORED | a timer is armed and the first moment not stored
+# fails | moments | -DLOOP_IS_WOKEN_BEFORE_THE_FIRST_MOMENT_IS_STORED | a loop is woken before the first moment is stored
+# endless | moments | -DDUE_LEAVES_THE_FIRST_MOMENT | the first moment stays when its timer was taken out
+# fails | moments | -DLOOP_SAYS_THAT_IT_SLEEPS_AFTER_ITS_LOOKS | a loop looks at names and moments before it says that it sleeps
+# fails | moments | -DNAMINGS=2 -DNAMED_IS_UNSET_AFTER_THE_LIST_IS_TAKEN | a loop unsets its flag of names after it has taken the list
+# fails | moments | -DLOOP_IS_WOKEN_BEFORE_THE_NAME_IS_SET | whoever names a task wakes the loop before the flag is set
+# fails | moments | -DNAME_IS_LISTED_AND_NOT_SET | a name is listed and the flag not set

@@ -16,7 +16,6 @@ import sys
 import tempfile
 from collections import namedtuple
 
-from lib import checker
 from lib.edits import applied_together, apply, read_edit
 from lib.places import LIB, ROOT
 
@@ -128,6 +127,8 @@ def make_program_tree(folder, texts):
 
 def stamp(all_plants):
     """What tells a program of other sources, plants or tools."""
+    from lib import checker  # (it needs the kit, which a reader of the plants may lack)
+
     relay = next(it for it in checker.crates() if it.name == "pollrelay")
     edits = repr([(it.number, it.edit.pairs) for it in all_plants])
     return hashlib.sha256("\0".join([relay.stamp(), edits, SWITCH_TEXT, text_at(f"tests/lib/{SWITCH}.c")]).encode()).hexdigest()

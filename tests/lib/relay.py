@@ -166,11 +166,29 @@ class Relay:
     def have_loops_go_last(self):
         """Has all its threads share a processor, of which the loops have what the main thread leaves: so what a loop is told to do isn't
         done by the time that the main thread goes on."""
-        processor = {random.choice(sorted(os.sched_getaffinity(0)))}
-        for thread in map(int, os.listdir(f"/proc/{self.process.pid}/task")):
+        processor, loops = {random.choice(sorted(os.sched_getaffinity(0)))}, self.loop_threads()
+        for thread in [self.process.pid, *loops]:
             os.sched_setaffinity(thread, processor)
-            if thread != self.process.pid:
-                os.setpriority(os.PRIO_PROCESS, thread, LOW_PRIORITY)
+        for thread in loops:
+            os.setpriority(os.PRIO_PROCESS, thread, LOW_PRIORITY)
+
+    def loop_threads(self):
+        """Its threads but for the main one."""
+        return [it for it in map(int, os.listdir(f"/proc/{self.process.pid}/task")) if it != self.process.pid]
+
+    @contextlib.contextmanager
+    def giving_way(self):
+        """While a loop loses its processor at once to a thread of that processor that it wakes, and not only at the end of its slice."""
+        loops, none = self.loop_threads(), os.sched_param(0)
+        for thread in loops:
+            os.sched_setscheduler(thread, os.SCHED_IDLE, none)
+        try:
+            yield
+        finally:
+            # (some systems let nobody but root take that back: then loops are slower from here on)
+            with contextlib.suppress(PermissionError):
+                for thread in loops:
+                    os.sched_setscheduler(thread, os.SCHED_OTHER, none)
 
     @contextlib.contextmanager
     def stopped(self):

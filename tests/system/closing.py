@@ -7,6 +7,7 @@ done    an answered close is done, also where the main thread is faster than the
 others  a close ends no other connection that a session does something to at the same time.
 woken   a close reaches a loop that is about to sleep.
 """
+import contextlib
 import random
 import sys
 import threading
@@ -51,18 +52,20 @@ class Busy(threading.Thread):
         self.join()
 
 
-def closes(it, first):
+def closes(it, first, while_closing=contextlib.nullcontext):
     """The answers to so many closes, each with what the list says right after it."""
     for client in range(first, first + 2 * CLOSES, 2):
         ends = it.talking()
-        yield it.answer(f"close {client}\nlist\n")
+        with while_closing():
+            said = it.answer(f"close {client}\nlist\n")
+        yield said
         ends.close()
 
 
 def done(checks, _):
     with Tried(checks, "done", loops=1) as it:
         it.relay.have_loops_go_last()
-        it.expect("a close is done once it is answered", {"ok\nids 1\n"}, set(closes(it, 2)))
+        it.expect("a close is done once it is answered", {"ok\nids 1\n"}, set(closes(it, 2, it.relay.giving_way)))
         with Busy(it.admin):
             it.expect("so it is beside a busy session", {"ok\nids 1\n"}, set(closes(it, 2 + 2 * CLOSES)))
         it.stop()

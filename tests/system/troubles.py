@@ -9,6 +9,7 @@ A row is found by the words of its first cell. Each row has a try here, and each
 import contextlib
 import os
 import re
+import signal
 import socket
 import subprocess
 import sys
@@ -108,6 +109,32 @@ def refuses(address):
         return False
     except OSError:
         return True
+
+
+def heed_ctrl_c():
+    """(A shell that runs the tests behind itself has its programs ignore Ctrl-C.)"""
+    signal.signal(signal.SIGINT, signal.SIG_DFL)
+
+
+@trial("bad command line")
+def _(stack, checks):
+    for word in ("--help", "-h", "--version"):
+        ran = subprocess.run([PROGRAM, word], capture_output=True, text=True, timeout=SECONDS, check=False)
+        checks.expect(word, (2, "bad command line"), (ran.returncode, ran.stderr.strip()))
+    told = subprocess.run([PROGRAM, "help"], capture_output=True, text=True, timeout=SECONDS, check=False)
+    checks.holds("help", told.returncode == 0 and "pollrelay serve --rules FILE --admin PATH" in told.stdout, told)
+
+
+@trial("pollrelay alone prints nothing and doesn't end")
+def _(stack, checks):
+    pipes = {"stdin": subprocess.PIPE, "stdout": subprocess.PIPE, "text": True}
+    alone = stack.enter_context(subprocess.Popen([PROGRAM], **pipes, preexec_fn=heed_ctrl_c))
+    alone.stdin.write("1 incref\n")
+    alone.stdin.flush()
+    checks.expect("it takes a line of a script", "held 0000000000000008 0 0 -\n", alone.stdout.readline())
+    checks.expect("it goes on", None, alone.poll())
+    alone.send_signal(signal.SIGINT)
+    checks.expect("Ctrl-C ends it", -signal.SIGINT, alone.wait(SECONDS))
 
 
 @trial("cannot listen web at the start, of a port")
@@ -255,8 +282,9 @@ def _(stack, checks):
         while time.monotonic() - began < SECONDS and not made.logged():
             client.sendall(b"x")
             far.recv(1)
-            status, reply = ctl(made.relay.admin, "show", "2")
-            seen = seen if status else reply
+            # (without a process of its own, which a busy machine may start after the idle time)
+            reply = made.relay.ask("show 2")
+            seen = reply if reply.startswith("show") else seen
             time.sleep(0.02)
     checks.holds("the log", made.ends("idle"), made.logged())
     checks.holds("bytes passed up alone", re.search(r" up [1-9]\d* down 0 ", seen), seen)

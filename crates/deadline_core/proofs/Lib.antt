@@ -5,3 +5,6 @@ pub mod StaleEntryLemmas
 pub mod DueLemmas
 pub mod DueLawsLemmas
 pub mod OneAnswerLemmas
+pub mod MomentLemmas
+pub mod TournamentLemmas
+pub mod CallHistoryLemmas

@@ -4,6 +4,7 @@
 //! every set of timers. In a list of calls the newest comes first, so `later ++ calls` is what
 //! `calls` became once the calls `later` were made.
 ghost use Rattle.std.specs.Prelude.{◌≡◌, ◌≢◌, ◌<◌, ◌≤◌, ℕ, ◌++◌, List, [], ◌∷◌, Result, true};
+ghost use Rattle.std.specs.Prelude.{Option};
 ghost use Rattle.std.specs.Prelude.{false, if◌then◌else◌, length, Contains};
 ghost use Rattle.std.specs.List.{list_any, filter_map};
 ghost use Rattle.std.specs.FinMap.{get, insert, remove};
@@ -17,7 +18,10 @@ ghost use Rattle.deadline_core.specs.PollHistory.{covers, sets, readies, moves_n
 ghost use Rattle.deadline_core.specs.PollHistory.{is_go, tick_moment};
 ghost use Rattle.deadline_core.specs.PollHistory.{closing, deadline_of, expired, notice, passed};
 ghost use Rattle.deadline_core.specs.PollHistory.{refusal_of, look_answer};
+ghost use Rattle.deadline_core.specs.CallHistory.{CallEvent, Begun, Answered, Told, limits};
+ghost use Rattle.deadline_core.specs.CallHistory.{moves_call, limit_of, awaited};
 ghost use Rattle.deadline_core.specs.DueOrder.{Slot};
+ghost use Rattle.deadline_core.specs.Moments.{IsCovered};
 ghost use Rattle.deadline_core.specs.Timers.{Armed, AreFirstDue, IsDue, remove_all};
 
 use crate::deadline::{Deadline, Dirs};
@@ -160,4 +164,27 @@ pub fn fewer_than_256_are_all_that_are_due()
 pub fn due_has_one_answer()
     ensures one { (armed : Armed) (now : ℕ) (given other : List Slot)
         → AreFirstDue armed now given → AreFirstDue armed now other → given ≡ other }
+{}
+
+/// A call that begins with a moment of its own gives up then, and so do those after it, until one
+/// more begins so or another moment is told: what was told before counts no more.
+pub fn the_last_word_decides_when_a_call_gives_up()
+    ensures own { (dir : Dir) (at : ℕ) (later earlier : List CallEvent)
+        → list_any (limits dir) later ≡ false
+        → limit_of dir (later ++ Begun dir (Some at) ∷ earlier) ≡ Deadline.At at }
+    ensures told { (dir : Dir) (deadline : Deadline) (later earlier : List CallEvent)
+        → list_any (limits dir) later ≡ false
+        → limit_of dir (later ++ Told dir deadline ∷ earlier) ≡ deadline }
+    ensures others { (dir : Dir) (event : CallEvent) (later events : List CallEvent)
+        → limits dir event ≡ false
+        → limit_of dir (later ++ event ∷ events) ≡ limit_of dir (later ++ events) }
+    ensures answered { (dir : Dir) (later earlier : List CallEvent)
+        → list_any (moves_call dir) later ≡ false
+        → awaited dir (later ++ Answered dir ∷ earlier) ≡ None }
+{}
+
+/// What covers a moment covers each later one: a moment that only moves on needs no other alarm.
+pub fn a_later_moment_is_covered_too()
+    ensures covered { (alarm : Option ℕ) (at later : ℕ) → at ≤ later
+        → IsCovered (Some at) alarm → IsCovered (Some later) alarm }
 {}

@@ -6,14 +6,21 @@
 //! the moments of many, and `laws` says what follows from both.
 #![tactic(auto)]
 
+mod call_deadlines;
 mod deadline;
 pub mod laws;
+mod moments;
+mod place_alarms;
 mod poll_state;
 mod refusal;
 mod timer_order;
 mod timers;
+mod tournament;
 
+pub use call_deadlines::CallDeadlines;
 pub use deadline::{Deadline, Dirs};
+pub use moments::{earlier, is_covered};
+pub use place_alarms::PlaceAlarms;
 pub use poll_state::{Look, PollState};
 pub use refusal::Refusal;
 pub use timers::{MAX_DUE, Timers};

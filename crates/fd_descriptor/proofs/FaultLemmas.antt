@@ -1,5 +1,5 @@
 -- A loop's own fault is one that the call may tell, whatever the handle has seen.
-use Rattle.std.specs.Prelude.{ℕ, Result, Ok, Err, IfErr}
+use Rattle.std.specs.Prelude.{ℕ, Option, Some, None, Result, Ok, Err, IfErr, IfSome}
 use Rattle.std.proofs.Common.{inr}
 use Rattle.rwloops.specs.declared.fault.Fault.{Fault}
 use Rattle.rwloops.specs.declared.fault.WriteFault.{WriteFault}
@@ -16,3 +16,9 @@ pub own_write_fault : (before after : Marks) (answer : Result ℕ WriteFault) �
     IfErr answer (λ failed. MayTell Writes before after failed.fault)
 own_write_fault before after (Ok count) own = tt
 own_write_fault before after (Err failed) own = inr own
+
+-- what holds of each answer holds of the one that there is
+pub if_some : {T : Type 0} (answer : Option T) (P Q : T → Type 0) → ((given : T) → P given → Q given)
+    → IfSome answer P → IfSome answer Q
+if_some None P Q so holds = tt
+if_some (Some given) P Q so holds = so given holds

@@ -1,12 +1,14 @@
 -- A handle, as callers see it: its descriptor, the descriptor's key and cell, and what it has seen.
-use Rattle.std.specs.Prelude.{◌≡◌, ℕ, Bool, false}
+use Rattle.std.specs.Prelude.{◌≡◌, ℕ, Bool, false, List, []}
 use Rattle.std.specs.Arc.{arc_value}
 use Rattle.fd_descriptor.specs.declared.descriptor.Fd.{Fd}
 use Rattle.fd_descriptor.specs.declared.descriptor.FdHandle.{FdHandle}
 use Rattle.fd_descriptor.specs.declared.poll_cell.PollCell.{PollCell}
 use Rattle.fd_descriptor.specs.CellKey.{key_of_cell}
 use Rattle.fd_descriptor.specs.Marks.{Marks, KeepsMarks, marks_in, closes_in, destroys_in}
-use Rattle.fd_descriptor.specs.Marks.{drains_in, LooksThrough}
+use Rattle.fd_descriptor.specs.Marks.{drains_in, heard_in, LooksThrough}
+use Rattle.lockword.specs.History.{GoesOn}
+use Rattle.lockword_core.specs.declared.stake.Event.{Event}
 use Rattle.lockword_core.specs.declared.word.Word.{Word}
 
 module _ {X R W A : Type 0} where
@@ -50,6 +52,10 @@ module _ {X R W A : Type 0} where
   abbrev pub drains_of : FdHandle X R W A → ℕ
   drains_of h = drains_in h.seat
 
+  -- what all handles had done when this one made its last operation or look, in one order
+  abbrev pub heard_of : FdHandle X R W A → List Event
+  heard_of h = heard_in h.seat
+
   -- what a look shows to a handle, as it shows it to the handle's seat: the word was so at a moment
   -- that goes on from what the handle had heard
   abbrev pub LooksAt : FdHandle X R W A → FdHandle X R W A → Word → Type 0
@@ -61,6 +67,10 @@ pub record KeepsHandle {X R W A : Type 0} (before after : FdHandle X R W A) : Ty
   pub same : descriptor_of after ≡ descriptor_of before
   -- what was seen stays seen
   pub marks : KeepsMarks (marks_of before) (marks_of after)
+
+-- what a handle has heard goes on from what it had heard
+abbrev pub HearsOn : {X R W A : Type 0} → FdHandle X R W A → FdHandle X R W A → Type 0
+HearsOn before after = GoesOn (heard_of before) (heard_of after)
 
 -- what a call keeps that neither closes, nor destroys, nor drains
 pub record KeepsDeeds {X R W A : Type 0} (before after : FdHandle X R W A) : Type 0 where
@@ -81,3 +91,4 @@ pub record IsFirst {X R W A : Type 0} (given : ℕ) (handle : FdHandle X R W A) 
   pub undrained : saw_draining handle ≡ false
   pub not_done : saw_done handle ≡ false
   pub idle : DidNothing handle
+  pub none_heard : heard_of handle ≡ []

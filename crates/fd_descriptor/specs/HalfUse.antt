@@ -1,6 +1,22 @@
--- What a call did with the half that was lent to it. No public clause cites this module.
+-- Where a half is that a call has: it was at home when the lock was taken, and is again once the lock
+-- was given back. What a call did with the half that was lent to it is cited by no public clause.
+use Rattle.std.specs.Prelude.{◌≡◌, [], ◌∷◌, ◌++◌, List}
 use Rattle.std.specs.Fn.{Once, FnOnceReturnsAtMut}
 use denote.Ref.{MutBor}
+use Rattle.base_types.specs.declared.direction.Dir.{Dir}
+use Rattle.lockword_core.specs.declared.stake.Op.{Op}
+use Rattle.lockword_core.specs.declared.stake.Op.TheVariants as op
+use Rattle.lockword.specs.declared.shared_rule.Half.{Half}
+use Rattle.lockword.specs.Home.{WasHome}
+pub use Rattle.fdmutex.specs.HalfTaken.{FoundAtHome}
+
+-- a seat that has made these operations gave its lock back, and just then this was at home
+pub record LeftAtHome (R W : Type 0) (d : Dir) (content : Half R W) (did : List Op) : Type 0 where
+  pub earlier : List Op
+  -- what it did then: it gave the signal that it owed, or destroyed, or neither
+  pub later : List Op
+  pub whole : did ≡ (earlier ++ op.Unlock d ∷ []) ++ later
+  pub home : WasHome R W d content (earlier ++ op.Unlock d ∷ [])
 
 -- the closure was called once, at a half, and gave this
 abbrev pub Did : {F H Y : Type 0} → Once F (MutBor H × Unit {0}) (Y × (MutBor H × Unit {0})) → F → Y

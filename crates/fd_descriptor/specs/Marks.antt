@@ -1,9 +1,12 @@
 -- What has been seen of a descriptor's drain and end, by the seat of its lock word that a handle
 -- holds.
-use Rattle.std.specs.Prelude.{◌≡◌, ℕ, true, false, Option, Some, None}
+use Rattle.std.specs.Prelude.{◌≡◌, ℕ, true, false, Option, Some, None, List, [], ◌∷◌}
+use Rattle.lockword_core.specs.declared.stake.Op.{Op}
+use Rattle.lockword_core.specs.declared.stake.Op.TheVariants as op
+use Rattle.lockword_core.specs.declared.stake.Event.{Event}
 use Rattle.lockword.specs.declared.holders.Seat.{Seat}
 use Rattle.lockword.specs.declared.holders.LockWord.{LockWord}
-use Rattle.lockword.specs.Marks.{WordId, word_of, marks_of as marks_at}
+use Rattle.lockword.specs.Marks.{WordId, word_of, deeds, heard_by, marks_of as marks_at}
 use Rattle.lockword.specs.Places.{seat_place, last_place}
 use Rattle.lockword.specs.TransitionOutcomes.{word_id, Looks}
 use Rattle.lockword_core.specs.declared.word.Word.{Word}
@@ -59,6 +62,11 @@ module _ {R W : Type 0} where
   drains_in None = 0
   drains_in (Some s) = drains (seat_place s)
 
+  -- what all seats had done when it made its last operation or look
+  abbrev pub heard_in : Option (Seat R W) → List Event
+  heard_in None = []
+  heard_in (Some s) = heard_by (seat_place s)
+
   -- the word of the seat, where there is a seat
   abbrev pub word_in : Option (Seat R W) → Option WordId
   word_in None = None
@@ -87,6 +95,16 @@ module _ {R W : Type 0} where
   abbrev pub drains_left : Freed R W → ℕ
   drains_left (left.Kept s) = drains (seat_place s)
   drains_left (left.Last l) = drains (last_place l)
+
+  -- the operations that the seat has made of which this is left
+  abbrev pub deeds_left : Freed R W → List Op
+  deeds_left (left.Kept s) = deeds (seat_place s)
+  deeds_left (left.Last l) = deeds (last_place l)
+
+  -- what is still to be done by who has this left: to destroy, or nothing
+  abbrev pub duty_left : Freed R W → List Op
+  duty_left (left.Kept s) = []
+  duty_left (left.Last l) = op.Destroy ∷ []
 
   -- somebody else has a reference still, and destroys
   abbrev pub IsKept : Freed R W → Type 0

@@ -1,11 +1,11 @@
 -- What a cell's lock guards: which calls its poll state has had, who is parked, and who has to be
 -- woken.
-use Rattle.std.specs.Prelude.{Bool, true, false, List}
+use Rattle.std.specs.Prelude.{◌≡◌, Bool, true, false, List, ◌∷◌}
 use Rattle.base_types.specs.declared.direction.Dir.{Dir}
 use Rattle.base_types.specs.declared.direction.Dir.TheVariants.{Read, Write}
 use Rattle.deadline_core.specs.declared.poll_state.Look.{Look}
 use Rattle.deadline_core.specs.declared.poll_state.Look.TheVariants.{Refused, Go, Park}
-use Rattle.deadline_core.specs.PollHistory.{Call, StandsFor}
+use Rattle.deadline_core.specs.PollHistory.{Call, Evicted, StandsFor}
 use Rattle.fd_descriptor.specs.declared.watched.Watched.{Watched}
 use Rattle.fd_descriptor.specs.declared.watched.Parked.{Parked}
 
@@ -28,3 +28,11 @@ abbrev pub is_park : Look → Bool
 is_park Park = true
 is_park Go = false
 is_park (Refused refusal) = false
+
+-- a state of the cell stands now for the calls that it stood for and that it was made closing, and
+-- nobody is parked in it any more
+pub record WasEvicted : Type 0 where
+  pub before : Watched
+  pub after : Watched
+  pub evicted : (calls : List Call) → IsAfter before calls → IsAfter after (Evicted ∷ calls)
+  pub nobody : (d : Dir) → is_parked after d ≡ false

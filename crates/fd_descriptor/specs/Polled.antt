@@ -21,10 +21,10 @@ is_over progress.Whole = true
 is_over (progress.Part count) = false
 is_over (progress.Failed failed) = true
 
--- the cell refused, as closing or as expired, and that is told; or else a half was tried, and tells
--- the tries of which the trace is made up
+-- the cell refused, as closing or as expired, and that is told, and the half wasn't touched; or else
+-- the half was tried, and tells the tries of which the trace is made up
 abbrev pub IsTriedOrRefused : {H A Y : Type 0} → (Fault → Y) → (H → List A → Type 0)
-    → (List A → Type 0) → Y → Type 0
-IsTriedOrRefused {H = H} told tells Trace result =
-    ((refusal : Refusal) × (result ≡ told (fault_of refusal)))
-    ⊎ ((before : H) × (after : H) × IsTried Trace (tells before) (tells after))
+    → (List A → Type 0) → Y → H → H → Type 0
+IsTriedOrRefused told tells Trace result before after =
+    ((refusal : Refusal) × (result ≡ told (fault_of refusal)) × (after ≡ before))
+    ⊎ IsTried Trace (tells before) (tells after)

@@ -9,6 +9,10 @@ ghost use Rattle.fd_descriptor.specs.HandleCalls.{TellsWhoClosed, TellsOwnDestro
 ghost use Rattle.fd_descriptor.specs.HandleCalls.{Reads, Accepts, Writes, Shuts, SetsDeadline};
 ghost use Rattle.fd_descriptor.specs.HandleCalls.{Closes};
 ghost use Rattle.fd_descriptor.specs.Entry.{IsEntry};
+ghost use Rattle.fd_descriptor.specs.FdHandle.{key_of};
+ghost use Rattle.fd_descriptor.specs.Deadlines.{HasSet, setting_of};
+ghost use Rattle.fd_descriptor.specs.Parking.{WasEvicted};
+ghost use Rattle.deadline_core.specs.declared.deadline.Dirs.TheVariants as dirs;
 
 use crate::close::{AtEviction, Nobody, close_by};
 use crate::deadlines::Setting;
@@ -101,6 +105,8 @@ impl<X: Resource, A: Allocator> FdHandle<X, A> {
 
     fn set<T: Wait, L: Alarms>(&mut self, rt: &T, alarms: &L, setting: Setting) -> Result<(), Fault>
         ensures entry { IsEntry SetsDeadline self.old self.new result }
+        ensures set { HasSet (L.armed alarms.now) (L.refused alarms.now) (L.disarmed alarms.now)
+            (key_of self.old) setting result }
     {
         let Some(seat) = self.seat.take() else {
             unreachable!()
@@ -128,6 +134,8 @@ impl<X: Resource, A: Allocator> FdHandle<X, A> {
         alarms: &L,
     ) -> Result<(), Fault>
         ensures entry { IsEntry SetsDeadline self.old self.new result }
+        ensures set { HasSet (L.armed alarms.now) (L.refused alarms.now) (L.disarmed alarms.now)
+            (key_of self.old) (setting_of dirs.Both deadline now) result }
     {
         self.set(rt, alarms, Setting::new(Dirs::Both, deadline, now))
     }
@@ -142,6 +150,8 @@ impl<X: Resource, A: Allocator> FdHandle<X, A> {
         alarms: &L,
     ) -> Result<(), Fault>
         ensures entry { IsEntry SetsDeadline self.old self.new result }
+        ensures set { HasSet (L.armed alarms.now) (L.refused alarms.now) (L.disarmed alarms.now)
+            (key_of self.old) (setting_of dirs.Read deadline now) result }
     {
         self.set(rt, alarms, Setting::new(Dirs::Read, deadline, now))
     }
@@ -155,6 +165,8 @@ impl<X: Resource, A: Allocator> FdHandle<X, A> {
         alarms: &L,
     ) -> Result<(), Fault>
         ensures entry { IsEntry SetsDeadline self.old self.new result }
+        ensures set { HasSet (L.armed alarms.now) (L.refused alarms.now) (L.disarmed alarms.now)
+            (key_of self.old) (setting_of dirs.Write deadline now) result }
     {
         self.set(rt, alarms, Setting::new(Dirs::Write, deadline, now))
     }
@@ -171,6 +183,7 @@ impl<X: Resource, A: Allocator> FdHandle<X, A> {
         ensures ended { HasEnded result (marks_of self.new) }
         ensures closer { TellsWhoClosed result (closes_of self.old) (closes_of self.new) }
         ensures destroyer { TellsOwnDestroy result (destroys_of self.old) (destroys_of self.new) }
+        ensures evicted { WhereEvicted result WasEvicted }
     {
         self.close_telling(rt, &Nobody)
     }
@@ -187,6 +200,7 @@ impl<X: Resource, A: Allocator> FdHandle<X, A> {
         ensures ended { HasEnded result (marks_of self.new) }
         ensures closer { TellsWhoClosed result (closes_of self.old) (closes_of self.new) }
         ensures destroyer { TellsOwnDestroy result (destroys_of self.old) (destroys_of self.new) }
+        ensures evicted { WhereEvicted result WasEvicted }
         ensures told { WhereEvicted result (E.told who.now) }
     {
         close_by(rt, &self.fd, &mut self.seat, who)

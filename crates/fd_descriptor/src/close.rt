@@ -11,6 +11,7 @@ ghost use Rattle.fd_descriptor.specs.HandleCalls.{TellsWhoClosed, TellsOwnDestro
 ghost use Rattle.fd_descriptor.specs.Marks.{HoldsSeatOf, KeepsMarks, SawTheEnd, IsKept};
 ghost use Rattle.fd_descriptor.specs.Marks.{marks_in, marks_left, closes_in, closes_left};
 ghost use Rattle.fd_descriptor.specs.Marks.{destroys_in, destroys_left, drains_in, drains_left};
+ghost use Rattle.fd_descriptor.specs.Parking.{WasEvicted};
 
 use crate::descriptor::Fd;
 use crate::leave::{finish, lock_fault};
@@ -84,6 +85,7 @@ pub(crate) fn close_by<X: Resource, A: Allocator, T: Wait, E: AtEviction>(
     ensures ended { HasEnded result (marks_in seat.new) }
     ensures closer { TellsWhoClosed result (closes_in seat.old) (closes_in seat.new) }
     ensures destroyer { TellsOwnDestroy result (destroys_in seat.old) (destroys_in seat.new) }
+    ensures evicted { WhereEvicted result WasEvicted }
     ensures told { WhereEvicted result (E.told who.now) }
 {
     let word = &fd.word;

@@ -1,9 +1,10 @@
 //! Setting a deadline in what a cell's lock guards, with its alarm, which is decided before.
 
 ghost use Rattle.std.specs.Prelude.{◌≡◌, ◌&&◌, not, List, ◌∷◌, true, false, Ok, Err, IfOk, IfErr};
+ghost use Rattle.std.specs.Prelude.{OnOk};
 ghost use Rattle.base_types.specs.declared.direction.Dir.{Dir};
 ghost use Rattle.deadline_core.specs.PollHistory.{Call, DeadlineSet, closing, covers};
-ghost use Rattle.fd_descriptor.specs.Deadlines.{alarm_at};
+ghost use Rattle.fd_descriptor.specs.Deadlines.{alarm_at, WasAsked, WasRefused};
 ghost use Rattle.fd_descriptor.specs.Parking.{IsAfter, is_parked, is_woken};
 ghost use Rattle.fd_descriptor.specs.HandleCalls.{IsOwnFault, SetsDeadline};
 
@@ -60,9 +61,14 @@ pub struct AlarmPlan {
 }
 
 impl AlarmPlan {
-    // Everything is decided before: no clause can say what alarms were asked for, so this decides
-    // nothing, and takes what only a state that isn't closing gives.
-    fn carry_out<A: Alarms>(self, alarms: &A, _open: NotClosing) -> Result<(), OutOfMemory> {
+    // Everything is decided before: this decides nothing, and takes what only a state that isn't
+    // closing gives.
+    fn carry_out<A: Alarms>(self, alarms: &A, _open: NotClosing) -> Result<(), OutOfMemory>
+        ensures asked { IfOk result (λ _. WasAsked (A.armed alarms.now) (A.disarmed alarms.now)
+            self.key self.dirs self.at) }
+        ensures refused { IfErr result (λ _. WasRefused (A.refused alarms.now)
+            self.key self.dirs self.at) }
+    {
         match self.at {
             Some(at) => alarms.arm(self.key, self.dirs, at),
             None => {
@@ -94,6 +100,12 @@ pub(crate) fn set_in<A: Alarms>(
         → is_parked watched.new d ≡ (not (covers setting.dirs d) && is_parked watched.old d)) }
     ensures refused { IfErr result (λ fault. watched.new ≡ watched.old) }
     ensures faults { IfErr result (IsOwnFault SetsDeadline) }
+    ensures was_open { (calls : List Call) → IsAfter watched.old calls
+        → OnOk result (closing calls ≡ false) }
+    ensures asked { IfOk result (λ woken. WasAsked (A.armed alarms.now) (A.disarmed alarms.now)
+        key setting.dirs (alarm_at setting.deadline setting.now)) }
+    ensures full { IfErr result (λ fault. fault ≡ Fault.OutOfMemory → WasRefused
+        (A.refused alarms.now) key setting.dirs (alarm_at setting.deadline setting.now)) }
 {
     let Some(open) = watched.not_closing() else {
         return Err(Fault::Closed);

@@ -2,7 +2,7 @@
 
 ghost use Rattle.std.specs.Prelude.{◌≡◌, true, Err, IfErr};
 ghost use Rattle.fd_descriptor.specs.FdHandle.{KeepsHandle, marks_of, saw_closed, saw_draining};
-ghost use Rattle.fd_descriptor.specs.FdHandle.{closes_of, destroys_of, drains_of};
+ghost use Rattle.fd_descriptor.specs.FdHandle.{closes_of, destroys_of, drains_of, HearsOn};
 ghost use Rattle.fd_descriptor.specs.HandleCalls.{Drains, MayTell, IsRefusedEntry};
 ghost use Rattle.fd_descriptor.specs.HandleCalls.{HasDrained, TellsWhoDrained};
 
@@ -22,6 +22,7 @@ impl<X: Resource, A: Allocator> FdHandle<X, A> {
     /// rule is this project's own, so that a server may let its calls end before it closes.
     pub fn drain<T: Wait>(&mut self, rt: &T) -> Result<(), Fault>
         ensures keeps { KeepsHandle self.old self.new }
+        ensures heard { HearsOn self.old self.new }
         ensures no_close { closes_of self.new ≡ closes_of self.old }
         ensures no_destroy { destroys_of self.new ≡ destroys_of self.old }
         ensures closed { saw_closed self.old ≡ true → result ≡ Err Fault.Closed }

@@ -2,21 +2,22 @@
 //! back, and one that would wait keeps it.
 
 ghost use Rattle.std.specs.Prelude.{◌≡◌, true, false, Some, None, [], Err, IfOk, IfErr};
-ghost use Rattle.lockword.specs.Marks.{deeds, marks_of as marks_at};
+ghost use Rattle.lockword.specs.Lent.{half_in};
+ghost use Rattle.lockword.specs.Marks.{deeds, heard_by, marks_of as marks_at};
 ghost use Rattle.lockword.specs.Places.{seat_place, lock_place};
 ghost use Rattle.lockword.specs.TransitionOutcomes.{IsSeatOf};
 ghost use Rattle.fdmutex.specs.Deeds.{closes, destroys, drains};
 ghost use Rattle.fd_descriptor.specs.HalfState.{IsAtWord, MayCall, is_calling, marks_held};
 ghost use Rattle.fd_descriptor.specs.HalfState.{operations_held, closes_held, destroys_held};
-ghost use Rattle.fd_descriptor.specs.HalfState.{drains_held};
+ghost use Rattle.fd_descriptor.specs.HalfState.{drains_held, heard_held, half_held, HadHalf, HasHalf};
 ghost use Rattle.fd_descriptor.specs.HandleCalls.{IsLockFault, IsRefusedEntry};
 ghost use Rattle.fd_descriptor.specs.Marks.{KeepsMarks};
 
 use crate::descriptor::Fd;
-use crate::leave::{leave, lock_fault};
+use crate::leave::{give_back, lock_fault};
 use crate::resource::Resource;
 use crate::task_half::HalfState;
-use fdmutex::{lock, unlock};
+use fdmutex::lock;
 use lockword::{Guards, Held, LockWord, Seat};
 use rwloops::Fault;
 use std::alloc::Allocator;
@@ -51,6 +52,7 @@ pub(crate) fn hold<D: Guards<X::R, X::W>, X: Resource, T: Wait, A: Allocator>(
     ensures destroys { IfOk result (λ held. destroys (lock_place held) ≡ destroys_held state.old) }
     ensures drains { IfOk result (λ held. drains (lock_place held) ≡ drains_held state.old) }
     ensures may { IfOk result (λ held. MayCall state.old) }
+    ensures half { IfOk result (λ held. HadHalf state.old (half_in held)) }
     ensures was_idle { IfErr result (λ fault. is_calling state.old ≡ false) }
     ensures idle { IfErr result (λ fault. is_calling state.new ≡ false) }
     ensures seat { IfErr result (λ fault. IsAtWord fd.now.word state.new) }
@@ -96,9 +98,10 @@ pub(crate) fn rest<D: Guards<X::R, X::W>, X: Resource, T: Wait, A: Allocator>(
     ensures no_drain { drains_held state.new ≡ drains (lock_place held) }
     ensures over { is_over ≡ true → is_calling state.new ≡ false }
     ensures stays { is_over ≡ false → state.new ≡ Some (HalfState.UnderWay held) }
+    ensures half { HasHalf state.new (half_in held) }
 {
     if is_over {
-        let left = leave::<X>(&fd.word, unlock(rt, &fd.word, held));
+        let left = give_back::<D, X, T>(rt, &fd.word, held);
         put(state, HalfState::Idle(left));
     } else {
         put(state, HalfState::UnderWay(held));
@@ -118,9 +121,12 @@ pub(crate) fn another<D: Guards<R, W>, R: Drop, W: Drop>(
     ensures no_close { closes_held state.new ≡ closes_held state.old }
     ensures no_destroy { destroys_held state.new ≡ destroys_held state.old }
     ensures no_drain { drains_held state.new ≡ drains_held state.old }
+    ensures half { half_held state.new ≡ half_held state.old }
+    ensures heard { heard_held state.new ≡ heard_held state.old }
     ensures word { IsSeatOf word.now (seat_place result) }
     ensures seen { marks_at (seat_place result) ≡ marks_held state.old }
     ensures idle { deeds (seat_place result) ≡ [] }
+    ensures told { heard_by (seat_place result) ≡ heard_held state.old }
 {
     let Some(now) = state.take() else {
         unreachable!()

@@ -16,12 +16,12 @@ ghost use Rattle.fd_descriptor.specs.Marks.{drains_in};
 ghost use Rattle.fd_descriptor.specs.Polled.{IsTriedOrRefused, fails_by, write_fails_by};
 
 use crate::descriptor::Fd;
-use crate::leave::{leave, lock_fault};
+use crate::leave::{give_back, lock_fault};
 use crate::poll_cell::{CellWaits, PollCell};
 use crate::resource::{HalfClose, Resource};
 use base_types::Dir;
 use deadline_core::Refusal;
-use fdmutex::{lock, unlock};
+use fdmutex::lock;
 use lockword::{Guards, Seat};
 use rwloops::{DevKind, Fault, Progress, TryAccept, TryRead, TryWrite, Waits, WriteFault};
 use std::alloc::Allocator;
@@ -64,7 +64,7 @@ where
         }
     };
     let answer = act(held.half(word));
-    *seat = Some(leave::<X>(word, unlock(rt, word, held)));
+    *seat = Some(give_back::<D, X, T>(rt, word, held));
     Ok(answer)
 }
 
@@ -157,7 +157,7 @@ pub(crate) fn read_now_in<H: TryRead>(
     ensures tried { IfOk prepared (λ u. IsTried (λ tries. ReadNow buf.new tries result)
         (H.tells half.old) (H.tells half.new)) }
     ensures polled { IsTriedOrRefused fails_by H.tells (λ tries. ReadNow buf.new tries result)
-        result }
+        result half.old half.new }
 {
     match prepared {
         Ok(()) => rwloops::read_now(half, buf),
@@ -175,7 +175,8 @@ pub(crate) fn accept_now_in<H: TryAccept>(
         × (half.new ≡ half.old)) }
     ensures tried { IfOk prepared (λ u. IsTried (λ tries. AcceptNow tries result)
         (H.tells half.old) (H.tells half.new)) }
-    ensures polled { IsTriedOrRefused fails_by H.tells (λ tries. AcceptNow tries result) result }
+    ensures polled { IsTriedOrRefused fails_by H.tells (λ tries. AcceptNow tries result) result
+        half.old half.new }
 {
     match prepared {
         Ok(()) => rwloops::accept_now(half),
@@ -197,7 +198,7 @@ pub(crate) fn write_now_in<H: TryWrite>(
     ensures tried { IfOk prepared (λ u. IsTried (λ tries. WriteNow bytes.now tries result)
         (H.tells half.old) (H.tells half.new)) }
     ensures polled { IsTriedOrRefused write_fails_by H.tells
-        (λ tries. WriteNow bytes.now tries result) result }
+        (λ tries. WriteNow bytes.now tries result) result half.old half.new }
 {
     match prepared {
         Ok(()) => rwloops::write_now(half, bytes),

@@ -4,7 +4,7 @@ ghost use Rattle.std.specs.Prelude.{◌≡◌, true, IfOk, IfErr};
 ghost use Rattle.std.specs.Arc.{arc_value};
 ghost use Rattle.lockword.specs.TransitionOutcomes.{IsOnlyClosed};
 ghost use Rattle.fd_descriptor.specs.FdHandle.{descriptor_of, cell_of, KeepsDeeds, DidNothing};
-ghost use Rattle.fd_descriptor.specs.FdHandle.{IsFirst};
+ghost use Rattle.fd_descriptor.specs.FdHandle.{IsFirst, heard_of};
 ghost use Rattle.fd_descriptor.specs.FdHandle.{marks_of, saw_closed, saw_draining, saw_done};
 ghost use Rattle.fd_descriptor.specs.FdHandle.{LooksAt};
 
@@ -97,6 +97,8 @@ impl<X: Resource, A: Allocator> FdHandle<X, A> {
     pub fn share(&mut self) -> Result<FdHandle<X, A>, Fault>
         ensures same { descriptor_of self.new ≡ descriptor_of self.old }
         ensures kept { marks_of self.new ≡ marks_of self.old }
+        ensures heard { heard_of self.new ≡ heard_of self.old }
+        ensures told { IfOk result (λ other. heard_of other ≡ heard_of self.old) }
         ensures deeds { KeepsDeeds self.old self.new }
         ensures shared { IfOk result (λ other. descriptor_of other ≡ descriptor_of self.old) }
         ensures seen { IfOk result (λ other. marks_of other ≡ marks_of self.old) }

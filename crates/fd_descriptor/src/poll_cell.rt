@@ -7,7 +7,9 @@
 
 ghost use Rattle.std.specs.Prelude.{◌≡◌, IfErr};
 ghost use Rattle.fd_descriptor.specs.CellKey.{key_of_cell};
+ghost use Rattle.fd_descriptor.specs.Deadlines.{HasSet};
 ghost use Rattle.fd_descriptor.specs.HandleCalls.{IsOwnFault, SetsDeadline};
+ghost use Rattle.fd_descriptor.specs.Parking.{WasEvicted};
 
 use crate::deadlines::{Setting, set_in};
 use crate::resource::Alarms;
@@ -73,7 +75,9 @@ impl PollCell {
 
     /// Makes the state closing, for good. Only who set the word's flag has the value that this
     /// takes, so that a close which is refused leaves the cell as it was.
-    pub(crate) fn evict<R, W, T: Wait>(&self, rt: &T, _closing: &Closing<R, W>) {
+    pub(crate) fn evict<R, W, T: Wait>(&self, rt: &T, _closing: &Closing<R, W>)
+        ensures { WasEvicted }
+    {
         let parked = self.watched.lock(rt).evict();
         self.wake(parked);
     }
@@ -85,7 +89,9 @@ impl PollCell {
         alarms: &A,
         setting: Setting,
     ) -> Result<(), Fault>
-        ensures { IfErr result (IsOwnFault SetsDeadline) }
+        ensures faults { IfErr result (IsOwnFault SetsDeadline) }
+        ensures set { HasSet (A.armed alarms.now) (A.refused alarms.now) (A.disarmed alarms.now)
+            (key_of_cell self.now) setting result }
     {
         let parked = set_in(&mut *self.watched.lock(rt), alarms, self.key, setting)?;
         self.wake(parked);

@@ -17,7 +17,9 @@ ghost use Rattle.fd_descriptor.specs.TaskHalf.{IsHalfOf, IsHandleOf, IsHalfEntry
 ghost use Rattle.fd_descriptor.specs.TaskHalf.{KeepsHalf, StaysUnderWay, IsKeptOut, MayTellHalf};
 ghost use Rattle.fd_descriptor.specs.TaskHalf.{is_under_way, descriptor_of_half, marks_of_half};
 ghost use Rattle.fd_descriptor.specs.TaskHalf.{operations_of_half, destroys_of_half};
-ghost use Rattle.fd_descriptor.specs.FdHandle.{descriptor_of, marks_of, DidNothing};
+ghost use Rattle.fd_descriptor.specs.TaskHalf.{held_by, heard_of_half, key_of_half, IsShutOfItsHalf};
+ghost use Rattle.fd_descriptor.specs.FdHandle.{descriptor_of, marks_of, heard_of, DidNothing};
+ghost use Rattle.fd_descriptor.specs.Deadlines.{HasSet};
 
 use crate::deadlines::Setting;
 use crate::descriptor::{Fd, FdHandle};
@@ -64,10 +66,12 @@ impl<D: Guards<X::R, X::W>, X: Resource, T: Wait + Copy, A: Allocator> TaskHalf<
         ensures kept { marks_of_half self.new ≡ marks_of_half self.old }
         ensures operations { operations_of_half self.new ≡ operations_of_half self.old }
         ensures no_destroy { destroys_of_half self.new ≡ destroys_of_half self.old }
+        ensures half { held_by self.new ≡ held_by self.old }
         ensures shared { IfOk result (λ handle. descriptor_of handle
             ≡ descriptor_of_half self.old) }
         ensures seen { IfOk result (λ handle. marks_of handle ≡ marks_of_half self.old) }
         ensures idle { IfOk result DidNothing }
+        ensures heard { IfOk result (λ handle. heard_of handle ≡ heard_of_half self.old) }
         ensures refused { IfErr result (λ fault. fault ≡ Fault.OutOfMemory) }
     {
         let Ok(fd) = Arc::try_clone(&self.fd) else {
@@ -103,6 +107,8 @@ impl<D: Guards<X::R, X::W>, X: Resource, T: Wait + Copy, A: Allocator> TaskHalf<
     /// Where they are refused no call is under way.
     pub fn set<L: Alarms>(&mut self, alarms: &L, setting: Setting) -> Result<(), Fault>
         ensures entry { IsHalfEntry SetsDeadline self.old self.new result }
+        ensures set { HasSet (L.armed alarms.now) (L.refused alarms.now) (L.disarmed alarms.now)
+            (key_of_half self.old) setting result }
     {
         let fd: &Fd<X, A> = &self.fd;
         let held = hold(&self.rt, fd, &mut self.state)?;
@@ -210,8 +216,8 @@ impl<X: Resource, T: Wait + Copy, A: Allocator> TaskHalf<Writing, X, T, A> {
         ensures keeps { KeepsHalf self.old self.new }
         ensures allowed { IfSome result (λ answer.
             IfErr answer (MayTellHalf Shuts self.old self.new)) }
-        ensures shut { IfSome result (λ answer. IfOk answer (λ _.
-            (half : X.W) × X.W.shut_told half (Ok tt))) }
+        ensures shut { IfSome result (λ answer. IsShutOfItsHalf X.W.shut_told
+            self.old self.new answer) }
         ensures over { IfSome result (λ answer. is_under_way self.new ≡ false) }
         ensures stays { IfNone result (StaysUnderWay self.old self.new) }
     {

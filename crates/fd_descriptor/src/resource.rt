@@ -1,7 +1,8 @@
 //! What a program brings to a descriptor: the two halves and how they are destroyed, a half that
 //! can be shut, and alarms for deadlines.
 
-ghost use Rattle.std.specs.Prelude.{Result};
+ghost use Rattle.std.specs.Prelude.{ℕ, Result, IfOk, IfErr};
+ghost use Rattle.deadline_core.specs.declared.deadline.Dirs.{Dirs};
 ghost use Rattle.rwloops.specs.declared.outcome.DevKind.{DevKind};
 
 use base_types::OutOfMemory;
@@ -50,10 +51,24 @@ pub trait HalfClose {
 /// one also arms later. The order of locks is cell, then timers: whoever takes due timers out gives
 /// the timers' lock up before it ticks a cell.
 pub trait Alarms {
+    /// What is so once they were asked for a `tick` of this key, for these directions, at this
+    /// moment. Whoever has nothing to say of it leaves it out.
+    ghost armed: { Self → ℕ → Dirs → ℕ → Type 0 } = { λ _ _ _ _. Unit {0} };
+
+    /// What is so once they refused that for want of memory. It may be left out too.
+    ghost refused: { Self → ℕ → Dirs → ℕ → Type 0 } = { λ _ _ _ _. Unit {0} };
+
+    /// What is so once they were asked for no `tick` of this key and these directions any more. It
+    /// may be left out too.
+    ghost disarmed: { Self → ℕ → Dirs → Type 0 } = { λ _ _ _. Unit {0} };
+
     /// Asks for a `tick` of this key at `at`, in place of what was asked for these directions. One
     /// that is refused changes neither direction.
-    fn arm(&self, key: u64, dirs: Dirs, at: u64) -> Result<(), OutOfMemory>;
+    fn arm(&self, key: u64, dirs: Dirs, at: u64) -> Result<(), OutOfMemory>
+        ensures armed { IfOk result (λ _. armed self.now key dirs at) }
+        ensures refused { IfErr result (λ _. refused self.now key dirs at) };
 
     /// Asks for no `tick` for these directions any more.
-    fn disarm(&self, key: u64, dirs: Dirs);
+    fn disarm(&self, key: u64, dirs: Dirs)
+        ensures told { disarmed self.now key dirs };
 }

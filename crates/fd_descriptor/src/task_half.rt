@@ -10,9 +10,8 @@ ghost use Rattle.fd_descriptor.specs.HalfState.{IsAtWord, marks_held, closes_hel
 ghost use Rattle.fd_descriptor.specs.Marks.{KeepsMarks};
 
 use crate::descriptor::Fd;
-use crate::leave::leave;
+use crate::leave::give_back;
 use crate::resource::Resource;
-use fdmutex::unlock;
 use lockword::{Guards, Held, Reading, Seat, Writing};
 use std::alloc::{Allocator, Global};
 use std::sync::{Arc, Wait};
@@ -55,7 +54,7 @@ impl<D: Guards<X::R, X::W>, X: Resource, T: Wait + Copy, A: Allocator> TaskHalf<
         let Some(now) = state else { unreachable!() };
         let left = match now {
             HalfState::Idle(free) => free,
-            HalfState::UnderWay(held) => leave::<X>(&fd.word, unlock(&rt, &fd.word, held)),
+            HalfState::UnderWay(held) => give_back::<D, X, T>(&rt, &fd.word, held),
         };
         (fd, left)
     }

@@ -5,6 +5,7 @@
 ghost use Rattle.base_types.specs.declared.direction.Dir.TheVariants.{Read, Write};
 ghost use Rattle.lockword_core.specs.declared.stake.Op.TheVariants as op;
 ghost use Rattle.lockword_core.specs.declared.stake.Answer.TheVariants as answer;
+ghost use Rattle.lockword.specs.Lent.{LeftHalf};
 ghost use Rattle.lockword.specs.Marks.{SameMarks, HeardOn, Did};
 ghost use Rattle.lockword.specs.Places.{seat_place, lock_place, wait_place, owing_place};
 ghost use Rattle.lockword.specs.Places.{owing_way};
@@ -12,6 +13,7 @@ ghost use Rattle.lockword.specs.TransitionOutcomes.{IsSeatOf};
 ghost use Rattle.lockword.specs.Dropping.{Leaves};
 ghost use Rattle.fdmutex.specs.Deeds.{MadeNoEnd, TakesWithoutEnd, LeavesWithoutEnd};
 ghost use Rattle.fdmutex.specs.Did.{TookOrWaited, GaveBack, TellsHeardWord};
+ghost use Rattle.fdmutex.specs.HalfTaken.{TakesHalf};
 ghost use Rattle.fdmutex.specs.Heard.{TakesHearing, LeavesHearing};
 ghost use Rattle.fdmutex.specs.Refusal.{IsLockFull, IsTakenOrRefused};
 
@@ -82,6 +84,7 @@ pub fn lock<D: Guards<R, W>, R: Drop, W: Drop, T: Wait>(
     ensures answer { IsTakenOrRefused SameMarks lock_place (IsLockFull D.dir) seat result }
     ensures no_end { TakesWithoutEnd lock_place seat result }
     ensures did { TookOrWaited D.dir lock_place seat result }
+    ensures half { TakesHalf seat result }
     ensures heard { TakesHearing lock_place seat result }
     ensures told { TellsHeardWord seat result }
 {
@@ -109,6 +112,7 @@ pub fn unlock<D: Guards<R, W>, R: Drop, W: Drop, T: Wait>(
     ensures left { Leaves (lock_place held) result }
     ensures no_end { LeavesWithoutEnd (lock_place held) result }
     ensures did { GaveBack D.dir (lock_place held) result }
+    ensures home { LeftHalf held }
     ensures heard { LeavesHearing (lock_place held) result }
 {
     let mut held = held;
@@ -133,6 +137,7 @@ pub fn read_lock<R: Drop, W: Drop, T: Wait>(
     ensures answer { IsTakenOrRefused SameMarks lock_place (IsLockFull Read) seat result }
     ensures no_end { TakesWithoutEnd lock_place seat result }
     ensures did { TookOrWaited Read lock_place seat result }
+    ensures half { TakesHalf seat result }
     ensures heard { TakesHearing lock_place seat result }
     ensures told { TellsHeardWord seat result }
 {
@@ -149,6 +154,7 @@ pub fn write_lock<R: Drop, W: Drop, T: Wait>(
     ensures answer { IsTakenOrRefused SameMarks lock_place (IsLockFull Write) seat result }
     ensures no_end { TakesWithoutEnd lock_place seat result }
     ensures did { TookOrWaited Write lock_place seat result }
+    ensures half { TakesHalf seat result }
     ensures heard { TakesHearing lock_place seat result }
     ensures told { TellsHeardWord seat result }
 {
@@ -165,6 +171,7 @@ pub fn read_unlock<R: Drop, W: Drop, T: Wait>(
     ensures left { Leaves (lock_place held) result }
     ensures no_end { LeavesWithoutEnd (lock_place held) result }
     ensures did { GaveBack Read (lock_place held) result }
+    ensures home { LeftHalf held }
     ensures heard { LeavesHearing (lock_place held) result }
 {
     unlock(rt, word, held)
@@ -180,6 +187,7 @@ pub fn write_unlock<R: Drop, W: Drop, T: Wait>(
     ensures left { Leaves (lock_place held) result }
     ensures no_end { LeavesWithoutEnd (lock_place held) result }
     ensures did { GaveBack Write (lock_place held) result }
+    ensures home { LeftHalf held }
     ensures heard { LeavesHearing (lock_place held) result }
 {
     unlock(rt, word, held)

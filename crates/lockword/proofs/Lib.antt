@@ -20,3 +20,4 @@ pub mod RuleLaws
 pub mod DeedSteps
 pub mod DeedLists
 pub mod HeadlineLemmas
+pub mod HalfHome

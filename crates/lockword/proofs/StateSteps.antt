@@ -21,9 +21,9 @@ use Rattle.atomic_table.proofs.Lists.{set_else}
 use Rattle.lockword.proofs.WordTests.{possible}
 use Rattle.lockword.proofs.DestroySteps.{has_half}
 use Rattle.lockword.specs.LocalView.{takers}
-use Rattle.lockword.specs.Steps.{HasSlots, hearing}
+use Rattle.lockword.specs.Steps.{HasSlots, MovesHalf, hearing}
 use Rattle.lockword.specs.Steps as steps
-use Rattle.lockword.proofs.ViewLemmas.{one_changes, takers-set, taken-le, takers-le}
+use Rattle.lockword.proofs.ViewLemmas.{at_there, one_changes, takers-set, taken-le, takers-le}
 use Rattle.lockword.proofs.Representation.{seated, present, IsInOnePlace, fits, recounted, represents, on_state}
 use Rattle.lockword.proofs.LookSteps.{view_of}
 use Rattle.lockword.proofs.HistorySteps.{event, IsMove, own_stake, step_moves, stepped_history, more_deeds}
@@ -114,10 +114,51 @@ module _ (R W : Type 0) where
         done = saw.done;
       })
 
+  -- what becomes of the half that a step moves
+  abbrev CarriesHome : Kind → After → List (ℕ × H R W) → List (Option (H R W)) → Act (H R W) → Type 0
+  CarriesHome (kind.Lock d) after.Held c homes act =
+      (x : H R W) × (carried_after c act ≡ (slot_of d, x) ∷ c) × (get_elem? homes (slot_of d) ≡ some (some x))
+  CarriesHome (kind.Unlock d) _ c homes act =
+      (x : H R W) → c ≡ (slot_of d, x) ∷ [] → get_elem? (homes_after homes c act) (slot_of d) ≡ some (some x)
+  CarriesHome _ _ c homes act = Unit {0}
+
+  set_slot : (d : Dir) (homes : List (Option (H R W))) (x : Option (H R W)) → length homes ≡ 2
+      → get_elem? (set homes (slot_of d) x) (slot_of d) ≡ some x
+  set_slot Read homes x deep = set_here homes 0 x (omega arith)
+  set_slot Write homes x deep = set_here homes 1 x (omega arith)
+
+  put_home : (d : Dir) (homes : List (Option (H R W))) (c : List (ℕ × H R W)) (x : H R W) → length homes ≡ 2
+      → c ≡ (slot_of d, x) ∷ [] → get_elem? (homes_after homes c gives) (slot_of d) ≡ some (some x)
+  put_home d homes c x deep e =
+      subst (λ (l : List (ℕ × H R W)). get_elem? (homes_after homes l gives) (slot_of d) ≡ some (some x)) (sym e)
+      (set_slot d homes (some x) deep)
+
+  -- the half was at home before the step, or is after it
+  half_moves : (k : Kind) (a : After) (id : ℕ) (me : M R W) (x : LocalView) (s : St R W) (act : Act (H R W)) (m : ℕ)
+      → CarriesHome k a me.1 s.homes act → IsReached s → get_elem? s.views id ≡ some me.0
+      → IsReached (stepped s 0 m id me.1 x act) → MovesHalf k a me (x, carried_after me.1 act)
+  half_moves (kind.Lock d) after.Held id me x s act m home reached at next = (
+    home.0,
+    home.1,
+    record { moment = s; rule = reached; seat = id; view = me.0; own = at; made = refl; home = home.2 },
+  )
+  half_moves (kind.Unlock d) a id me x s act m home reached at next =
+      λ y e. record {
+        moment = stepped s 0 m id me.1 x act;
+        rule = next;
+        seat = id;
+        view = x;
+        own = set_here s.views id x (at_there s.views id me.0 at).0;
+        made = refl;
+        home = home y e;
+      }
+  half_moves (kind.Lock d) after.Queued id me x s act m home reached at next = tt
+  half_moves _ _ id me x s act m home reached at next = tt
+
   abbrev Kept : Kind → After → ℕ → ℕ → M R W → St R W → Type 0
   Kept k a m id me s =
       (act : Act (H R W)) × Valid s.homes me.1 act × Represents (stepped s 0 m id me.1 (moved_view k a me.0) act)
-      × Carries k a me.1 (carried_after me.1 act)
+      × Carries k a me.1 (carried_after me.1 act) × CarriesHome k a me.1 s.homes act
 
   -- a lock that is taken brings its half
   takes_half : (d : Dir) (n m id : ℕ) (me : M R W) (s : St R W) → stepped_word n (kind.Lock d) ≡ Ok (m, after.Held)
@@ -159,6 +200,7 @@ module _ (R W : Type 0) where
             (let saw = f.seen id me.0 at in
             record { closed = saw.closed; draining = saw.draining; done = saw.done })),
         (there.0, refl),
+        (half_of d there.0, refl, there.1),
       )
 
   -- a lock that is given back leaves its half
@@ -198,6 +240,7 @@ module _ (R W : Type 0) where
             (let saw = f.seen id v at in
             record { closed = saw.closed; draining = saw.draining; done = saw.done })),
         refl,
+        λ y e. put_home d s.homes ((slot_of d, half_of d h) ∷ []) y f.deep e,
       )
 
   -- every step that the stake allows, with the slots that it needs, keeps the rule
@@ -205,15 +248,15 @@ module _ (R W : Type 0) where
       → allows me.0.stake (op_of k) ≡ true → HasSlots k me.1
       → Represents s → get_elem? s.views id ≡ some me.0 → get_or s.words 0 0 ≡ n → Kept k a m id me s
   kept kind.Incref a n m id me s is may slots r at found =
-      (keeps, tt, no_half_fits kind.Incref a n m id me s is may tt r at found, refl)
+      (keeps, tt, no_half_fits kind.Incref a n m id me s is may tt r at found, refl, tt)
   kept kind.Decref a n m id me s is may slots r at found =
-      (keeps, tt, no_half_fits kind.Decref a n m id me s is may tt r at found, refl)
+      (keeps, tt, no_half_fits kind.Decref a n m id me s is may tt r at found, refl, tt)
   kept kind.Close a n m id me s is may slots r at found =
-      (keeps, tt, no_half_fits kind.Close a n m id me s is may tt r at found, refl)
+      (keeps, tt, no_half_fits kind.Close a n m id me s is may tt r at found, refl, tt)
   kept kind.Drain a n m id me s is may slots r at found =
-      (keeps, tt, no_half_fits kind.Drain a n m id me s is may tt r at found, refl)
+      (keeps, tt, no_half_fits kind.Drain a n m id me s is may tt r at found, refl, tt)
   kept (kind.Lock d) after.Queued n m id me s is may slots r at found =
-      (keeps, tt, no_half_fits (kind.Lock d) after.Queued n m id me s is may tt r at found, refl)
+      (keeps, tt, no_half_fits (kind.Lock d) after.Queued n m id me s is may tt r at found, refl, tt)
   kept (kind.Lock d) after.Held n m id me s is may slots r at found =
       takes_half d n m id me s is (is_free me.0.stake d may) r at found
   kept (kind.Lock d) a n m id me s is may slots r at found = absurd (possible n m (kind.Lock d) a is).1.shows
@@ -228,7 +271,7 @@ module _ (R W : Type 0) where
   abbrev MovedAs : Kind → After → M R W → M R W → Type 0
   MovedAs k b me me' =
       (h : List Event) × (me'.0 ≡ hearing h (moved_view k b me.0)) × Carries k b me.1 me'.1
-      × IsMade (op_of k) (gained k b).0 me.0 me'.0
+      × IsMade (op_of k) (gained k b).0 me.0 me'.0 × MovesHalf k b me me'
 
   pub moves : (slots id n m : ℕ) (me : M R W) (k j : Kind) (a : After) → k ≡ j → stepped_word n k ≡ Ok (m, a)
       → allows me.0.stake (op_of k) ≡ true → HasSlots k me.1
@@ -254,11 +297,13 @@ module _ (R W : Type 0) where
         none_refused = none_refused_more h id (op_of k) _ _ _ made reached.none_refused;
         leads = stepped_history h s.words s.views id me.0 w k a n m reached.leads r.four_words at may is found refl;
         heard = heard_more h s.views id me.0 w (event id (op_of k)) reached.heard at refl;
-      } in (
+      } in
+      let heard : IsReached (stepped s 0 m id me.1 x t.0) =
+      rehear_after R W id me.0 w all (set s.words 0 m) (homes_after s.homes me.1 t.0) s.views at next (stays all) in (
         x,
         t.0,
         t.1,
-        rehear_after R W id me.0 w all (set s.words 0 m) (homes_after s.homes me.1 t.0) s.views at next (stays all),
+        heard,
         λ b same. subst (λ (z : After). MovedAs k z me (x, carried_after me.1 t.0))
             (ap (λ (p : ℕ × After). p.1) (same_pair (m, a) (m, b) (sym is ∙ same))) (
               all,
@@ -266,5 +311,6 @@ module _ (R W : Type 0) where
               t.3,
               is_made h id me.0 x (op_of k) _ _ _ reached.none_refused (view_of s reached id me.0 at) made refl refl
                   (reached.heard.each id me.0 at) refl,
+              half_moves k a id me x s t.0 m t.4 reached at heard,
             ),
       )))

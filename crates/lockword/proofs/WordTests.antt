@@ -1,10 +1,10 @@
 -- What a step on the state word may come to, from the tests that it makes, and what a seat then knows.
-use Rattle.std.proofs.Common.{◌≡◌, ◌≢◌, ◌<◌, ◌^◌, ◌∙◌, inl, inr, Result, Err, Some, None}
+use Rattle.std.proofs.Common.{◌≡◌, ◌≢◌, ◌<◌, ◌^◌, ◌∙◌, ◌∷◌, inl, inr, Result, Err, Some, None}
 use Rattle.std.specs.Prelude.{◌==◌, ◌||◌, not, if◌then◌else◌}
 use Rattle.lockword.proofs.Words.{ℕ, Bool, true, false, List, refl, sym, ap, subst, arith, Ok, Dir, Read, Write}
 use Rattle.lockword.proofs.Words.{Stake, Op, Answer, Word, Kind, After, allows, stepped_word, op_of}
 use Rattle.lockword.proofs.Words.{gained, same_pair, LocalView, Half, IsMade, IsFound, Shows, Told, seen_in, saw_after}
-use Rattle.lockword.proofs.Words.{saw_drain_after, moved_view, Carries}
+use Rattle.lockword.proofs.Words.{saw_drain_after, moved_view, Carries, slot_of}
 use Rattle.lockword_core.specs.declared.stake.Stake.TheVariants as stake
 use Rattle.lockword_core.specs.declared.word.TheConstants.{MAX_REFERENCES, MAX_WAITERS}
 use Rattle.lockword_core.specs.declared.transition.Kind.TheVariants as kind
@@ -27,7 +27,9 @@ use Rattle.lockword.specs.Marks.{FoundDraining}
 use Rattle.lockword.specs.History.{GoesOn, Hears}
 use Rattle.lockword.proofs.HeardSteps.{goes_on_on}
 use Rattle.lockword.proofs.Words.{Event}
-use Rattle.lockword.specs.Steps.{hearing, Keeps, Came, IsEntering, Advanced}
+use Rattle.lockword.specs.Steps.{hearing, Keeps, Came, IsEntering, Advanced, MovesHalf}
+use Rattle.lockword.specs.Home.{WasHome}
+use Rattle.atomic_table.specs.Table.{Me}
 
 -- ---- The tests
 
@@ -438,27 +440,41 @@ module _ {R W : Type 0} where
       by (kind.Unlock d) undrained full = absurd full
       by kind.Drain undrained full = absurd full
 
+  -- the half that a step moved is that of who only looked before
+  half_since : (k : Kind) (a : After) (me now to : Me (Half R W) LocalView) → now.0.did ≡ me.0.did → now.1 ≡ me.1
+      → MovesHalf k a now to → MovesHalf k a me to
+  half_since (kind.Lock d) after.Held me now to did slots moved = (
+    moved.0,
+    moved.1 ∙ ap (λ (l : List (ℕ × Half R W)). (slot_of d, moved.0) ∷ l) slots,
+    subst (λ (ops : List Op). WasHome R W d moved.0 ops) did moved.2,
+  )
+  half_since (kind.Unlock d) a me now to did slots moved = λ x e. moved x (slots ∙ e)
+  half_since (kind.Lock d) after.Queued me now to did slots moved = tt
+  half_since _ _ me now to did slots moved = tt
+
   -- the same, where the step was told of an equal kind, and was made after a load
   pub came_after : (k j : Kind) (a : After) (n m : ℕ) (p x q : Place R W) (h : List Event) → k ≡ j
       → Told R W n (hearing h p.me.0) → stepped_word n k ≡ Ok (m, a)
       → x.me ≡ (seen_in n (hearing h p.me.0), p.me.1) → GoesOn p.me.0.heard h
       → ((b : After) → stepped_word n j ≡ Ok (m, b) → (g : List Event)
       × (q.me.0 ≡ hearing g (moved_view j b x.me.0)) × Carries j b x.me.1 q.me.1
-      × IsMade (op_of j) (gained j b).0 x.me.0 q.me.0)
-      → q.table_id ≡ p.table_id → Came k a p q
+      × IsMade (op_of j) (gained j b).0 x.me.0 q.me.0 × MovesHalf j b x.me q.me)
+      → q.table_id ≡ p.table_id → Came k a p q × MovesHalf k a p.me q.me
   came_after k j a n m p x q h same_kind told is looked so_far did same =
       let did_k : ((b : After) → stepped_word n k ≡ Ok (m, b) → (g : List Event)
       × (q.me.0 ≡ hearing g (moved_view k b x.me.0)) × Carries k b x.me.1 q.me.1
-      × IsMade (op_of k) (gained k b).0 x.me.0 q.me.0) =
+      × IsMade (op_of k) (gained k b).0 x.me.0 q.me.0 × MovesHalf k b x.me q.me) =
       subst (λ (z : Kind). (b : After) → stepped_word n z ≡ Ok (m, b) → (g : List Event)
       × (q.me.0 ≡ hearing g (moved_view z b x.me.0)) × Carries z b x.me.1 q.me.1
-      × IsMade (op_of z) (gained z b).0 x.me.0 q.me.0) (sym same_kind) did in
-      let one = did_k a is in
-      came k a n m p q h one.0 told is (one.1 ∙ ap (λ y. hearing one.0 (moved_view k a y.0)) looked)
-      (subst (λ (l : List (ℕ × Half R W)). Carries k a l q.me.1) (ap (λ y. y.1) looked) one.2) same
-      (made_since p.me.0 q.me.0 h (op_of k) (gained k a).0 so_far
-      (made_before n (hearing h p.me.0) q.me.0 (op_of k) (gained k a).0 told
-      (subst (λ (y : LocalView). IsMade (op_of k) (gained k a).0 y q.me.0) (ap (λ y. y.0) looked) one.3)))
+      × IsMade (op_of z) (gained z b).0 x.me.0 q.me.0 × MovesHalf z b x.me q.me) (sym same_kind) did in
+      let one = did_k a is in (
+        came k a n m p q h one.0 told is (one.1 ∙ ap (λ y. hearing one.0 (moved_view k a y.0)) looked)
+            (subst (λ (l : List (ℕ × Half R W)). Carries k a l q.me.1) (ap (λ y. y.1) looked) one.2) same
+            (made_since p.me.0 q.me.0 h (op_of k) (gained k a).0 so_far
+            (made_before n (hearing h p.me.0) q.me.0 (op_of k) (gained k a).0 told
+            (subst (λ (y : LocalView). IsMade (op_of k) (gained k a).0 y q.me.0) (ap (λ y. y.0) looked) one.3))),
+        half_since k a p.me x.me q.me (ap (λ y. y.0.did) looked) (ap (λ y. y.1) looked) one.4,
+      )
 
 -- no step that a stake allows is a misuse
 pub no_misuse : (k : Kind) (own : Stake) (n : ℕ) → Shows own n → allows own (op_of k) ≡ true

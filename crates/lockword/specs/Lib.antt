@@ -7,6 +7,7 @@ pub mod Marks
 pub mod Places
 pub mod SharedInvariant
 pub mod Moment
+pub mod Home
 pub mod Headline
 pub mod Slots
 pub mod Steps

@@ -26,6 +26,7 @@ use Rattle.lockword.specs.declared.signals.SignalTry.TheVariants as tried
 use Rattle.lockword.specs.Directions.{slot_of, Guarded, half_of}
 use Rattle.lockword.specs.History.{IsMade, Hears}
 use Rattle.lockword.specs.Moment.{IsFound}
+use Rattle.lockword.specs.Home.{WasHome}
 use Rattle.lockword.specs.Marks.{Place, SameMarks, Did, DidNothing, Made, LostStep, FoundClosed}
 use Rattle.lockword.specs.Marks.{FoundDraining, FoundFull}
 use Rattle.lockword.specs.declared.shared_rule.Half.{Half}
@@ -134,6 +135,15 @@ module _ {R W : Type 0} where
   Carries (kind.Unlock d) _ before now = now ≡ rest before
   Carries _ _ before now = now ≡ before
 
+  -- the half of a lock that is taken was at home just before, and that of one given back is just
+  -- after
+  abbrev pub MovesHalf : Kind → After → Me (Half R W) LocalView → Me (Half R W) LocalView → Type 0
+  MovesHalf (kind.Lock d) after.Held me me' =
+      (x : Half R W) × (me'.1 ≡ (slot_of d, x) ∷ me.1) × WasHome R W d x me.0.did
+  MovesHalf (kind.Unlock d) _ me me' =
+      (x : Half R W) → me.1 ≡ (slot_of d, x) ∷ [] → WasHome R W d x me'.0.did
+  MovesHalf _ _ me me' = Unit {0}
+
   -- an exchange of the state word that finds what it looks for makes the step, and else nothing
   -- changes
   abbrev pub moved : Kind → Step (Half R W) → Me (Half R W) LocalView → ℕ → Me (Half R W) LocalView
@@ -141,7 +151,7 @@ module _ {R W : Type 0} where
   moved k st me n me' =
       (n ≡ st.first → (a : After) → stepped_word st.first k ≡ Ok (st.second, a)
       → (h : List Event) × (me'.0 ≡ hearing h (moved_view k a me.0)) × Carries k a me.1 me'.1
-      × IsMade (op_of k) (gained k a).0 me.0 me'.0)
+      × IsMade (op_of k) (gained k a).0 me.0 me'.0 × MovesHalf k a me me')
       × (n ≢ st.first → me' ≡ me)
 
   -- a subtraction of a reference: the word that was found decides, and shows the flags
@@ -197,7 +207,7 @@ module _ {R W : Type 0} where
 
   -- what a try at a step of this kind did to its seat
   abbrev pub Advanced : Kind → Place R W → Place R W → Advance → Type 0
-  Advanced k p q (advance.Done a) = Came k a p q
+  Advanced k p q (advance.Done a) = Came k a p q × MovesHalf k a p.me q.me
   Advanced k p q advance.Closed = IsTaking k × Keeps p q × FoundClosed p q
   Advanced k p q advance.Draining = IsEntering k × Keeps p q × FoundDraining p q
   Advanced k p q (advance.TooMany w) = Keeps p q × FoundFull k p q w

@@ -35,7 +35,8 @@ pub trait Guards<R, W>: Direction {
     /// The half, out of its slot.
     fn from_slot(found: Half<R, W>) -> Self::Guarded
         requires { IsHalf Self.dir found }
-        ensures { (half : Self.Guarded) → found ≡ Self.stored half → result ≡ half };
+        ensures same { (half : Self.Guarded) → found ≡ Self.stored half → result ≡ half }
+        ensures stored { found ≡ Self.stored result };
 }
 
 /// The direction of reading.
@@ -60,7 +61,8 @@ impl<R, W> Guards<R, W> for Reading {
 
     fn from_slot(found: Half<R, W>) -> R
         requires { IsHalf Read found }
-        ensures { (half : R) → found ≡ half_of Read half → result ≡ half }
+        ensures same { (half : R) → found ≡ half_of Read half → result ≡ half }
+        ensures stored { found ≡ half_of Read result }
     {
         let Half::Read(half) = found else {
             unreachable!()
@@ -91,7 +93,8 @@ impl<R, W> Guards<R, W> for Writing {
 
     fn from_slot(found: Half<R, W>) -> W
         requires { IsHalf Write found }
-        ensures { (half : W) → found ≡ half_of Write half → result ≡ half }
+        ensures same { (half : W) → found ≡ half_of Write half → result ≡ half }
+        ensures stored { found ≡ half_of Write result }
     {
         let Half::Write(half) = found else {
             unreachable!()

@@ -4,6 +4,7 @@ ghost use Rattle.std.specs.Prelude.{◌≡◌};
 ghost use Rattle.std.specs.Borrow.{sem, Lends};
 ghost use Rattle.lockword.specs.contracts.holders.Held as held;
 ghost use Rattle.lockword.specs.Lent.{half_in, with_half, BringsHalfBack};
+ghost use Rattle.lockword.specs.Lent.{BringsHalf, LeavesHalf};
 ghost use Rattle.lockword.specs.TransitionOutcomes.{IsSeatOf, AnswersLock, AnswersUnlock};
 ghost use Rattle.lockword.specs.Places.{seat_place, lock_place};
 
@@ -23,7 +24,8 @@ impl<R: Drop, W: Drop> LockWord<R, W> {
     /// the closed flag and before the limits, is this project's own.
     pub fn try_lock<D: Guards<R, W>>(&self, seat: Seat<R, W>) -> Lock<D, R, W>
         requires { IsSeatOf self.now (seat_place seat) }
-        ensures { AnswersLock (seat_place seat) result }
+        ensures answer { AnswersLock (seat_place seat) result }
+        ensures half { BringsHalf (seat_place seat) result }
     {
         let Seat { mut place } = seat;
         let dir = D::dir();
@@ -55,6 +57,7 @@ impl<R: Drop, W: Drop> LockWord<R, W> {
         requires { IsSeatOf self.now (lock_place lock) }
         ensures answer { AnswersUnlock (lock_place lock) result }
         ensures half { BringsHalfBack lock result }
+        ensures home { LeavesHalf lock result }
     {
         let Held { mut place, half } = lock;
         let dir = D::dir();
@@ -86,7 +89,8 @@ impl<R: Drop, W: Drop> LockWord<R, W> {
     /// Takes the read lock, or a place in its queue.
     pub fn try_lock_read(&self, seat: Seat<R, W>) -> LockRead<R, W>
         requires { IsSeatOf self.now (seat_place seat) }
-        ensures { AnswersLock (seat_place seat) result }
+        ensures answer { AnswersLock (seat_place seat) result }
+        ensures half { BringsHalf (seat_place seat) result }
     {
         self.try_lock(seat)
     }
@@ -94,7 +98,8 @@ impl<R: Drop, W: Drop> LockWord<R, W> {
     /// Takes the write lock, or a place in its queue.
     pub fn try_lock_write(&self, seat: Seat<R, W>) -> LockWrite<R, W>
         requires { IsSeatOf self.now (seat_place seat) }
-        ensures { AnswersLock (seat_place seat) result }
+        ensures answer { AnswersLock (seat_place seat) result }
+        ensures half { BringsHalf (seat_place seat) result }
     {
         self.try_lock(seat)
     }
@@ -104,6 +109,7 @@ impl<R: Drop, W: Drop> LockWord<R, W> {
         requires { IsSeatOf self.now (lock_place lock) }
         ensures answer { AnswersUnlock (lock_place lock) result }
         ensures half { BringsHalfBack lock result }
+        ensures home { LeavesHalf lock result }
     {
         self.try_unlock(lock)
     }
@@ -113,6 +119,7 @@ impl<R: Drop, W: Drop> LockWord<R, W> {
         requires { IsSeatOf self.now (lock_place lock) }
         ensures answer { AnswersUnlock (lock_place lock) result }
         ensures half { BringsHalfBack lock result }
+        ensures home { LeavesHalf lock result }
     {
         self.try_unlock(lock)
     }

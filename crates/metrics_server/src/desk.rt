@@ -137,7 +137,12 @@ impl<R: Wait + Clock + Copy + Drop, M: Metered + Drop> Desk<R, M> {
 }
 
 impl<R: Wait + Clock + Copy + Drop, M: Metered + Drop> Host for Desk<R, M> {
+    ghost use Rattle.std.specs.Prelude.{None};
+
     type Task = Task<R>;
+
+    // A task awaits no moment of its own.
+    ghost awaited = { λ _. None };
 
     fn cell<'a>(&self, task: &'a Task<R>, _side: Side) -> Option<&'a PollCell> {
         match task {
@@ -151,6 +156,10 @@ impl<R: Wait + Clock + Copy + Drop, M: Metered + Drop> Host for Desk<R, M> {
             Task::Listener(listener) => self.accept(listener),
             Task::Client(client) => client.go_on(&mut self.service),
         }
+    }
+
+    fn until(&self, _task: &Task<R>) -> Option<u64> {
+        None
     }
 
     fn over(&mut self, task: Task<R>) {

@@ -60,6 +60,7 @@ cause_of said until (why.Ready any read write stop_ahead) =
 cause_of said until (why.Due side.Second dir now) =
     if has_passed until now then Some TimeOver else None
 cause_of said until (why.Due side.First dir now) = Some Ready
+cause_of said until (why.Time now) = None
 cause_of said until why.Named = Some Ready
 cause_of said until why.Again = Some Ready
 

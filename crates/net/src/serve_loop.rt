@@ -25,7 +25,12 @@ pub(crate) struct LoopHost<T: Task<R>, R: Runs> {
 }
 
 impl<T: Task<R>, R: Runs> Host for LoopHost<T, R> {
+    ghost use Rattle.std.specs.Prelude.{None};
+
     type Task = Served<T, R>;
+
+    // A task awaits no moment of its own.
+    ghost awaited = { λ _. None };
 
     // The first token has the deadlines of the connection, the second the time of the task.
     fn cell<'a>(&self, task: &'a Served<T, R>, side: Side) -> Option<&'a PollCell> {
@@ -37,6 +42,10 @@ impl<T: Task<R>, R: Runs> Host for LoopHost<T, R> {
 
     fn resume(&mut self, task: &mut Served<T, R>, why: Why) -> Turn {
         task.go_on(&self.shared.rt, self.shared.now(), &self.alarms, why)
+    }
+
+    fn until(&self, _task: &Served<T, R>) -> Option<u64> {
+        None
     }
 
     fn over(&mut self, task: Served<T, R>) {

@@ -138,6 +138,8 @@ impl Next {
                 Deadline::At(at) if at <= now => Some(Cause::TimeOver),
                 _ => None,
             },
+            // The loop has no moment of a task.
+            Why::Time { .. } => None,
             Why::Due { .. } | Why::Named | Why::Again => Some(Cause::Ready),
         }
     }

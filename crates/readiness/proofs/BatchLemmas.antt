@@ -1,17 +1,16 @@
 -- Look-ups that find nothing, and batches of joined events.
-use Rattle.std.proofs.Common.{◌≡◌, ◌≢◌, ◌∙◌, ap, refl, ℕ, ◌+◌, ◌^◌, ◌%◌, ◌<◌, inl, inr, List, [], ◌∷◌, ◌++◌, length}
-use Rattle.std.proofs.Common.{get_or, Option, None, Some, arith}
-use Rattle.std.specs.Prelude.{All, ◌==◌, find}
+use Rattle.std.proofs.Common.{◌≡◌, ◌≢◌, ap, refl, ℕ, ◌+◌, ◌^◌, ◌%◌, ◌<◌, inl, inr, List, [], ◌∷◌}
+use Rattle.std.proofs.Common.{get_or, None, arith}
+use Rattle.std.specs.Prelude.{All}
 use Rattle.std.specs.Option.{option_map}
 use Rattle.std.specs.List.{filter_map}
 use Rattle.std.proofs.lemmas.List.Elements.{All-head, All-tail, filter_map-append}
 use Rattle.std.proofs.lemmas.Bool.Decides.{eqb_tells}
 use Rattle.conntable.specs.declared.table.Entry.{Entry}
-use Rattle.conntable.specs.Token.{token_of, key_of}
+use Rattle.conntable.specs.Token.{key_of}
 use Rattle.conntable.specs.ConnTable.{Table, IsConsistent, entry_with_token, id_with_token}
 use Rattle.readiness.specs.declared.batch.Ev.{Ev}
-use Rattle.readiness.specs.declared.batch.Ready.{Ready}
-use Rattle.readiness.specs.Batch.{batch, ready_of}
+use Rattle.readiness.specs.Batch.{ready_of}
 use Rattle.readiness.specs.Laws.{WakerNamesNothing, BatchesJoin}
 
 module _ {T : Type 0} where

@@ -8,33 +8,40 @@ use Rattle.std.proofs.Math.Seq.{drop-cons}
 use Rattle.std.proofs.lemmas.List.{drop_all}
 use Rattle.rwloops.specs.Waits.{Tells}
 use Rattle.readiness.specs.HostCalls.{HostCall, Resumed, Ended}
-use Rattle.readiness.specs.Resuming.{MakesStep, MakesSteps, AreMade, IsThen, IsStepOf, calls_of, named_after}
+use Rattle.readiness.specs.Resuming.{MakesCalls, MakesStep, MakesSteps, AreMade, IsStepOf, calls_of, named_after}
+use Rattle.readiness.specs.TaskAlarms.{AreArmed}
 use Rattle.readiness.specs.Tasks.{task_in, SameTasks, OthersKept}
 use Rattle.readiness.specs.declared.agenda.Step.{Step}
 use Rattle.readiness.specs.declared.tasks.Tasks.{Tasks}
 use Rattle.readiness.specs.declared.tasks.Turn.{Turn}
 use Rattle.readiness.specs.declared.tasks.Turn.TheVariants.{Waits, Over}
 
+nil_append : {X : Type 0} (xs : List X) → [] ++ xs ≡ xs
+nil_append xs = refl
+
 -- of all these steps each is made but the rest
-pub record AreMadeSoFar {T A : Type 0} (before now : List (HostCall T) → Type 0) (old mid : Tasks T A)
-    (all rest : List Step) : Type 0 where
+pub record AreMadeSoFar {T A : Type 0} (awaited : T → Option ℕ) (before now : List (HostCall T) → Type 0)
+    (old mid : Tasks T A) (all rest : List Step) : Type 0 where
   pub done : List (HostCall T)
   pub told : Tells before now done
   pub finish : (new : Tasks T A) (later : List (HostCall T)) → AreMade rest mid new later →
       AreMade all old new (later ++ done)
+  pub armed : AreArmed awaited old → AreArmed awaited mid
 
-pub none_made_yet : {T A : Type 0} (before : List (HostCall T) → Type 0) (old : Tasks T A) (all : List Step) →
-    AreMadeSoFar before before old old all all
-none_made_yet before old all = record {
+pub none_made_yet : {T A : Type 0} (awaited : T → Option ℕ) (before : List (HostCall T) → Type 0) (old : Tasks T A)
+    (all : List Step) → AreMadeSoFar awaited before before old old all all
+none_made_yet awaited before old all = record {
   done = [];
   told = λ earlier tells. tells;
   finish = λ new later made. subst (λ calls. AreMade all old new calls) (sym (append-nil later)) made;
+  armed = λ armed. armed;
 }
 
-pub one_more_made : {T A : Type 0} (before now after : List (HostCall T) → Type 0) (old mid new : Tasks T A)
-    (all : List Step) (step : Step) (rest : List Step) → AreMadeSoFar before now old mid all (step ∷ rest) →
-    MakesStep now after mid new step → AreMadeSoFar before after old new all rest
-one_more_made before now after old mid new all step rest so makes = record {
+pub one_more_made : {T A : Type 0} (awaited : T → Option ℕ) (before now after : List (HostCall T) → Type 0)
+    (old mid new : Tasks T A) (all : List Step) (step : Step) (rest : List Step) →
+    AreMadeSoFar awaited before now old mid all (step ∷ rest) → MakesStep awaited now after mid new step →
+    AreMadeSoFar awaited before after old new all rest
+one_more_made awaited before now after old mid new all step rest so makes = record {
   done = makes.calls ++ so.done;
   told = λ earlier h. subst after (sym (append_assoc makes.calls so.done earlier))
       (makes.told (so.done ++ earlier) (so.told earlier h));
@@ -47,26 +54,29 @@ one_more_made before now after old mid new all step rest so makes = record {
         rest = made;
         all = refl;
       }));
+  armed = λ armed. makes.armed (so.armed armed);
 }
 
 -- the same of the one at an index
-pub one_more_made_at : {T A X : Type 0} (step_of : X → Step) (before now after : List (HostCall T) → Type 0)
-    (old mid new : Tasks T A) (all : List X) (at : ℕ) (d : X) → at < length all →
-    AreMadeSoFar before now old mid (map step_of all) (map step_of (drop at all)) →
-    MakesStep now after mid new (step_of (get_or all at d)) →
-    AreMadeSoFar before after old new (map step_of all) (map step_of (drop (at + 1) all))
-one_more_made_at step_of before now after old mid new all at d within so makes =
-    rw add-one (one_more_made before now after old mid new (map step_of all) (step_of (get_or all at d))
+pub one_more_made_at : {T A X : Type 0} (step_of : X → Step) (awaited : T → Option ℕ)
+    (before now after : List (HostCall T) → Type 0) (old mid new : Tasks T A) (all : List X) (at : ℕ) (d : X) →
+    at < length all → AreMadeSoFar awaited before now old mid (map step_of all) (map step_of (drop at all)) →
+    MakesStep awaited now after mid new (step_of (get_or all at d)) →
+    AreMadeSoFar awaited before after old new (map step_of all) (map step_of (drop (at + 1) all))
+one_more_made_at step_of awaited before now after old mid new all at d within so makes =
+    rw add-one (one_more_made awaited before now after old mid new (map step_of all) (step_of (get_or all at d))
     (map step_of (drop (suc at) all))
-    (subst (λ rest. AreMadeSoFar before now old mid (map step_of all) (map step_of rest)) (drop-cons all at d within) so)
-    makes)
+    (subst (λ rest. AreMadeSoFar awaited before now old mid (map step_of all) (map step_of rest))
+    (drop-cons all at d within) so) makes)
 
-pub all_are_made : {T A : Type 0} (before after : List (HostCall T) → Type 0) (old new : Tasks T A) (all : List Step) →
-    AreMadeSoFar before after old new all [] → MakesSteps before after old new all
-all_are_made before after old new all so = record {
+pub all_are_made : {T A : Type 0} (awaited : T → Option ℕ) (before after : List (HostCall T) → Type 0)
+    (old new : Tasks T A) (all : List Step) → AreMadeSoFar awaited before after old new all [] →
+    MakesSteps awaited before after old new all
+all_are_made awaited before after old new all so = record {
   calls = so.done;
   made = so.finish new [] (refl, refl);
   told = so.told;
+  armed = so.armed;
 }
 
 made_then : {T A : Type 0} (xs ys : List Step) (old between new : Tasks T A) (first later : List (HostCall T)) →
@@ -85,14 +95,62 @@ made_then (step ∷ xs) ys old between new first later made after = record {
 }
 
 -- some steps, and then others
-pub steps_then : {T A : Type 0} (before now after : List (HostCall T) → Type 0) (old between new : Tasks T A)
-    (xs ys : List Step) → MakesSteps before now old between xs → MakesSteps now after between new ys →
-    MakesSteps before after old new (xs ++ ys)
-steps_then before now after old between new xs ys first then = record {
+pub steps_then : {T A : Type 0} (awaited : T → Option ℕ) (before now after : List (HostCall T) → Type 0)
+    (old between new : Tasks T A) (xs ys : List Step) → MakesSteps awaited before now old between xs →
+    MakesSteps awaited now after between new ys → MakesSteps awaited before after old new (xs ++ ys)
+steps_then awaited before now after old between new xs ys first then = record {
   calls = then.calls ++ first.calls;
   made = made_then xs ys old between new first.calls then.calls first.made then.made;
   told = λ earlier h. subst after (sym (append_assoc then.calls first.calls earlier))
       (then.told (first.calls ++ earlier) (first.told earlier h));
+  armed = λ armed. then.armed (first.armed armed);
+}
+
+-- no step changes nothing
+pub no_steps : {T A : Type 0} (awaited : T → Option ℕ) (before : List (HostCall T) → Type 0) (old : Tasks T A) →
+    MakesSteps awaited before before old old []
+no_steps awaited before old = record {
+  calls = [];
+  made = (refl, refl);
+  told = λ earlier tells. tells;
+  armed = λ armed. armed;
+}
+
+-- one step, as a list
+pub one_step : {T A : Type 0} (awaited : T → Option ℕ) (before after : List (HostCall T) → Type 0)
+    (old new : Tasks T A) (step : Step) → MakesStep awaited before after old new step →
+    MakesSteps awaited before after old new (step ∷ [])
+one_step awaited before after old new step makes = record {
+  calls = makes.calls;
+  made = record {
+    between = new;
+    first = makes.calls;
+    later = [];
+    made = makes.made;
+    rest = (refl, refl);
+    all = sym (nil_append makes.calls);
+  };
+  told = makes.told;
+  armed = makes.armed;
+}
+
+-- what changes no task after a step leaves it made
+done_kept : {T A : Type 0} (old mid new : Tasks T A) (step : Step) (calls : List (HostCall T)) (found : Option T) →
+    IsStepOf found old mid step calls → SameTasks mid new → IsStepOf found old new step calls
+done_kept old mid new step calls None done kept = (done.0, λ token. kept token ∙ done.1 token)
+done_kept old mid new step calls (Some task) done kept = (done.0, done.1, done.2, kept step.token ∙ done.3)
+
+pub step_kept : {T A : Type 0} (awaited : T → Option ℕ) (before after : List (HostCall T) → Type 0)
+    (old mid new : Tasks T A) (step : Step) → MakesCalls before after old mid step → SameTasks mid new →
+    (AreArmed awaited old → AreArmed awaited new) → MakesStep awaited before after old new step
+step_kept awaited before after old mid new step makes kept armed = record {
+  calls = makes.calls;
+  made = record {
+    done = done_kept old mid new step makes.calls (task_in old step.token) makes.made.done kept;
+    others = λ other away. kept other ∙ makes.made.others other away;
+  };
+  told = makes.told;
+  armed = armed;
 }
 
 -- what a step comes to whose token named this
@@ -105,7 +163,7 @@ ComesTo {T = T} before after old end step (Some task) = (answer : Turn) × (left
 
 pub step_made : {T A : Type 0} (before after : List (HostCall T) → Type 0) (old end : Tasks T A) (step : Step)
     (found : Option T) → task_in old step.token ≡ found → OthersKept old end step.token →
-    ComesTo before after old end step found → MakesStep before after old end step
+    ComesTo before after old end step found → MakesCalls before after old end step
 step_made before after old end step None is others come = record {
   calls = [];
   made = record {
@@ -148,9 +206,11 @@ over_so before now after old end step (Some task) (Some one) both passed resumed
     (Over, one, (λ earlier h. handed (Resumed task step.why Over one ∷ earlier) (resumed earlier h)), gone)
 
 -- no step is left at the end of the list
-pub all_are_made_at : {T A X : Type 0} (step_of : X → Step) (before after : List (HostCall T) → Type 0)
-    (old new : Tasks T A) (all : List X) (at : ℕ) → length all ≤ at →
-    AreMadeSoFar before after old new (map step_of all) (map step_of (drop at all)) →
-    MakesSteps before after old new (map step_of all)
-all_are_made_at step_of before after old new all at end so = all_are_made before after old new (map step_of all)
-    (subst (λ rest. AreMadeSoFar before after old new (map step_of all) (map step_of rest)) (drop_all at all end) so)
+pub all_are_made_at : {T A X : Type 0} (step_of : X → Step) (awaited : T → Option ℕ)
+    (before after : List (HostCall T) → Type 0) (old new : Tasks T A) (all : List X) (at : ℕ) → length all ≤ at →
+    AreMadeSoFar awaited before after old new (map step_of all) (map step_of (drop at all)) →
+    MakesSteps awaited before after old new (map step_of all)
+all_are_made_at step_of awaited before after old new all at end so =
+    all_are_made awaited before after old new (map step_of all)
+    (subst (λ rest. AreMadeSoFar awaited before after old new (map step_of all) (map step_of rest))
+    (drop_all at all end) so)

@@ -20,6 +20,10 @@ event_step event = record {
 abbrev pub due_step : ℕ → Dir → ℕ → Step
 due_step key dir now = record { token = key; why = Due (side_in key) dir now }
 
+-- each due timer's task in order
+abbrev pub due_steps : ℕ → List (ℕ × Dir) → List Step
+due_steps now due = map (λ timer. due_step timer.0 timer.1 now) due
+
 -- the task that a token names is resumed for this reason
 abbrev pub step_for : Why → ℕ → Step
 step_for why token = record { token = token; why = why }

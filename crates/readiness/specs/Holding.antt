@@ -6,7 +6,6 @@ use Rattle.conntable.specs.Refusals.{Refuses, HasRoom}
 use Rattle.fd_descriptor.specs.FdHandle.{key_of, cell_of, saw_closed}
 use Rattle.fd_descriptor.specs.declared.descriptor.FdHandle.{FdHandle}
 use Rattle.fd_descriptor.specs.declared.poll_cell.PollCell.{PollCell}
-use Rattle.rwloops.specs.declared.outcome.DevKind.{DevKind}
 use Rattle.rwloops.specs.declared.outcome.DevKind.TheVariants.{Other}
 use Rattle.readiness.specs.declared.holding.HeldSocket.{HeldSocket}
 use Rattle.readiness.specs.declared.holding.HoldFault.{HoldFault}

@@ -11,8 +11,10 @@ pub mod LoopToken
 pub mod Agenda
 pub mod NamedTasks
 pub mod Tasks
+pub mod TaskAlarms
 pub mod HostCalls
 pub mod Resuming
+pub mod Turns
 pub mod EventLoop
 pub mod Laws
 pub mod Lends

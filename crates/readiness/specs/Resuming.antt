@@ -3,6 +3,7 @@ use Rattle.std.specs.Prelude.{◌≡◌, ℕ, List, [], ◌∷◌, ◌++◌, Opt
 use Rattle.rwloops.specs.Waits.{Tells}
 use Rattle.fd_descriptor.specs.declared.poll_cell.PollCell.{PollCell}
 use Rattle.readiness.specs.Telling.{CellCall, Ticked, told_to}
+use Rattle.readiness.specs.TaskAlarms.{AreArmed}
 use Rattle.readiness.specs.Tasks.{task_in, SameTasks, OthersKept}
 use Rattle.readiness.specs.declared.agenda.Step.{Step}
 use Rattle.readiness.specs.declared.agenda.Why.{Why}
@@ -48,11 +49,19 @@ module _ {T A : Type 0} where
     pub others : OthersKept old new step.token
 
   -- the step is made, and told
-  pub record MakesStep (before after : List (HostCall T) → Type 0) (old new : Tasks T A)
+  pub record MakesCalls (before after : List (HostCall T) → Type 0) (old new : Tasks T A)
       (step : Step) : Type 0 where
     pub calls : List (HostCall T)
     pub made : IsStep old new step calls
     pub told : Tells before after calls
+
+  -- the step is made, and told, and leaves each task that awaits a moment an alarm by then
+  pub record MakesStep (awaited : T → Option ℕ) (before after : List (HostCall T) → Type 0)
+      (old new : Tasks T A) (step : Step) : Type 0 where
+    pub calls : List (HostCall T)
+    pub made : IsStep old new step calls
+    pub told : Tells before after calls
+    pub armed : AreArmed awaited old → AreArmed awaited new
 
   -- a step is made first, and then this, and these are the calls of both
   pub record IsThen (Then : Tasks T A → List (HostCall T) → Type 0) (old : Tasks T A)
@@ -70,9 +79,10 @@ module _ {T A : Type 0} where
   AreMade (step ∷ rest) old new calls =
       IsThen (λ between later. AreMade rest between new later) old step calls
 
-  -- the steps are made, and told
-  pub record MakesSteps (before after : List (HostCall T) → Type 0) (old new : Tasks T A)
-      (steps : List Step) : Type 0 where
+  -- the steps are made, and told, and leave each task that awaits a moment an alarm by then
+  pub record MakesSteps (awaited : T → Option ℕ) (before after : List (HostCall T) → Type 0)
+      (old new : Tasks T A) (steps : List Step) : Type 0 where
     pub calls : List (HostCall T)
     pub made : AreMade steps old new calls
     pub told : Tells before after calls
+    pub armed : AreArmed awaited old → AreArmed awaited new

@@ -1,7 +1,7 @@
 -- The tasks of a loop, as callers see them.
-use Rattle.std.specs.Prelude.{◌≡◌, ◌≢◌, ◌⊎◌, ◌==◌, ◌<◌, ◌≤◌, ◌+◌, ℕ, Bool, true, List, Contains}
-use Rattle.std.specs.Prelude.{Option, Some, None, if◌then◌else◌}
-use Rattle.slab.specs.Slab.{Slab, get, slab_len, HasRoomFor}
+use Rattle.std.specs.Prelude.{◌≡◌, ◌≢◌, ◌⊎◌, ◌==◌, ◌<◌, ◌≤◌, ℕ, Bool, true, List, Contains}
+use Rattle.std.specs.Prelude.{Option, Some, None, if◌then◌else◌, length}
+use Rattle.slab.specs.Slab.{get, slab_len, HasRoomFor}
 use Rattle.readiness.specs.LoopToken.{place_in, serial_in, place_at}
 use Rattle.readiness.specs.declared.loop_token.Place.{Place}
 use Rattle.readiness.specs.declared.tasks.Slot.{Slot}
@@ -57,9 +57,10 @@ module _ {T A : Type 0} where
   abbrev pub HasNumbers : Tasks T A → Type 0
   HasNumbers tasks = (tasks.slots.vacant_key < 65536) × (tasks.next_serial ≤ 140737488355326)
 
-  -- one task more can be put
+  -- one task more can be put, with an alarm
   abbrev pub HasPlace : Tasks T A → Type 0
-  HasPlace tasks = HasNumbers tasks × HasRoomFor tasks.slots 1
+  HasPlace tasks =
+      HasNumbers tasks × HasRoomFor tasks.slots 1 × (tasks.slots.vacant_key < length tasks.alarms)
 
   -- each token names what it named before
   abbrev pub SameTasks : Tasks T A → Tasks T A → Type 0

@@ -26,6 +26,10 @@ pub enum Why {
         dir: Dir,
         now: u64,
     },
+    /// The task's alarm came: the moment that it awaits (`Host::until`), or one before it.
+    Time {
+        now: u64,
+    },
     /// Somebody named the task, after doing something to it.
     Named,
     /// It gave way in the turn before.

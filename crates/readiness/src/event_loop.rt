@@ -2,7 +2,7 @@
 //! threads tell. Why no wake-up is lost stands at the remote.
 
 ghost use Rattle.std.specs.Prelude.{◌≡◌, ◌≢◌, ◌⊎◌, ◌+◌, ℕ, None, IfOk, OnOk, IfErr, OnErr, IsOk};
-ghost use Rattle.std.specs.Prelude.{Some, false};
+ghost use Rattle.std.specs.Prelude.{Some, false, Option};
 ghost use Rattle.rwloops.specs.declared.fault.Fault.{Fault};
 ghost use Rattle.rwloops.specs.declared.outcome.DevKind.{DevKind};
 ghost use Rattle.readiness.specs.Tasks.{HasPlace, SameTasks, IsPut, RefusesPlace};
@@ -13,37 +13,32 @@ ghost use Rattle.readiness.specs.LoopToken.{place_in};
 ghost use Rattle.std.specs.Borrow.{sem};
 ghost use Rattle.std.specs.Option.{option_copied, option_copied_mut};
 ghost use Rattle.readiness.specs.Lends.{lends_loop_task};
-ghost use Rattle.readiness.specs.Agenda.{steps_of};
 ghost use Rattle.readiness.specs.EventLoop.{tasks_of, remote_in, poller_of, waker_behind};
-ghost use Rattle.readiness.specs.EventLoop.{events_in, told_in, round_in};
 ghost use Rattle.readiness.specs.EventLoop.{driver_poller, driver_remote};
-ghost use Rattle.readiness.specs.Resuming.{MakesSteps};
+ghost use Rattle.readiness.specs.TaskAlarms.{AreArmed, AreArmedBut, KeepsArmed, IsArmed};
 ghost use Rattle.readiness.specs.Poller.{waker_of};
 
-use crate::agenda::Why;
 use crate::loop_driver::LoopDriver;
 use crate::loop_remote::LoopRemote;
-use crate::loop_token::Place;
+use crate::loop_token::{Place, place_of};
 use crate::poller::Poller;
 use crate::tasks::{Host, NoPlace, Tasks};
-use crate::telling::{CellsThemselves, Telling};
 use base_types::OutOfMemory;
 use rwloops::Fault;
 use std::alloc::{Allocator, Global};
-use std::mem;
 use std::net::Net;
-use std::sync::{Arc, Wait};
+use std::sync::Arc;
 
 /// An event loop: its tasks by places, its poller, and its remote.
 #[derive(Drop)]
 pub struct EventLoop<T, A: Allocator = Global> {
     alloc: A,
-    poller: Poller<A>,
-    remote: Arc<LoopRemote<A>, A>,
-    tasks: Tasks<T, A>,
+    pub(crate) poller: Poller<A>,
+    pub(crate) remote: Arc<LoopRemote<A>, A>,
+    pub(crate) tasks: Tasks<T, A>,
     // Those that gave way in the turn before, and those that were told: for one turn.
-    round: Vec<u64, A>,
-    told: Vec<u64, A>,
+    pub(crate) round: Vec<u64, A>,
+    pub(crate) told: Vec<u64, A>,
 }
 
 impl<T, A: Allocator + Copy> EventLoop<T, A> {
@@ -52,6 +47,8 @@ impl<T, A: Allocator + Copy> EventLoop<T, A> {
         ensures none { IfOk result (λ made. (token : ℕ) → task_in (tasks_of made) token ≡ None) }
         ensures waker { IfOk result (λ made.
             waker_behind (remote_in made) ≡ waker_of (poller_of made)) }
+        ensures armed { IfOk result (λ made.
+            (awaited : T → Option ℕ) → AreArmed awaited (tasks_of made)) }
         ensures faults { IfErr result (λ fault. (fault ≡ Fault.OutOfMemory)
             ⊎ (fault ≡ Fault.Device DevKind.Other)) }
     {
@@ -64,6 +61,7 @@ impl<T, A: Allocator + Copy> EventLoop<T, A> {
         ensures none { (token : ℕ) → task_in (tasks_of result) token ≡ None }
         ensures poller { poller_of result ≡ driver_poller driver }
         ensures remote { remote_in result ≡ driver_remote driver }
+        ensures armed { (awaited : T → Option ℕ) → AreArmed awaited (tasks_of result) }
     {
         let LoopDriver {
             alloc,
@@ -81,8 +79,8 @@ impl<T, A: Allocator + Copy> EventLoop<T, A> {
         }
     }
 
-    /// Makes room for one task more, and gives the place that `put` gives next: its descriptors are
-    /// registered under the place's tokens. It tests `Full`, then `SerialsSpent`.
+    /// Makes room for one task more and for its alarm, and gives the place that `put` gives next: its
+    /// descriptors are registered under the place's tokens. It tests `Full`, then `SerialsSpent`.
     pub fn vacant(&mut self) -> Result<Place, NoPlace>
         ensures place { IfOk result (λ place. place ≡ next_place (tasks_of self.new)) }
         ensures room { OnOk result (HasPlace (tasks_of self.new)) }
@@ -91,6 +89,7 @@ impl<T, A: Allocator + Copy> EventLoop<T, A> {
         ensures kept { SameTasks (tasks_of self.old) (tasks_of self.new) }
         ensures come { StillCome (tasks_of self.old) (tasks_of self.new) }
         ensures why { IfErr result (RefusesPlace (tasks_of self.old)) }
+        ensures armed { KeepsArmed (tasks_of self.old) (tasks_of self.new) }
     {
         let place = self.tasks.vacant()?;
         if self
@@ -109,6 +108,7 @@ impl<T, A: Allocator + Copy> EventLoop<T, A> {
         T: Drop,
         ensures none { (token : ℕ) → task_in (tasks_of self.new) token ≡ None }
         ensures serial { next_serial (tasks_of self.new) ≡ next_serial (tasks_of self.old) }
+        ensures armed { (awaited : T → Option ℕ) → AreArmed awaited (tasks_of self.new) }
     {
         self.tasks.end_all(self.alloc, host);
     }
@@ -143,7 +143,7 @@ impl<T, A: Allocator> EventLoop<T, A> {
 
     /// Puts a task into the place that `vacant` gave last, which is refused only without such a
     /// call. It takes no memory. The task waits for its first event; where it is to go on by
-    /// itself, `again` has it do so.
+    /// itself, `again` has it do so, and where it awaits a moment, `keep_time` gives it its alarm.
     pub fn put(&mut self, task: T) -> Result<Place, T>
         ensures given { IfOk result (λ place. place ≡ next_place (tasks_of self.old)) }
         ensures put { IfOk result (λ place.
@@ -156,6 +156,10 @@ impl<T, A: Allocator> EventLoop<T, A> {
         ensures returned { IfErr result (λ other. other ≡ task) }
         ensures kept { OnErr result (SameTasks (tasks_of self.old) (tasks_of self.new)) }
         ensures placed { HasPlace (tasks_of self.old) → IsOk result }
+        ensures apart { IfOk result (λ place. (awaited : T → Option ℕ)
+            → AreArmed awaited (tasks_of self.old)
+            → AreArmedBut awaited (Some (place_in place.first)) (tasks_of self.new)) }
+        ensures armed { OnErr result (KeepsArmed (tasks_of self.old) (tasks_of self.new)) }
     {
         self.tasks.put(task)
     }
@@ -168,6 +172,7 @@ impl<T, A: Allocator> EventLoop<T, A> {
             task_in (tasks_of self.new) other ≡ task_in (tasks_of self.old) other }
         ensures serial { next_serial (tasks_of self.new) ≡ next_serial (tasks_of self.old) }
         ensures come { StillCome (tasks_of self.old) (tasks_of self.new) }
+        ensures armed { KeepsArmed (tasks_of self.old) (tasks_of self.new) }
     {
         self.tasks.take(token)
     }
@@ -180,7 +185,8 @@ impl<T, A: Allocator> EventLoop<T, A> {
     }
 
     /// The same, for a program that does something to it between two turns. Where the task is to go
-    /// on, or has ended, by that, the program calls `again` or `take`.
+    /// on, or has ended, by that, the program calls `again` or `take`; where it awaits an earlier
+    /// moment than before, `keep_time`.
     pub fn task_mut(&mut self, token: u64) -> Option<&mut T>
         ensures* writes_back { sem 𝓛 (lends_loop_task T.row A.row A.Allocator self.entry token result) }
         ensures value { option_copied_mut result ≡ task_in (tasks_of self.old) token }
@@ -194,66 +200,22 @@ impl<T, A: Allocator> EventLoop<T, A> {
         ensures comes { gave_way_in (tasks_of self.old) token ≡ Some false
             → ComesNext (tasks_of self.new) token }
         ensures others { StillCome (tasks_of self.old) (tasks_of self.new) }
+        ensures armed { KeepsArmed (tasks_of self.old) (tasks_of self.new) }
     {
         self.tasks.give_way(token);
     }
 
-    /// One turn: resumes the tasks whose timers are due at `now`, waits once for the system, at
-    /// most until the next moment, and not at all where a task gave way or was named, and resumes
-    /// the task of each event, then those that were named, then, each once, those that gave way
-    /// before this turn.
-    ///
-    /// `now` is in nanoseconds of the clock of the deadlines, read just before the call. A turn
-    /// takes no memory.
-    pub fn turn<R: Wait, H: Host<Task = T>>(
-        &mut self,
-        rt: &R,
-        now: u64,
-        host: &mut H,
-    ) -> Result<(), Fault>
-        ensures faults { IfErr result (λ fault. fault ≡ Fault.Device DevKind.Other) }
+    /// Has the task that a token names an alarm by the moment that it awaits (`Host::until`): for one
+    /// that was just put, or that somebody changed between two turns. A task that was resumed has
+    /// its alarm already. It takes no memory.
+    pub fn keep_time<H: Host<Task = T>>(&mut self, host: &H, token: u64)
+        ensures kept { SameTasks (tasks_of self.old) (tasks_of self.new) }
+        ensures come { StillCome (tasks_of self.old) (tasks_of self.new) }
+        ensures armed { AreArmedBut H.awaited (Some (place_in token)) (tasks_of self.old)
+            → AreArmed H.awaited (tasks_of self.new) }
+        ensures idle { IsArmed H.awaited (tasks_of self.old) (place_in token)
+            → tasks_of self.new ≡ tasks_of self.old }
     {
-        let all_again = self.tasks.begin_round(&mut self.round);
-        let cells = &mut CellsThemselves { rt };
-        if self.remote.has_due(rt, now) {
-            self.resume_due(rt, now, host);
-        }
-        let gave_way = all_again || !self.round.is_empty() || self.tasks.gave_way();
-        let heard = self
-            .poller
-            .poll_for(self.remote.may_sleep(rt, now, gave_way));
-        self.remote.has_slept();
-        heard?;
-        let all_told = self.remote.take_told(rt, &mut self.told);
-        self.resume_round(cells, host);
-        if all_told {
-            self.tasks.resume_all(cells, host, Why::Named);
-        }
-        if all_again {
-            self.tasks.resume_all(cells, host, Why::Again);
-        }
-        Ok(())
-    }
-
-    // Resumes the tasks whose timers are due. The list of 4 KiB is cleared when the frame that it is
-    // in is entered, so that frame is not the turn's.
-    #[inline(never)]
-    fn resume_due<R: Wait, H: Host<Task = T>>(&mut self, rt: &R, now: u64, host: &mut H) {
-        let due = self.remote.due(rt, now);
-        self.tasks
-            .resume_due(&mut CellsThemselves { rt }, host, due.as_slice(), now);
-    }
-
-    // Has the tasks go on of the events, those that were told, and those that gave way.
-    fn resume_round<C: Telling, H: Host<Task = T>>(&mut self, cells: &mut C, host: &mut H)
-        ensures made { MakesSteps (H.tells host.old) (H.tells host.new)
-            (tasks_of self.old) (tasks_of self.new)
-            (steps_of (events_in self.old) (told_in self.old) (round_in self.old)) }
-    {
-        self.tasks.resume_ready(cells, host, self.poller.events());
-        self.tasks
-            .resume_each(cells, host, self.told.as_slice(), Why::Named);
-        self.tasks
-            .resume_each(cells, host, self.round.as_slice(), Why::Again);
+        self.tasks.keep_time(host, place_of(token));
     }
 }

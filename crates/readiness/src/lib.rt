@@ -10,7 +10,9 @@
 mod addr;
 mod agenda;
 mod batch;
+mod due_timers;
 mod event_loop;
+mod giving_way;
 mod holding;
 mod last_codes;
 pub mod laws;
@@ -30,9 +32,11 @@ mod resources;
 mod resuming;
 mod sock;
 mod system_error;
+mod task_times;
 mod tasks;
 mod telling;
 mod timer_alarms;
+mod turning;
 
 pub use addr::{Addr, MAX_PATH_BYTES};
 pub use agenda::{Step, Why, step_of_event, step_of_timer};

@@ -4,34 +4,36 @@
 //! No wake-up is lost. A task waits only after a try that would block, and each edge after that try
 //! is told by the loop's next poll. Who acts from another thread acts first (it closes, sets a
 //! deadline), then names the task, then swaps `sleeps`, and wakes the loop where it was set. A loop
-//! that is about to wait sets `sleeps`, and then looks at the list and at the timers once more,
-//! each under its lock. So of a naming and that last look one comes first in the order of the
-//! list's lock. Comes the naming first, then the loop sees it and doesn't wait. Comes the look
-//! first, then the flag was set before the naming, and whoever swaps it next, the namer or one who
-//! swapped before it and hasn't woken yet, wakes the loop; or the loop has unset it, after its
-//! wait, and then it takes the list before it waits again. It is the same for a moment and the lock
-//! of the timers.
+//! that is about to wait sets `sleeps`, and then looks once more at `named`, which is set with each
+//! naming, and at `first`, the least moment of the timers, which is stored under their lock with
+//! each change. So of a naming and that last look one comes first. Comes the naming first, then the
+//! loop sees it and doesn't wait. Comes the look first, then `sleeps` was set before the naming, and
+//! whoever swaps it next, the namer or one who swapped before it and hasn't woken yet, wakes the
+//! loop; or the loop has unset it, after its wait, and then it takes the list before it waits
+//! again. It is the same for a moment and `first`. The loop unsets `named` before it takes the list:
+//! a name that comes between is taken, or sets `named` again.
 //!
 //! What a program keeps of its own beside the loop, as a list of new connections or a word that it
 //! is to stop, is looked at between two turns. Who wakes the loop for such a thing sets `woken`
 //! before it swaps `sleeps`, and a loop that finds it set after it has set `sleeps` doesn't wait.
 //! It is unset once the loop has waited, before the program looks: what was there before that is
-//! seen by this look, and what comes later sets it again. All accesses of both flags are `SeqCst`.
+//! seen by this look, and what comes later sets it again. All accesses of the flags and of `first`
+//! are `SeqCst`. So a turn in which nothing is due and nobody was named takes no lock here.
 
-ghost use Rattle.std.specs.Prelude.{◌≡◌, true, IfOk};
+ghost use Rattle.std.specs.Prelude.{◌≡◌, ◌<◌, ◌+◌, ◌*◌, ℕ, true, IfOk, IfSome};
 ghost use Rattle.std.specs.Arc.{arc_value};
 ghost use Rattle.readiness.specs.EventLoop.{remote_of, waker_behind};
 
+use crate::due_timers::{DueTimers, TimersDone};
 use crate::named_tasks::NamedTasks;
 use crate::poll_timeout::sleep_ms;
 use crate::timer_alarms::{arm_in, comes_first, disarm_in};
-use arrayvec::ArrayVec;
-use base_types::{Dir, OutOfMemory};
-use deadline_core::{Dirs, Timers};
+use base_types::OutOfMemory;
+use deadline_core::{Dirs, Timers, earlier};
 use fd_descriptor::Alarms;
 use mio::Waker;
 use std::alloc::{Allocator, Global};
-use std::sync::atomic::{AtomicBool, Ordering};
+use std::sync::atomic::{AtomicBool, AtomicU64, Ordering};
 use std::sync::{Arc, Mutex, Wait};
 
 /// The remote of a loop, by which other threads reach its tasks.
@@ -39,7 +41,11 @@ use std::sync::{Arc, Mutex, Wait};
 pub struct LoopRemote<A: Allocator = Global> {
     waker: Arc<Waker, A>,
     timers: Mutex<Timers<A>>,
+    // The least moment of the timers, or the last there is where none is armed.
+    first: AtomicU64,
     told: Mutex<NamedTasks<A>>,
+    // Whether a task was named since the loop took the names last.
+    named: AtomicBool,
     sleeps: AtomicBool,
     woken: AtomicBool,
 }
@@ -57,7 +63,9 @@ impl<A: Allocator> LoopRemote<A> {
         Ok(LoopRemote {
             waker,
             timers: Mutex::new(Timers::new_in(alloc)),
+            first: AtomicU64::new(u64::MAX),
             told: Mutex::new(told),
+            named: AtomicBool::new(false),
             sleeps: AtomicBool::new(false),
             woken: AtomicBool::new(false),
         })
@@ -67,7 +75,10 @@ impl<A: Allocator> LoopRemote<A> {
     /// A token that names no task is passed over. It takes no memory; where too many tasks are
     /// named between two looks, all of the loop's are resumed.
     pub fn tell<R: Wait>(&self, rt: &R, token: u64) {
-        self.told.lock(rt).tell(token);
+        let mut told = self.told.lock(rt);
+        told.tell(token);
+        self.named.store(true, Ordering::SeqCst);
+        drop(told);
         self.rouse();
     }
 
@@ -86,15 +97,19 @@ impl<A: Allocator> LoopRemote<A> {
         }
     }
 
-    /// How long the loop may sleep now, which is about to unless a task gave way.
-    pub(crate) fn may_sleep<R: Wait>(&self, rt: &R, now: u64, gave_way: bool) -> u64
+    /// How long the loop may sleep, from the moment at which it was done with its timers. It is about
+    /// to unless a task gave way, and its tasks have their first alarm at `own`.
+    pub(crate) fn may_sleep(&self, done: &TimersDone, own: Option<u64>, gave_way: bool) -> u64
         ensures awake { gave_way ≡ true → result ≡ 0 }
+        ensures in_time { IfSome own (λ at. (less : ℕ) → less < result
+            → done.now.moment + 1000000 * less < at) }
     {
         self.sleeps.store(true, Ordering::SeqCst);
         let is_woken = self.woken.load(Ordering::SeqCst);
-        let is_told = !self.told.lock(rt).is_empty();
+        let is_told = self.named.load(Ordering::SeqCst);
+        let first = self.first.load(Ordering::SeqCst);
         let has_more = gave_way || is_woken || is_told;
-        sleep_ms(now, self.timers.lock(rt).next(), has_more)
+        sleep_ms(done.moment(), earlier(own, Some(first)), has_more)
     }
 
     /// The loop has waited.
@@ -105,20 +120,35 @@ impl<A: Allocator> LoopRemote<A> {
 
     /// Takes out what was told, in place of `taken`, and says whether all tasks are named.
     pub(crate) fn take_told<R: Wait>(&self, rt: &R, taken: &mut Vec<u64, A>) -> bool {
+        if !self.named.load(Ordering::SeqCst) {
+            taken.clear();
+            return false;
+        }
+        self.named.store(false, Ordering::SeqCst);
         self.told.lock(rt).take(taken)
     }
 
-    /// Whether a timer is due, without making the list of them.
-    pub(crate) fn has_due<R: Wait>(&self, rt: &R, now: u64) -> bool {
-        match self.timers.lock(rt).next() {
-            Some(at) => at <= now,
-            None => false,
-        }
+    /// That no timer is due at `now`, where none is: then the lock isn't taken.
+    pub(crate) fn none_due(&self, now: u64) -> Option<TimersDone>
+        ensures { IfSome result (λ done. done.moment ≡ now) }
+    {
+        TimersDone::none_due(self.first.load(Ordering::SeqCst), now)
     }
 
     /// Takes out the timers that are due.
-    pub(crate) fn due<R: Wait>(&self, rt: &R, now: u64) -> ArrayVec<(u64, Dir), 256> {
-        self.timers.lock(rt).due(now)
+    pub(crate) fn due<R: Wait>(&self, rt: &R, now: u64) -> DueTimers
+        ensures moment { result.moment ≡ now }
+    {
+        let mut timers = self.timers.lock(rt);
+        let due = DueTimers::take(&mut *timers, now);
+        self.note_first(&timers);
+        due
+    }
+
+    // Notes the least moment of the timers, whose lock the caller holds.
+    fn note_first(&self, timers: &Timers<A>) {
+        let first = timers.next().unwrap_or(u64::MAX);
+        self.first.store(first, Ordering::SeqCst);
     }
 }
 
@@ -146,6 +176,7 @@ impl<R: Wait + Drop, A: Allocator + Copy> Alarms for RemoteAlarms<R, A> {
         let mut timers = self.remote.timers.lock(&self.rt);
         let is_first = comes_first(&timers, at);
         arm_in(&mut *timers, key, dirs, at)?;
+        self.remote.note_first(&timers);
         if is_first {
             self.remote.rouse();
         }
@@ -153,6 +184,8 @@ impl<R: Wait + Drop, A: Allocator + Copy> Alarms for RemoteAlarms<R, A> {
     }
 
     fn disarm(&self, key: u64, dirs: Dirs) {
-        disarm_in(&mut *self.remote.timers.lock(&self.rt), key, dirs);
+        let mut timers = self.remote.timers.lock(&self.rt);
+        disarm_in(&mut *timers, key, dirs);
+        self.remote.note_first(&timers);
     }
 }

@@ -1,20 +1,25 @@
 //! How a loop's tasks go on: steps, one after the other.
 
-ghost use Rattle.std.specs.Prelude.{◌≡◌, ◌↔◌, ℕ, [], ◌∷◌, None, IfSome, is_some, map, false};
-ghost use Rattle.base_types.specs.declared.direction.Dir.{Dir};
+ghost use Rattle.std.specs.Prelude.{◌≡◌, ℕ, [], ◌∷◌, None, Some, Option, IfSome, is_some, true};
+ghost use Rattle.std.specs.Prelude.{map};
 ghost use Rattle.rwloops.specs.Waits.{Tells};
-ghost use Rattle.readiness.specs.Agenda.{event_step, due_step, step_for};
+ghost use Rattle.readiness.specs.Agenda.{event_step, step_for};
 ghost use Rattle.readiness.specs.HostCalls.{Resumed, Ended};
-ghost use Rattle.readiness.specs.Tasks.{task_in, next_serial, gone_again, SameTasks, OthersKept};
-ghost use Rattle.readiness.specs.Resuming.{TicksFor, MakesStep, MakesSteps};
+ghost use Rattle.readiness.specs.Tasks.{task_in, next_serial, SameTasks, OthersKept};
+ghost use Rattle.readiness.specs.Resuming.{TicksFor, MakesCalls, MakesStep, MakesSteps};
+ghost use Rattle.readiness.specs.TaskAlarms.{StandApart, StandStill, AreArmed, AreArmedBut, NoneComes};
+ghost use Rattle.readiness.specs.TaskAlarms.{serial_at, awaited_at, alarm_by_place};
+ghost use Rattle.readiness.specs.LoopToken.{place_in};
+ghost use Rattle.readiness.specs.Turns.{ResumesAllIf};
 ghost use Rattle.readiness.specs.declared.tasks.Turn.{Turn};
+ghost use Rattle.readiness.specs.declared.agenda.Why.{Why};
 
-use crate::agenda::{Step, Why, step_of_event, step_of_timer};
+use crate::agenda::{Step, Why, step_of_event};
 use crate::batch::Ev;
-use crate::loop_token::{LAST_SERIAL, MAX_PLACES, place_for, place_of, serial_of};
+use crate::loop_token::{place_of, serial_of};
 use crate::tasks::{Host, Slot, Tasks, Turn};
 use crate::telling::Telling;
-use base_types::Dir;
+use deadline_core::PlaceAlarms;
 use slab::Slab;
 use std::alloc::Allocator;
 use std::mem;
@@ -51,6 +56,9 @@ impl<T, A: Allocator> Tasks<T, A> {
             IfSome (task_in self.new step.token) (λ left. Tells (H.tells host.old) (H.tells host.new)
             (Resumed task step.why result left ∷ []))) }
         ensures others { OthersKept self.old self.new step.token }
+        ensures apart { StandApart self.old self.new (place_in step.token) }
+        ensures serials { (place : ℕ) → serial_at self.new place ≡ serial_at self.old place }
+        ensures alarms { self.new.alarms ≡ self.old.alarms }
     {
         match self.slots.get_mut(place_of(step.token)) {
             Some(slot) if slot.serial == serial_of(step.token) => {
@@ -64,14 +72,15 @@ impl<T, A: Allocator> Tasks<T, A> {
     // A task that gave way comes now.
     fn come_to(&mut self, step: Step)
         ensures kept { SameTasks self.old self.new }
+        ensures still { StandStill self.old self.new }
     {
         if step.why == Why::Again {
             self.come(step.token);
         }
     }
 
-    /// Has the task of a step go on, and does what it answers: it comes again in the next turn, or
-    /// it is handed to the host, with its place free. A step whose task is gone is passed over.
+    /// Has the task of a step go on, does what it answers, and has it an alarm by the moment that it
+    /// awaits then.
     pub(crate) fn resume<C: Telling, H: Host<Task = T>>(
         &mut self,
         cells: &mut C,
@@ -80,7 +89,28 @@ impl<T, A: Allocator> Tasks<T, A> {
     )
         ensures others { OthersKept self.old self.new step.token }
         ensures passed { task_in self.old step.token ≡ None → SameTasks self.old self.new }
-        ensures made { MakesStep (H.tells host.old) (H.tells host.new) self.old self.new step }
+        ensures made { MakesStep H.awaited (H.tells host.old) (H.tells host.new)
+            self.old self.new step }
+        ensures apart { StandApart self.old self.new (place_in step.token) }
+        ensures renewed { (now : ℕ) → step.why ≡ Why.Time now → AreArmed H.awaited self.old
+            → alarm_by_place self.new (place_in step.token)
+            ≡ awaited_at H.awaited self.new (place_in step.token) }
+        ensures left { NoneComes self.old self.new }
+    {
+        self.make_step(cells, host, step);
+        self.time_step(&*host, step);
+    }
+
+    // Has the task of a step go on, and does what it answers: it comes again in the next turn, or
+    // it is handed to the host, with its place free. A step whose task is gone is passed over.
+    fn make_step<C: Telling, H: Host<Task = T>>(&mut self, cells: &mut C, host: &mut H, step: Step)
+        ensures others { OthersKept self.old self.new step.token }
+        ensures passed { task_in self.old step.token ≡ None → SameTasks self.old self.new }
+        ensures made { MakesCalls (H.tells host.old) (H.tells host.new) self.old self.new step }
+        ensures apart { StandApart self.old self.new (place_in step.token) }
+        ensures left { NoneComes self.old self.new }
+        ensures armed { (awaited : T → Option ℕ) → AreArmed awaited self.old
+            → AreArmedBut awaited (Some (place_in step.token)) self.new }
     {
         self.come_to(step);
         match self.go_on(cells, host, step) {
@@ -96,57 +126,14 @@ impl<T, A: Allocator> Tasks<T, A> {
         ensures gone { task_in self.new token ≡ None }
         ensures handed { IfSome (task_in self.old token) (λ task.
             Tells (H.tells host.old) (H.tells host.new) (Ended task ∷ [])) }
+        ensures apart { StandApart self.old self.new (place_in token) }
+        ensures left { NoneComes self.old self.new }
+        ensures armed { (awaited : T → Option ℕ)
+            → AreArmedBut awaited (Some (place_in token)) self.old
+            → AreArmedBut awaited (Some (place_in token)) self.new }
     {
         if let Some(task) = self.take(token) {
             host.over(task);
-        }
-    }
-
-    /// Begins a round: the tokens of those that gave way, in place of what `round` has. It says
-    /// whether all tasks come again.
-    pub(crate) fn begin_round(&mut self, round: &mut Vec<u64, A>) -> bool
-        ensures tokens { round.new.items ≡ gone_again self.old }
-        ensures left { gone_again self.new ≡ [] }
-        ensures all { result ≡ self.old.all_again }
-        ensures over { self.new.all_again ≡ false }
-        ensures kept { SameTasks self.old self.new }
-    {
-        round.clear();
-        mem::swap(&mut self.again, round);
-        mem::replace(&mut self.all_again, false)
-    }
-
-    /// Whether a task gave way since the round began.
-    pub(crate) fn gave_way(&self) -> bool
-        ensures { result ≡ false
-            ↔ (self.now.all_again ≡ false) × (gone_again self.now ≡ []) }
-    {
-        self.all_again || !self.again.is_empty()
-    }
-
-    // The token of the task at a place.
-    fn token_at(&self, place: usize) -> Option<u64> {
-        let slot = self.slots.get(place)?;
-        if place >= MAX_PLACES || slot.serial > LAST_SERIAL {
-            return None;
-        }
-        Some(place_for(place, slot.serial).first)
-    }
-
-    /// Makes the step of each timer that is due.
-    pub(crate) fn resume_due<C: Telling, H: Host<Task = T>>(
-        &mut self,
-        cells: &mut C,
-        host: &mut H,
-        due: &[(u64, Dir)],
-        now: u64,
-    )
-        ensures { MakesSteps (H.tells host.old) (H.tells host.new) self.old self.new
-            (map (λ timer. due_step timer.0 timer.1 now) due.now) }
-    {
-        for timer in due {
-            let (key, dir) = *timer;
-            self.resume(cells, host, step_of_timer(key, dir, now));
         }
     }
 
@@ -157,7 +144,7 @@ impl<T, A: Allocator> Tasks<T, A> {
         host: &mut H,
         events: &[Ev],
     )
-        ensures { MakesSteps (H.tells host.old) (H.tells host.new) self.old self.new
+        ensures { MakesSteps H.awaited (H.tells host.old) (H.tells host.new) self.old self.new
             (map event_step events.now) }
     {
         for event in events {
@@ -173,7 +160,7 @@ impl<T, A: Allocator> Tasks<T, A> {
         tokens: &[u64],
         why: Why,
     )
-        ensures { MakesSteps (H.tells host.old) (H.tells host.new) self.old self.new
+        ensures { MakesSteps H.awaited (H.tells host.old) (H.tells host.new) self.old self.new
             (map (step_for why) tokens.now) }
     {
         for token in tokens {
@@ -182,17 +169,18 @@ impl<T, A: Allocator> Tasks<T, A> {
         }
     }
 
-    /// Has all tasks go on.
+    /// Has all tasks go on: a place that has a task has room for its alarm.
     pub(crate) fn resume_all<C: Telling, H: Host<Task = T>>(
         &mut self,
         cells: &mut C,
         host: &mut H,
         why: Why,
-    ) {
-        for place in 0..self.slots.capacity() {
-            if let Some(token) = self.token_at(place) {
-                self.resume(cells, host, Step { token, why });
-            }
+    )
+        ensures { ResumesAllIf H.awaited (H.tells host.old) (H.tells host.new) true why
+            self.old self.new }
+    {
+        for place in 0..self.alarms.room() {
+            self.resume_at(cells, host, place, why);
         }
     }
 }
@@ -202,8 +190,10 @@ impl<T: Drop, A: Allocator + Copy> Tasks<T, A> {
     pub(crate) fn end_all<H: Host<Task = T>>(&mut self, alloc: A, host: &mut H)
         ensures none { (token : ℕ) → task_in self.new token ≡ None }
         ensures serial { next_serial self.new ≡ next_serial self.old }
+        ensures armed { (awaited : T → Option ℕ) → AreArmed awaited self.new }
     {
         let slots = mem::replace(&mut self.slots, Slab::new(alloc));
+        self.alarms = PlaceAlarms::new_in(alloc);
         for (_, slot) in slots {
             let Slot { task, .. } = slot;
             host.over(task);

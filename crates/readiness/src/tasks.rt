@@ -4,10 +4,12 @@
 //! has its token in `again` once; a token whose task is gone is passed over when its turn comes.
 
 ghost use Rattle.std.specs.Prelude.{◌≡◌, ◌≢◌, ◌+◌, ℕ, None, IfOk, OnOk, IfErr, OnErr, IfNone};
-ghost use Rattle.std.specs.Prelude.{IsOk, is_some, not, Some, false};
+ghost use Rattle.std.specs.Prelude.{IsOk, is_some, Some, false, Option, OnSome};
 ghost use Rattle.readiness.specs.Tasks.{task_in, next_place, next_serial, HasPlace, SameTasks};
 ghost use Rattle.readiness.specs.Tasks.{IsPut, RefusesPlace, HasNumbers, task_count};
-ghost use Rattle.readiness.specs.Tasks.{gave_way_in, ComesNext, StillCome};
+ghost use Rattle.readiness.specs.Tasks.{gave_way_in, StillCome};
+ghost use Rattle.readiness.specs.TaskAlarms.{StandApart, NoneComes, KeepsArmed, AreArmed};
+ghost use Rattle.readiness.specs.TaskAlarms.{AreArmedBut, serial_at, alarm_by_place};
 ghost use Rattle.readiness.specs.LoopToken.{place_in};
 ghost use Rattle.std.specs.Borrow.{sem};
 ghost use Rattle.std.specs.Option.{option_copied, option_copied_mut};
@@ -15,6 +17,7 @@ ghost use Rattle.readiness.specs.Lends.{lends_task};
 
 use crate::agenda::Why;
 use crate::loop_token::{LAST_SERIAL, MAX_PLACES, Place, Side, place_for, place_of, serial_of};
+use deadline_core::PlaceAlarms;
 use fd_descriptor::PollCell;
 use slab::Slab;
 use std::alloc::Allocator;
@@ -32,7 +35,7 @@ pub enum Turn {
 
 /// What a program does with the tasks of a loop.
 pub trait Host {
-    ghost use Rattle.std.specs.Prelude.{List, ◌∷◌, Option};
+    ghost use Rattle.std.specs.Prelude.{List, ◌∷◌, Option, ℕ};
     ghost use Rattle.std.specs.Option.{option_copied};
     ghost use Rattle.fd_descriptor.specs.declared.poll_cell.PollCell.{PollCell};
     ghost use Rattle.readiness.specs.declared.loop_token.Side.{Side};
@@ -48,6 +51,9 @@ pub trait Host {
     /// This may be the cell on that side of a task. Whoever has nothing to say of it leaves it out.
     ghost has_cell: { Self → Self.Task → Side → Option PollCell → Type 0 } = { λ _ _ _ _. Unit {0} };
 
+    /// The moment that a task awaits, if it does.
+    ghost awaited: { Self.Task → Option ℕ };
+
     /// The cell of the descriptor on this side of a task, where it has one, so that due timers tick
     /// it.
     fn cell<'a>(&self, task: &'a Self::Task, side: Side) -> Option<&'a PollCell>
@@ -61,6 +67,11 @@ pub trait Host {
     fn resume(&mut self, task: &mut Self::Task, why: Why) -> Turn
         ensures told { (calls : List (HostCall Self.Task)) → tells self.old calls
             → tells self.new (Resumed task.old why result task.new ∷ calls) };
+
+    /// The moment that a task awaits, if it does: the loop resumes it by then, with `Why::Time`, or
+    /// before, and asks again after each resume.
+    fn until(&self, task: &Self::Task) -> Option<u64>
+        ensures own { result ≡ awaited task.now };
 
     /// Takes a task that has ended, whose place is free again.
     fn over(&mut self, task: Self::Task)
@@ -96,18 +107,22 @@ pub(crate) struct Tasks<T, A: Allocator> {
     pub(crate) again: Vec<u64, A>,
     /// Whether all tasks come again, since a token found no room in `again`.
     pub(crate) all_again: bool,
+    /// When the tasks are to be resumed at the latest that await a moment, by their places.
+    pub(crate) alarms: PlaceAlarms<A>,
 }
 
 impl<T, A: Allocator + Copy> Tasks<T, A> {
     /// No task, with room for none.
     pub(crate) fn new(alloc: A) -> Tasks<T, A>
         ensures none { (token : ℕ) → task_in result token ≡ None }
+        ensures armed { (awaited : T → Option ℕ) → AreArmed awaited result }
     {
         Tasks {
             slots: Slab::new(alloc),
             next_serial: 1,
             again: Vec::new(alloc),
             all_again: false,
+            alarms: PlaceAlarms::new_in(alloc),
         }
     }
 
@@ -121,6 +136,7 @@ impl<T, A: Allocator + Copy> Tasks<T, A> {
         ensures come { StillCome self.old self.new }
         ensures numbers { OnOk result (HasNumbers self.old) }
         ensures why { IfErr result (RefusesPlace self.old) }
+        ensures armed { KeepsArmed self.old self.new }
     {
         let place = self.slots.vacant_key();
         if place >= MAX_PLACES {
@@ -130,7 +146,10 @@ impl<T, A: Allocator + Copy> Tasks<T, A> {
             return Err(NoPlace::SerialsSpent);
         }
         let tasks = self.slots.len().saturating_add(1);
-        if self.slots.reserve(1).is_err() || self.again.reserve(tasks).is_err() {
+        if self.slots.reserve(1).is_err()
+            || self.again.reserve(tasks).is_err()
+            || self.alarms.reserve(place + 1).is_err()
+        {
             return Err(NoPlace::OutOfMemory);
         }
         Ok(place_for(place, self.next_serial))
@@ -148,10 +167,13 @@ impl<T, A: Allocator> Tasks<T, A> {
         ensures returned { IfErr result (λ other. other ≡ task) }
         ensures kept { OnErr result (SameTasks self.old self.new) }
         ensures placed { HasPlace self.old → IsOk result }
+        ensures apart { IfOk result (λ place. (awaited : T → Option ℕ) → AreArmed awaited self.old
+            → AreArmedBut awaited (Some (place_in place.first)) self.new) }
+        ensures still { OnErr result (self.new ≡ self.old) }
     {
         let place = self.slots.vacant_key();
         let serial = self.next_serial;
-        let has_room = self.slots.len() < self.slots.capacity();
+        let has_room = self.slots.len() < self.slots.capacity() && place < self.alarms.room();
         if place >= MAX_PLACES || serial > LAST_SERIAL || !has_room {
             return Err(task);
         }
@@ -189,16 +211,32 @@ impl<T, A: Allocator> Tasks<T, A> {
         ensures serial { next_serial self.new ≡ next_serial self.old }
         ensures come { StillCome self.old self.new }
         ensures unknown { IfNone result (self.new ≡ self.old) }
+        ensures apart { StandApart self.old self.new (place_in token) }
+        ensures left { NoneComes self.old self.new }
+        ensures empty { OnSome result ((serial_at self.new (place_in token) ≡ None)
+            × (alarm_by_place self.new (place_in token) ≡ None)) }
     {
         if !self.is_named(token) {
             return None;
         }
+        self.disarm(place_of(token));
         let Slot {
             serial: _,
             gave_way: _,
             task,
         } = self.slots.remove(place_of(token));
         Some(task)
+    }
+
+    // Takes the alarm of a place back.
+    fn disarm(&mut self, place: usize)
+        ensures kept { self.new ≡ record self.old { alarms = self.new.alarms } }
+        ensures apart { StandApart self.old self.new place }
+        ensures none { alarm_by_place self.new place ≡ None }
+    {
+        if place < self.alarms.room() {
+            self.alarms.set(place, None);
+        }
     }
 
     /// The task that a token names.
@@ -221,50 +259,5 @@ impl<T, A: Allocator> Tasks<T, A> {
         }
         let slot = self.slots.get_mut(place_of(token))?;
         Some(&mut slot.task)
-    }
-
-    // Says of the task that a token names whether it gave way, and tells whether it was said
-    // before, or there is no such task.
-    fn mark(&mut self, token: u64, gave_way: bool) -> bool
-        ensures kept { SameTasks self.old self.new }
-        ensures unsaid { gave_way_in self.old token ≡ Some (not gave_way) → result ≡ false }
-        ensures come { StillCome self.old self.new }
-    {
-        if let Some(slot) = self.slots.get_mut(place_of(token)) {
-            if slot.serial == serial_of(token) && slot.gave_way != gave_way {
-                slot.gave_way = gave_way;
-                return false;
-            }
-        }
-        true
-    }
-
-    /// Has the task that a token names come again in the next turn, once.
-    pub(crate) fn give_way(&mut self, token: u64)
-        ensures kept { SameTasks self.old self.new }
-        ensures comes { gave_way_in self.old token ≡ Some false → ComesNext self.new token }
-        ensures others { StillCome self.old self.new }
-    {
-        if !self.mark(token, true) {
-            self.list(token);
-        }
-    }
-
-    // Lists a token for the next turn. Where memory is refused for it, all tasks come then.
-    fn list(&mut self, token: u64)
-        ensures kept { SameTasks self.old self.new }
-        ensures comes { ComesNext self.new token }
-        ensures others { StillCome self.old self.new }
-    {
-        if self.again.push(token).is_err() {
-            self.all_again = true;
-        }
-    }
-
-    /// The task that a token names comes now.
-    pub(crate) fn come(&mut self, token: u64)
-        ensures kept { SameTasks self.old self.new }
-    {
-        let _ = self.mark(token, false);
     }
 }

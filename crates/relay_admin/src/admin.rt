@@ -16,6 +16,7 @@ pub mod command;
 pub mod desk;
 pub mod dialogue;
 pub mod end;
+pub mod id_line;
 pub mod line_answer;
 pub mod line_reply;
 pub mod listing;

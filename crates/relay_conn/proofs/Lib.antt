@@ -1,1 +1,3 @@
+pub mod DeadlinesLemmas
 pub mod DrainedLemmas
+pub mod RelayingLemmas

@@ -10,9 +10,9 @@ module _ {U D R : Type 0} where
   id_on connection First = connection.client_id
   id_on connection Second = connection.target_id
 
-  -- but for what its gates have seen of their descriptors it is as it was
-  abbrev pub KeepsConnection : Connection U D R → Connection U D R → Type 0
-  KeepsConnection old new = new ≡ record old {
-    up = record old.up { gate = new.up.gate };
-    down = record old.down { gate = new.down.gate };
-  }
+  -- but for its phase it is as it was
+  pub record KeepsConnection (old new : Connection U D R) : Type 0 where
+    pub client_id : new.client_id ≡ old.client_id
+    pub target_id : new.target_id ≡ old.target_id
+    pub facts : new.facts ≡ old.facts
+    pub counted : new.counted ≡ old.counted

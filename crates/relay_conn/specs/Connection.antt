@@ -1,43 +1,78 @@
--- Which ways of a connection go on, and what they hear.
-use Rattle.std.specs.Prelude.{◌≡◌, ◌≢◌, Bool, true, false}
-use Rattle.base_types.specs.declared.direction.Dir.TheVariants as dir
-use Rattle.readiness.specs.declared.agenda.Why.{Why}
-use Rattle.readiness.specs.declared.agenda.Why.TheVariants as why
-use Rattle.readiness.specs.declared.loop_token.Side.{Side as LoopSide}
+-- A connection: its phase, and the moment that it awaits.
+use Rattle.std.specs.Prelude.{ℕ, Option, Some, None}
+use Rattle.fd_descriptor.specs.TaskHalf.{descriptor_of_half}
+use Rattle.readiness.specs.declared.loop_token.Side.{Side}
 use Rattle.readiness.specs.declared.loop_token.Side.TheVariants.{First, Second}
-use Rattle.relay_core.specs.declared.ways.Side.{Side}
-use Rattle.relay_core.specs.declared.ways.Side.TheVariants.{Client, Target}
+use Rattle.relay_shared.specs.Drained.{WasDrained}
+use Rattle.base_types.specs.declared.direction.Dir.TheVariants as dir
+use Rattle.deadline_core.specs.Moments.{earlier_of}
 use Rattle.relay_core.specs.declared.ways.Way.{Way}
 use Rattle.relay_core.specs.declared.ways.Way.TheVariants.{Up, Down}
-use Rattle.relay_core.specs.declared.pair_tasks.PairTasks.{PairTasks}
-use Rattle.relay_core.specs.declared.pair_tasks.FlowState.TheVariants.{Ready, Over}
-use Rattle.relay_core.specs.declared.source_state.SourceState.{SourceState}
-use Rattle.relay_core.specs.PairTasks.{flow_state_of, WaitsForEvent}
-use Rattle.relay_core.specs.SourceState.{resumed}
+use Rattle.relay_conn.specs.Deadlines.{limit_moment, gives_up_at}
+use Rattle.relay_conn.specs.declared.connection.Connection.{Connection}
+use Rattle.relay_conn.specs.declared.connection.Phase.{Phase}
+use Rattle.relay_conn.specs.declared.connection.Phase.TheVariants as phase
+use Rattle.relay_conn.specs.declared.dialing.Dialing.{Dialing}
+use Rattle.relay_conn.specs.declared.relaying.Relaying.{Relaying}
 
--- the side of a pair whose descriptor is on this side of its place
-abbrev pub side_of_pair : LoopSide → Side
-side_of_pair First = Client
-side_of_pair Second = Target
+module _ {U D R : Type 0} where
+  -- the moment at which a target is given up: when it is to be connected, or a side's read gives up
+  abbrev pub given_up_at : Dialing U D R → Option ℕ
+  given_up_at d = earlier_of d.connect_by
+      (earlier_of (limit_moment d.up.time.deadlines dir.Read) (limit_moment d.down.time.deadlines dir.Read))
 
--- what a loop heard has this way go on: an event or a due timer of the side that it calls, in the
--- direction that it waits for; a name, unless it has ended; its next turn, where it gave way
-abbrev pub GoesOn : PairTasks → Why → Way → Type 0
-GoesOn tasks (why.Ready side read write stop_ahead) way =
-    WaitsForEvent (flow_state_of tasks way) way (side_of_pair side) read write
-GoesOn tasks (why.Due side dir.Read now) way =
-    WaitsForEvent (flow_state_of tasks way) way (side_of_pair side) true false
-GoesOn tasks (why.Due side dir.Write now) way =
-    WaitsForEvent (flow_state_of tasks way) way (side_of_pair side) false true
-GoesOn tasks why.Named way = flow_state_of tasks way ≢ Over
-GoesOn tasks why.Again way = flow_state_of tasks way ≡ Ready
+  -- the moment at which a way gives up
+  abbrev pub gives_up : Relaying U D R → Way → Option ℕ
+  gives_up r Up = gives_up_at r.up.gate.time.deadlines r.tasks.up
+  gives_up r Down = gives_up_at r.down.gate.time.deadlines r.tasks.down
 
--- whether a loop heard that reads of a way's source stop somewhere ahead
-abbrev pub stop_told : Why → Way → Bool
-stop_told (why.Ready First read write stop_ahead) Up = stop_ahead
-stop_told (why.Ready Second read write stop_ahead) Down = stop_ahead
-stop_told _ _ = false
+  -- the moment at which the first of both ways gives up
+  abbrev pub first_given_up : Relaying U D R → Option ℕ
+  first_given_up r = earlier_of (gives_up r Up) (gives_up r Down)
 
--- of a way's source it is known what was, with what a loop heard of a stop ahead
-abbrev pub HasHeard : SourceState → SourceState → Why → Way → Type 0
-HasHeard old new why way = new ≡ resumed old (stop_told why way)
+  -- the moment that a phase awaits
+  abbrev pub awaited_in : Option (Phase U D R) → Option ℕ
+  awaited_in None = None
+  awaited_in (Some (phase.Dialing d)) = given_up_at d
+  awaited_in (Some (phase.Relaying r)) = first_given_up r
+
+  -- the moment that a connection awaits
+  abbrev pub awaited_by : Connection U D R → Option ℕ
+  awaited_by connection = awaited_in connection.phase
+
+  -- what holds of the target that is dialled, where one is
+  abbrev pub IfDialing : Option (Phase U D R) → (Dialing U D R → Type 0) → Type 0
+  IfDialing (Some (phase.Dialing d)) P = P d
+  IfDialing other P = Unit {0}
+
+  -- what holds of the ways, where the target was connected
+  abbrev pub IfRelaying : Option (Phase U D R) → (Relaying U D R → Type 0) → Type 0
+  IfRelaying (Some (phase.Relaying r)) P = P r
+  IfRelaying other P = Unit {0}
+
+  -- the target was connected
+  abbrev pub IsRelaying : Option (Phase U D R) → Type 0
+  IsRelaying (Some (phase.Relaying r)) = Unit {0}
+  IsRelaying other = ⊥
+
+  -- the shares of both ways
+  abbrev pub up_share : Option (Phase U D R) → Option ℕ
+  up_share None = None
+  up_share (Some (phase.Dialing d)) = Some d.up.share
+  up_share (Some (phase.Relaying r)) = Some r.up.share
+
+  abbrev pub down_share : Option (Phase U D R) → Option ℕ
+  down_share None = None
+  down_share (Some (phase.Dialing d)) = Some d.down.share
+  down_share (Some (phase.Relaying r)) = Some r.down.share
+
+  -- the descriptor of a side of a connection was drained
+  abbrev pub DrainedIn : Option (Phase U D R) → Side → Type 0
+  DrainedIn None side = ⊥
+  DrainedIn (Some (phase.Dialing d)) First = WasDrained (descriptor_of_half d.client.reader)
+  DrainedIn (Some (phase.Dialing d)) Second = WasDrained (descriptor_of_half d.target.reader)
+  DrainedIn (Some (phase.Relaying r)) First = WasDrained (descriptor_of_half r.up.gate.source)
+  DrainedIn (Some (phase.Relaying r)) Second = WasDrained (descriptor_of_half r.down.gate.source)
+
+  abbrev pub SideDrained : Connection U D R → Side → Type 0
+  SideDrained connection side = DrainedIn connection.phase side

@@ -1,7 +1,11 @@
 pub mod Asked
 pub mod Connection
 pub mod Deadlines
+pub mod Dialled
 pub mod Ending
-pub mod Reach
+pub mod Flow
+pub mod Heard
 pub mod Refused
+pub mod Relaying
 pub mod SetUp
+pub mod Side

@@ -1,17 +1,27 @@
--- Why a connection isn't set up, whose target is there.
+-- Why a connection isn't set up, whose target may be there.
 use Rattle.readiness.specs.declared.holding.HoldFault.{HoldFault}
 use Rattle.readiness.specs.declared.holding.HoldFault.TheVariants as fault
+use Rattle.readiness.specs.declared.tasks.NoPlace.{NoPlace}
+use Rattle.readiness.specs.declared.tasks.NoPlace.TheVariants as why
 use Rattle.relay_log.specs.declared.ended.Ended.{Ended as How}
 use Rattle.relay_log.specs.declared.ended.Ended.TheVariants as how
 use Rattle.relay_conn.specs.declared.refused.Refused.{Refused}
-use Rattle.relay_conn.specs.declared.refused.Refused.TheVariants.{Memory, Poller}
+use Rattle.relay_conn.specs.declared.refused.Refused.TheVariants.{Places, Memory, Poller, Target}
 
 -- what refused a descriptor: a device's fault is the poller's, which can't be told of the socket
 abbrev pub refused_by : HoldFault → Refused
 refused_by (fault.Device kind) = Poller
 refused_by other = Memory
 
+-- what refused a place
+abbrev pub refused_for : NoPlace → Refused
+refused_for why.OutOfMemory = Memory
+refused_for why.Full = Places
+refused_for why.SerialsSpent = Places
+
 -- how that is told
 abbrev pub how_refused : Refused → How
+how_refused Places = how.Full
 how_refused Memory = how.NoMemory
 how_refused Poller = how.Descriptors
+how_refused (Target cause) = how.NoTarget cause

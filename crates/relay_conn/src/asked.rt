@@ -1,12 +1,11 @@
 //! What sessions ask of a side of a connection, which its loop has it do.
 
 ghost use Rattle.std.specs.Prelude.{◌≡◌, OnOk};
-ghost use Rattle.fd_descriptor.specs.TaskHalf.{descriptor_of_half};
-ghost use Rattle.readiness.specs.declared.loop_token.Side.{Side};
-ghost use Rattle.relay_conn.specs.Asked.{KeepsConnection, id_on};
-ghost use Rattle.relay_shared.specs.Drained.{WasDrained};
+ghost use Rattle.relay_conn.specs.Asked.{id_on, KeepsConnection};
+ghost use Rattle.relay_conn.specs.Connection.{SideDrained};
 
-use crate::connection::Connection;
+use crate::connection::{Connection, Phase};
+use crate::side::{drain_side, takes_deadline};
 use deadline_core::Deadline;
 use readiness::Side;
 use rwloops::Fault;
@@ -27,32 +26,25 @@ impl<U: Ledger, D: Ledger, R: Wait + Clock + Copy> Connection<U, D, R> {
 
     /// Drains a side: the read and the write that are under way there go on, and none begins.
     pub fn drain(&mut self, rt: &R, side: Side) -> Result<(), Fault>
+        ensures drained { OnOk result (SideDrained self.old side) }
         ensures kept { KeepsConnection self.old self.new }
-        ensures client { side ≡ Side.First
-            → OnOk result (WasDrained (descriptor_of_half self.old.up.gate.source)) }
-        ensures target { side ≡ Side.Second
-            → OnOk result (WasDrained (descriptor_of_half self.old.down.gate.source)) }
     {
-        match side {
-            Side::First => self.up.gate.drain_source(rt),
-            Side::Second => self.down.gate.drain_source(rt),
+        match &mut self.phase {
+            Some(Phase::Dialing(dialing)) => dialing.drain(rt, side),
+            Some(Phase::Relaying(relaying)) => relaying.drain(rt, side),
+            None => unreachable!(),
         }
     }
 
-    /// Sets the deadline of a side's reads and writes, unless it is drained or closed. The ways that
-    /// wait for that side are to go on next.
-    pub fn set_deadline(
-        &mut self,
-        rt: &R,
-        side: Side,
-        deadline: Deadline,
-        now: u64,
-    ) -> Result<(), Fault>
+    /// Sets the deadline of a side's reads and writes, unless it is drained or closed. It is to be
+    /// told of the moment next, since that may have come already.
+    pub fn set_deadline(&mut self, side: Side, deadline: Deadline) -> Result<(), Fault>
         ensures kept { KeepsConnection self.old self.new }
     {
-        match side {
-            Side::First => self.up.gate.set_source(rt, deadline, now),
-            Side::Second => self.down.gate.set_source(rt, deadline, now),
+        match &mut self.phase {
+            Some(Phase::Dialing(dialing)) => dialing.set_deadline(side, deadline),
+            Some(Phase::Relaying(relaying)) => relaying.set_deadline(side, deadline),
+            None => unreachable!(),
         }
     }
 }

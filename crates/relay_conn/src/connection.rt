@@ -1,103 +1,129 @@
-//! A connection: a value that belongs to one loop, from its set-up to its end.
+//! A connection: a value that belongs to one loop, from its dial to its end. First its target is
+//! dialled, then its ways go on.
 
-ghost use Rattle.std.specs.Prelude.{◌≡◌, ◌↔◌, true};
-ghost use Rattle.std.specs.Arc.{arc_value};
-ghost use Rattle.readiness.specs.declared.loop_token.Side.{Side};
-ghost use Rattle.relay_core.specs.PairTasks.{HasToClose, MayGoOn};
-ghost use Rattle.relay_core.specs.declared.pair_tasks.PairNext.{PairNext};
-ghost use Rattle.relay_core.specs.declared.ways.Way.{Way};
-ghost use Rattle.relay_core.specs.PairTasks.{flow_state_of, flow_state_after, other_way};
-ghost use Rattle.relay_conn.specs.Connection.{GoesOn, HasHeard, side_of_pair, stop_told};
-ghost use Rattle.relay_facts.specs.Books.{TakesBack};
-ghost use Rattle.relay_conn.specs.Reach.{reach_after};
+ghost use Rattle.std.specs.Prelude.{◌≡◌, ◌<◌, ◌+◌, ◌^◌, is_some, true, unwrap_or};
 ghost use Rattle.fd_descriptor.specs.TaskHalf.{IsHandleOf};
-ghost use Rattle.relay_conn.specs.Ending as spec;
-ghost use Rattle.relay_shared.specs.Index.{gone_id};
+ghost use Rattle.relay_conn.specs.Ending.{how_connection_ended};
+ghost use Rattle.relay_log.specs.declared.ended.Ended.{Ended as How};
 
-use crate::ending::{failure_after, how_unfailed};
-use crate::reach::Reach;
-use crate::task_gate::{LeftGate, TaskGate};
-use base_types::Dir;
-use deadline_core::Dirs;
-use fd_descriptor::{Alarms, PollCell};
+use crate::dialing::{DialStep, Dialing};
+use crate::ending::how_ended;
+use crate::relaying::Relaying;
+use crate::side::LeftSide;
 use log_writer::Log;
-use readiness::{Place, RemoteAlarms, Side, Why};
-use relay_core::{Copying, Credits, LoopMemory, PairNext, PairTasks, Step, Way, Ways, source_of};
+use readiness::Why;
+use relay_core::{LoopMemory, PairNext};
 use relay_facts::books::LoopBooks;
-use relay_facts::clock::{Moments, RelayClock};
+use relay_facts::clock::Moments;
 use relay_facts::connection_facts::ConnectionFacts;
 use relay_facts::log_lines::tell_end;
 use relay_ledger::CarriedShare;
 use relay_log::ended::Ended as How;
+use relay_shared::inbox::Counted;
 use relay_shared::index::Gone;
 use relay_shared::standing::RelayIndex;
 use std::sync::ledger::Ledger;
 use std::sync::{Arc, Mutex, Wait};
 use std::time::Clock;
 
-/// What a way copies through.
-pub(crate) type Gate<R> = TaskGate<R, RelayClock<R>, RemoteAlarms<R>>;
-
-/// One way: its gate, how far it came, and its share of the book.
+/// How far a connection is.
 #[derive(Drop)]
-pub(crate) struct Flow<L: Ledger, R: Wait + Clock + Copy> {
-    pub(crate) gate: Gate<R>,
-    pub(crate) copying: Copying,
-    /// It isn't there while the way goes on.
-    pub(crate) share: Option<CarriedShare<L>>,
-    /// The bytes that were written so far.
-    pub(crate) passed: u64,
+pub(crate) enum Phase<U: Ledger, D: Ledger, R: Wait + Clock + Copy> {
+    /// Its target isn't connected yet.
+    Dialing(Dialing<U, D, R>),
+    /// Its target was connected, which is never taken back.
+    Relaying(Relaying<U, D, R>),
 }
 
-impl<L: Ledger, R: Wait + Clock + Copy> Flow<L, R> {
-    // Goes on. Without a share it has nothing to do.
-    fn go_on<C: Credits<L>>(&mut self, book: &mut C, memory: &mut LoopMemory) -> Step {
-        let Some(carried) = self.share.take() else {
-            return Step::Waits(Dir::Read);
-        };
-        let mut share = carried.into_share();
-        let step = self
-            .copying
-            .resume(&mut self.gate, book, &mut share, memory);
-        self.passed = share.amount();
-        self.share = Some(CarriedShare::new(share));
-        step
-    }
+/// What is left of a connection that ends: both sides, each to be closed once, both shares, and how
+/// it ended.
+struct Leaving<U: Ledger, D: Ledger> {
+    client: LeftSide,
+    target: LeftSide,
+    up: CarriedShare<U>,
+    down: CarriedShare<D>,
+    how: How,
+}
 
-    // Ends what is under way, and gives the share, and what is left of the gate.
-    fn leave(self) -> (Option<CarriedShare<L>>, LeftGate<RemoteAlarms<R>>)
-        ensures share { result.0 ≡ self.share }
-        ensures source { IsHandleOf self.gate.source result.1.source }
-        ensures target { IsHandleOf self.gate.target result.1.target }
+impl<U: Ledger, D: Ledger, R: Wait + Clock + Copy> Phase<U, D, R> {
+    ghost use Rattle.std.specs.Prelude.{Some};
+    ghost use Rattle.relay_conn.specs.Connection.{up_share, down_share};
+
+    // Ends all calls under way.
+    fn leave(self) -> Leaving<U, D>
+        ensures up { Some result.up ≡ up_share (Some self) }
+        ensures down { Some result.down ≡ down_share (Some self) }
     {
-        let Flow {
-            gate,
-            copying: _,
-            share,
-            passed: _,
-        } = self;
-        (share, gate.leave())
+        match self {
+            Phase::Dialing(dialing) => leave_dialing(dialing),
+            Phase::Relaying(relaying) => leave_relaying(relaying),
+        }
     }
 }
 
-// Closes both sides of a connection by handles of which no call is under way, and takes back the
-// alarms of its place.
-fn close_sides<A: Alarms + Drop, R: Wait>(
-    rt: &R,
-    up: LeftGate<A>,
-    down: LeftGate<A>,
-    place: Place,
-) {
-    let LeftGate {
-        source: mut client,
-        target: mut target,
-        alarms,
-    } = up;
-    drop(down);
-    let _ = client.close(rt);
-    let _ = target.close(rt);
-    alarms.disarm(place.first, Dirs::Both);
-    alarms.disarm(place.second, Dirs::Both);
+fn leave_dialing<U: Ledger, D: Ledger, R: Wait + Clock + Copy>(
+    dialing: Dialing<U, D, R>,
+) -> Leaving<U, D>
+    ensures client { IsHandleOf dialing.client.reader result.client.handle }
+    ensures target { IsHandleOf dialing.target.reader result.target.handle }
+    ensures up { result.up ≡ dialing.up.share }
+    ensures down { result.down ≡ dialing.down.share }
+    ensures how { result.how ≡ unwrap_or dialing.failure How.Closed }
+{
+    let Dialing {
+        client,
+        target,
+        up,
+        down,
+        tasks: _,
+        connect_by: _,
+        failure,
+    } = dialing;
+    Leaving {
+        client: LeftSide::of(client.reader, client.writer),
+        target: LeftSide::of(target.reader, target.writer),
+        up: up.share.back(),
+        down: down.share.back(),
+        how: failure.unwrap_or(How::Closed),
+    }
+}
+
+fn leave_relaying<U: Ledger, D: Ledger, R: Wait + Clock + Copy>(
+    relaying: Relaying<U, D, R>,
+) -> Leaving<U, D>
+    ensures client { IsHandleOf relaying.up.gate.source result.client.handle }
+    ensures target { IsHandleOf relaying.down.gate.source result.target.handle }
+    ensures up { result.up ≡ relaying.up.share }
+    ensures down { result.down ≡ relaying.down.share }
+    ensures how { result.how ≡ how_connection_ended relaying.failure relaying.tasks }
+{
+    let Relaying {
+        tasks,
+        up,
+        down,
+        failure,
+    } = relaying;
+    Leaving {
+        client: LeftSide::of(up.gate.source, down.gate.target),
+        target: LeftSide::of(down.gate.source, up.gate.target),
+        up: up.share.back(),
+        down: down.share.back(),
+        how: how_ended(failure, &tasks),
+    }
+}
+
+/// A connection, and what others know of it.
+#[derive(Drop)]
+pub struct Connection<U: Ledger, D: Ledger, R: Wait + Clock + Copy> {
+    /// The ids of its sides, in the relay's index.
+    pub(crate) client_id: u64,
+    pub(crate) target_id: u64,
+    pub(crate) facts: Arc<ConnectionFacts>,
+    /// It is counted as long as it stands.
+    counted: Counted,
+    // It isn't there only while it changes.
+    pub(crate) phase: Option<Phase<U, D, R>>,
+    ghost stands: { is_some phase ≡ true },
 }
 
 // Counts how a connection ended whose sides had these ids, and tells the log.
@@ -117,166 +143,115 @@ fn note_ended<R: Wait + Clock>(
     }
 }
 
-/// A connection: both its sides, how far its ways are, and the ways; and what others know of it.
-#[derive(Drop)]
-pub struct Connection<U: Ledger, D: Ledger, R: Wait + Clock + Copy> {
-    /// The ids of its sides, in the relay's index.
-    pub(crate) client_id: u64,
-    pub(crate) target_id: u64,
-    /// The place of its task.
-    pub(crate) place: Place,
-    /// The cells of both descriptors, which due timers tick.
-    pub(crate) client: Arc<PollCell>,
-    pub(crate) target: Arc<PollCell>,
-    pub(crate) tasks: PairTasks,
-    pub(crate) up: Flow<U, R>,
-    pub(crate) down: Flow<D, R>,
-    pub(crate) facts: Arc<ConnectionFacts>,
-    /// How far it came to its target.
-    pub(crate) reach: Reach,
-    /// How the way failed that did first, if one did; or that its target was given up.
-    pub(crate) failure: Option<How>,
-}
-
-// A side in the words of pairs: the client's has the first token of its place.
-fn pair_side(side: Side) -> relay_core::Side
-    ensures { result ≡ side_of_pair side }
-{
-    match side {
-        Side::First => relay_core::Side::Client,
-        Side::Second => relay_core::Side::Target,
-    }
-}
-
-// Whether the poller told with this that reads of a way's source stop somewhere ahead.
-fn stop_ahead_of(way: Way, why: Why) -> bool
-    ensures { result ≡ stop_told why way }
-{
-    match why {
-        Why::Ready {
-            side,
-            stop_ahead,
-            ..
-        } => stop_ahead && pair_side(side) == source_of(way),
-        _ => false,
-    }
-}
-
 impl<U: Ledger, D: Ledger, R: Wait + Clock + Copy> Connection<U, D, R> {
-    /// The cell of the descriptor on this side of its place.
-    pub fn cell(&self, side: Side) -> &PollCell
-        ensures first { side ≡ Side.First → result.now ≡ arc_value self.now.client }
-        ensures second { side ≡ Side.Second → result.now ≡ arc_value self.now.target }
+    ghost use Rattle.std.specs.Prelude.{◌⊎◌, Some};
+    ghost use Rattle.readiness.specs.declared.agenda.Why.{Why};
+    ghost use Rattle.relay_conn.specs.Asked.{KeepsConnection};
+    ghost use Rattle.relay_conn.specs.Connection.{awaited_by, IfDialing, IfRelaying, IsRelaying};
+    ghost use Rattle.relay_conn.specs.Connection.{given_up_at, up_share, down_share};
+    ghost use Rattle.relay_conn.specs.Heard.{IsTime};
+    ghost use Rattle.relay_conn.specs.Relaying.{GoneOn};
+    ghost use Rattle.relay_conn.specs.declared.connection.Phase.{Phase};
+    ghost use Rattle.relay_core.specs.declared.pair_tasks.PairNext.{PairNext};
+    ghost use Rattle.relay_facts.specs.Books.{TakesBack};
+    ghost use Rattle.relay_shared.specs.Index.{gone_id};
+
+    /// A connection that was entered under this id, whose target is dialled.
+    pub(crate) fn new(
+        client_id: u64,
+        facts: Arc<ConnectionFacts>,
+        counted: Counted,
+        dialing: Dialing<U, D, R>,
+    ) -> Connection<U, D, R>
+        requires fits { client_id + 1 < 2 ^ 64 }
+        ensures client { result.client_id ≡ client_id }
+        ensures target { result.target_id ≡ client_id + 1 }
+        ensures facts { result.facts ≡ facts }
+        ensures counted { result.counted ≡ counted }
+        ensures dials { result.phase ≡ Some (Phase.Dialing dialing) }
     {
-        match side {
-            Side::First => &self.client,
-            Side::Second => &self.target,
+        Connection {
+            client_id,
+            target_id: client_id + 1,
+            facts,
+            counted,
+            phase: Some(Phase::Dialing(dialing)),
         }
     }
 
-    // Which ways go on by what its loop heard.
-    fn ways(&self, why: Why) -> Ways
-        ensures up { result.up ≡ true ↔ GoesOn self.now.tasks why Way.Up }
-        ensures down { result.down ≡ true ↔ GoesOn self.now.tasks why Way.Down }
-    {
-        match why {
-            Why::Ready {
-                side,
-                read,
-                write,
-                ..
-            } => self.tasks.woken_by(pair_side(side), read, write),
-            Why::Due { side, dir, now: _ } => match dir {
-                Dir::Read => self.tasks.woken_by(pair_side(side), true, false),
-                Dir::Write => self.tasks.woken_by(pair_side(side), false, true),
-            },
-            Why::Named => self.tasks.not_over(),
-            Why::Again => self.tasks.ready(),
-        }
-    }
-
-    // Has both ways know what its loop heard of their sources, also one that doesn't go on by it.
-    fn hear(&mut self, why: Why)
-        ensures up { HasHeard self.old.up.gate.source_state self.new.up.gate.source_state why Way.Up }
-        ensures down { HasHeard self.old.down.gate.source_state self.new.down.gate.source_state
-            why Way.Down }
-        ensures tasks { self.new.tasks ≡ self.old.tasks }
-        ensures reach { self.new.reach ≡ self.old.reach }
-    {
-        self.up.gate.resume(stop_ahead_of(Way::Up, why));
-        self.down.gate.resume(stop_ahead_of(Way::Down, why));
-    }
-
-    /// Goes on by what its loop heard, and says what follows.
+    /// Goes on by what its loop heard, and says what follows. Once its target is connected its ways
+    /// begin.
     pub fn go_on(
         &mut self,
+        rt: &R,
         books: &mut LoopBooks<U, D>,
         why: Why,
         memory: &mut LoopMemory,
     ) -> PairNext
-        ensures closes { result ≡ PairNext.Closes ↔ HasToClose self.new.tasks }
-        ensures again { result ≡ PairNext.Again ↔ MayGoOn self.new.tasks }
-        ensures up { (GoesOn self.old.tasks why Way.Up → ⊥)
-            → self.new.tasks.up ≡ self.old.tasks.up }
-        ensures down { (GoesOn self.old.tasks why Way.Down → ⊥)
-            → self.new.tasks.down ≡ self.old.tasks.down }
-        ensures up_heard { (GoesOn self.old.tasks why Way.Up → ⊥) →
-            HasHeard self.old.up.gate.source_state self.new.up.gate.source_state why Way.Up }
-        ensures down_heard { (GoesOn self.old.tasks why Way.Down → ⊥) →
-            HasHeard self.old.down.gate.source_state self.new.down.gate.source_state
-            why Way.Down }
-        ensures reach { self.new.reach ≡ reach_after self.old.reach why }
+        ensures relays { IfRelaying self.old.phase (λ old. IfRelaying self.new.phase (λ new.
+            GoneOn old new why result)) }
+        ensures stays { IsRelaying self.old.phase → IsRelaying self.new.phase }
+        ensures timely { IfDialing self.old.phase (λ old. IsTime why (given_up_at old)
+            → (result ≡ PairNext.Closes) ⊎ IsRelaying self.new.phase) }
+        ensures kept { KeepsConnection self.old self.new }
     {
-        let ways = self.ways(why);
-        self.hear(why);
-        if ways.up {
-            let step = self.up.go_on(&mut books.up, memory);
-            self.note(Way::Up, &step);
+        let step = match &mut self.phase {
+            Some(Phase::Relaying(relaying)) => return relaying.go_on(books, why, memory),
+            Some(Phase::Dialing(dialing)) => dialing.go_on(rt, why),
+            None => unreachable!(),
+        };
+        match step {
+            DialStep::Waits => PairNext::Waits,
+            DialStep::Connected => self.begin(rt, books, memory),
+            DialStep::Failed | DialStep::Late => PairNext::Closes,
         }
-        if ways.down && self.tasks.next() != PairNext::Closes {
-            let step = self.down.go_on(&mut books.down, memory);
-            self.note(Way::Down, &step);
-        }
-        // A call that fails by this very event was one on a target that isn't connected.
-        self.reach = self.reach.after(why);
-        self.tasks.next()
     }
 
-    // Notes how far a way came, and the first end that is a failure.
-    fn note(&mut self, way: Way, step: &Step)
-        ensures noted { flow_state_of self.new.tasks way ≡ flow_state_after step.now }
-        ensures kept { flow_state_of self.new.tasks (other_way way)
-            ≡ flow_state_of self.old.tasks (other_way way) }
-        ensures failure { self.new.failure
-            ≡ spec.failure_after self.old.failure self.old.reach way step.now }
-        ensures reach { self.new.reach ≡ self.old.reach }
-        ensures up { self.new.up ≡ self.old.up }
-        ensures down { self.new.down ≡ self.old.down }
+    // Has its ways begin.
+    fn begin(&mut self, rt: &R, books: &mut LoopBooks<U, D>, memory: &mut LoopMemory) -> PairNext
+        ensures relays { IsRelaying self.new.phase }
+        ensures kept { KeepsConnection self.old self.new }
     {
-        self.failure = failure_after(self.failure, self.reach, way, step);
-        self.tasks.note(way, step);
+        match self.phase.take() {
+            Some(Phase::Dialing(dialing)) => {
+                let mut relaying = Relaying::of(rt, dialing);
+                let next = relaying.go_on(books, Why::Again, memory);
+                self.phase = Some(Phase::Relaying(relaying));
+                next
+            }
+            Some(Phase::Relaying(relaying)) => {
+                self.phase = Some(Phase::Relaying(relaying));
+                PairNext::Waits
+            }
+            None => unreachable!(),
+        }
+    }
+
+    /// The moment that it awaits.
+    pub fn until(&self) -> Option<u64>
+        ensures { result ≡ awaited_by self.now }
+    {
+        match &self.phase {
+            Some(Phase::Dialing(dialing)) => dialing.until(),
+            Some(Phase::Relaying(relaying)) => relaying.until(),
+            None => unreachable!(),
+        }
     }
 
     /// Has others know how many bytes it has passed, where there are more than they know of.
     pub fn tell_bytes<C: Moments>(&self, clock: &C) {
-        let (up, down) = (self.up.passed, self.down.passed);
+        let Some(Phase::Relaying(relaying)) = &self.phase else {
+            return;
+        };
+        let (up, down) = (relaying.up.passed, relaying.down.passed);
         if up != self.facts.up() || down != self.facts.down() {
             self.facts.note_bytes(up, down, clock.now());
         }
     }
 
-    // How it ended.
-    fn how(&self) -> How
-        ensures { result ≡ spec.how_connection_ended self.now.failure self.now.tasks }
-    {
-        match self.failure {
-            Some(how) => how,
-            None => how_unfailed(self.tasks.up, self.tasks.down),
-        }
-    }
-
     /// Ends it. First nobody finds it any more, and its calls under way end, so that no close waits
     /// for them; then both sides are closed, and the books take the shares back, however it ended.
+    /// It is counted until then.
     pub fn end(
         self,
         rt: &R,
@@ -285,31 +260,32 @@ impl<U: Ledger, D: Ledger, R: Wait + Clock + Copy> Connection<U, D, R> {
         log: &Option<Arc<Log>>,
         now: u64,
     ) -> Gone
-        ensures up { TakesBack books.old.up.book books.new.up.book self.up.share }
-        ensures down { TakesBack books.old.down.book books.new.down.book self.down.share }
+        ensures up { TakesBack books.old.up.book books.new.up.book (up_share self.phase) }
+        ensures down { TakesBack books.old.down.book books.new.down.book (down_share self.phase) }
         ensures gone { gone_id result ≡ self.client_id }
     {
-        let how = self.how();
         let Connection {
             client_id,
             target_id,
-            place,
-            client: _,
-            target: _,
-            tasks: _,
+            facts,
+            counted,
+            phase,
+        } = self;
+        let Some(phase) = phase else { unreachable!() };
+        let gone = index.lock(rt).leave(client_id);
+        let Leaving {
+            client,
+            target,
             up,
             down,
-            facts,
-            reach: _,
-            failure: _,
-        } = self;
-        let gone = index.lock(rt).leave(client_id);
-        let (up_share, up) = up.leave();
-        let (down_share, down) = down.leave();
-        close_sides(rt, up, down, place);
-        books.up.settle(up_share);
-        books.down.settle(down_share);
+            how,
+        } = phase.leave();
+        client.close(rt);
+        target.close(rt);
+        books.up.settle(Some(up));
+        books.down.settle(Some(down));
         note_ended(rt, log, &facts, (client_id, target_id), now, how);
+        drop(counted);
         gone
     }
 }

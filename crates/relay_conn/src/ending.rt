@@ -4,14 +4,15 @@
 ghost use Rattle.std.specs.Prelude.{◌≡◌};
 ghost use Rattle.relay_conn.specs.Ending as spec;
 
-use crate::reach::Reach;
-use relay_core::{Ended, FlowState, Step, Way};
+use base_types::Dir;
+use relay_core::{Ended, FlowState, PairTasks, Step, Way};
 use relay_facts::how_ended::{how_of, how_unreached};
-use relay_log::ended::{Cause, Ended as How};
+use relay_log::ended::Ended as How;
+use rwloops::{Fault, WriteFault};
 
 // How a connection ended of which no way has failed, and whose ways stand so. Where one goes on
 // still, the relay has ended it.
-pub(crate) fn how_unfailed(up: FlowState, down: FlowState) -> How
+fn how_unfailed(up: FlowState, down: FlowState) -> How
     ensures { result ≡ spec.how_unfailed up down }
 {
     match up {
@@ -20,6 +21,16 @@ pub(crate) fn how_unfailed(up: FlowState, down: FlowState) -> How
             _ => How::Closed,
         },
         _ => How::Closed,
+    }
+}
+
+/// How a connection ended with this failure of a way, or none, and its ways standing so.
+pub(crate) fn how_ended(failure: Option<How>, tasks: &PairTasks) -> How
+    ensures { result ≡ spec.how_connection_ended failure tasks.now }
+{
+    match failure {
+        Some(how) => how,
+        None => how_unfailed(tasks.up, tasks.down),
     }
 }
 
@@ -34,35 +45,33 @@ fn failure_in(step: &Step) -> Option<Ended>
     }
 }
 
-// How the end of a way ends a connection that came so far to its target.
-fn how_way_ended(reach: Reach, way: Way, ended: &Ended) -> How
-    ensures { result ≡ spec.how_way_ended reach way ended.now }
-{
-    match reach {
-        Reach::Reached => how_of(ended),
-        Reach::Connecting(_) => how_unreached(way, ended),
-    }
-}
-
-// How the first way failed that did, after a step of one of them.
-pub(crate) fn failure_after(before: Option<How>, reach: Reach, way: Way, step: &Step) -> Option<How>
-    ensures { result ≡ spec.failure_after before reach way step.now }
+/// How the first way failed that did, after a step of one of them.
+pub(crate) fn failure_after(before: Option<How>, step: &Step) -> Option<How>
+    ensures { result ≡ spec.failure_after before step.now }
 {
     if before.is_some() {
         return before;
     }
     match failure_in(step) {
-        Some(ended) => Some(how_way_ended(reach, way, &ended)),
+        Some(ended) => Some(how_of(&ended)),
         None => None,
     }
 }
 
-// The same after its target was given up.
-pub(crate) fn failure_given_up(before: Option<How>) -> Option<How>
-    ensures { result ≡ spec.failure_given_up before }
+/// How a connection ends whose target can't be connected, by this fault of the dial.
+pub(crate) fn how_undialled(fault: Fault) -> How
+    ensures { result ≡ spec.how_undialled fault }
 {
-    match before {
-        Some(failure) => Some(failure),
-        None => Some(How::NoTarget(Cause::Timeout)),
-    }
+    how_unreached(Way::Down, &Ended::ReadFault(fault))
+}
+
+/// How a way ends whose call in this direction has given up.
+pub(crate) fn given_up(dir: Dir) -> Step
+    ensures { result ≡ spec.given_up dir }
+{
+    let fault = Fault::DeadlineExceeded;
+    Step::Ended(match dir {
+        Dir::Read => Ended::ReadFault(fault),
+        Dir::Write => Ended::WriteFault(WriteFault { fault, count: 0 }),
+    })
 }

@@ -1,14 +1,18 @@
-//! A relayed connection, from its set-up to its end: its entry in the relay's index, its ways and
-//! their books, and how far it came to its target.
+//! A relayed connection, from its dial to its end: its entry in the relay's index, the target that
+//! it tries, its ways and their books.
 #![tactic(auto)]
 
 mod asked;
 pub mod connection;
+mod dialing;
+pub mod dialled;
 mod ending;
-pub mod giving_up;
+mod flow;
+mod heard;
 pub mod idle_time;
-mod new_side;
-pub mod reach;
 pub mod refused;
+mod relaying;
 pub mod set_up;
+mod side;
 mod task_gate;
+mod way_time;

@@ -1,18 +1,22 @@
-//! Why a connection isn't set up, whose target is there.
+//! Why a connection isn't set up, whose target may be there.
 
 ghost use Rattle.std.specs.Prelude.{◌≡◌};
 ghost use Rattle.relay_conn.specs.Refused as spec;
 
-use readiness::HoldFault;
-use relay_log::ended::Ended as How;
+use readiness::{HoldFault, NoPlace};
+use relay_log::ended::{Cause, Ended as How};
 
 /// What refused a connection.
 #[derive(Clone, Copy, Debug, PartialEq, Eq, Drop)]
 pub enum Refused {
+    /// The loop has as many tasks as it may, or has given its last serial.
+    Places,
     /// Memory.
     Memory,
     /// The system's poller, which took one of its sockets no more.
     Poller,
+    /// The target, to which no connection could be begun.
+    Target(Cause),
 }
 
 impl Refused {
@@ -26,13 +30,25 @@ impl Refused {
         }
     }
 
+    /// What it refuses that a loop has no place more.
+    pub fn of_place(refusal: NoPlace) -> Refused
+        ensures { result ≡ spec.refused_for refusal }
+    {
+        match refusal {
+            NoPlace::OutOfMemory => Refused::Memory,
+            NoPlace::Full | NoPlace::SerialsSpent => Refused::Places,
+        }
+    }
+
     /// How that is told.
     pub fn how(self) -> How
         ensures { result ≡ spec.how_refused self }
     {
         match self {
+            Refused::Places => How::Full,
             Refused::Memory => How::NoMemory,
             Refused::Poller => How::Descriptors,
+            Refused::Target(cause) => How::NoTarget(cause),
         }
     }
 }

@@ -1,31 +1,32 @@
-//! Setting a connection up between two sockets: first what only it knows, then what others find.
+//! Setting a connection up between a client and a target that is dialled: first what only it knows,
+//! then what others find. From then on it can do without memory.
 
-ghost use Rattle.std.specs.Prelude.{◌≡◌, ◌<◌, ◌+◌, ◌^◌, Some, IfOk, OnOk, IfSome};
+ghost use Rattle.std.specs.Prelude.{◌≡◌, ◌<◌, ◌+◌, ◌^◌, None, IfOk, OnOk, IfSome};
 ghost use Rattle.std.specs.Arc.{arc_value};
 ghost use Rattle.base_types.specs.declared.direction.Dir.{Dir};
-ghost use Rattle.fd_descriptor.specs.CellKey.{key_of_cell};
-ghost use Rattle.fd_descriptor.specs.TaskHalf.{IsHalfOf};
-ghost use Rattle.readiness.specs.EventLoop.{remote_of};
 ghost use Rattle.relay_core.specs.declared.pair_tasks.FlowState.{FlowState};
 ghost use Rattle.relay_ledger.specs.Book.{OpensOne};
+ghost use Rattle.relay_conn.specs.Dialled.{dialled_to};
 ghost use Rattle.relay_conn.specs.SetUp.{IsSetUp};
+ghost use Rattle.relay_conn.specs.Side.{IsWhole, key_of_side};
 ghost use Rattle.relay_shared.specs.Index.{entered_id};
 
-use crate::connection::{Connection, Flow, Gate};
+use crate::connection::Connection;
+use crate::dialing::{Dialing, NewWay};
+use crate::dialled::Dialled;
+use crate::flow::OwnShare;
 use crate::idle_time::IdleTime;
-use crate::new_side::{NewSide, new_side};
-use crate::reach::Reach;
 use crate::refused::Refused;
-use crate::task_gate::{Source, TaskGate};
+use crate::side::{OpenSide, open_side};
+use crate::way_time::WayTime;
 use base_types::Dir;
-use deadline_core::Dirs;
-use fd_descriptor::{Alarms, FdHandle, PollCell};
-use readiness::{LoopRemote, Place, Poller, RemoteAlarms, Sock, SockRes};
+use readiness::{Place, Poller, Sock};
 use relay_core::{Copying, PairTasks, Step, Way};
 use relay_facts::books::LoopBooks;
 use relay_facts::clock::RelayClock;
 use relay_facts::connection_facts::ConnectionFacts;
 use relay_ledger::CarriedShare;
+use relay_shared::inbox::Counted;
 use relay_shared::index::{Entered, Standing};
 use relay_shared::standing::{Connected, RelayIndex};
 use std::alloc::Global;
@@ -33,8 +34,8 @@ use std::sync::ledger::Ledger;
 use std::sync::{Arc, Mutex, Wait};
 use std::time::Clock;
 
-/// What a loop sets its connections up by: the relay's index, and what is the loop's own, the
-/// poller that tells of their sockets and the remote that has their alarms.
+/// What a loop sets its connections up by: the relay's index, and the loop's own poller, which tells
+/// of their sockets.
 #[derive(Clone, Copy)]
 pub struct SetUp<'a, R: Wait + Clock + Copy> {
     pub rt: R,
@@ -42,30 +43,38 @@ pub struct SetUp<'a, R: Wait + Clock + Copy> {
     pub clock: RelayClock<R>,
     pub index: &'a Mutex<RelayIndex>,
     pub poller: &'a Poller,
-    pub remote: &'a Arc<LoopRemote>,
 }
 
-/// The sockets of a connection.
+/// What a connection begins with: both its sockets, what is known of it, and the moment by which
+/// its target is to be connected, if it has one.
 #[derive(Drop)]
-pub struct BothSocks {
+pub struct Begins {
     pub client: Sock,
-    pub target: Sock,
+    pub target: Dialled,
+    pub facts: Arc<ConnectionFacts>,
+    pub counted: Counted,
+    pub connect_by: Option<u64>,
 }
 
-/// A way whose first read is under way.
+/// Both sides of a connection.
 #[derive(Drop)]
-struct NewWay<R: Wait + Clock + Copy> {
-    gate: Gate<R>,
+struct BothSides<R: Wait + Copy> {
+    client: OpenSide<R>,
+    target: OpenSide<R>,
+}
+
+/// What a way will copy by, but for its share.
+#[derive(Drop)]
+struct Prepared<R: Wait + Clock + Copy> {
     copying: Copying,
+    time: WayTime<RelayClock<R>>,
 }
 
-/// Both ways of a connection, and the cells of its descriptors.
+/// The same of both ways.
 #[derive(Drop)]
-struct BothWays<R: Wait + Clock + Copy> {
-    client: Arc<PollCell>,
-    target: Arc<PollCell>,
-    up: NewWay<R>,
-    down: NewWay<R>,
+struct BothPrepared<R: Wait + Clock + Copy> {
+    up: Prepared<R>,
+    down: Prepared<R>,
 }
 
 /// What a connection is given last: its shares, and its entry, which can't be dropped.
@@ -87,95 +96,90 @@ fn reading_tasks() -> PairTasks
     tasks
 }
 
-impl<R: Wait + Clock + Copy> NewWay<R> {
+impl<R: Wait + Clock + Copy> Prepared<R> {
     // The same with its share.
-    fn with_share<L: Ledger>(self, share: CarriedShare<L>) -> Flow<L, R>
-        ensures gate { result.gate ≡ self.gate }
-        ensures share { result.share ≡ Some share }
-        ensures unpassed { result.passed ≡ 0 }
+    fn with_share<L: Ledger>(self, share: CarriedShare<L>) -> NewWay<L, R>
+        ensures time { result.time ≡ self.time }
+        ensures share { result.share ≡ share }
     {
-        let NewWay { gate, copying } = self;
-        Flow {
-            gate,
+        let Prepared { copying, time } = self;
+        NewWay {
             copying,
-            share: Some(share),
-            passed: 0,
+            share: OwnShare::new(share),
+            time,
         }
     }
 }
 
+// A dial of what was made for it.
+fn dialing_of<U: Ledger, D: Ledger, R: Wait + Clock + Copy>(
+    sides: BothSides<R>,
+    ways: BothPrepared<R>,
+    up: CarriedShare<U>,
+    down: CarriedShare<D>,
+    connect_by: Option<u64>,
+) -> Dialing<U, D, R>
+    ensures client { result.client ≡ sides.client }
+    ensures target { result.target ≡ sides.target }
+    ensures up_time { result.up.time ≡ ways.up.time }
+    ensures down_time { result.down.time ≡ ways.down.time }
+    ensures up_share { result.up.share ≡ up }
+    ensures down_share { result.down.share ≡ down }
+    ensures up_reads { result.tasks.up ≡ FlowState.Waits Dir.Read }
+    ensures down_reads { result.tasks.down ≡ FlowState.Waits Dir.Read }
+    ensures connect_by { result.connect_by ≡ connect_by }
+    ensures unfailed { result.failure ≡ None }
+{
+    Dialing {
+        client: sides.client,
+        target: sides.target,
+        up: ways.up.with_share(up),
+        down: ways.down.with_share(down),
+        tasks: reading_tasks(),
+        connect_by,
+        failure: None,
+    }
+}
+
 impl<'a, R: Wait + Clock + Copy> SetUp<'a, R> {
-    // The alarms of the loop. It takes no memory.
-    fn alarms(&self) -> Option<RemoteAlarms<R>>
-        ensures own { IfSome result (λ alarms.
-            remote_of alarms ≡ arc_value self.now.remote.now) }
+    // A side of a socket, of which the poller tells under this token.
+    fn side(&self, sock: Sock, token: u64) -> Result<OpenSide<R>, Refused>
+        ensures whole { IfOk result IsWhole }
+        ensures key { IfOk result (λ side. key_of_side side ≡ token) }
     {
-        let remote = Arc::try_clone(self.remote).ok()?;
-        Some(RemoteAlarms::new(self.rt, remote))
+        open_side(self.rt, self.alloc, self.poller, sock, token)
     }
 
-    // A way whose first read is under way. With an idle time that read arms an alarm, which is taken
-    // back by whoever ends the connection, or undoes its set-up.
-    fn way(
-        &self,
-        idle_ms: Option<u32>,
-        source: Source,
-        target: FdHandle<SockRes>,
-    ) -> Option<NewWay<R>>
-        ensures target { IfSome result (λ way. IsHalfOf target way.gate.target) }
-        ensures idle { IfSome result (λ way. way.gate.idle.idle_ms ≡ idle_ms) }
+    // Both sides.
+    fn sides(&self, client: Sock, target: Dialled, place: Place) -> Result<BothSides<R>, Refused>
+        ensures client { IfOk result (λ sides. key_of_side sides.client ≡ place.first) }
+        ensures target { IfOk result (λ sides. key_of_side sides.target ≡ place.second) }
+        ensures client_whole { IfOk result (λ sides. IsWhole sides.client) }
+        ensures target_whole { IfOk result (λ sides. IsWhole sides.target) }
     {
-        let alarms = self.alarms()?;
-        let idle = IdleTime::new(self.clock, idle_ms);
-        let mut gate = TaskGate::new(self.rt, idle, alarms, source, target);
-        gate.begin_read().ok()?;
+        let client = self.side(client, place.first)?;
+        let target = self.side(target.into_sock(), place.second)?;
+        Ok(BothSides { client, target })
+    }
+
+    // What a way will copy by, whose first read is under way.
+    fn prepared(&self, idle_ms: Option<u32>) -> Option<Prepared<R>>
+        ensures idle { IfSome result (λ way. way.time.idle.idle_ms ≡ idle_ms) }
+    {
+        let mut time = WayTime::new(IdleTime::new(self.clock, idle_ms));
+        time.begin(Dir::Read).ok()?;
         let copying = Copying::new(self.alloc).ok()?;
-        Some(NewWay { gate, copying })
+        Some(Prepared { copying, time })
     }
 
-    // Begins the reads of both ways.
-    fn join_sides(
-        &self,
-        client: NewSide,
-        target: NewSide,
-        idle_ms: Option<u32>,
-    ) -> Option<BothWays<R>>
-        ensures up { IfSome result (λ ways. IsHalfOf target.writer ways.up.gate.target) }
-        ensures down { IfSome result (λ ways. IsHalfOf client.writer ways.down.gate.target) }
-        ensures up_idle { IfSome result (λ ways. ways.up.gate.idle.idle_ms ≡ idle_ms) }
-        ensures down_idle { IfSome result (λ ways. ways.down.gate.idle.idle_ms ≡ idle_ms) }
-        ensures client { IfSome result (λ ways. ways.client ≡ client.cell) }
-        ensures target { IfSome result (λ ways. ways.target ≡ target.cell) }
+    // The same of both ways.
+    fn both_prepared(&self, idle_ms: Option<u32>) -> Option<BothPrepared<R>>
+        ensures up { IfSome result (λ ways. ways.up.time.idle.idle_ms ≡ idle_ms) }
+        ensures down { IfSome result (λ ways. ways.down.time.idle.idle_ms ≡ idle_ms) }
     {
-        let up = self.way(idle_ms, client.source, target.writer)?;
-        let down = self.way(idle_ms, target.source, client.writer)?;
-        Some(BothWays {
-            client: client.cell,
-            target: target.cell,
-            up,
-            down,
-        })
-    }
-
-    // The ways between both sockets, of which the poller tells under the tokens of this place.
-    fn ways(
-        &self,
-        socks: BothSocks,
-        idle_ms: Option<u32>,
-        place: Place,
-    ) -> Result<BothWays<R>, Refused>
-        ensures up_idle { IfOk result (λ ways. ways.up.gate.idle.idle_ms ≡ idle_ms) }
-        ensures down_idle { IfOk result (λ ways. ways.down.gate.idle.idle_ms ≡ idle_ms) }
-        ensures client { IfOk result (λ ways.
-            key_of_cell (arc_value ways.client) ≡ place.first) }
-        ensures target { IfOk result (λ ways.
-            key_of_cell (arc_value ways.target) ≡ place.second) }
-    {
-        let BothSocks { client, target } = socks;
-        let client = new_side(self.alloc, self.poller, client, place.first)?;
-        let target = new_side(self.alloc, self.poller, target, place.second)?;
-        self.join_sides(client, target, idle_ms)
-            .ok_or(Refused::Memory)
+        let up = self.prepared(idle_ms)?;
+        let down = self.prepared(idle_ms)?;
+        Some(BothPrepared { up, down })
     }
 
     // Enters a connection under its client's id. From then on it is found.
@@ -213,64 +217,38 @@ impl<'a, R: Wait + Clock + Copy> SetUp<'a, R> {
         }
     }
 
-    // A connection of both sockets; or what refused it, and then alarms may be left.
-    fn whole<U: Ledger, D: Ledger>(
+    /// A connection between both sockets, for the task at this place, with a share of each book; or
+    /// what refused it, and then the sockets are dropped, and nothing is left of it.
+    pub fn connection<U: Ledger, D: Ledger>(
         &self,
         books: &mut LoopBooks<U, D>,
-        socks: BothSocks,
-        facts: Arc<ConnectionFacts>,
+        begins: Begins,
         place: Place,
     ) -> Result<Connection<U, D, R>, Refused>
-        ensures set_up { IfOk result (IsSetUp facts place) }
+        requires target { dialled_to begins.target
+            ≡ (arc_value begins.facts).acceptance.rule.target }
+        ensures set_up { IfOk result (IsSetUp begins.facts place begins.connect_by) }
+        ensures counted { IfOk result (λ connection. connection.counted ≡ begins.counted) }
         ensures up_share { OnOk result (OpensOne books.old.up.book books.new.up.book) }
         ensures down_share { OnOk result (OpensOne books.old.down.book books.new.down.book) }
     {
-        let ways = self.ways(socks, facts.acceptance.rule.idle_ms, place)?;
+        let Begins {
+            client,
+            target,
+            facts,
+            counted,
+            connect_by,
+        } = begins;
+        let sides = self.sides(client, target, place)?;
+        let ways = match self.both_prepared(facts.acceptance.rule.idle_ms) {
+            Some(ways) => ways,
+            None => return Err(Refused::Memory),
+        };
         let Some(given) = self.give(books, &facts, place) else {
             return Err(Refused::Memory);
         };
         let Given { entered, up, down } = given;
-        let client_id = entered.keep();
-        Ok(Connection {
-            client_id,
-            target_id: client_id + 1,
-            place,
-            client: ways.client,
-            target: ways.target,
-            tasks: reading_tasks(),
-            up: ways.up.with_share(up),
-            down: ways.down.with_share(down),
-            facts,
-            reach: Reach::Reached,
-            failure: None,
-        })
-    }
-
-    // Takes back the alarms that a set-up which failed has armed.
-    fn undo(&self, place: Place) {
-        if let Some(alarms) = self.alarms() {
-            alarms.disarm(place.first, Dirs::Both);
-            alarms.disarm(place.second, Dirs::Both);
-        }
-    }
-
-    /// A connection of both sockets, for the task at this place, with a share of each book; or what
-    /// refused it, and then the sockets are dropped, and nothing is left of it.
-    pub fn connection<U: Ledger, D: Ledger>(
-        &self,
-        books: &mut LoopBooks<U, D>,
-        socks: BothSocks,
-        facts: Arc<ConnectionFacts>,
-        place: Place,
-    ) -> Result<Connection<U, D, R>, Refused>
-        ensures set_up { IfOk result (IsSetUp facts place) }
-        ensures up_share { OnOk result (OpensOne books.old.up.book books.new.up.book) }
-        ensures down_share { OnOk result (OpensOne books.old.down.book books.new.down.book) }
-    {
-        let made = self.whole(books, socks, facts, place);
-        if made.is_err() {
-            self.undo(place);
-        }
-        made
+        let dialing = dialing_of(sides, ways, up, down, connect_by);
+        Ok(Connection::new(entered.keep(), facts, counted, dialing))
     }
 }

@@ -5,18 +5,18 @@ use Rattle.readiness.specs.Tasks.{task_in}
 use Rattle.readiness.specs.declared.tasks.Tasks.{Tasks}
 use Rattle.relay_conn.specs.Asked.{id_on}
 use Rattle.relay_loops.specs.Requests.{IsHere}
-use Rattle.relay_loops.specs.declared.loops.ConnTask.{ConnTask}
+use Rattle.relay_conn.specs.declared.connection.Connection.{Connection}
 use Rattle.relay_shared.specs.declared.requests.Question.{Question}
 
 -- the task that the token names has the id that is asked exactly if the connection is there
-pub is_there : {U D R A : Type 0} (tasks : Tasks (ConnTask U D R) A) (question : Question)
-    (task : ConnTask U D R) (id : ℕ) → task_in tasks question.token ≡ Some task
-    → id ≡ id_on task.connection (side_in question.token)
+pub is_there : {U D R A : Type 0} (tasks : Tasks (Connection U D R) A) (question : Question)
+    (task : Connection U D R) (id : ℕ) → task_in tasks question.token ≡ Some task
+    → id ≡ id_on task (side_in question.token)
     → ((nat_eq id question.id ≡ true) ↔ IsHere tasks question)
 is_there {U} {D} {R} tasks question task id named told = (
   λ same. (task, named, sym told ∙ eqb-true id question.id same),
   λ has. (let one : task ≡ has.0 = cc in
-      let its : id_on task.connection (side_in question.token) ≡ question.id =
-      ap (λ (t : ConnTask U D R). id_on t.connection (side_in question.token)) one ∙ has.2 in
+      let its : id_on task (side_in question.token) ≡ question.id =
+      ap (λ (t : Connection U D R). id_on t (side_in question.token)) one ∙ has.2 in
       eq-eqb id question.id (told ∙ its)),
 )

@@ -1,17 +1,11 @@
 //! The loops: each a thread that resumes the tasks of its connections, and has books of its own.
 
-ghost use Rattle.std.specs.Prelude.{◌≡◌, ◌↔◌, true, false};
+ghost use Rattle.std.specs.Prelude.{◌≡◌};
 ghost use Rattle.readiness.specs.declared.loop_token.Side.{Side};
-ghost use Rattle.readiness.specs.declared.tasks.Turn.{Turn};
 ghost use Rattle.relay_facts.specs.Books.{IsBlankOf};
 ghost use Rattle.relay_conn.specs.Asked.{id_on};
-ghost use Rattle.relay_conn.specs.Reach.{tells_target};
-ghost use Rattle.relay_conn.specs.declared.reach.Reach.{Reach};
-ghost use Rattle.relay_core.specs.PairTasks.{HasToClose, MayGoOn};
-ghost use Rattle.relay_core.specs.declared.pair_tasks.PairNext.{PairNext};
 ghost use Rattle.relay_shared.specs.Index.{gone_id};
 
-use crate::connecting::ConnectingList;
 use fd_descriptor::PollCell;
 use readiness::{EventLoop, Host, Side, Turn, Why};
 use relay_admin::ServeFault;
@@ -22,7 +16,7 @@ use relay_facts::clock::{Moments, RelayClock};
 use relay_facts::totals::Totals;
 use relay_ledger::PARTS;
 use relay_shared::fault::of_poller;
-use relay_shared::inbox::{Counted, Inbox};
+use relay_shared::inbox::Inbox;
 use relay_shared::index::Gone;
 use relay_shared::loop_handle::LoopParts;
 use relay_shared::shared::Shared;
@@ -34,15 +28,8 @@ use std::sync::ledger::{Blank, Ledger};
 use std::sync::{Arc, Wait};
 use std::time::Clock;
 
-/// A connection as a task of its loop, which counts it.
-#[derive(Drop)]
-pub(crate) struct ConnTask<U: Ledger, D: Ledger, R: Wait + Clock + Copy> {
-    pub(crate) connection: Connection<U, D, R>,
-    pub(crate) counted: Counted,
-}
-
-/// A loop that has connections.
-pub(crate) type ConnLoop<U, D, R> = EventLoop<ConnTask<U, D, R>>;
+/// A loop whose tasks are connections.
+pub(crate) type ConnLoop<U, D, R> = EventLoop<Connection<U, D, R>>;
 
 /// What a loop's thread knows of its relay: it sets connections up by it, and ends them.
 #[derive(Drop)]
@@ -79,44 +66,37 @@ pub(crate) struct LoopHost<U: Ledger, D: Ledger, R: Wait + Clock + Copy> {
     taken: Inbox,
     /// It is lent to each task while that goes on.
     memory: LoopMemory,
-    /// The connections whose targets may not be connected yet.
-    pub(crate) connecting: ConnectingList,
 }
 
 impl<U: Ledger, D: Ledger, R: Wait + Clock + Copy> Host for LoopHost<U, D, R> {
-    type Task = ConnTask<U, D, R>;
+    ghost use Rattle.relay_conn.specs.Connection.{awaited_by};
 
-    fn cell<'a>(&self, task: &'a ConnTask<U, D, R>, side: Side) -> Option<&'a PollCell> {
-        Some(task.connection.cell(side))
+    type Task = Connection<U, D, R>;
+
+    ghost awaited = { awaited_by };
+
+    // Its descriptors have no timers: a connection keeps its own time.
+    fn cell<'a>(&self, _task: &'a Connection<U, D, R>, _side: Side) -> Option<&'a PollCell> {
+        None
     }
 
-    fn resume(&mut self, task: &mut ConnTask<U, D, R>, why: Why) -> Turn {
-        self.go_on_with(&mut task.connection, why)
+    fn resume(&mut self, task: &mut Connection<U, D, R>, why: Why) -> Turn {
+        self.go_on_with(task, why)
     }
 
-    fn over(&mut self, task: ConnTask<U, D, R>) {
+    fn until(&self, task: &Connection<U, D, R>) -> Option<u64> {
+        task.until()
+    }
+
+    fn over(&mut self, task: Connection<U, D, R>) {
         let _ = self.end(task);
     }
 }
 
 impl<U: Ledger, D: Ledger, R: Wait + Clock + Copy> LoopHost<U, D, R> {
-    // Has a connection go on, or gives it up.
-    fn next_of(&mut self, task: &mut Connection<U, D, R>, why: Why) -> PairNext
-        ensures closes { result ≡ PairNext.Closes ↔ HasToClose task.new.tasks }
-        ensures again { result ≡ PairNext.Again ↔ MayGoOn task.new.tasks }
-    {
-        if self.is_late(task, why) {
-            return task.give_up();
-        }
-        task.go_on(&mut self.books, why, &mut self.memory)
-    }
-
     /// Has a connection go on, and says what follows for its loop.
-    pub(crate) fn go_on_with(&mut self, task: &mut Connection<U, D, R>, why: Why) -> Turn
-        ensures over { result ≡ Turn.Over ↔ HasToClose task.new.tasks }
-        ensures again { result ≡ Turn.Again ↔ MayGoOn task.new.tasks }
-    {
-        let next = self.next_of(task, why);
+    pub(crate) fn go_on_with(&mut self, task: &mut Connection<U, D, R>, why: Why) -> Turn {
+        let next = task.go_on(&self.context.rt, &mut self.books, why, &mut self.memory);
         task.tell_bytes(&self.context.clock);
         match next {
             PairNext::Waits => Turn::Waits,
@@ -125,39 +105,21 @@ impl<U: Ledger, D: Ledger, R: Wait + Clock + Copy> LoopHost<U, D, R> {
         }
     }
 
-    // Whether a connection's target is given up. Those alone that wait for one are shown the clock.
-    fn is_late(&self, task: &Connection<U, D, R>, why: Why) -> bool
-        ensures reached { task.now.reach ≡ Reach.Reached → result ≡ false }
-        ensures told { tells_target why ≡ true → result ≡ false }
-    {
-        task.is_connecting() && task.is_late(why, self.context.clock.now())
-    }
-
     /// Ends a connection, which is counted until it has ended; then who waits for that is told.
-    pub(crate) fn end(&mut self, task: ConnTask<U, D, R>) -> Gone
-        ensures { gone_id result ≡ id_on task.connection Side.First }
+    pub(crate) fn end(&mut self, task: Connection<U, D, R>) -> Gone
+        ensures { gone_id result ≡ id_on task Side.First }
     {
-        let gone = self.close(task);
-        self.context.shared.note_end();
-        gone
-    }
-
-    fn close(&mut self, task: ConnTask<U, D, R>) -> Gone
-        ensures { gone_id result ≡ id_on task.connection Side.First }
-    {
-        let ConnTask {
-            connection,
-            counted: _counted,
-        } = task;
         let now = self.context.clock.now();
         let shared = &self.context.shared;
-        connection.end(
+        let gone = task.end(
             &self.context.rt,
             &shared.index,
             &mut self.books,
             &shared.log,
             now,
-        )
+        );
+        shared.note_end();
+        gone
     }
 }
 
@@ -188,7 +150,6 @@ impl<U: Ledger, D: Ledger, R: Wait + Net + Clock + Copy> LoopHost<U, D, R> {
                 return Ok(());
             }
             self.empty_inbox(tasks);
-            self.look_for_late(tasks);
         }
         unreachable!()
     }
@@ -235,7 +196,6 @@ where
             Err(_) => Inbox::empty(alloc),
         },
         memory,
-        connecting: ConnectingList::new(alloc),
     };
     let turned = host.turn_until_stop(&mut tasks);
     tasks.end_all(&mut host);

@@ -27,7 +27,7 @@ fn is_here<U: Ledger, D: Ledger, R: Wait + Clock + Copy>(
     ensures { result ≡ true ↔ IsHere (tasks_of tasks.now) question.now }
 {
     match tasks.task(question.token) {
-        Some(task) => task.connection.id(side_of(question.token)) == question.id,
+        Some(task) => task.id(side_of(question.token)) == question.id,
         None => false,
     }
 }
@@ -82,7 +82,7 @@ impl<U: Ledger, D: Ledger, R: Wait + Clock + Copy> LoopHost<U, D, R> {
     {
         let rt = self.context.rt;
         match tasks.task_mut(token) {
-            Some(task) => Answer::Drain(Some(task.connection.drain(&rt, side_of(token)))),
+            Some(task) => Answer::Drain(Some(task.drain(&rt, side_of(token)))),
             None => Answer::Drain(None),
         }
     }
@@ -98,20 +98,27 @@ impl<U: Ledger, D: Ledger, R: Wait + Clock + Copy> LoopHost<U, D, R> {
         ensures told { TellsDeadline (task_in (tasks_of tasks.old) token) result }
         ensures others { OthersKept (tasks_of tasks.old) (tasks_of tasks.new) token }
     {
-        let rt = self.context.rt;
         let Some(task) = tasks.task_mut(token) else {
             return Answer::Deadline(None);
         };
-        let done = task
-            .connection
-            .set_deadline(&rt, side_of(token), deadline, now);
-        let turn = self.go_on_with(&mut task.connection, Why::Named);
+        let done = task.set_deadline(side_of(token), deadline);
+        let turn = self.go_on_with(task, Why::Time { now });
         self.follow(tasks, token, turn);
         Answer::Deadline(Some(done))
     }
 
-    // Has a task go on, or ends it, as it has said between two turns.
+    // Has a task go on, or ends it, as it has said between two turns; one that stays is timed.
     fn follow(&mut self, tasks: &mut ConnLoop<U, D, R>, token: u64, turn: Turn)
+        ensures over { turn ≡ Turn.Over → task_in (tasks_of tasks.new) token ≡ None }
+        ensures stays { turn ≢ Turn.Over → SameTasks (tasks_of tasks.old) (tasks_of tasks.new) }
+        ensures others { OthersKept (tasks_of tasks.old) (tasks_of tasks.new) token }
+    {
+        self.carry_on(tasks, token, turn);
+        tasks.keep_time(&*self, token);
+    }
+
+    // Has a task go on, or ends it, as it has said.
+    fn carry_on(&mut self, tasks: &mut ConnLoop<U, D, R>, token: u64, turn: Turn)
         ensures over { turn ≡ Turn.Over → task_in (tasks_of tasks.new) token ≡ None }
         ensures stays { turn ≢ Turn.Over → SameTasks (tasks_of tasks.old) (tasks_of tasks.new) }
         ensures others { OthersKept (tasks_of tasks.old) (tasks_of tasks.new) token }

@@ -1,21 +1,21 @@
 //! Setting a connection up for an accepted socket.
 
-ghost use Rattle.std.specs.Prelude.{◌≡◌, IfSome};
+ghost use Rattle.std.specs.Prelude.{◌≡◌, IfOk, IfSome};
 ghost use Rattle.std.specs.Arc.{arc_value};
+ghost use Rattle.relay_conn.specs.Deadlines.{IsIdleEnd};
+ghost use Rattle.relay_conn.specs.Dialled.{dialled_to};
 
-use crate::connecting::Waiting;
-use crate::loops::{ConnLoop, ConnTask, LoopContext, LoopHost};
-use readiness::{Poller, Sock, connect_io};
-use relay_admin::Addr;
+use crate::loops::{ConnLoop, LoopContext, LoopHost};
+use readiness::{Poller, Sock};
 use relay_conn::connection::Connection;
-use relay_conn::reach::{Reach, cause_of_connect};
+use relay_conn::dialled::dial;
 use relay_conn::refused::Refused;
-use relay_conn::set_up::{BothSocks, SetUp};
+use relay_conn::set_up::{Begins, SetUp};
+use relay_core::idle_deadline;
 use relay_facts::clock::Moments;
 use relay_facts::connection_facts::{Acceptance, ConnectionFacts};
 use relay_log::ended::Ended as How;
-use relay_shared::address::socket_address;
-use relay_shared::inbox::Accepted;
+use relay_shared::inbox::{Accepted, Counted};
 use std::net::Net;
 use std::sync::ledger::Ledger;
 use std::sync::{Arc, Wait};
@@ -23,15 +23,14 @@ use std::time::Clock;
 
 impl<R: Wait + Net + Clock + Copy> LoopContext<R> {
     // What a connection of its loop is set up by.
-    fn set_up<'a>(&'a self, poller: &'a Poller) -> Option<SetUp<'a, R>> {
-        Some(SetUp {
+    fn set_up<'a>(&'a self, poller: &'a Poller) -> SetUp<'a, R> {
+        SetUp {
             rt: self.rt,
             alloc: self.alloc,
             clock: self.clock,
             index: &self.shared.index,
             poller,
-            remote: &self.shared.loops.get(self.place)?.remote,
-        })
+        }
     }
 
     // What is known of a connection with this client.
@@ -43,10 +42,41 @@ impl<R: Wait + Net + Clock + Copy> LoopContext<R> {
         Arc::new(self.alloc, facts).ok()
     }
 
-    // How far a connection is from its target that begins now.
-    fn reach(&self, acceptance: &Acceptance) -> Reach {
-        let is_tcp = matches!(&acceptance.rule.target, Addr::Tcp(_, _));
-        Reach::at(is_tcp, self.clock.now(), self.shared.safeguards.connect_ms)
+    // The moment by which a target is to be connected that is dialled now, if it has a time.
+    fn connect_by(&self) -> Option<u64>
+        ensures { IsIdleEnd (arc_value self.now.shared).safeguards.connect_ms result }
+    {
+        let connect_ms = self.shared.safeguards.connect_ms?;
+        Some(idle_deadline(self.clock.now(), connect_ms))
+    }
+
+    // Dials the target of a client that was accepted.
+    fn begins(
+        &self,
+        sock: Sock,
+        acceptance: &Acceptance,
+        counted: Counted,
+    ) -> Result<Begins, Refused>
+        ensures target { IfOk result (λ begins. dialled_to begins.target
+            ≡ (arc_value begins.facts).acceptance.rule.target) }
+        ensures rule { IfOk result (λ begins.
+            (arc_value begins.facts).acceptance.rule ≡ acceptance.now.rule) }
+        ensures client { IfOk result (λ begins. begins.client ≡ sock) }
+        ensures counted { IfOk result (λ begins. begins.counted ≡ counted) }
+    {
+        let Some(facts) = self.facts(acceptance) else {
+            return Err(Refused::Memory);
+        };
+        match dial(&self.rt, &facts.acceptance.rule.target) {
+            Ok(target) => Ok(Begins {
+                client: sock,
+                target,
+                facts,
+                counted,
+                connect_by: self.connect_by(),
+            }),
+            Err(cause) => Err(Refused::Target(cause)),
+        }
     }
 
     // A client isn't served, since there is no target, or what it takes was refused.
@@ -67,44 +97,22 @@ impl<R: Wait + Net + Clock + Copy> LoopContext<R> {
 }
 
 impl<U: Ledger, D: Ledger, R: Wait + Net + Clock + Copy> LoopHost<U, D, R> {
-    // A connection of both sockets; or what refused it.
-    fn join(
-        &mut self,
-        tasks: &mut ConnLoop<U, D, R>,
-        socks: BothSocks,
-        facts: Arc<ConnectionFacts>,
-    ) -> Result<Connection<U, D, R>, Refused> {
-        let Ok(place) = tasks.vacant() else {
-            return Err(Refused::Memory);
-        };
-        match self.context.set_up(tasks.poller()) {
-            Some(set_up) => set_up.connection(&mut self.books, socks, facts, place),
-            None => Err(Refused::Memory),
-        }
-    }
-
-    // Connects to the target, and makes a connection of both sockets; or says why not.
-    fn connect_sides(
+    // A connection for a client that was accepted, whose target is dialled; or what refused it.
+    fn connection(
         &mut self,
         tasks: &mut ConnLoop<U, D, R>,
         sock: Sock,
         acceptance: &Acceptance,
-    ) -> Result<Connection<U, D, R>, How> {
-        let Some(facts) = self.context.facts(acceptance) else {
-            return Err(How::NoMemory);
-        };
-        let address = socket_address(&acceptance.rule.target);
-        let target = match connect_io(&self.context.rt, &address) {
-            Ok(target) => target,
-            Err(error) => return Err(How::NoTarget(cause_of_connect(&error))),
-        };
-        let socks = BothSocks {
-            client: sock,
-            target,
-        };
-        match self.join(tasks, socks, facts) {
-            Ok(connection) => Ok(connection),
-            Err(refused) => Err(refused.how()),
+        counted: Counted,
+    ) -> Result<Connection<U, D, R>, Refused> {
+        let begins = self.context.begins(sock, acceptance, counted)?;
+        match tasks.vacant() {
+            Ok(place) => {
+                self.context
+                    .set_up(tasks.poller())
+                    .connection(&mut self.books, begins, place)
+            }
+            Err(refusal) => Err(Refused::of_place(refusal)),
         }
     }
 
@@ -116,32 +124,23 @@ impl<U: Ledger, D: Ledger, R: Wait + Net + Clock + Copy> LoopHost<U, D, R> {
             acceptance,
             counted,
         } = accepted;
-        let connection = match self.connect_sides(tasks, sock, &acceptance) {
-            Ok(connection) => connection,
-            Err(how) => {
-                self.context.refuse(&acceptance, how);
-                drop(counted);
-                self.context.shared.note_end();
-                return;
+        match self.connection(tasks, sock, &acceptance, counted) {
+            Ok(connection) => {
+                self.context.note_begin(&acceptance);
+                self.put(tasks, connection);
             }
-        };
-        self.context.note_begin(&acceptance);
-        let reach = self.context.reach(&acceptance);
-        let mut task = ConnTask {
-            connection,
-            counted,
-        };
-        task.connection.begin(reach);
-        match tasks.put(task) {
-            Ok(place) => self.wait_for_target(tasks, reach, place.first),
-            Err(task) => drop(self.end(task)),
+            Err(refused) => {
+                self.context.refuse(&acceptance, refused.how());
+                self.context.shared.note_end();
+            }
         }
     }
 
-    // Has a connection given up in time that waits for its target.
-    fn wait_for_target(&mut self, tasks: &ConnLoop<U, D, R>, reach: Reach, token: u64) {
-        if let Some(until) = reach.until() {
-            self.note_connecting(tasks, Waiting { until, token });
+    // Has a connection be a task of its loop, which goes on by its first event or at its moment.
+    fn put(&mut self, tasks: &mut ConnLoop<U, D, R>, connection: Connection<U, D, R>) {
+        match tasks.put(connection) {
+            Ok(place) => tasks.keep_time(&*self, place.first),
+            Err(connection) => drop(self.end(connection)),
         }
     }
 }

@@ -143,7 +143,12 @@ where
     R: Wait + Clock + Copy,
     C: Moments,
 {
+    ghost use Rattle.std.specs.Prelude.{None};
+
     type Task = MainTask<R>;
+
+    // A task awaits no moment of its own.
+    ghost awaited = { λ _. None };
 
     fn cell<'a>(&self, task: &'a MainTask<R>, side: Side) -> Option<&'a PollCell> {
         match (task, side) {
@@ -163,6 +168,10 @@ where
                 Turn::Waits
             }
         }
+    }
+
+    fn until(&self, _task: &MainTask<R>) -> Option<u64> {
+        None
     }
 
     fn over(&mut self, task: MainTask<R>) {

@@ -10,7 +10,7 @@ ghost use Rattle.readiness.specs.Sockets.{read_from, written_to};
 ghost use Rattle.relay_main.specs.Session as spec;
 ghost use Rattle.relay_main.specs.declared.session.SessionStep.{SessionStep};
 
-use crate::session_state::{State, Writing, begun, rest_of, shown_on};
+use crate::session_state::{State, Writing, begun, rest_of, shown_on, unwritten};
 use fd_descriptor::HalfClose;
 use readiness::{ReadHalf, Sock, WriteHalf};
 use relay_admin::{AdminEnd, AdminSession, LateAnswer, NextLine, SessionDesk};
@@ -253,7 +253,7 @@ impl Session {
         ensures kept { TakesNoAnswer answer self.old.lines → self.new.state ≡ self.old.state }
     {
         if let Some((reply, end)) = self.lines.answer(alloc, answer) {
-            self.state = begun(reply, end);
+            self.state = State::Replying(unwritten(reply), end);
         }
     }
 

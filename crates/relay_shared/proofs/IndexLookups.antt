@@ -12,11 +12,11 @@ use Rattle.relay_shared.specs.Index.{without}
 
 module _ {C L : Type 0} where
   -- what stands under this id in a list of entries
-  abbrev under : ℕ → List (ℕ × Standing C L) → Option (Standing C L)
+  abbrev pub under : ℕ → List (ℕ × Standing C L) → Option (Standing C L)
   under id entries = lookup (is_at (nat_cmp id)) entries
 
   -- the first entry has this id, or the others are asked
-  under_first : (id : ℕ) (entry : ℕ × Standing C L) (entries : List (ℕ × Standing C L))
+  pub under_first : (id : ℕ) (entry : ℕ × Standing C L) (entries : List (ℕ × Standing C L))
       → under id (entry ∷ entries) ≡ cond (id == entry.0) (Some entry.1) (under id entries)
   under_first id entry entries =
       ap (λ b. cond b (Some entry.1) (under id entries)) (unsigned_tied id entry.0)

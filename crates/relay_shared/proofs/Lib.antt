@@ -1,3 +1,4 @@
+pub mod IndexIds
 pub mod IndexLemmas
 pub mod IndexLists
 pub mod IndexLookups

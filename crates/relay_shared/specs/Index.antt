@@ -67,6 +67,11 @@ module _ {C L : Type 0} where
   IsNamed index id shown standing = (first behind : ℕ) × (id ≡ first + behind)
       × (entered index first ≡ Some standing) × IsFoundAt standing shown behind
 
+  -- this stands, and the id names it on one of its sides
+  abbrev pub NamesAnything : Register C L → ℕ → Type 0
+  NamesAnything index id = (shown : ShownSide) × (standing : Standing C L)
+      × IsNamed index id shown standing
+
   -- this is entered last, under the next id, and the next id is behind all its own
   pub record EntersIndex (old new : Register C L) (id : ℕ) (standing : Standing C L) : Type 0 where
     pub given : id ≡ old.next_id

@@ -5,11 +5,12 @@
 //! stands for both ids of a connection, so that it is entered and left as one. Ids rise, and none is
 //! given twice.
 
-ghost use Rattle.std.specs.Prelude.{◌≡◌, ◌<◌, ◌+◌, ◌^◌, ◌++◌, IfOk, OnOk, OnErr, IfSome, IfNone, []};
+ghost use Rattle.std.specs.Prelude.{◌≡◌, ◌<◌, ◌↔◌, ◌+◌, ◌^◌, ◌++◌, ℕ, IfOk, OnOk, OnErr, IfSome, IfNone, []};
+ghost use Rattle.std.specs.Prelude.{AllPairs, Contains};
 ghost use Rattle.relay_shared.specs.declared.index.Standing.{Standing};
 ghost use Rattle.relay_admin.specs.declared.admin.shown.ShownSide.{ShownSide};
-ghost use Rattle.relay_shared.specs.Index.{EntersIndex, LeavesIndex, IsNamed, IsFoundAt};
-ghost use Rattle.relay_shared.specs.Index.{entered_id, gone_id, id_count, ids_from, ids_in};
+ghost use Rattle.relay_shared.specs.Index.{EntersIndex, LeavesIndex, IsNamed, IsFoundAt, IsRegister};
+ghost use Rattle.relay_shared.specs.Index.{NamesAnything, entered_id, gone_id, id_count, ids_from, ids_in};
 
 use base_types::OutOfMemory;
 use relay_admin::ShownSide;
@@ -114,8 +115,8 @@ impl<C, L> Index<C, L> {
         }
     }
 
-    /// Enters what stands from now on. It is refused where memory is, or where no id is left; then nothing
-    /// changes.
+    /// Enters what stands from now on. It is refused where memory is, or where no id is left; then
+    /// nothing changes.
     pub fn enter(&mut self, standing: Standing<C, L>) -> Result<Entered, OutOfMemory>
     where
         C: Drop,
@@ -166,9 +167,21 @@ impl<C, L> Index<C, L> {
         }
     }
 
-    /// All ids that name anything, rising; or want of memory.
+    /// All ids that name anything, each once, rising; or want of memory.
     pub fn ids(&self, alloc: Global) -> Result<Vec<u64>, OutOfMemory>
-        ensures { IfOk result (λ ids. ids.items ≡ ids_in self.now.entries) }
+        ensures listed { IfOk result (λ ids. ids.items ≡ ids_in self.now.entries) }
+        ensures rising { IfOk result (λ ids. AllPairs (λ id later. id < later) ids.items) }
+        ensures named { IfOk result (λ ids. (id : ℕ) →
+            (Contains ids.items id ↔ NamesAnything self.now id)) }
+    {
+        let ids = self.all_ids(alloc)?;
+        Ok(ids)
+    }
+
+    // The ids of all entries, and what holds of them in every index.
+    fn all_ids(&self, alloc: Global) -> Result<Vec<u64>, OutOfMemory>
+        ensures listed { IfOk result (λ ids. ids.items ≡ ids_in self.now.entries) }
+        ensures register { IsRegister self.now }
     {
         let mut ids = Vec::new(alloc);
         for (id, standing) in self.entries.iter() {

@@ -12,6 +12,9 @@ RATIO = re.compile(r"(?<![\d.,v])\d\.\d\d(?![\d.])")
 # How many relays a row beside the peers has.
 RELAYS = 6
 PEERS = re.compile(r"HAProxy|nginx|socat|\bGo\b")
+# How a row beside the peers is named, and one of those in which pollrelay is behind: what is measured, and over how many connections.
+OVER = re.compile(r"(bytes|round trips|p50|p99|processor)(?: time)?(?: a round trip)?(?: over ([\d, and]+))?")
+RATES = {"bytes", "round trips"}
 # Where the first build and its time are spoken of, and how.
 BUILDS = ("README.md", "examples/README.md", "examples/first_connection.sh", "docs/operations.md", "CONTRIBUTING.md")
 TIMES = {"a quarter of an hour": 15, "half an hour": 30, "three quarters of an hour": 45, "an hour": 60}
@@ -29,6 +32,7 @@ def check(tree, told):
     quoted(told, tree.text(README), table)
     in_words(told, tree.text(README))
     letters(told, tree.text(MEASURED), table)
+    behind(told, tree.text(MEASURED), table)
     counts(tree, told)
     build_times(tree, told)
     told_twice(told, tree.text(CHANGES))
@@ -85,6 +89,28 @@ def letters(told, text, table):
         told.holds(date <= datetime.date.today(), MEASURED, f"{day} {month} is yet to come")
     for name, said in runs.items():
         told.holds(re.search("|".join(MONTHS), said), MEASURED, f"the run {name} has no date")
+
+
+def behind(told, text, table):
+    """Each row in which a peer is better than pollrelay is told as such, and no other. A row that tells no number is of all."""
+    found, names = set(), {}
+    for _, cells in table:
+        named = OVER.match(cells[0])
+        if named and named[2] and len(cells) == RELAYS + 1:
+            ours, *peers = numbers(" ".join(cells[1:]))
+            row = (named[1], int(re.findall(r"\d+", named[2])[0]))
+            names[row] = cells[0]
+            found |= {row} if (max(peers) > ours if row[0] in RATES else min(peers) < ours) else set()
+    section = re.search(r"where pollrelay is behind[^\n]*\n\n(.*?)\n\n", text, re.S | re.I)
+    if told.reads(names and section, MEASURED, __file__):
+        told_of = set()
+        for _, cells in rows(section[1]):
+            named = OVER.match(cells[0])
+            over = {int(it) for it in re.findall(r"\d+", named[2] or "")} if named else set()
+            told_of |= {it for it in names if named and it[0] == named[1] and (it[1] in over or not over)}
+        for row in sorted(found ^ told_of):
+            told.holds(False, MEASURED, f"pollrelay is behind in {names[row]}, and the page tells it not, or the other way round")
+        told.passed += len(found & told_of)
 
 
 def counted(tree):

@@ -1,13 +1,15 @@
 """How pages say a limit: each row has the words, with a place for each number, and the constants of these numbers in their order."""
 
-# A number in digits, one that may be a word, and a time, which is compared in milliseconds.
+# A number in digits, one that may be a word, a time, which is compared in milliseconds, and a size, in bytes.
 N = r"(\d[\d,]*\d|\d)"
 WORDS = {"a": 1, "two": 2, "five": 5, "eight": 8, "ten": 10, "sixteen": 16, "thirty": 30, "sixty": 60}
 UNITS = {"ms": 1, "milliseconds": 1, "s": 1_000, "second": 1_000, "seconds": 1_000, "minute": 60_000, "minutes": 60_000}
 W = rf"({'|'.join(WORDS)}|\d+)"
 T = rf"((?:{'|'.join(WORDS)}|[\d,]*\d) (?:{'|'.join(UNITS)}))\b"
+SIZES = {"KiB": 1_024}
+K = rf"(\d+ (?:{'|'.join(SIZES)}))\b"
 SAID = (
-    (rf"connections`? other than 1 to {N}", "MAX_PAIRS"),
+    (rf"in all or of a rule, other than 1 to {N}", "MAX_PAIRS"),
     (rf"connections at once, 1 to {N} \({N}\)", "MAX_PAIRS", "DEFAULT_PAIRS"),
     (rf"{N} connections(?: at once)?,?(?: or)? (?:by `--connections` )?up to {N}", "DEFAULT_PAIRS", "MAX_PAIRS"),
     (rf"server \w+ [\d.:]+ .*maxconn {N}", "DEFAULT_PAIRS"),
@@ -25,17 +27,13 @@ SAID = (
     (rf"for each rule, at most {N}", "MAX_RULES"),
     (rf"\b{N} rules stand before", "MAX_RULES"),
     (rf"connections[^.\n]*; {N} rules\b", "MAX_RULES"),
-    (rf"pairs and {N} rules", "MAX_RULES"),
     (rf"FILE(?: has|`? has) more than {N} bytes", "MAX_BYTES"),
     (rf"file has (?:at most|more than) {N} bytes", "MAX_BYTES"),
     (rf"more than {N} bytes; tested", "MAX_BYTES"),
     (rf"name +=? ?1 to {N} bytes", "MAX_NAME_BYTES"),
-    (rf"NAME has 1 to {N} bytes", "MAX_NAME_BYTES"),
     (rf"path +=? ?1 to {N} bytes", "MAX_PATH_BYTES"),
-    (rf"in the same way; it has 1 to {N} bytes", "MAX_PATH_BYTES"),
     (rf'"never" \| number, 1 to {N}', "DAY_MS"),
     (rf"up to {N} ms, a day", "DAY_MS"),
-    (rf"milliseconds up to {N}", "DAY_MS"),
     (rf"MS one from 0 to {N}", "DAY_MS"),
     (rf"ID is a number from 1 to {N}", "MAX_ID"),
     (rf"greatest id is {N}", "MAX_ID"),
@@ -44,22 +42,14 @@ SAID = (
     (rf"at most {N} bytes without its line feed", "MAX_LINE_BYTES"),
     (rf"keeps at most {N} bytes of a line", "MAX_LINE_BYTES"),
     (rf"[Aa] line of more than {N} bytes", "MAX_LINE_BYTES"),
-    (rf"at most {N} bytes of lines wait", "MOST_QUEUED_BYTES"),
+    (rf"[Aa]t most {N} bytes of lines wait", "MOST_QUEUED_BYTES"),
     (rf"exactly above {N} bytes", "MOST_QUEUED_BYTES"),
-    (rf"lines wait for that, at most {N} bytes", "MOST_QUEUED_BYTES"),
     (rf"serves {W} clients at once", "MOST_CLIENTS"),
-    (rf"one for each of {W} clients", "MOST_CLIENTS"),
     (rf"clients at once,(?: and)? each for {T} at most", "LIMIT_NS"),
     (rf"waits (?:at most )?{W} seconds", "PATIENCE_SECONDS"),
     (rf"said nothing for {W} seconds", "PATIENCE_SECONDS"),
-    (rf"silent or takes no reply for {T}", "MAX_SILENCE_MS"),
     (rf"says nothing for {T}", "MAX_SILENCE_MS"),
-    (rf"silent session ends after {T}", "MAX_SILENCE_MS"),
-    (rf"keep others out[^.]*? up to {T}", "MAX_SILENCE_MS"),
     (rf"[Aa]t most {N} (?:admin )?sessions", "MAX_SESSIONS"),
-    (rf"where {N} sessions stand", "MAX_SESSIONS"),
-    (rf"{N} idle admin sessions", "MAX_SESSIONS"),
-    (rf"ends after {N} faults in a row", "MAX_FAULTS_IN_A_ROW"),
     (rf"ends beyond {N} faults", "MAX_FAULTS_IN_A_ROW"),
     (rf"interrupted more than {N} times", "MAX_INTERRUPTIONS"),
     (rf"holder = number below {N}", "HOLDERS"),
@@ -67,10 +57,55 @@ SAID = (
     (rf"more than {N} bytes \(at the", "lockword_script::MAX_LINE_BYTES"),
     (rf"more than {N} references, or {N} waiters", "MAX_REFERENCES", "MAX_WAITERS"),
     (rf"more than {N} signals ready", "MAX_SIGNALS"),
+    (rf"for {W} rounds or until a call would block", "TURNS_IN_A_ROW"),
+    (rf"would block, at most {N} in a row", "ACCEPTS_IN_A_ROW"),
+    (rf"reads and writes at most {W} times, or accepts at most {N} clients", "TURNS_IN_A_ROW", "ACCEPTS_IN_A_ROW"),
+    (rf"gives way after {W}\b", "TURNS_IN_A_ROW"),
+    (rf"kept in {N} bytes of the connection", "OWN_ROOM_BYTES"),
+    (rf"in {N} bytes of its own", "OWN_ROOM_BYTES"),
+    (rf"holds {N} bytes for each way", "OWN_ROOM_BYTES"),
+    (rf"one of {K} a loop, {W} turns in a row", "LOOP_BUFFER_BYTES", "TURNS_IN_A_ROW"),
+    (rf"a buffer of {K}, and room for unwritten bytes", "LOOP_BUFFER_BYTES"),
+    (rf"until a read fills it, {K} from then on", "BUFFER_BYTES"),
+    (rf"at most {N} connections, found by id", "KEYS"),
+    (rf"exactly at {N} entries", "KEYS"),
+    (rf"net has (?:at most|its) {N} sockets", "KEYS"),
+    (rf"the {N} sockets of a net", "KEYS"),
+    (rf"the net's {N} sockets", "KEYS"),
+    (rf"The last is {N}, which comes", "LAST_ID"),
+    (rf"`MAX_TRY_BYTES`, {N}", "MAX_TRY_BYTES"),
+    (rf"`MAX_RETRIES`, {N}", "MAX_RETRIES"),
+    (rf"`LISTEN_FDS`(?: is)? 1 to {N}", "MAX_SOCKETS"),
+    (rf"key \+ {N} \* id", "KEYS"),
+    (rf"1 to {N} loops, by processors at most {N}; 1 to {N} connections, else {N}", "MAX_LOOPS", "MOST_BY_DEFAULT", "MAX_PAIRS", "DEFAULT_PAIRS"),
+    (rf"{N} connections, or up to {N}; {N} loops, {N} rules", "DEFAULT_PAIRS", "MAX_PAIRS", "MAX_LOOPS", "MAX_RULES"),
+    (rf"How many connections\?[^|]*\| {N}, to {N} ", "DEFAULT_PAIRS", "MAX_PAIRS"),
+    (rf"limit of the whole relay, {N} at most", "MAX_PAIRS"),
+    (rf"{N} is the time to connect", "DEFAULT_CONNECT_MS"),
+    (rf"MS is {N} without the option", "FINISH_MS"),
+    (rf"for MS milliseconds at most \({N}\)", "FINISH_MS"),
+    (rf"signal more, refused exactly at {N}", "MAX_SIGNALS"),
+    (rf"path of a file, of at most {N} bytes", "readiness::MAX_PATH_BYTES"),
+    (rf"Unix paths of up to {N} bytes", "readiness::MAX_PATH_BYTES"),
+    (rf"a path of 1 to {N} bytes\. No names", "readiness::MAX_PATH_BYTES"),
+    (rf"`HOLDERS`, `MAX_LINE_BYTES`, `MAX_LINES` \| {N}; {N}; {N} ", "HOLDERS", "lockword_script::MAX_LINE_BYTES", "lockword_script::MAX_LINES"),
+    (rf"makes a list of {N} each time", "MAX_DUE"),
+    (rf"up to {N} pairs \|", "MAX_DUE"),
+    (rf"Fewer than {N} pairs are all that is due; after {N} ask", "MAX_DUE", "MAX_DUE"),
+    (rf"exactly the first {N} due", "MAX_DUE"),
+    (rf"{N} are open, or the book", "MAX_SHARES"),
+    (rf"begins at 0, refused exactly at {N} open", "MAX_SHARES"),
+    (rf"Meanwhile {N} bytes may wait", "MOST_QUEUED_BYTES"),
+    (rf"At most {N} bytes wait", "MOST_QUEUED_BYTES"),
+    (rf"another {N} bytes are being written", "MOST_QUEUED_BYTES"),
+    (rf"`MAX_INTERRUPTIONS`: {N} in a row", "MAX_INTERRUPTIONS"),
+    (rf"{N} interruptions in a row are retried", "MAX_INTERRUPTIONS"),
+    (rf"followed by its pause, {N} in a row", "MAX_FAULTS_IN_A_ROW"),
+    (rf"at most {N}, by the values of `LISTEN_PID`", "MAX_SOCKETS"),
 )
 
 
 def value_of(said):
-    """The number that a page says in digits or in a word, and of a time its milliseconds."""
+    """The number that a page says in digits or in a word, of a time its milliseconds, of a size its bytes."""
     number, _, unit = said.partition(" ")
-    return (WORDS.get(number) or int(number.replace(",", ""))) * UNITS.get(unit, 1)
+    return (WORDS.get(number) or int(number.replace(",", ""))) * {**UNITS, **SIZES}.get(unit, 1)

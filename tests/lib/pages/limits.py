@@ -38,12 +38,27 @@ FILES = {
     "MAX_REFERENCES": "crates/lockword_core/src/word.rt",
     "MAX_WAITERS": "crates/lockword_core/src/word.rt",
     "MAX_SIGNALS": "crates/lockword_core/src/signals.rt",
+    "TURNS_IN_A_ROW": "crates/relay_core/src/resuming.rt",
+    "ACCEPTS_IN_A_ROW": "crates/relay_core/src/accept_task.rt",
+    "OWN_ROOM_BYTES": "crates/relay_core/src/kept.rt",
+    "BUFFER_BYTES": "crates/relay_core/src/buffers.rt",
+    "KEYS": "crates/conntable/src/token.rt",
+    "LAST_ID": "crates/conntable/src/token.rt",
+    "MAX_TRY_BYTES": "crates/rwloops/src/limits.rt",
+    "MAX_RETRIES": "crates/rwloops/src/limits.rt",
+    "MAX_SOCKETS": "crates/listen_fds/src/protocol.rt",
+    "lockword_script::MAX_LINES": "crates/lockword_script/src/script.rt",
+    "readiness::MAX_PATH_BYTES": "crates/readiness/src/addr.rt",
+    "MAX_DUE": "crates/deadline_core/src/timers.rt",
+    "MAX_SHARES": "crates/relay_ledger/src/book.rt",
 }
+# What the wrapper gives connections to end where nobody says another time.
+WRAPPER, FINISH = "packaging/pollrelay-run", re.compile(r"^finish=(\d+) ", re.M)
 # Which of them a row of the limits has, that begins so.
 ROWS = (
     ("connections at once", ("DEFAULT_PAIRS", "MAX_PAIRS")), ("rules", ("MAX_RULES",)), ("bytes of a rules file", ("MAX_BYTES",)),
-    ("a name, a Unix path", ("MAX_NAME_BYTES", "MAX_PATH_BYTES")), ("idle times and deadlines", ("DAY_MS",)),
-    ("bytes of an admin line, lines of a session", ("MAX_LINE_BYTES", "MAX_LINES")), ("event loops", ("MAX_LOOPS",)),
+    ("bytes of a rule's name", ("MAX_NAME_BYTES",)), ("bytes of a Unix path", ("MAX_PATH_BYTES",)), ("idle times and deadlines", ("DAY_MS",)),
+    ("bytes of an admin line", ("MAX_LINE_BYTES",)), ("lines of an admin session", ("MAX_LINES",)), ("event loops", ("MAX_LOOPS",)),
 )
 # Which of them the guide's rows of options and of a rule's fields have, in the cells of these heads.
 CELLS = {
@@ -61,12 +76,14 @@ def values(tree):
     """The number of each constant; of nanoseconds their milliseconds."""
     own = {path: constants(tree.text(path)) for path in set(FILES.values())}
     found = {name: own[path].get(name.split("::")[-1]) for name, path in FILES.items()}
+    finish = FINISH.search(tree.text(WRAPPER))
+    found["FINISH_MS"] = int(finish[1]) if finish else None
     return {name: it // 1_000_000 if name.endswith("_NS") and it else it for name, it in found.items()}
 
 
 def check(tree, told):
     known = values(tree)
-    if all([told.reads(isinstance(it, int), FILES[name], __file__) for name, it in known.items()]):
+    if all([told.reads(isinstance(it, int), FILES.get(name, WRAPPER), __file__) for name, it in known.items()]):
         in_rows(told, tree.text(GUIDE), known)
         in_cells(told, tree.text(GUIDE), known)
         in_sentences(tree, told, known)

@@ -4,7 +4,7 @@ import functools
 import os
 import re
 
-from lib.pages.kit import pages_of_kit
+from lib.pages.kit import is_page_of_kit
 from lib.pages.markdown import FENCE, spans
 from lib.pages.tree import ON_KIT
 
@@ -85,7 +85,7 @@ def check(tree, told):
     for page in tree.pages():
         text = tree.text(page)
         for line, path in named_files(text):
-            if page == ON_KIT and path in pages_of_kit():
+            if page == ON_KIT and is_page_of_kit(path):
                 told.passed += 1
             elif is_path(path, page) and page != CHANGES:
                 told.holds(names.is_there(path), page, f"names `{path}`, which isn't there", line)

@@ -3,7 +3,7 @@
 import functools
 import re
 
-from lib.pages.kit import pages_of_kit
+from lib.pages.kit import is_page_of_kit
 from lib.pages.markdown import spans
 from lib.pages.rust import without_comments
 from lib.pages.tree import FOLLOWED, ON_KIT
@@ -43,7 +43,7 @@ def check(tree, told):
     known = known_words(tree)
     for page in set(tree.pages()) - LEFT_OUT:
         for line, span in spans(tree.text(page)):
-            if page == ON_KIT and span in pages_of_kit():
+            if page == ON_KIT and is_page_of_kit(span):
                 told.passed += 1
             elif NAME.fullmatch(span) and TELLING.search(span):
                 for word in WORD.findall(re.sub(r"<.*?>|\(\w*\)", "", span)):

@@ -13,6 +13,8 @@ PROGRAM = "pollrelay"
 # A command: each option with whether it has to be there and whether it has a value, and how few and how many words follow.
 Command = namedtuple("Command", "options least most")
 Option = namedtuple("Option", "is_needed has_value")
+# Options of many programs that this one refuses, as its guide says.
+REFUSED = {"help", "version"}
 
 
 def makers(bodies):
@@ -68,13 +70,14 @@ def check(tree, told):
     told.holds(named == set(found), CRATES, f"the program's row lacks or has too much: {sorted(named ^ set(found))}")
     known = {it for command in found.values() for it in command.options}
     told.reads(known and "serve" in found, GRAMMAR, __file__)
+    told.holds(not known & REFUSED, GUIDE, f"says that an option is refused which the code has: {sorted(known & REFUSED)}")
     for page in (GUIDE, HELP):
         text = tree.text(page)
         for name in found:
             told.holds(re.search(rf"\b{name}\b", text), page, f"says nothing of the command `{name}`, which the code has")
         told.has_all(tree, page, [f"--{it}" for it in sorted(known)], "the option")
         for line, given in given_options(text):
-            told.holds(given in known, page, f"has an option `--{given}`, which the code has not", line)
+            told.holds(given in known | REFUSED, page, f"has an option `--{given}`, which the code has not", line)
         in_synopsis(told, page, text, found)
 
 

@@ -1,4 +1,5 @@
-"""Samples for operators: rules are five words each, and what asks a relay for its figures is right of one whose rules were read anew."""
+"""Samples for operators: rules are five words each, what asks a relay for its figures is right of one whose rules were read anew, and
+the quickstart says of the unit and of the manifest what they have."""
 
 import os
 import re
@@ -8,9 +9,12 @@ import sys
 import tempfile
 import threading
 
+from lib.pages.markdown import bare, rows
 from lib.pages.tree import HELP, UNIT
 
-TEXTFILE = "examples/prometheus/pollrelay_textfile.py"
+TEXTFILE, MANIFEST, FIRST_STEPS = "examples/prometheus/pollrelay_textfile.py", "examples/kubernetes/pollrelay.yaml", "docs/quickstart.md"
+# Where the unit lets what be written, and how the quickstart says so.
+WRITTEN = (("RuntimeDirectory", "/run", r"own Unix socket belongs below `([^`]*)`"), ("LogsDirectory", "/var/log", r"a log below `([^`]*)`"))
 RULE = re.compile(r"^\s*(?:#\s+)?relay [\w-]+ (?:tcp|unix):")
 # A relay that read its rules anew: a listener has a greater id than the two connections that stand.
 SHOWN = [f"show {it} rule web side {side} peer unix: up 6 down 17 age 9 quiet 9" for it, side in
@@ -35,6 +39,19 @@ def check(tree, told):
                 told.holds(not hides_tmp or "unix:/tmp/" not in said, page, f"the unit hides /tmp: {said.strip()}", line)
     if tree.has(TEXTFILE):
         figures(tree, told)
+    first_steps(tree, told)
+
+
+def first_steps(tree, told):
+    """The quickstart's folders are the unit's, and its pages for probes are the manifest's."""
+    text, unit, manifest = (tree.text(it) for it in (FIRST_STEPS, UNIT, MANIFEST))
+    for key, top, words in WRITTEN:
+        said, given = re.search(words, text), re.search(rf"^{key}=(\S+)", unit, re.M)
+        if told.reads(said, FIRST_STEPS, __file__) and told.reads(given, UNIT, __file__):
+            told.holds(said[1] == f"{top}/{given[1]}", FIRST_STEPS, f"says {said[1]}, and the unit has {key}={given[1]}")
+    table = {bare(cells[0]): cells[-1] for _, cells in rows(text)}
+    for kind, path in re.findall(r"(\w+)Probe:\s+httpGet:\s+path: (\S+)", manifest):
+        told.holds(f"`{path}`" in table.get(kind, ""), FIRST_STEPS, f"its row {kind} hasn't {path}, which the manifest asks")
 
 
 def figures(tree, told):

@@ -1,10 +1,13 @@
-"""What pages said once and the code has made false. A row has what in the code makes it so, and by which words it was said."""
+"""What pages said once and the code has made false, and what they say that the code could make false unseen. A row has what in the code
+makes it so, and by which words it is said."""
 
 import re
 
+from lib.pages.tree import GUIDE
+
 ROWS = (
     # (an operator who believes it restarts the service for each rule, which cuts every connection)
-    ("crates/relay_admin/src/admin/command.rt", r'b"reload"', r"read at the start alone|systemctl restart pollrelay", "rules are read anew by `reload`"),
+    ("crates/relay_admin/src/admin/command.rt", r'b"reload"', r"read at the start alone|rules[^.\n]{0,60}systemctl restart pollrelay|systemctl restart pollrelay[^.\n]{0,40}\brules", "rules are read anew by `reload`"),
     ("crates/relay_command/src/job.rt", r'== "--" =>', r"`--`[^|.\n]*\| ?Refused|`--` is refused", "a `--` at the end is taken"),
     ("crates/readiness/src/holding.rt", r"pub struct HeldSocket", r"entry for it \(`Held`\)", "the entry of a table is `HeldSocket`"),
     # (an author who looks for that thread's locks finds none)
@@ -14,9 +17,22 @@ ROWS = (
     # (a listener that came by a reload has a greater id than connections that stand)
     ("crates/relay_admin/src/admin/command.rt", r'b"reload"', r"whose ids come first", "after a reload a listener may have any id"),
 )
+# What a page says of sockets: the page, its words, files of the code, what they set, and whether they do.
+OPTIONS = (
+    (GUIDE, r"TCP connections have `TCP_NODELAY`", r"crates/readiness/src/(?:sock|open)\.rt", r"\bset_nodelay\(true\)", True),
+    (GUIDE, r"TCP keepalive is off", r"crates/(?:readiness|listen_fds|net|relay\w*)/src/.*\.rt", r"(?i)keep_?alive", False),
+)
+
+
+def of_sockets(tree, told):
+    for page, words, files, option, is_set in OPTIONS:
+        if told.reads(re.search(words, tree.text(page)), page, __file__):
+            for path in tree.paths(files):
+                told.holds(bool(re.search(option, tree.text(path))) == is_set, page, f"says “{words}”, and {path} says otherwise")
 
 
 def check(tree, told):
+    of_sockets(tree, told)
     pages = {it: tree.text(it) for it in (*tree.pages(), *tree.samples())}
     for file, fact, words, said in ROWS:
         if not told.reads(re.search(fact, tree.text(file)), file, __file__):

@@ -3,8 +3,8 @@
 import functools
 import os
 import re
-import subprocess
 
+from lib.pages.kit import said_by_kit
 from lib.pages.links import ANY
 
 # What is called in lines of shell, each with the part of the tests that tries such lines, or with why none does.
@@ -46,6 +46,8 @@ UNTRIED = {
     "packaging/deb.sh": "`package`",
     "bench/go_word/build.sh": "makes a bench of Go's word, which measures and shows nothing",
     "bench/relay/tail.py": "measures and shows nothing",
+    "bench/relay/memory.py": "measures and shows nothing",
+    "bench/relay/instructions.py": "measures and shows nothing",
     "bench/echo/run.py": "measures and shows nothing",
     "bench/echo_turns.py": "measures and shows nothing",
 }
@@ -55,9 +57,8 @@ OPTION = re.compile(r"--[a-z][\w-]*")
 
 @functools.cache
 def words_of_kit():
-    """The words of what the kit says of itself."""
-    said = subprocess.run(["rt", "help"], capture_output=True, text=True, check=False)
-    return set(re.findall(r"[\w-]+", said.stdout + said.stderr))
+    """The words of what the kit says of itself; none where there is no kit."""
+    return set(re.findall(r"[\w-]+", said_by_kit("help")))
 
 
 class Scripts:
@@ -115,7 +116,8 @@ class Scripts:
     def wrong_of_kit(self, words):
         if not words or ANY.search(words[0]) or words[0].startswith("-"):
             return None
-        return f"the kit has no command `{words[0]}`" if words[0] not in words_of_kit() else None
+        known = words_of_kit()
+        return f"the kit has no command `{words[0]}`" if known and words[0] not in known else None
 
     def check_tables(self, told):
         """Each part that tries what was called is there, and so is each script."""

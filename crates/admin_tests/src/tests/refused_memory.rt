@@ -9,14 +9,10 @@ use stream_base::writer_sink::WriterSink;
 
 const LINES: &str = "list\ntotals\nclose 1\nquit\n";
 
-// What is replied where memory is refused for neither, one or both of the two lines.
+// What is replied where memory is refused for no line, or for the totals: a list takes none.
 const BOTH: &str = "ids 1001 1002 1003 1004 1005 1006\ntotals up 12 down 0\nok\nok\n";
 
 const NO_TOTALS: &str = "ids 1001 1002 1003 1004 1005 1006\nerror 507 out of memory\nok\nok\n";
-
-const NO_IDS: &str = "error 507 out of memory\ntotals up 12 down 0\nok\nok\n";
-
-const NEITHER: &str = "error 507 out of memory\nerror 507 out of memory\nok\nok\n";
 
 /// What a session of these lines replies where its replies take memory of this heap, if it ends by
 /// `quit` after so many questions.
@@ -63,8 +59,8 @@ fn is_one_of(replies: &[u8], refused: &[&str]) -> bool {
 
 #[test]
 fn refused_memory_is_replied_and_the_session_goes_on(rt: HostRuntime) {
-    let count = refusals(rt.alloc(), LINES, 3, BOTH, &[NO_TOTALS, NO_IDS, NEITHER]);
-    assert!(rt; count.is_some_and(|count| count > 2), "{count:?} refusals");
+    let count = refusals(rt.alloc(), LINES, 3, BOTH, &[NO_TOTALS]);
+    assert!(rt; count.is_some_and(|count| count > 0), "{count:?} refusals");
 }
 
 const SHOW_AND_RELOAD: &str = "show 7\nreload\nreload\nquit\n";

@@ -141,6 +141,24 @@ fn locks_queues_and_signals_come_to_the_words_of_the_rows(rt: HostRuntime) -> Re
     play_all(&rt, rt.alloc(), ROWS)
 }
 
+/// Takes the read lock and gives it back.
+fn reads<R: Abort>(rt: &R, word: &Counters, seat: CounterSeat) -> CounterSeat
+    requires { IsSeatOf word.now (seat_place seat) }
+    ensures { IsSeatOf word.now (seat_place result) }
+{
+    let reader = want!(rt; word.try_lock_read(seat), LockRead::Held);
+    want!(rt; word.try_unlock_read(reader), UnlockRead::Free)
+}
+
+/// Takes the write lock and gives it back.
+fn writes<R: Abort>(rt: &R, word: &Counters, seat: CounterSeat) -> CounterSeat
+    requires { IsSeatOf word.now (seat_place seat) }
+    ensures { IsSeatOf word.now (seat_place result) }
+{
+    let writer = want!(rt; word.try_lock_write(seat), LockWrite::Held);
+    want!(rt; word.try_unlock_write(writer), UnlockWrite::Free)
+}
+
 /// One seat takes and gives back a reference and each lock, again and again.
 fn rounds<R: Abort>(rt: &R, word: &Counters, seat: CounterSeat, count: u64) -> CounterSeat
     requires { IsSeatOf word.now (seat_place seat) }
@@ -150,10 +168,8 @@ fn rounds<R: Abort>(rt: &R, word: &Counters, seat: CounterSeat, count: u64) -> C
     for _ in 0..count {
         let held = want!(rt; word.try_incref(seat), Incref::Held);
         let free = want!(rt; word.drop_ref(held), Freed::Kept);
-        let reader = want!(rt; word.try_lock_read(free), LockRead::Held);
-        let free = want!(rt; word.try_unlock_read(reader), UnlockRead::Free);
-        let writer = want!(rt; word.try_lock_write(free), LockWrite::Held);
-        seat = want!(rt; word.try_unlock_write(writer), UnlockWrite::Free);
+        let free = reads(rt, word, free);
+        seat = writes(rt, word, free);
     }
     seat
 }

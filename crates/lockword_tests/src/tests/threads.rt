@@ -18,7 +18,7 @@ use std::time::Clock;
 
 /// How often each adds. Each time may wait until another thread has run: on a machine that is full of
 /// other work that takes milliseconds.
-const TIMES: u64 = 200;
+const TIMES: u64 = 40;
 
 /// Adds one, and lets other threads run between the load and the store.
 pub(super) fn add_slowly(half: &mut u64) {

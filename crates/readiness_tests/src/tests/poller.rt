@@ -4,6 +4,7 @@
 ghost use Rattle.std.specs.Prelude.{◌≡◌};
 ghost use Rattle.std.specs.Arc.{arc_value};
 
+mod alarm_rows;
 mod alarms;
 mod batch_rows;
 mod bulk;

@@ -1,24 +1,41 @@
 -- What the program's replies to a line say, and what the parts of a listing come to.
-use Rattle.std.specs.Prelude.{◌≡◌, ◌⊎◌, ℕ, List, [], ◌∷◌, Option, Some, None, drop}
+use Rattle.std.specs.Prelude.{◌≡◌, ◌<◌, ◌⊎◌, ◌++◌, ℕ, Bool, true, false, List, [], ◌∷◌, Option, Some, None}
+use Rattle.std.specs.Prelude.{codes, drop, length}
 use Rattle.relay_admin.specs.declared.admin.line_reply.LineReply.{LineReply}
 use Rattle.relay_admin.specs.declared.admin.line_reply.LineReply.TheVariants as lines
 use Rattle.relay_admin.specs.declared.admin.listing.Listing.{Listing}
+use Rattle.relay_admin.specs.declared.admin.listing.Making.{Making}
+use Rattle.relay_admin.specs.declared.admin.listing.Making.TheVariants as making
 use Rattle.relay_admin.specs.declared.admin.listing.Part.{Part}
 use Rattle.relay_admin.specs.declared.admin.listing.Part.TheVariants as part
 use Rattle.relay_admin.specs.declared.admin.reply_text.TheConstants.{OUT_OF_MEMORY, SHOWN_ALL}
 use Rattle.relay_admin.specs.admin.Listing.{Said, whole, each}
-use Rattle.relay_admin.specs.admin.Reply.{Exchange, Looks}
+use Rattle.relay_admin.specs.admin.Reply.{Exchange, Looks, ids_text}
 use Rattle.relay_admin.specs.admin.ReplyBytes.{bytes_of}
 use Rattle.relay_admin.specs.admin.Shown.{Particulars, shown_text}
 
--- the ids that are still to be shown
-abbrev pub left_of : Listing → List ℕ
-left_of listing = drop listing.next listing.ids.items
+-- the ids of which nothing is made yet
+abbrev pub ids_left : Listing → List ℕ
+ids_left listing = drop listing.next listing.ids.items
+
+-- the line that has ids: with its first word, or what comes behind that
+abbrev pub line_of_ids : (is_begun : Bool) → List ℕ → List ℕ
+line_of_ids true list = ids_text list ++ 10 ∷ []
+line_of_ids false list = codes "ids" ++ ids_text list ++ 10 ∷ []
+
+-- what is made of ids
+abbrev pub made_of : Making → List ℕ → Said
+made_of making.Lines list = each list
+made_of (making.OneLine is_begun) list = whole (line_of_ids is_begun list)
+
+-- what is still to come of a listing
+abbrev pub left_of : Listing → Said
+left_of listing = made_of listing.making (ids_left listing)
 
 -- what a reply of the program says
 abbrev pub said_of : {A : Type 0} → LineReply A → Said
 said_of (lines.Whole reply) = whole (bytes_of reply)
-said_of (lines.Each listing) = each (left_of listing)
+said_of (lines.Each listing) = left_of listing
 
 -- a part is the line of what was seen, or the last one
 abbrev pub IsPartOf : {A : Type 0} → Part A → Particulars → Type 0
@@ -33,14 +50,30 @@ IsPartOfLook part.Gone None = Unit {0}
 IsPartOfLook part None = ⊥
 
 -- a part shows the next id, after a look at it; where no id is left it is the last
-abbrev pub PartComes : {A : Type 0} → Part A → List ℕ → List ℕ
+abbrev pub LineComes : {A : Type 0} → Part A → List ℕ → List ℕ
     → Option (List Exchange) → Option (List Exchange) → Type 0
-PartComes part.Gone left left' asked asked' =
+LineComes part.Gone left left' asked asked' =
     (id : ℕ) × (left ≡ id ∷ left') × Looks asked asked' id None
-PartComes (part.Line reply) left left' asked asked' =
+LineComes (part.Line reply) left left' asked asked' =
     (seen : Particulars) × (left ≡ seen.id ∷ left') × Looks asked asked' seen.id (Some seen)
     × IsPartOf (part.Line reply) seen
-PartComes (part.Last reply) left left' asked asked' =
+LineComes (part.Last reply) left left' asked asked' =
     ((left ≡ []) × (asked' ≡ asked) × (bytes_of reply ≡ SHOWN_ALL.now))
     ⊎ ((seen : Particulars) × (left ≡ seen.id ∷ left') × Looks asked asked' seen.id (Some seen)
     × IsPartOf (part.Last reply) seen)
+
+-- a part is the front of a text, and not empty; or all of it, and the last
+abbrev pub IsPartOfLine : {A : Type 0} → Part A → (text text' : List ℕ) → Type 0
+IsPartOfLine part.Gone text text' = ⊥
+IsPartOfLine (part.Line reply) text text' =
+    (text ≡ bytes_of reply ++ text') × (0 < length (bytes_of reply))
+IsPartOfLine (part.Last reply) text text' = bytes_of reply ≡ text
+
+-- a part of what was to come; then this is to come
+abbrev pub PartComes : {A : Type 0} → Part A → Said → Said
+    → Option (List Exchange) → Option (List Exchange) → Type 0
+PartComes part (each left) (each left') asked asked' = LineComes part left left' asked asked'
+PartComes part (whole text) (whole text') asked asked' =
+    (asked' ≡ asked) × IsPartOfLine part text text'
+PartComes part (each left) (whole text') asked asked' = ⊥
+PartComes part (whole text) (each left') asked asked' = ⊥

@@ -47,10 +47,14 @@ answer_of variant.CannotRead = cannot_read
 answer_of (variant.CannotListen name) = cannot_listen name.bytes
 answer_of variant.Device = device
 
+-- ids, each behind a space
+abbrev pub ids_text : List ℕ → List ℕ
+ids_text list = flat_map (λ id. space ∷ decimal id) list
+
 -- the reply to an answer, with its line feed; `ids` and `totals` stand in `src/admin/reply.rt` as
 -- formats, which are no constants that could be cited, so their words are spelled here too
 abbrev pub reply_text : Answer → List ℕ
-reply_text (ids list) = codes "ids" ++ flat_map (λ id. space ∷ decimal id) list ++ 10 ∷ []
+reply_text (ids list) = codes "ids" ++ ids_text list ++ 10 ∷ []
 reply_text (totals up down) =
     codes "totals up " ++ (decimal up ++ (codes " down " ++ (decimal down ++ 10 ∷ [])))
 reply_text fine = DONE.now

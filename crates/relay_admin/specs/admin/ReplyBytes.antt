@@ -1,4 +1,4 @@
--- The bytes of a reply that is to be written. No public clause cites this module.
+-- The bytes of a reply that is to be written.
 use Rattle.std.specs.Prelude.{ℕ, List}
 use Rattle.relay_admin.specs.declared.admin.reply_bytes.Reply.{Reply}
 use Rattle.relay_admin.specs.declared.admin.reply_bytes.Reply.TheVariants as variant
@@ -7,4 +7,5 @@ use Rattle.relay_admin.specs.declared.admin.reply_bytes.Reply.TheVariants as var
 abbrev pub bytes_of : {A : Type 0} → Reply A → List ℕ
 bytes_of (variant.Fixed text) = text.now
 bytes_of (variant.Held text) = text.bytes
+bytes_of (variant.Piece text) = text.bytes
 bytes_of (variant.Made text) = text.items

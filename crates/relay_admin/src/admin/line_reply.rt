@@ -2,7 +2,7 @@
 
 ghost use Rattle.std.specs.Prelude.{◌≡◌, IfErr, IfOk, None, OnErr, OnOk, Some, true};
 ghost use Rattle.relay_admin.specs.Words.{ℕ, List, WriteStopped};
-ghost use Rattle.relay_admin.specs.admin.Listing.{Comes, AnswerComesTo, each, ids_to_show};
+ghost use Rattle.relay_admin.specs.admin.Listing.{Comes, AnswerComesTo, ids_to_show};
 ghost use Rattle.relay_admin.specs.admin.Parts.{left_of, said_of};
 ghost use Rattle.relay_admin.specs.admin.Progress.{Delivers, DeliversFront};
 ghost use Rattle.relay_admin.specs.admin.Reply.{Exchange, answer_of};
@@ -20,22 +20,24 @@ use stream_base::sink::{Sink, SinkFault, deliver_to};
 pub enum LineReply<A: Allocator> {
     /// A text that is whole.
     Whole(Reply<A>),
-    /// A line for each of some ids, which are made one at a time.
+    /// One that is made a part at a time.
     Each(Listing),
 }
 
-// The ids whose lines a command has for this answer; otherwise the answer, as it was.
-fn shown_ids(command: &Command, answer: DeskAnswer) -> Result<Vec<u64>, DeskAnswer>
-    ensures ids { IfOk result (λ ids. ids_to_show command.now (answer_of answer) ≡ Some ids.items) }
+// The listing that a command has for this answer; otherwise the answer, as it was.
+fn listing_of(command: &Command, answer: DeskAnswer) -> Result<Listing, DeskAnswer>
+    ensures listing { IfOk result (λ listing. (looks : List Exchange) → (text : List ℕ)
+        → Comes (left_of listing) looks text
+        → AnswerComesTo (ids_to_show command.now (answer_of answer)) (answer_of answer) looks text) }
     ensures other { IfErr result (λ same. (ids_to_show command.now (answer_of answer) ≡ None)
         × (same ≡ answer)) }
 {
-    match command {
-        Command::ShowAll => match answer {
-            DeskAnswer::Ids(ids) => Ok(ids),
-            other => Err(other),
+    match answer {
+        DeskAnswer::Ids(ids) => match command {
+            Command::ShowAll => Ok(Listing::lines(ids)),
+            _ => Ok(Listing::one_line(ids)),
         },
-        _ => Err(answer),
+        other => Err(other),
     }
 }
 
@@ -48,8 +50,8 @@ pub(crate) fn line_reply_to<A: Allocator + Copy>(
     ensures { (looks : List Exchange) → (text : List ℕ) → Comes (said_of result) looks text
         → AnswerComesTo (ids_to_show command.now (answer_of answer)) (answer_of answer) looks text }
 {
-    match shown_ids(command, answer) {
-        Ok(ids) => LineReply::Each(Listing::of(ids)),
+    match listing_of(command, answer) {
+        Ok(listing) => LineReply::Each(listing),
         Err(same) => LineReply::Whole(reply_to(memory, &same)),
     }
 }
@@ -87,11 +89,11 @@ fn deliver_each<A: Allocator + Copy, K: Sink, D: Desk>(
     listing: Listing,
 ) -> Result<(), SinkFault>
     requires uninterrupted { K.interruptions sink.old ≡ 0 }
-    ensures ok { OnOk result (Delivers (each (left_of listing)) (D.exchanges desk.old)
+    ensures ok { OnOk result (Delivers (left_of listing) (D.exchanges desk.old)
         (D.exchanges desk.new) (K.contents sink.old) (K.contents sink.new)) }
     ensures row { OnOk result (K.interruptions sink.new ≡ 0) }
     ensures flushed { OnOk result (K.flushed sink.new ≡ true) }
-    ensures front { OnErr result (DeliversFront (each (left_of listing)) (D.exchanges desk.old)
+    ensures front { OnErr result (DeliversFront (left_of listing) (D.exchanges desk.old)
         (D.exchanges desk.new) (K.contents sink.old) (K.contents sink.new)) }
     ensures cause { OnErr result
         (WriteStopped (K.failed sink.new) (K.interruptions sink.new) (K.took_nothing sink.new)) }

@@ -1,22 +1,38 @@
-//! The reply to `show` without an id, which is made a part at a time: so it takes memory for one line,
-//! and others go on between two parts. What comes meanwhile isn't shown, and what goes may not be.
+//! A reply that is made a part at a time: that to `list`, a line of ids, and that to `show` without
+//! an id, a line for each. So it takes no memory for all at once, and others go on between two parts.
+//! What comes meanwhile isn't in it, and what goes may not be shown.
 
-ghost use Rattle.std.specs.Prelude.{◌≡◌, ◌∷◌, [], IfNone, IfSome, option_map};
-ghost use Rattle.relay_admin.specs.admin.Parts.{IsPartOfLook, PartComes, left_of};
+ghost use Rattle.std.specs.Prelude.{◌≡◌, ◌∷◌, [], true, IfNone, IfSome, option_map};
+ghost use Rattle.relay_admin.specs.admin.Listing.{each, whole};
+ghost use Rattle.relay_admin.specs.admin.Parts.{IsPartOfLook, IsPartOfLine, PartComes};
+ghost use Rattle.relay_admin.specs.admin.Parts.{ids_left, left_of, line_of_ids};
+ghost use Rattle.relay_admin.specs.admin.Reply as answers;
 ghost use Rattle.relay_admin.specs.admin.Shown.{particulars_of};
+ghost use Rattle.relay_admin.specs.declared.admin.listing.Making.{Making};
 
 use crate::admin::desk::Desk;
+use crate::admin::id_line::{add_ids, first_word};
 use crate::admin::reply_bytes::Reply;
 use crate::admin::reply_text::{OUT_OF_MEMORY, SHOWN_ALL};
 use crate::admin::session_desk::SessionDesk;
 use crate::admin::shown::Shown;
 use std::alloc::Allocator;
 
-/// The ids that are to be shown, and the place of the first that isn't yet.
+/// What is made of ids.
+#[derive(Clone, Copy)]
+enum Making {
+    /// A line for each that stands for something still, and a last one.
+    Lines,
+    /// One line that has them all; whether its first word is made.
+    OneLine(bool),
+}
+
+/// Ids, the place of the first of which nothing is made yet, and what is made of them.
 #[derive(Drop)]
 pub struct Listing {
     ids: Vec<u64>,
     next: usize,
+    making: Making,
 }
 
 /// A part of a listing.
@@ -24,22 +40,38 @@ pub struct Listing {
 pub enum Part<A: Allocator> {
     /// The next id stands for nothing by now: there is nothing to write, and more may follow.
     Gone,
-    /// Its line. More follows.
+    /// A line, or a piece of one. More follows.
     Line(Reply<A>),
-    /// The last line: no id is left, or memory for a line was refused.
+    /// The last line, or the last piece: no id is left, or memory for a line was refused.
     Last(Reply<A>),
 }
 
 impl Listing {
-    /// Of these ids none is shown yet.
-    pub(crate) fn of(ids: Vec<u64>) -> Listing
-        ensures { left_of result ≡ ids.items }
+    /// A line for each of these ids, of which none is shown yet.
+    pub(crate) fn lines(ids: Vec<u64>) -> Listing
+        ensures { left_of result ≡ each ids.items }
     {
-        Listing { ids, next: 0 }
+        Listing {
+            ids,
+            next: 0,
+            making: Making::Lines,
+        }
     }
 
-    /// The next part, for which the desk is asked for one look at most. Its line takes memory of
-    /// `memory`; where that is refused, `error 507 out of memory` is the last one.
+    /// The line that has these ids, of which nothing is made yet.
+    pub(crate) fn one_line(ids: Vec<u64>) -> Listing
+        ensures { left_of result ≡ whole (answers.reply_text (answers.ids ids.items)) }
+    {
+        Listing {
+            ids,
+            next: 0,
+            making: Making::OneLine(false),
+        }
+    }
+
+    /// The next part, for which the desk is asked for one look at most. A line of what was seen takes
+    /// memory of `memory`; where that is refused, `error 507 out of memory` is the last one. A piece
+    /// of one line takes none.
     pub fn next_part<A: Allocator + Copy, D: SessionDesk>(
         &mut self,
         memory: A,
@@ -48,6 +80,9 @@ impl Listing {
         ensures { PartComes result (left_of self.old) (left_of self.new)
             (D.exchanges desk.old) (D.exchanges desk.new) }
     {
+        if let Making::OneLine(is_begun) = self.making {
+            return self.next_piece(is_begun);
+        }
         match self.next_id() {
             Some(id) => part_of(memory, desk.look(id)),
             None => Part::Last(Reply::Fixed(SHOWN_ALL)),
@@ -63,16 +98,20 @@ impl Listing {
         ensures { PartComes result (left_of self.old) (left_of self.new)
             (D.exchanges desk.old) (D.exchanges desk.new) }
     {
+        if let Making::OneLine(is_begun) = self.making {
+            return self.next_piece(is_begun);
+        }
         match self.next_id() {
             Some(id) => part_of(memory, desk.look(id)),
             None => Part::Last(Reply::Fixed(SHOWN_ALL)),
         }
     }
 
-    // Takes the next id that is still to be shown.
+    // Takes the next id of which nothing is made yet.
     fn next_id(&mut self) -> Option<u64>
-        ensures id { IfSome result (λ id. left_of self.old ≡ id ∷ left_of self.new) }
-        ensures none { IfNone result ((left_of self.old ≡ []) × (left_of self.new ≡ [])) }
+        ensures id { IfSome result (λ id. ids_left self.old ≡ id ∷ ids_left self.new) }
+        ensures none { IfNone result ((ids_left self.old ≡ []) × (ids_left self.new ≡ [])) }
+        ensures making { self.new.making ≡ self.old.making }
     {
         if self.next >= self.ids.len() {
             return None;
@@ -80,6 +119,22 @@ impl Listing {
         let id = self.ids[self.next];
         self.next += 1;
         Some(id)
+    }
+
+    // The next piece of one line, of which the first word is made or isn't.
+    fn next_piece<A: Allocator>(&mut self, is_begun: bool) -> Part<A>
+        ensures piece { IsPartOfLine result (line_of_ids is_begun (ids_left self.old))
+            (line_of_ids true (ids_left self.new)) }
+        ensures begun { self.new.making ≡ Making.OneLine true }
+    {
+        let mut piece = first_word(is_begun);
+        self.making = Making::OneLine(true);
+        self.next = add_ids(&mut piece, self.ids.as_slice(), self.next);
+        if self.next < self.ids.len() {
+            return Part::Line(Reply::Piece(piece));
+        }
+        piece.push_str("\n");
+        Part::Last(Reply::Piece(piece))
     }
 }
 

@@ -6,17 +6,18 @@ ghost use Rattle.std.specs.Prelude.{◌≡◌, ◌≢◌, [], true, false, lengt
 ghost use Rattle.std.specs.Prelude.{IfNone, IfSome, None};
 ghost use Rattle.relay_admin.specs.admin.Later.{IsAnswered, LastLineComesTo, NextLineComesTo};
 ghost use Rattle.relay_admin.specs.admin.Later.{TakesNoAnswer, held_by};
-ghost use Rattle.relay_admin.specs.admin.Parts.{said_of};
+ghost use Rattle.relay_admin.specs.admin.Listing.{whole};
 ghost use Rattle.relay_admin.specs.admin.Progress.{ahead_of, position, start};
+ghost use Rattle.relay_admin.specs.admin.ReplyBytes.{bytes_of};
 ghost use Rattle.stream_base.specs.declared.line_reader.TheConstants.{CHUNK_BYTES};
 
 use crate::admin::answers::LateAnswer;
 use crate::admin::command::Command;
 use crate::admin::dialogue::Dialogue;
 use crate::admin::end::AdminEnd;
-use crate::admin::line_reply::LineReply;
 use crate::admin::next_line::NextLine;
 use crate::admin::reply::reply_to;
+use crate::admin::reply_bytes::Reply;
 use crate::admin::session_desk::SessionDesk;
 use std::alloc::{Allocator, Global};
 use std::marker::Model;
@@ -129,9 +130,9 @@ impl AdminSession {
         &mut self,
         memory: A,
         answer: LateAnswer,
-    ) -> Option<(LineReply<A>, Option<AdminEnd>)>
+    ) -> Option<(Reply<A>, Option<AdminEnd>)>
         ensures answered { IfSome result (λ told.
-            IsAnswered answer told.1 self.old self.new (said_of told.0)) }
+            IsAnswered answer told.1 self.old self.new (whole (bytes_of told.0))) }
         ensures refused { IfNone result ((self.new ≡ self.old) × TakesNoAnswer answer self.old) }
     {
         let question = self.held?;
@@ -139,7 +140,7 @@ impl AdminSession {
             return None;
         }
         self.held = None;
-        let reply = LineReply::Whole(reply_to(memory, &answer.told()));
+        let reply = reply_to(memory, &answer.told());
         let end = self.dialogue.go_behind_line(None);
         Some((reply, end))
     }

@@ -134,3 +134,47 @@ fn a_session_takes_bytes_once_all_before_are_answered(rt: HostRuntime) {
         assert!(rt; taken(*before, *count) == *want, "{count} behind {before}");
     }
 }
+
+/// Ids that take 21 bytes each, with their spaces.
+const LONG_IDS: &[u64] = &[18_446_744_073_709_551_615; 100];
+
+/// The reply to a list of these ids, and the bytes of its longest part; none where memory was refused.
+fn listed(alloc: Global) -> Option<(Vec<u8>, usize)> {
+    let mut desk = FakeDesk::new();
+    desk.ids = LONG_IDS;
+    let mut session = AdminSession::new();
+    session.take(b"list\n");
+    let NextLine::Reply(LineReply::Each(listing), None) = session.next_reply(
+        alloc, alloc, &mut desk,
+    ) else {
+        return None;
+    };
+    let mut listing = listing;
+    let (mut text, mut longest) = (Vec::new(alloc), 0usize);
+    for _ in 0..MOST_PARTS {
+        let (part, is_last) = match listing.next_part(alloc, &mut desk) {
+            Part::Gone => return None,
+            Part::Line(part) => (part, false),
+            Part::Last(part) => (part, true),
+        };
+        longest = longest.max(part.as_slice().len());
+        text.extend_from_slice(part.as_slice()).ok()?;
+        if is_last {
+            return Some((text, longest));
+        }
+    }
+    None
+}
+
+#[test]
+fn a_long_list_comes_in_pieces_of_one_line(rt: HostRuntime) {
+    let (text, longest) = listed(rt.alloc()).expect(&rt, "a list");
+    assert!(rt; longest > 256 && longest <= 512, "{longest}");
+    let one_id = b" 18446744073709551615";
+    assert!(rt; text.as_slice().starts_with(b"ids"), "its first word");
+    assert!(rt; text.as_slice().ends_with(b"\n"), "its end");
+    for id in text.as_slice()[3..text.len() - 1].chunks(21) {
+        assert!(rt; id == one_id.as_slice(), "{id:?}");
+    }
+    assert!(rt; text.len() == 4 + 21 * LONG_IDS.len(), "{}", text.len());
+}

@@ -3,7 +3,7 @@
 ghost use Rattle.std.specs.Prelude.{None};
 
 use relay_admin::{
-    AdminEnd, AdminSession, CloseAnswer, LateAnswer, LineReply, NextLine, ReloadAnswer,
+    AdminEnd, AdminSession, CloseAnswer, LateAnswer, LineReply, NextLine, Part, ReloadAnswer,
     SessionDesk, Shown, SteerAnswer, TotalBytes,
 };
 use std::alloc::{AllocError, Global};
@@ -104,24 +104,33 @@ enum Deed {
     Asked(u64),
 }
 
-fn is_reply(reply: LineReply<Global>, text: &str) -> bool {
-    match reply {
-        LineReply::Whole(reply) => reply.as_slice() == text.as_bytes(),
-        LineReply::Each(_) => false,
+/// Whether a reply is this text, as a whole or as its only part.
+fn is_reply(alloc: Global, desk: &mut LateDesk, reply: LineReply<Global>, text: &str) -> bool {
+    let listing = match reply {
+        LineReply::Whole(reply) => return reply.as_slice() == text.as_bytes(),
+        LineReply::Each(listing) => listing,
+    };
+    let mut listing = listing;
+    match listing.next_part(alloc, desk) {
+        Part::Last(part) => part.as_slice() == text.as_bytes(),
+        _ => false,
     }
 }
 
-fn is_next(next: NextLine<Global>, text: &str, want: Option<AdminEnd>) -> bool {
+/// A text, and how the session ends by it, if it does.
+type Want = (&'static str, Option<AdminEnd>);
+
+fn is_next(alloc: Global, desk: &mut LateDesk, next: NextLine<Global>, want: Want) -> bool {
     match next {
-        NextLine::Reply(reply, end) => end == want && is_reply(reply, text),
+        NextLine::Reply(reply, end) => end == want.1 && is_reply(alloc, desk, reply, want.0),
         _ => false,
     }
 }
 
 fn is_answered(session: &mut AdminSession, alloc: Global, answer: LateAnswer, text: &str) -> bool {
     match session.answer(alloc, answer) {
-        Some((reply, end)) => end.is_none() && is_reply(reply, text) && !session.is_held(),
-        None => false,
+        Some((reply, None)) => { reply.as_slice() == text.as_bytes() && !session.is_held() }
+        _ => false,
     }
 }
 
@@ -129,13 +138,18 @@ fn is_answered(session: &mut AdminSession, alloc: Global, answer: LateAnswer, te
 fn does(alloc: Global, session: &mut AdminSession, desk: &mut LateDesk, deed: Deed) -> bool {
     match deed {
         Deed::Writes(text) => session.take(text.as_bytes()) == text.len(),
-        Deed::Replies(text) => is_next(session.next_reply(alloc, alloc, desk), text, None),
-        Deed::Ends(text, end) => is_next(session.next_reply(alloc, alloc, desk), text, Some(end)),
-        Deed::EndsLast(text, end) => is_next(
-            session.last_reply(alloc, alloc, desk),
-            text,
-            Some(end),
-        ),
+        Deed::Replies(text) => {
+            let next = session.next_reply(alloc, alloc, desk);
+            is_next(alloc, desk, next, (text, None))
+        }
+        Deed::Ends(text, end) => {
+            let next = session.next_reply(alloc, alloc, desk);
+            is_next(alloc, desk, next, (text, Some(end)))
+        }
+        Deed::EndsLast(text, end) => {
+            let next = session.last_reply(alloc, alloc, desk);
+            is_next(alloc, desk, next, (text, Some(end)))
+        }
         Deed::HasNoLine => match session.next_reply(alloc, alloc, desk) {
             NextLine::Unended => !session.is_held(),
             _ => false,

@@ -80,7 +80,12 @@ impl<R: Wait + Clock + Abort + Copy + Drop> Task<R> {
 }
 
 impl<R: Wait + Clock + Abort + Copy + Drop> Host for Crew<R> {
+    ghost use Rattle.std.specs.Prelude.{None};
+
     type Task = Task<R>;
+
+    // A task awaits no moment of its own.
+    ghost awaited = { λ _. None };
 
     fn cell<'a>(&self, task: &'a Task<R>, side: Side) -> Option<&'a PollCell> {
         match side {
@@ -97,6 +102,10 @@ impl<R: Wait + Clock + Abort + Copy + Drop> Host for Crew<R> {
             }
         }
         Turn::Again
+    }
+
+    fn until(&self, _task: &Task<R>) -> Option<u64> {
+        None
     }
 
     fn over(&mut self, task: Task<R>) {

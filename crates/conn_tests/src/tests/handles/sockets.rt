@@ -40,13 +40,16 @@ fn share<R: Abort>(rt: &R, handle: &mut FdHandle<SockRes>) -> FdHandle<SockRes> 
     handle.share().expect(rt, "a share")
 }
 
-/// Many bytes, put together of pieces: a vector that is made whole takes seconds.
-fn many(alloc: Global) -> Option<Vec<u8>> {
+/// What a step writes that has to be cut: many bytes, put together of pieces, since a vector that is
+/// made whole takes seconds. Other steps write none of these.
+fn bulk_of(alloc: Global, step: Step) -> Vec<u8> {
     let mut bytes = Vec::new(alloc);
-    for _ in 0..PIECES {
-        bytes.extend_from_slice(&[7; PIECE]).ok()?;
+    if matches!(step, Step::Cut | Step::BufferedCut(_)) {
+        for _ in 0..PIECES {
+            let _ = bytes.extend_from_slice(&[7; PIECE]);
+        }
     }
-    Some(bytes)
+    bytes
 }
 
 /// Reads at most so many bytes.
@@ -106,11 +109,20 @@ impl<R: Wait + Abort + Copy + Drop> Scene<R> {
         self.handle(End::Near).close_write(&rt) == want
     }
 
-    /// Reads on to the end at the far end.
+    /// Reads on to the end at the far end, and counts what comes there. The bytes aren't kept: on a
+    /// busy machine so many take longer to copy than a step may.
     fn comes(&mut self) -> Told {
         let rt = self.rt;
-        let mut came = Vec::new(self.alloc);
-        told(HandleReader::new(rt, share(&rt, self.handle(End::Far))).read_to_end(&mut came))
+        let mut reader = HandleReader::new(rt, share(&rt, self.handle(End::Far)));
+        let (mut piece, mut came) = ([0; PIECE], 0usize);
+        for _ in 0..u32::MAX {
+            match told(reader.read(&mut piece)) {
+                Ok(0) => break,
+                Ok(count) => came = came.saturating_add(count),
+                fault => return fault,
+            }
+        }
+        Ok(came)
     }
 }
 
@@ -166,18 +178,9 @@ impl<R: Wait + Threads + Clock + Abort + Copy + Drop + Send + Sync + 'static> Sc
         }
     }
 
-    fn writes_many(&mut self, step: Step) -> bool {
-        let Some(bytes) = many(self.alloc) else {
-            return false;
-        };
-        match step {
-            Step::BufferedCut(want) => self.sends(End::Near, bytes.as_slice()) == want,
-            _ => self.cuts(bytes.as_slice()),
-        }
-    }
-
-    /// Does a step, and says whether it was told what it has to be.
-    fn takes(&mut self, step: Step) -> bool {
+    /// Does a step, and says whether it was told what it has to be. `bulk` is what it writes where that
+    /// has to be cut.
+    fn takes(&mut self, step: Step, bulk: &[u8]) -> bool {
         let rt = self.rt;
         match step {
             Step::Sends(text) => self.sends(End::Far, text.as_bytes()).is_ok(),
@@ -187,7 +190,8 @@ impl<R: Wait + Threads + Clock + Abort + Copy + Drop + Send + Sync + 'static> Sc
             Step::Read(end, len, want) => self.reads(end, len) == want,
             Step::Write(text, want) => told(self.writer.write(text.as_bytes())) == want,
             Step::Flush => self.writer.flush().is_ok(),
-            Step::Cut | Step::BufferedCut(_) => self.writes_many(step),
+            Step::Cut => self.cuts(bulk),
+            Step::BufferedCut(want) => self.sends(End::Near, bulk) == want,
             Step::Came => self.comes() == Ok(self.written),
             Step::Reads => self.starts_reading(),
             Step::Joins(want) => self.joins(want),
@@ -211,8 +215,12 @@ where
 {
     let mut scene = Scene::on(rt, alloc, open(rt, alloc, socks(&rt, addr)), addr);
     for (at, step) in steps.iter().enumerate() {
+        let bulk = bulk_of(alloc, *step);
         let watch = Watch::over(rt, alloc, row);
-        assert!(rt; scene.takes(*step), "{row}: step {at} over {addr:?}");
+        assert!(rt;
+            scene.takes(*step, bulk.as_slice()),
+            "{row}: step {at} over {addr:?}"
+        );
         watch.end(&rt);
     }
     scene.world.stop(&rt);

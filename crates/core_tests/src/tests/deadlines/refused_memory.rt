@@ -1,9 +1,9 @@
-//! Each request for memory of `arm` and `arm_both` is refused in turn: a heap is filled up, and its
-//! blocks are given back one by one until the call is done.
+//! Each request for memory of `arm`, `arm_both` and `reserve` is refused in turn: a heap is filled
+//! up, and its blocks are given back one by one until the call is done.
 use crate::tests::full_heap::{Refusals, fill};
 use base_types::Dir;
 use base_types::Dir::{Read, Write};
-use deadline_core::Timers;
+use deadline_core::{PlaceAlarms, Timers};
 use linked_list_allocator::LocalHeap;
 use std::alloc::Global;
 
@@ -122,4 +122,44 @@ fn an_arm_refused_at_each_request_changes_nothing(rt: HostRuntime) {
         let refused = refused_behind(rt.alloc(), is_both);
         assert!(rt; refused.is_ok(), "{row}: {refused:?} armed");
     }
+}
+
+/// Gives blocks back until room for 64 alarms is made. None where a refusal changed what a caller
+/// can see, or came with all memory back.
+fn room_refused_in_turn(
+    blocks: &mut Vec<Vec<u8, &LocalHeap>>,
+    alarms: &mut PlaceAlarms<&LocalHeap>,
+) -> Option<usize> {
+    for refused in 0..4096usize {
+        if alarms.reserve(64).is_ok() {
+            return Some(refused);
+        }
+        if (alarms.room(), alarms.first(), alarms.alarm(3)) != (4, Some(7), Some(7)) {
+            return None;
+        }
+        let _ = blocks.pop()?;
+    }
+    None
+}
+
+/// How often room for more alarms was refused beside one that is armed, which it keeps.
+fn refusals_of_room(alloc: Global) -> Option<usize> {
+    let heap = LocalHeap::new(alloc, 16_384).ok()?;
+    let mut alarms = PlaceAlarms::new_in(&heap);
+    if alarms.reserve(4).is_err() || alarms.room() != 4 {
+        return None;
+    }
+    alarms.set(3, Some(7));
+    let mut blocks = fill(alloc, &heap).ok()?;
+    let refused = room_refused_in_turn(&mut blocks, &mut alarms)?;
+    if (alarms.room(), alarms.alarm(3)) != (64, Some(7)) {
+        return None;
+    }
+    Some(refused)
+}
+
+#[test]
+fn room_for_alarms_refused_at_each_request_changes_nothing(rt: HostRuntime) {
+    let refused = refusals_of_room(rt.alloc());
+    assert!(rt; refused > Some(0), "{refused:?} refusals");
 }

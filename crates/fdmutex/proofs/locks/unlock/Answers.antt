@@ -1,9 +1,11 @@
-use Rattle.std.proofs.Common.{rules, sym, subst, inl, inr, ◌∙◌}
+use Rattle.std.proofs.Common.{rules, refl, sym, ap, subst, inl, inr, ◌∙◌, List, [], ◌∷◌, ◌++◌}
+use Rattle.lockword_core.specs.declared.stake.Op.{Op}
 use Rattle.base_types.specs.declared.direction.Dir.{Dir}
 use Rattle.lockword_core.specs.declared.stake.Op.TheVariants as op
 use Rattle.lockword_core.specs.declared.stake.Answer.TheVariants as answer
 use Rattle.lockword.specs.History.{IsMade}
 use Rattle.lockword.proofs.HeardSteps.{goes_on_on}
+use Rattle.lockword.proofs.HalfHome.{same_home}
 use Rattle.fdmutex.proofs.Hearing.{hears_on, made_since}
 use Rattle.fdmutex.proofs.locks.unlock.Goals as goal
 
@@ -43,5 +45,24 @@ pub returns-in-Last-clause-heard : goal.returns-in-Last-clause-heard
 returns-in-Last-clause-heard g c = goes_on_on _ _ _ c.loop.invariant.2 (hears_on _ _ _ _ c.in-Last.ensures.answer.1)
 
 pub loop-preserved : goal.loop-preserved
-loop-preserved g c =
-    (search rules, search rules, goes_on_on _ _ _ c.loop.invariant.2 c.in-Lost.ensures.answer.1.1)
+loop-preserved g c = (
+  search rules,
+  search rules,
+  goes_on_on _ _ _ c.loop.invariant.2 c.in-Lost.ensures.answer.1.1,
+  c.in-Lost.ensures.half ∙ c.loop.invariant.3,
+)
+
+pub returns-in-Free-clause-home : goal.returns-in-Free-clause-home
+returns-in-Free-clause-home g c =
+    same_home _ _ _ _ _ _ refl (ap g.D.Guards.stored c.loop.invariant.3)
+    (ap (λ (ops : List Op). ops ++ op.Unlock g.D.Direction.dir ∷ []) c.loop.invariant.1) c.in-Free.ensures.home
+
+pub returns-in-Owes-clause-home : goal.returns-in-Owes-clause-home
+returns-in-Owes-clause-home g c =
+    same_home _ _ _ _ _ _ refl (ap g.D.Guards.stored c.loop.invariant.3)
+    (ap (λ (ops : List Op). ops ++ op.Unlock g.D.Direction.dir ∷ []) c.loop.invariant.1) c.in-Owes.ensures.home
+
+pub returns-in-Last-clause-home : goal.returns-in-Last-clause-home
+returns-in-Last-clause-home g c =
+    same_home _ _ _ _ _ _ refl (ap g.D.Guards.stored c.loop.invariant.3)
+    (ap (λ (ops : List Op). ops ++ op.Unlock g.D.Direction.dir ∷ []) c.loop.invariant.1) c.in-Last.ensures.home

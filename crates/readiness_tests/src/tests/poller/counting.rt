@@ -10,6 +10,10 @@ use std::sync::Arc;
 pub(super) enum Heard {
     /// A timer came due.
     Due(usize, Side, Dir),
+    /// Its alarm came, and the moment that it awaits.
+    Late(usize),
+    /// Its alarm came before that.
+    Early(usize),
     /// Somebody named it.
     Told(usize),
     /// It gave way before.
@@ -30,6 +34,10 @@ pub(super) struct Counting {
     pub(super) number: usize,
     pub(super) yields: u32,
     pub(super) ends_when_told: bool,
+    /// The moment that it awaits, and the one that it awaits once it was resumed, if that is
+    /// another.
+    pub(super) awaits: Option<u64>,
+    pub(super) awaits_then: Option<u64>,
     pub(super) handle: Option<FdHandle<SockRes>>,
     pub(super) cell: Option<Arc<PollCell>>,
 }
@@ -40,6 +48,8 @@ pub(super) fn plain_task(number: usize) -> Counting {
         number,
         yields: 0,
         ends_when_told: false,
+        awaits: None,
+        awaits_then: None,
         handle: None,
         cell: None,
     }
@@ -83,7 +93,8 @@ impl Ledger {
         self.second_side = self.second_side.saturating_add(second as u32);
     }
 
-    fn note(&mut self, number: usize, why: Why) {
+    fn note(&mut self, task: &Counting, why: Why) {
+        let number = task.number;
         match why {
             Why::Ready {
                 side,
@@ -92,14 +103,39 @@ impl Ledger {
                 ..
             } => self.note_event(side, read && write),
             Why::Due { side, dir, .. } => self.hear(Heard::Due(number, side, dir)),
+            Why::Time { now } if has_come(task.awaits, now) => self.hear(Heard::Late(number)),
+            Why::Time { .. } => self.hear(Heard::Early(number)),
             Why::Named => self.hear(Heard::Told(number)),
             Why::Again => self.hear(Heard::Back(number)),
         }
     }
 }
 
+fn has_come(awaited: Option<u64>, now: u64) -> bool {
+    match awaited {
+        Some(at) => at <= now,
+        None => false,
+    }
+}
+
+impl Counting {
+    // It awaits no moment that has come, and from now on what it is to await then.
+    fn awaits_on(&mut self, why: Why) {
+        if let Why::Time { now } = why {
+            if has_come(self.awaits, now) {
+                self.awaits = None;
+            }
+        }
+        if let Some(then) = self.awaits_then.take() {
+            self.awaits = Some(then);
+        }
+    }
+}
+
 impl Host for Ledger {
     type Task = Counting;
+
+    ghost awaited = { λ task. task.awaits };
 
     fn cell<'a>(&self, task: &'a Counting, _side: Side) -> Option<&'a PollCell> {
         match &task.cell {
@@ -109,7 +145,8 @@ impl Host for Ledger {
     }
 
     fn resume(&mut self, task: &mut Counting, why: Why) -> Turn {
-        self.note(task.number, why);
+        self.note(task, why);
+        task.awaits_on(why);
         if task.ends_when_told && why == Why::Named {
             return Turn::Over;
         }
@@ -118,6 +155,10 @@ impl Host for Ledger {
             return Turn::Again;
         }
         Turn::Waits
+    }
+
+    fn until(&self, task: &Counting) -> Option<u64> {
+        task.awaits
     }
 
     fn over(&mut self, task: Counting) {

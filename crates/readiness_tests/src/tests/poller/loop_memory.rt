@@ -50,9 +50,14 @@ impl<'h, R: Wait + Copy + Drop> HeapLoop<'h, R> {
         })
     }
 
+    // Puts a task that awaits the moment of its number.
     fn puts(&mut self, task: Counting) -> Option<Place> {
+        let mut task = task;
+        task.awaits = Some((task.number as u64).saturating_add(1));
         let place = self.tasks.vacant().ok()?;
-        self.tasks.put(task).is_ok().then_some(place)
+        let is_put = self.tasks.put(task).is_ok();
+        self.tasks.keep_time(&self.ledger, place.first);
+        is_put.then_some(place)
     }
 
     fn turns(&mut self) -> bool {
@@ -137,6 +142,17 @@ fn tasks_that_come_and_go_take_no_more_memory_than_the_first(rt: HostRuntime) {
     assert!(rt; heap.used() == 0, "nothing is left");
 }
 
+/// Puts a task into the place that was made last, with an alarm.
+fn is_put(tasks: &mut EventLoop<Counting, &LocalHeap>, number: usize) -> bool {
+    let mut task = plain_task(number);
+    task.awaits = Some(number as u64);
+    let Ok(place) = tasks.put(task) else {
+        return false;
+    };
+    tasks.keep_time(&Ledger::new(), place.first);
+    true
+}
+
 /// Makes a loop on this heap and puts tasks into it, as far as memory suffices, and gives how many
 /// it has; each refusal leaves it as it was.
 fn tasks_on<R: Net + Abort>(rt: &R, heap: &LocalHeap) -> Option<usize> {
@@ -153,8 +169,8 @@ fn tasks_on<R: Net + Abort>(rt: &R, heap: &LocalHeap) -> Option<usize> {
             return Some(number);
         }
         let full = heap.used();
-        holds!(*rt; tasks.put(plain_task(number)).is_ok());
-        holds!(*rt; heap.used() == full, "a put takes no memory");
+        holds!(*rt; is_put(&mut tasks, number));
+        holds!(*rt; heap.used() == full, "a put and its alarm take no memory");
     }
     Some(TASKS)
 }

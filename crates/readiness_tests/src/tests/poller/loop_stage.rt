@@ -77,6 +77,8 @@ impl<R: Wait + Clock + Copy + Drop> Stage<R> {
             Step::Again(task) => self.has_come(task),
             Step::Names(task, side, want) => self.named(task, side) == want,
             Step::Change(task, side, yields) => self.changes(task, side, yields),
+            Step::Await(task, at) => self.awaits(task, at),
+            Step::AwaitThen(task, at) => self.awaits_then(task, at),
             Step::Tell(task, side) => self.tells(self.token(task, side)),
             Step::TellNobody(count) => self.tells_nobody(count),
             Step::Wake => self.wakes(),
@@ -163,6 +165,25 @@ impl<R: Wait + Clock + Copy + Drop> Stage<R> {
             return false;
         };
         named.yields = yields;
+        true
+    }
+
+    fn awaits(&mut self, task: usize, at: Option<u64>) -> bool {
+        let token = self.token(task, Side::Second);
+        let Some(named) = self.tasks.task_mut(token) else {
+            return false;
+        };
+        named.awaits = at;
+        self.tasks.keep_time(&self.ledger, token);
+        true
+    }
+
+    fn awaits_then(&mut self, task: usize, at: u64) -> bool {
+        let token = self.token(task, Side::First);
+        let Some(named) = self.tasks.task_mut(token) else {
+            return false;
+        };
+        named.awaits_then = Some(at);
         true
     }
 

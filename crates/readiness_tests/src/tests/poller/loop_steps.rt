@@ -20,6 +20,10 @@ pub(super) enum Step {
     Names(usize, Side, Option<usize>),
     /// The task that a token names gives way so often from now on.
     Change(usize, Side, u32),
+    /// The task awaits this moment from now on, or none.
+    Await(usize, Option<u64>),
+    /// The task awaits this moment once it was resumed.
+    AwaitThen(usize, u64),
     Tell(usize, Side),
     /// So many names that are nobody's.
     TellNobody(u64),

@@ -31,7 +31,11 @@ struct Heard {
 }
 
 impl Host for Counter {
+    ghost use Rattle.std.specs.Prelude.{None};
+
     type Task = Heard;
+
+    ghost awaited = { λ _. None };
 
     fn cell<'a>(&self, _task: &'a Heard, _side: Side) -> Option<&'a PollCell> {
         None
@@ -42,6 +46,10 @@ impl Host for Counter {
             task.times.fetch_add(1, Ordering::SeqCst);
         }
         Turn::Waits
+    }
+
+    fn until(&self, _task: &Heard) -> Option<u64> {
+        None
     }
 
     fn over(&mut self, task: Heard) {

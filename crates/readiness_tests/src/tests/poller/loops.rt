@@ -1,5 +1,6 @@
 //! A loop on one thread, by its rows.
 
+use super::alarm_rows::ALARM_ROWS;
 use super::loop_rows::ROWS;
 use super::loop_stage::Stage;
 use super::loop_steps::Step;
@@ -55,6 +56,14 @@ where
 #[test]
 fn a_loop_does_as_its_rows_say(rt: HostRuntime) {
     for (row, steps) in ROWS {
+        let played = play_row(rt, rt.alloc(), row, steps);
+        assert!(rt; played == Played::Whole, "{row}: {played:?}");
+    }
+}
+
+#[test]
+fn a_loop_resumes_tasks_by_the_moments_that_they_await(rt: HostRuntime) {
+    for (row, steps) in ALARM_ROWS {
         let played = play_row(rt, rt.alloc(), row, steps);
         assert!(rt; played == Played::Whole, "{row}: {played:?}");
     }

@@ -8,4 +8,4 @@ pub returns-in-Some : goal.returns-in-Some
 returns-in-Some g c =
     is_there (tasks_of c.args.tasks.now) c.args.question.now c.in-Some.task.now c.id.result
     (sym c.task.ensures ∙ ap option_copied c.in-Some.is)
-    (c.id.ensures ∙ ap (id_on c.in-Some.task.now.connection) c.side_of.ensures)
+    (c.id.ensures ∙ ap (id_on c.in-Some.task.now) c.side_of.ensures)

@@ -10,7 +10,7 @@ exchange-found-requires g c =
     let d = c.dir-dir.result in
     let did = subst
     (λ (a : After). Came
-    (kind.Lock d) a c.args.seat.place c.try_step.new.place) c.in-Done-Held.field-0-is c.in-Done-Held.ensures.step in (
+    (kind.Lock d) a c.args.seat.place c.try_step.new.place) c.in-Done-Held.field-0-is c.in-Done-Held.ensures.step.0 in (
       search rules,
       has_old _ _ _ c.slot.result (half_of d did.1.0) _
           (did.1.1 ∙ ap (λ i. (i, half_of d did.1.0) ∷ c.args.seat.place.me.1) (sym c.slot.ensures.value)),
@@ -21,6 +21,6 @@ from_slot-requires g c =
     let d = c.dir-dir.result in
     let did = subst
     (λ (a : After). Came
-    (kind.Lock d) a c.args.seat.place c.try_step.new.place) c.in-Done-Held.field-0-is c.in-Done-Held.ensures.step in
+    (kind.Lock d) a c.args.seat.place c.try_step.new.place) c.in-Done-Held.field-0-is c.in-Done-Held.ensures.step.0 in
     subst (λ d. IsHalf d c.exchange-found.result) c.dir-dir.ensures
     (found_half _ _ d did.1.0 _ _ _ _ did.1.1 c.exchange-found.ensures.2)

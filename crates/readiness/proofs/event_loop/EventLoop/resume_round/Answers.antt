@@ -6,23 +6,22 @@ use Rattle.readiness.specs.declared.agenda.Why.TheVariants.{Named, Again}
 use Rattle.readiness.proofs.ResumingLemmas.{steps_then}
 use Rattle.readiness.proofs.event_loop.EventLoop.resume_round.Goals as goal
 
-pub returns : goal.returns
-returns g c = record {
-  made = steps_then (g.H.Host.tells c.args.host.now) (g.H.Host.tells c.resume_ready.new.host)
-      (g.H.Host.tells c.resume_each-2.new.host) (tasks_of c.args.self.now) c.resume_ready.new.self
-      c.resume_each-2.new.self (map event_step (events_in c.args.self.now))
-      (map (step_for Named) (told_in c.args.self.now) ++ map (step_for Again) (round_in c.args.self.now))
-      (subst (λ heard. MakesSteps (g.H.Host.tells c.args.host.now) (g.H.Host.tells c.resume_ready.new.host)
-      (tasks_of c.args.self.now) c.resume_ready.new.self (map event_step heard)) c.events.ensures.own
-      c.resume_ready.ensures)
-      (steps_then (g.H.Host.tells c.resume_ready.new.host) (g.H.Host.tells c.resume_each.new.host)
-      (g.H.Host.tells c.resume_each-2.new.host) c.resume_ready.new.self c.resume_each.new.self
-      c.resume_each-2.new.self (map (step_for Named) (told_in c.args.self.now))
-      (map (step_for Again) (round_in c.args.self.now))
-      (subst (λ tokens. MakesSteps (g.H.Host.tells c.resume_ready.new.host) (g.H.Host.tells c.resume_each.new.host)
-      c.resume_ready.new.self c.resume_each.new.self (map (step_for Named) tokens)) c.as_slice.ensures.value
-      c.resume_each.ensures)
-      (subst (λ tokens. MakesSteps (g.H.Host.tells c.resume_each.new.host) (g.H.Host.tells c.resume_each-2.new.host)
-      c.resume_each.new.self c.resume_each-2.new.self (map (step_for Again) tokens)) c.as_slice-2.ensures.value
-      c.resume_each-2.ensures));
-}
+pub returns-clause-made : goal.returns-clause-made
+returns-clause-made g c =
+    steps_then g.H.Host.awaited (g.H.Host.tells c.args.host.now) (g.H.Host.tells c.resume_ready.new.host)
+    (g.H.Host.tells c.resume_each-2.new.host) (tasks_of c.args.self.now) c.resume_ready.new.self
+    c.resume_each-2.new.self (map event_step (events_in c.args.self.now))
+    (map (step_for Named) (told_in c.args.self.now) ++ map (step_for Again) (round_in c.args.self.now))
+    (subst (λ heard. MakesSteps g.H.Host.awaited (g.H.Host.tells c.args.host.now) (g.H.Host.tells c.resume_ready.new.host)
+    (tasks_of c.args.self.now) c.resume_ready.new.self (map event_step heard)) c.events.ensures.own
+    c.resume_ready.ensures)
+    (steps_then g.H.Host.awaited (g.H.Host.tells c.resume_ready.new.host) (g.H.Host.tells c.resume_each.new.host)
+    (g.H.Host.tells c.resume_each-2.new.host) c.resume_ready.new.self c.resume_each.new.self
+    c.resume_each-2.new.self (map (step_for Named) (told_in c.args.self.now))
+    (map (step_for Again) (round_in c.args.self.now))
+    (subst (λ tokens. MakesSteps g.H.Host.awaited (g.H.Host.tells c.resume_ready.new.host) (g.H.Host.tells c.resume_each.new.host)
+    c.resume_ready.new.self c.resume_each.new.self (map (step_for Named) tokens)) c.as_slice.ensures.value
+    c.resume_each.ensures)
+    (subst (λ tokens. MakesSteps g.H.Host.awaited (g.H.Host.tells c.resume_each.new.host) (g.H.Host.tells c.resume_each-2.new.host)
+    c.resume_each.new.self c.resume_each-2.new.self (map (step_for Again) tokens)) c.as_slice-2.ensures.value
+    c.resume_each-2.ensures))

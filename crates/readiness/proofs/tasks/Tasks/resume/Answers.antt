@@ -1,37 +1,36 @@
-use Rattle.std.proofs.Common.{refl, sym, ◌∙◌}
+use Rattle.std.proofs.Common.{ap, sym, ◌∙◌}
+use Rattle.readiness.specs.LoopToken.{place_in}
+use Rattle.readiness.specs.TaskAlarms.{awaited_at, serial_at}
 use Rattle.readiness.specs.Tasks.{task_in}
-use Rattle.readiness.specs.declared.tasks.Turn.TheVariants.{Waits, Again}
-use Rattle.readiness.proofs.ResumingLemmas.{step_made, stays_so, over_so}
+use Rattle.readiness.proofs.AlarmLemmas.{apart_then, none_then, same_serials}
+use Rattle.readiness.proofs.ResumingLemmas.{step_kept}
 use Rattle.readiness.proofs.tasks.Tasks.resume.Goals as goal
 
-pub returns-in-Waits-clause-made : goal.returns-in-Waits-clause-made
-returns-in-Waits-clause-made g c = step_made (g.H.Host.tells c.args.host.now) (g.H.Host.tells c.go_on.new.host)
-    c.args.self.now c.go_on.new.self c.args.step (task_in c.come_to.new.self c.args.step.token)
-    (sym (c.come_to.ensures.kept c.args.step.token))
-    (λ other away. c.in-Waits.ensures.others other away ∙ c.come_to.ensures.kept other)
-    (stays_so (g.H.Host.tells c.args.host.now) (g.H.Host.tells c.go_on.new.host)
-    c.args.self.now c.go_on.new.self c.args.step Waits (task_in c.come_to.new.self c.args.step.token)
-    (task_in c.go_on.new.self c.args.step.token) (λ task one. refl) (λ one. refl) c.in-Waits.ensures.stays
-    (λ none token. c.in-Waits.ensures.kept none token ∙ c.come_to.ensures.kept token)
-    c.in-Waits.ensures.silent c.in-Waits.ensures.resumed refl)
+pub returns-clause-others : goal.returns-clause-others
+returns-clause-others g c other away =
+    ap (λ t. task_in t other) c.time_step.ensures.kept ∙ c.make_step.ensures.others other away
 
-pub returns-in-Again-clause-made : goal.returns-in-Again-clause-made
-returns-in-Again-clause-made g c = step_made (g.H.Host.tells c.args.host.now) (g.H.Host.tells c.go_on.new.host)
-    c.args.self.now c.give_way.new.self c.args.step (task_in c.come_to.new.self c.args.step.token)
-    (sym (c.come_to.ensures.kept c.args.step.token))
-    (λ other away. c.give_way.ensures.kept other ∙ (c.in-Again.ensures.others other away ∙ c.come_to.ensures.kept other))
-    (stays_so (g.H.Host.tells c.args.host.now) (g.H.Host.tells c.go_on.new.host)
-    c.args.self.now c.give_way.new.self c.args.step Again (task_in c.come_to.new.self c.args.step.token)
-    (task_in c.go_on.new.self c.args.step.token) (λ task one. refl) (λ one. refl) c.in-Again.ensures.stays
-    (λ none token. c.give_way.ensures.kept token ∙ (c.in-Again.ensures.kept none token ∙ c.come_to.ensures.kept token))
-    c.in-Again.ensures.silent c.in-Again.ensures.resumed (c.give_way.ensures.kept c.args.step.token))
+pub returns-clause-passed : goal.returns-clause-passed
+returns-clause-passed g c none token =
+    ap (λ t. task_in t token) c.time_step.ensures.kept ∙ c.make_step.ensures.passed none token
 
-pub returns-in-Over-clause-made : goal.returns-in-Over-clause-made
-returns-in-Over-clause-made g c = step_made (g.H.Host.tells c.args.host.now) (g.H.Host.tells c.end.new.host)
-    c.args.self.now c.end.new.self c.args.step (task_in c.come_to.new.self c.args.step.token)
-    (sym (c.come_to.ensures.kept c.args.step.token))
-    (λ other away. c.end.ensures.others other away ∙ (c.in-Over.ensures.others other away ∙ c.come_to.ensures.kept other))
-    (over_so (g.H.Host.tells c.args.host.now) (g.H.Host.tells c.go_on.new.host) (g.H.Host.tells c.end.new.host)
-    c.args.self.now c.end.new.self c.args.step (task_in c.come_to.new.self c.args.step.token)
-    (task_in c.go_on.new.self c.args.step.token) c.in-Over.ensures.stays c.in-Over.ensures.passed
-    c.in-Over.ensures.resumed c.end.ensures.handed c.end.ensures.gone)
+pub returns-clause-made : goal.returns-clause-made
+returns-clause-made g c = step_kept g.H.Host.awaited (g.H.Host.tells c.args.host.now)
+    (g.H.Host.tells c.make_step.new.host) c.args.self.now c.make_step.new.self c.time_step.new.self c.args.step
+    c.make_step.ensures.made (λ token. ap (λ t. task_in t token) c.time_step.ensures.kept)
+    (λ armed. c.time_step.ensures.armed (c.make_step.ensures.armed g.H.Host.awaited armed))
+
+pub returns-clause-apart : goal.returns-clause-apart
+returns-clause-apart g c = apart_then c.args.self.now c.make_step.new.self c.time_step.new.self
+    (place_in c.args.step.token) c.make_step.ensures.apart c.time_step.ensures.apart
+
+pub returns-clause-renewed : goal.returns-clause-renewed
+returns-clause-renewed g c = λ now is armed.
+    c.time_step.ensures.exact now is
+    ((c.make_step.ensures.armed g.H.Host.awaited armed).placed (place_in c.args.step.token))
+    ∙ sym (ap (λ t. awaited_at g.H.Host.awaited t (place_in c.args.step.token)) c.time_step.ensures.kept)
+
+pub returns-clause-left : goal.returns-clause-left
+returns-clause-left g c = none_then c.args.self.now c.make_step.new.self c.time_step.new.self c.make_step.ensures.left
+    (same_serials c.make_step.new.self c.time_step.new.self
+    (λ place. ap (λ t. serial_at t place) c.time_step.ensures.kept))

@@ -1,6 +1,6 @@
-use Rattle.std.proofs.Common.{◌≡◌, length}
+use Rattle.std.proofs.Common.{◌≡◌}
 use Rattle.relay_admin.specs.admin.Parts.{left_of}
-use Rattle.relay_admin.proofs.admin.Listings.{SoFar}
+use Rattle.relay_admin.proofs.admin.Listings.{SoFar, still_to_come}
 use Rattle.relay_admin.proofs.admin.line_reply.deliver_each.Given as goal
 
 abbrev pub invariant-parts : goal.invariant-parts
@@ -13,4 +13,4 @@ invariant-parts g l = record {
 }
 
 abbrev pub decreases-parts : goal.decreases-parts
-decreases-parts g l = length (left_of l.listing)
+decreases-parts g l = still_to_come (left_of l.listing)

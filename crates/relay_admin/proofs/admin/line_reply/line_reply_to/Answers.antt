@@ -1,11 +1,8 @@
 use Rattle.std.proofs.Common.{subst}
 use Rattle.relay_admin.specs.admin.Reply.{IsReplyTo, answer_of}
 use Rattle.relay_admin.specs.admin.ReplyBytes.{bytes_of}
-use Rattle.relay_admin.proofs.admin.Listings.{by_ids, by_whole}
+use Rattle.relay_admin.proofs.admin.Listings.{by_whole}
 use Rattle.relay_admin.proofs.admin.line_reply.line_reply_to.Goals as goal
-
-pub returns-in-Ok : goal.returns-in-Ok
-returns-in-Ok g c = by_ids _ _ c.in-Ok.ids.items _ c.in-Ok.ensures.ids c.of.ensures
 
 pub returns-in-Err : goal.returns-in-Err
 returns-in-Err g c =

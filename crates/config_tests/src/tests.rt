@@ -1,0 +1,7 @@
+//! Headers as others write them, texts of addresses, runs of picks and of checks.
+
+mod addresses;
+mod headers;
+mod health;
+mod nets;
+mod picks;

@@ -1,0 +1,241 @@
+//! A connection whose target isn't connected yet. No side is read meanwhile: what is told of one is
+//! kept, and the ways begin with it.
+
+ghost use Rattle.std.specs.Prelude.{◌≡◌, Some, IsSome, OnOk, OnErr};
+ghost use Rattle.base_types.specs.declared.direction.Dir.{Dir};
+ghost use Rattle.fd_descriptor.specs.TaskHalf.{descriptor_of_half};
+ghost use Rattle.readiness.specs.declared.loop_token.Side.{Side};
+ghost use Rattle.relay_conn.specs.Connection.{given_up_at};
+ghost use Rattle.relay_conn.specs.Deadlines.{TellsCalls};
+ghost use Rattle.relay_conn.specs.Heard.{KeepsWhatIsTold, IsTime, stop_told};
+ghost use Rattle.relay_conn.specs.declared.dialing.DialStep.{DialStep};
+ghost use Rattle.relay_core.specs.SourceState.{resumed};
+ghost use Rattle.relay_core.specs.declared.ways.Way.{Way};
+ghost use Rattle.relay_log.specs.declared.ended.Cause.{Cause};
+ghost use Rattle.relay_log.specs.declared.ended.Ended.{Ended as How};
+ghost use Rattle.relay_shared.specs.Drained.{WasDrained};
+
+use crate::ending::how_undialled;
+use crate::flow::OwnShare;
+use crate::heard::{after_telling, stop_ahead_of};
+use crate::side::{OpenSide, drain_side, takes_deadline};
+use crate::way_time::WayTime;
+use base_types::Dir;
+use deadline_core::{Deadline, earlier};
+use readiness::{Side, Why};
+use relay_core::{Copying, Ended, PairTasks, Way, has_come};
+use relay_facts::clock::RelayClock;
+use relay_facts::how_ended::how_of;
+use relay_log::ended::{Cause, Ended as How};
+use rwloops::Fault;
+use std::sync::Wait;
+use std::sync::ledger::Ledger;
+use std::time::Clock;
+
+/// A way that hasn't begun: what it will copy by, which takes no memory any more.
+#[derive(Drop)]
+pub(crate) struct NewWay<L: Ledger, R: Wait + Clock + Copy> {
+    pub(crate) copying: Copying,
+    pub(crate) share: OwnShare<L>,
+    pub(crate) time: WayTime<RelayClock<R>>,
+}
+
+/// A connection whose target isn't connected yet.
+#[derive(Drop)]
+pub struct Dialing<U: Ledger, D: Ledger, R: Wait + Clock + Copy> {
+    /// The client, of which nothing is read.
+    pub(crate) client: OpenSide<R>,
+    /// The target that is tried. (Another one would be tried in its place, and what it is told first
+    /// be kept beside it.)
+    pub(crate) target: OpenSide<R>,
+    pub(crate) up: NewWay<U, R>,
+    pub(crate) down: NewWay<D, R>,
+    /// How the ways begin: each waits for its source, unless the poller has told of that.
+    pub(crate) tasks: PairTasks,
+    /// The target is to be connected by this moment, if it has a time.
+    pub(crate) connect_by: Option<u64>,
+    /// Why it isn't to be connected any more, if so.
+    pub(crate) failure: Option<How>,
+}
+
+/// What a turn of such a connection came to.
+#[derive(Clone, Copy, Debug, PartialEq, Eq, Drop)]
+pub(crate) enum DialStep {
+    /// Its target isn't connected yet.
+    Waits,
+    /// It is, and its ways may begin.
+    Connected,
+    /// Its target can't be connected, or its client has gone.
+    Failed,
+    /// Its moment has come.
+    Late,
+}
+
+impl<U: Ledger, D: Ledger, R: Wait + Clock + Copy> Dialing<U, D, R> {
+    /// The moment at which it is given up: when its target is to be connected, or a side's read
+    /// gives up, whichever comes first.
+    pub(crate) fn until(&self) -> Option<u64>
+        ensures { result ≡ given_up_at self.now }
+    {
+        let reads = earlier(
+            self.up.time.moment(Dir::Read),
+            self.down.time.moment(Dir::Read),
+        );
+        earlier(self.connect_by, reads)
+    }
+
+    /// Goes on by what its loop heard. A target that is connected, or has failed, before the moment
+    /// comes is told so, also where this is late.
+    pub(crate) fn go_on(&mut self, rt: &R, why: Why) -> DialStep
+        ensures unread { self.new.client.reader ≡ self.old.client.reader }
+        ensures target_unread { self.new.target.reader ≡ self.old.target.reader }
+        ensures up { self.new.up ≡ self.old.up }
+        ensures down { self.new.down ≡ self.old.down }
+        ensures connect_by { self.new.connect_by ≡ self.old.connect_by }
+        ensures told { KeepsWhatIsTold self.old.tasks self.new.tasks why }
+        ensures timely { result ≡ DialStep.Waits → IsTime why (given_up_at self.old) → ⊥ }
+        ensures late { result ≡ DialStep.Late → IsTime why (given_up_at self.old) }
+        ensures timeout { result ≡ DialStep.Late
+            → self.new.failure ≡ Some (How.NoTarget Cause.Timeout) }
+        ensures failed { result ≡ DialStep.Failed → IsSome self.new.failure }
+    {
+        self.hear(why);
+        match self.ask_sides(rt, why) {
+            DialStep::Waits => self.look_at_time(why),
+            other => other,
+        }
+    }
+
+    // Keeps what its loop heard of both sides.
+    fn hear(&mut self, why: Why)
+        ensures kept { self.new ≡ record self.old {
+          client = record self.old.client { state = self.new.client.state };
+          target = record self.old.target { state = self.new.target.state };
+          tasks = self.new.tasks;
+        } }
+        ensures up { self.new.client.state ≡ resumed self.old.client.state (stop_told why Way.Up) }
+        ensures down { self.new.target.state
+            ≡ resumed self.old.target.state (stop_told why Way.Down) }
+        ensures told { KeepsWhatIsTold self.old.tasks self.new.tasks why }
+    {
+        self.client.state.resume(stop_ahead_of(Way::Up, why));
+        self.target.state.resume(stop_ahead_of(Way::Down, why));
+        self.tasks = after_telling(&self.tasks, why);
+    }
+
+    // What came of the target, or of the client.
+    fn ask_sides(&mut self, rt: &R, why: Why) -> DialStep
+        ensures kept { self.new ≡ record self.old {
+          client = record self.old.client { writer = self.new.client.writer };
+          target = record self.old.target { writer = self.new.target.writer };
+          failure = self.new.failure;
+        } }
+        ensures timed { result ≡ DialStep.Late → ⊥ }
+        ensures failed { result ≡ DialStep.Failed → IsSome self.new.failure }
+    {
+        match self.target.connected(rt) {
+            Some(Ok(())) => DialStep::Connected,
+            Some(Err(fault)) => self.fail(how_undialled(fault)),
+            None => self.ask_client(rt, why),
+        }
+    }
+
+    // Whether its client is there still, where something was told of it.
+    fn ask_client(&mut self, rt: &R, why: Why) -> DialStep
+        ensures kept { self.new ≡ record self.old {
+          client = record self.old.client { writer = self.new.client.writer };
+          failure = self.new.failure;
+        } }
+        ensures timed { result ≡ DialStep.Late → ⊥ }
+        ensures failed { result ≡ DialStep.Failed → IsSome self.new.failure }
+    {
+        if !stop_ahead_of(Way::Up, why) {
+            return DialStep::Waits;
+        }
+        match self.client.connected(rt) {
+            Some(Err(Fault::Device(kind))) => {
+                self.fail(how_of(&Ended::ReadFault(Fault::Device(kind))))
+            }
+            _ => DialStep::Waits,
+        }
+    }
+
+    fn fail(&mut self, how: How) -> DialStep
+        ensures failed { result ≡ DialStep.Failed }
+        ensures failure { self.new ≡ record self.old { failure = Some how } }
+    {
+        self.failure = Some(how);
+        DialStep::Failed
+    }
+
+    // Gives its target up, if this tells that its moment has come.
+    fn look_at_time(&mut self, why: Why) -> DialStep
+        ensures late { result ≡ DialStep.Late → IsTime why (given_up_at self.old) }
+        ensures timely { result ≡ DialStep.Waits → IsTime why (given_up_at self.old) → ⊥ }
+        ensures timeout { result ≡ DialStep.Late
+            → self.new.failure ≡ Some (How.NoTarget Cause.Timeout) }
+        ensures others { (result ≡ DialStep.Connected → ⊥) × (result ≡ DialStep.Failed → ⊥) }
+        ensures kept { self.new ≡ record self.old { failure = self.new.failure } }
+    {
+        match why {
+            Why::Time { now } if has_come(self.until(), now) => {
+                self.failure = Some(How::NoTarget(Cause::Timeout));
+                DialStep::Late
+            }
+            _ => DialStep::Waits,
+        }
+    }
+
+    /// Drains a side.
+    pub(crate) fn drain(&mut self, rt: &R, side: Side) -> Result<(), Fault>
+        ensures client { side ≡ Side.First
+            → OnOk result (WasDrained (descriptor_of_half self.old.client.reader)) }
+        ensures target { side ≡ Side.Second
+            → OnOk result (WasDrained (descriptor_of_half self.old.target.reader)) }
+        ensures kept { self.new ≡ record self.old {
+          client = record self.old.client { reader = self.new.client.reader };
+          target = record self.old.target { reader = self.new.target.reader };
+        } }
+    {
+        match side {
+            Side::First => drain_side(rt, &mut self.client.reader),
+            Side::Second => drain_side(rt, &mut self.target.reader),
+        }
+    }
+
+    /// Sets the deadline of a side, unless that takes none.
+    pub(crate) fn set_deadline(&mut self, side: Side, deadline: Deadline) -> Result<(), Fault>
+        ensures client { side ≡ Side.First → OnOk result (TellsCalls self.old.up.time.deadlines
+            self.new.up.time.deadlines Dir.Read deadline) }
+        ensures target { side ≡ Side.Second → OnOk result (TellsCalls
+            self.old.down.time.deadlines self.new.down.time.deadlines Dir.Read deadline) }
+        ensures refused_up { OnErr result (self.new.up ≡ self.old.up) }
+        ensures refused_down { OnErr result (self.new.down ≡ self.old.down) }
+    {
+        match side {
+            Side::First => takes_deadline(&mut self.client.reader)?,
+            Side::Second => takes_deadline(&mut self.target.reader)?,
+        }
+        self.tell(side, deadline);
+        Ok(())
+    }
+
+    // A session says when the calls of a side give up.
+    fn tell(&mut self, side: Side, deadline: Deadline)
+        ensures client { side ≡ Side.First → TellsCalls self.old.up.time.deadlines
+            self.new.up.time.deadlines Dir.Read deadline }
+        ensures target { side ≡ Side.Second → TellsCalls self.old.down.time.deadlines
+            self.new.down.time.deadlines Dir.Read deadline }
+    {
+        match side {
+            Side::First => {
+                self.up.time.tell(Dir::Read, deadline);
+                self.down.time.tell(Dir::Write, deadline);
+            }
+            Side::Second => {
+                self.down.time.tell(Dir::Read, deadline);
+                self.up.time.tell(Dir::Write, deadline);
+            }
+        }
+    }
+}

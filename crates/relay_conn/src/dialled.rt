@@ -1,0 +1,66 @@
+//! A connection to a target that was begun, and why one couldn't be.
+
+ghost use Rattle.std.specs.Prelude.{◌≡◌, IfOk};
+ghost use Rattle.std.specs.IoError.{error_kind};
+ghost use Rattle.readiness.specs.Sockets.{is_tcp};
+ghost use Rattle.relay_conn.specs.Dialled.{HasNoDescriptors, cause_of_kind, dialled_to};
+ghost use Rattle.relay_log.specs.declared.ended.Cause.{Cause};
+
+use readiness::{Sock, connect_io};
+use relay_admin::Addr;
+use relay_log::ended::Cause;
+use relay_shared::address::socket_address;
+use std::io;
+use std::io::ErrorKind;
+use std::net::Net;
+
+/// A socket whose connection to a target was begun. `dial` alone makes it.
+#[derive(Drop)]
+pub struct Dialled {
+    target: Addr,
+    sock: Sock,
+}
+
+impl Dialled {
+    /// The socket.
+    pub(crate) fn into_sock(self) -> Sock {
+        let Dialled { target: _, sock } = self;
+        sock
+    }
+}
+
+/// Begins a connection to this target. Over TCP it is made later, over a Unix socket at once.
+pub fn dial<R: Net>(rt: &R, target: &Addr) -> Result<Dialled, Cause>
+    ensures target { IfOk result (λ dialled. dialled_to dialled ≡ target.now) }
+{
+    match connect_io(rt, &socket_address(target)) {
+        Ok(sock) => Ok(Dialled {
+            target: *target,
+            sock,
+        }),
+        Err(error) => Err(cause_of_connect(&error)),
+    }
+}
+
+// The system's numbers for want of descriptors: of the process, and of the system.
+const EMFILE: i32 = 24;
+
+const ENFILE: i32 = 23;
+
+/// Why a connect that failed at once did.
+pub fn cause_of_connect(error: &io::Error) -> Cause
+    ensures descriptors { HasNoDescriptors error.now → result ≡ Cause.Descriptors }
+    ensures others { (HasNoDescriptors error.now → ⊥)
+        → result ≡ cause_of_kind (error_kind error.now) }
+{
+    if let Some(code) = error.raw_os_error() {
+        if code == EMFILE || code == ENFILE {
+            return Cause::Descriptors;
+        }
+    }
+    match error.kind() {
+        ErrorKind::ConnectionRefused => Cause::Refused,
+        ErrorKind::TimedOut => Cause::Timeout,
+        _ => Cause::Unreachable,
+    }
+}

@@ -1,0 +1,96 @@
+//! One way of a connection that relays.
+
+ghost use Rattle.std.specs.Prelude.{◌≡◌};
+ghost use Rattle.relay_conn.specs.Deadlines.{gives_up_at};
+ghost use Rattle.relay_conn.specs.Flow.{heard, Went};
+
+use crate::task_gate::TaskGate;
+use relay_core::{Copying, Credits, FlowState, LoopMemory, Step};
+use relay_facts::clock::RelayClock;
+use relay_ledger::{CarriedShare, Share};
+use std::marker::Model;
+use std::sync::Wait;
+use std::sync::ledger::Ledger;
+use std::time::Clock;
+
+/// What a way copies through.
+pub(crate) type Gate<R> = TaskGate<R, RelayClock<R>>;
+
+/// The share of a way. Where it is dropped and not taken out, it is given up.
+pub(crate) struct OwnShare<L: Ledger> {
+    share: Share<L>,
+}
+
+impl<L: Ledger> Model for OwnShare<L> {
+    ghost use Rattle.std.specs.Prelude.{ℕ};
+
+    ghost Value = { ℕ };
+
+    ghost view = { λ own. own.share };
+}
+
+impl<L: Ledger> Drop for OwnShare<L> {
+    fn drop(self) {
+        let OwnShare { share } = self;
+        share.give_up();
+    }
+}
+
+impl<L: Ledger> OwnShare<L> {
+    /// A way's share, from the book that opened it.
+    pub(crate) fn new(carried: CarriedShare<L>) -> OwnShare<L>
+        ensures { result ≡ carried }
+    {
+        OwnShare {
+            share: carried.into_share(),
+        }
+    }
+
+    /// The same for its book, which takes it back.
+    pub(crate) fn back(self) -> CarriedShare<L>
+        ensures { result ≡ self }
+    {
+        let OwnShare { share } = self;
+        CarriedShare::new(share)
+    }
+}
+
+/// One way: its gate, how far it came, its share of the book, and how many bytes it has written.
+#[derive(Drop)]
+pub(crate) struct Flow<L: Ledger, R: Wait + Clock + Copy> {
+    pub(crate) gate: Gate<R>,
+    pub(crate) copying: Copying,
+    pub(crate) share: OwnShare<L>,
+    pub(crate) passed: u64,
+}
+
+impl<L: Ledger, R: Wait + Clock + Copy> Flow<L, R> {
+    /// Has its gate know that it is resumed, or that its source was told of; `stop_ahead` is what
+    /// the poller told of that.
+    pub(crate) fn hear(&mut self, stop_ahead: bool)
+        ensures { self.new ≡ heard self.old stop_ahead }
+    {
+        self.gate.resume(stop_ahead);
+    }
+
+    /// The moment at which it gives up where it stands so: that of the call that it waits for.
+    pub(crate) fn gives_up_at(&self, state: FlowState) -> Option<u64>
+        ensures { result ≡ gives_up_at self.now.gate.time.deadlines state }
+    {
+        match state {
+            FlowState::Waits(dir) => self.gate.time.moment(dir),
+            _ => None,
+        }
+    }
+
+    /// Goes on.
+    pub(crate) fn go_on<C: Credits<L>>(&mut self, book: &mut C, memory: &mut LoopMemory) -> Step
+        ensures { Went self.old self.new result }
+    {
+        let step = self
+            .copying
+            .resume(&mut self.gate, book, &mut self.share.share, memory);
+        self.passed = self.share.share.amount();
+        step
+    }
+}

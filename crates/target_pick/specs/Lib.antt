@@ -1,0 +1,5 @@
+pub mod Health
+pub mod Laws
+pub mod Pick
+pub mod Seen
+pub mod Source

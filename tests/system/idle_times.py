@@ -1,0 +1,141 @@
+"""What an idle time and a session's deadline do to a connection: none ends before its moment, and each ends by what comes first.
+
+    python3 tests/system/idle_times.py [STAGE]..
+
+idle        an idle time ends a connection of which one way is silent, also beside traffic, and one whose writes stall.
+asked       a session's deadline ends a connection earlier, later or never, as it was said last, until the next read or write.
+without     the same where the rule has no idle time: then a deadline stands beside traffic, until it is lifted.
+"""
+import sys
+import time
+
+sys.path.insert(1, f"{sys.path[0]}/..")
+from lib.checks import Checks
+from lib.relay import Session
+from lib.served import Served
+from lib.stages import options, run_stages
+from lib.talk import both_ways, passes, seconds_until_end
+from lib.waiting import wait_until
+
+IDLE_MS = 300
+# A machine that is full of other work may be late; none is early.
+LATE = 10
+# A clock may be read a little before the call that sets a moment.
+EARLY = 0.005
+
+
+class Opened:
+    """A connection of a rule, with the ids of its sides, over which a byte has passed each way."""
+
+    def __init__(self, served, session):
+        before = set(session.ask("list").split())
+        self.ask, self.ends = session.ask, served.open()
+        self.ids = wait_until(lambda: sorted(int(word) for word in set(session.ask("list").split()) - before), LATE)
+        if not both_ways(*self.ends):
+            raise RuntimeError("no byte came back")
+        self.began = time.monotonic()
+
+    def deadline(self, side, when):
+        reply = self.ask(f"deadline {self.ids[side]} {when}")
+        if reply != "ok":
+            raise RuntimeError(f"a deadline was answered {reply!r}")
+
+    def passes_up(self):
+        return passes(*self.ends, b"x")
+
+    def ended(self, most=LATE):
+        """The seconds since it was opened, or None where it stands so long."""
+        if seconds_until_end(self.ends[0], most) is None:
+            return None
+        return time.monotonic() - self.began
+
+    def close(self):
+        for sock in self.ends:
+            sock.close()
+
+
+def ends(checks, name, least, took):
+    """It has ended, and not before so many seconds."""
+    checks.holds(name, took is not None and took >= least - EARLY, f"after {took} s, not from {least} s on")
+
+
+def idle(checks, _folder):
+    with Served(IDLE_MS) as served, Session(served.relay.admin) as session:
+        it = Opened(served, session)
+        ends(checks, "idle: both ways", 0.3, it.ended())
+        it.close()
+        it = Opened(served, session)
+        while time.monotonic() - it.began < LATE and it.passes_up():
+            time.sleep(0.005)
+        ends(checks, "idle: one way, beside traffic of the other", 0.3, time.monotonic() - it.began)
+        it.close()
+        it = Opened(served, session)
+        it.ends[0].settimeout(LATE)
+        try:
+            while time.monotonic() - it.began < LATE:
+                it.ends[0].send(bytes(65_536))
+        except OSError:
+            pass
+        ids = {str(each) for each in it.ids}
+        checks.holds("idle: writes that stall", wait_until(lambda: not ids & set(session.ask("list").split()), LATE), "it stands")
+        it.close()
+
+
+# What is asked of the sides of a connection (0 is the client's), and from when on it ends.
+ASKED = [
+    ("100 ms before the idle time", [(0, 100)], 0.1),
+    ("never of one side: the other's idle time ends it", [(0, "never")], 0.3),
+    ("later of both sides", [(0, 700), (1, 700)], 0.7),
+    ("earlier after later", [(0, 5_000), (0, 100)], 0.1),
+    ("later after earlier: the other's idle time ends it", [(0, 100), (0, 5_000)], 0.3),
+    ("at once", [(1, 0)], 0),
+]
+
+
+def asked(checks, _folder):
+    with Served(IDLE_MS) as served, Session(served.relay.admin) as session:
+        for name, deadlines, least in ASKED:
+            it = Opened(served, session)
+            for side, when in deadlines:
+                it.deadline(side, when)
+            ends(checks, f"asked: {name}", least, it.ended())
+            it.close()
+        it = Opened(served, session)
+        for side in (0, 1):
+            it.deadline(side, "never")
+        checks.expect("asked: never of both sides", None, it.ended(1))
+        passed = time.monotonic()
+        checks.holds("asked: a byte passes then", it.passes_up(), "it doesn't come")
+        checks.holds("asked: and the idle time counts again", it.ended() is not None and time.monotonic() - passed >= 0.3 - EARLY, "it came early, or not")
+        it.close()
+
+
+def without(checks, _folder):
+    with Served("never") as served, Session(served.relay.admin) as session:
+        it = Opened(served, session)
+        it.deadline(0, 200)
+        while time.monotonic() - it.began < LATE and both_ways(*it.ends):
+            time.sleep(0.005)
+        ends(checks, "without: a deadline beside traffic", 0.2, time.monotonic() - it.began)
+        it.close()
+        it = Opened(served, session)
+        it.deadline(0, 1_000)
+        it.deadline(0, "never")
+        checks.expect("without: a deadline that is lifted", None, it.ended(1.5))
+        checks.holds("without: it goes on", both_ways(*it.ends), "no byte came back")
+        checks.expect("without: drained", "ok", session.ask(f"drain {it.ids[0]}"))
+        checks.expect("without: no deadline of a side that is drained", "error 409 draining", session.ask(f"deadline {it.ids[0]} 50"))
+        it.close()
+
+
+STAGES = {it.__name__: it for it in (idle, asked, without)}
+
+
+def main():
+    given, checks = options(__doc__, STAGES), Checks()
+    run_stages(checks, STAGES, given.stages)
+    return checks.end()
+
+
+if __name__ == "__main__":
+    sys.exit(main())
