@@ -21,7 +21,7 @@ const SCENES: &[Scene] = &[Scene {
                 Step::Try(Call::Write),
                 Step::Do(Call::Set(Dirs::Read, When::LongAgo)),
                 Step::Do(Call::Set(Dirs::Write, When::LongAgo)),
-                Step::Repeat(100),
+                Step::Repeat(40),
                 Step::Mark,
             ],
         ),

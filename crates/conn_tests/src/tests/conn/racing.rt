@@ -8,7 +8,7 @@ use fd_descriptor::{Dirs, Fault};
 
 const RACERS: u64 = 10;
 
-const ROUNDS: u64 = 100;
+const ROUNDS: u64 = 40;
 
 /// The bytes that come at once.
 const PIECE: u64 = 4_096;
