@@ -1,10 +1,7 @@
-//! Worked lines, files and sessions, devices that are slow or broken, and memory that is refused.
+//! Worked lines and files, and sessions whose desk answers later.
 
 mod addresses;
 mod commands;
-mod fake_desk;
-mod refused_memory;
-mod replies;
+mod later;
 mod rules_files;
-mod sessions;
 mod verdicts;

@@ -3,7 +3,6 @@
 
 mod accepts;
 mod books;
-mod copies;
 mod deadlines;
 mod full_heap;
 mod line_reading;

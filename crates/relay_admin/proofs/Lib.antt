@@ -1,4 +1,9 @@
 pub mod GrammarBytes
+pub mod LineTranscripts
+pub mod Listings
 pub mod NumberLemmas
+pub mod PartLemmas
+pub mod SessionLemmas
+pub mod StepLemmas
 pub mod TextLemmas
 pub mod Words

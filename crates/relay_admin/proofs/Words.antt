@@ -5,13 +5,12 @@ pub use Rattle.relay_admin.specs.admin.Command.{IsDeadline, IsCommand, command_t
 pub use Rattle.relay_admin.specs.admin.Command.{words_of, end_of, AreArguments, arguments_text}
 unfoldable pub use Rattle.relay_admin.specs.admin.CommandReading.{arguments_at, words_at}
 pub use Rattle.relay_admin.specs.admin.CommandReading.{arguments_of_parts, words_of_parts}
-pub use Rattle.relay_admin.specs.admin.Devices.{IsFlushedOrUntouched}
-pub use Rattle.relay_admin.specs.admin.Progress.{Position, start, IsReady, Meanwhile, Advances, progress_of}
+pub use Rattle.relay_admin.specs.admin.Progress.{Position, start, IsReady, Advances}
 pub use Rattle.relay_admin.specs.admin.Progress.{AnswersLine, Closes}
 pub use Rattle.relay_admin.specs.admin.Reply.{Exchange, bad_command, questions_of}
 pub use Rattle.relay_admin.specs.admin.Transcript.{LineTranscript, too_long, no_command, finishes, asks, ended}
 pub use Rattle.relay_admin.specs.admin.Transcript.{Transcript, no_line, last_line, line_limit, line_then}
-pub use Rattle.relay_admin.specs.admin.Transcript.{Ending, IsTranscriptOf, Serves, ServesWholeLines, cut_off, cut_line}
+pub use Rattle.relay_admin.specs.admin.Transcript.{Ending, IsTranscriptOf, cut_off, cut_line}
 pub use Rattle.relay_admin.specs.declared.admin.command.Command.{Command}
 pub use Rattle.relay_admin.specs.declared.admin.dialogue.TheConstants.{MAX_LINES, MAX_LINE_BYTES}
 pub use Rattle.relay_admin.specs.declared.admin.end.AdminEnd.{AdminEnd}

@@ -1,10 +1,5 @@
 pub mod CommandLemmas
 pub mod LaterLemmas
-pub mod LineTranscripts
-pub mod Listings
 pub mod OneDialogue
 pub mod Refusals
-pub mod SessionEnds
-pub mod SessionLemmas
 pub mod ShownLines
-pub mod StepLemmas

@@ -1,7 +1,6 @@
 pub mod Answers
 pub mod Command
 pub mod CommandReading
-pub mod Devices
 pub mod Later
 pub mod LineMeaning
 pub mod Listing

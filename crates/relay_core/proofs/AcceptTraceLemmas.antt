@@ -1,4 +1,4 @@
--- The answers of an accept worker so far, and what one turn more makes of them.
+-- The answers of a run of accepts so far, and what one turn more makes of them.
 use Rattle.std.proofs.Common.{◌≡◌, ◌<◌, ◌≤◌, ◌+◌, ◌*◌, min, ℕ, zero, suc, List, [], ◌∷◌, ◌++◌, Result, Ok, Err, refl}
 use Rattle.std.proofs.Common.{ap}
 use Rattle.std.proofs.Common.{sym, ◌∙◌, append_assoc, arith}

@@ -1,6 +1,4 @@
-pub mod CopyTraceLemmas
 pub mod PassingLemmas
 pub mod AcceptTraceLemmas
 pub mod LawsLemmas
 pub mod PassingLawsLemmas
-pub mod WholeWriteLemmas

@@ -201,10 +201,3 @@ pub if_err : (result : Result (Unit {0}) Step) (P Q : Step → Type 0) → ((ste
     → IfErr result P → IfErr result Q
 if_err (Ok done) P Q so holds = tt
 if_err (Err step) P Q so holds = so step holds
-
--- how a stop ended the copy that ended so
-pub ended_so : {dir : Dir} {Blocked : Dir → Type 0} {Stays : Type 0} {HasEnded : Ended → Type 0}
-    {step : Step} (ended : Ended)
-    → IsStop dir Blocked Stays HasEnded step → step ≡ Over ended → HasEnded ended
-ended_so ended (ToWait blocked nothing) is = absurd (cc)
-ended_so ended (AtItsEnd over has) is = let same : over ≡ ended = cc in rw (← same) has

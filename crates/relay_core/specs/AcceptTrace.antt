@@ -1,4 +1,4 @@
--- What an accept worker does through its gate. Lists are newest first.
+-- What a run of accepts does through its gate. Lists are newest first.
 --
 -- The figures 5, 1000 and 1024 are written out here, and not taken from the code's constants, so
 -- that a constant of another value is refused.
@@ -35,7 +35,7 @@ pause_after (suc (suc faults)) = min (2 * pause_after (suc faults)) 1000
 abbrev pub MayPass : Fault → Type 0
 MayPass fault = (fault ≢ ListenerClosed) × (fault ≢ ListenerDraining)
 
--- an answer after which an accept worker goes on: no fault but one that may pass, and no more than
+-- an answer after which a run of accepts goes on: no fault but one that may pass, and no more than
 -- 1,024 in a row
 abbrev pub GoesOn : {T : Type 0} → Result T Fault → List (Result T Fault) → Type 0
 GoesOn (Ok taken) earlier = Unit {0}
@@ -52,12 +52,12 @@ abbrev pub follow_up : {T : Type 0} → Result T Fault → List (Result T Fault)
 follow_up (Ok taken) earlier = Delivered taken
 follow_up (Err fault) earlier = Paused (pause_after (faults_in_a_row (Err fault ∷ earlier)))
 
--- the calls of an accept worker that was given these answers
+-- the calls of a run of accepts that was given these answers
 abbrev pub turn_calls : {T : Type 0} → List (Result T Fault) → List (AcceptCall T)
 turn_calls [] = []
 turn_calls (answer ∷ earlier) = follow_up answer earlier ∷ Accepted answer ∷ turn_calls earlier
 
--- the last answer of an accept worker that ended so, after those before
+-- the last answer of a run of accepts that ended so, after those before
 pub data LastAnswer {T : Type 0} (earlier : List (Result T Fault)) : Fault → AcceptEnded
     → Type 0 where
   -- the listener was closed
@@ -68,7 +68,7 @@ pub data LastAnswer {T : Type 0} (earlier : List (Result T Fault)) : Fault → A
   AtFault : (fault : Fault) → MayPass fault → faults_in_a_row earlier ≡ 1024
       → LastAnswer earlier fault (TooManyFaults fault)
 
--- the calls of an accept worker from its beginning to its end
+-- the calls of a run of accepts from its beginning to its end
 pub record AcceptTrace {T : Type 0} (calls : List (AcceptCall T))
     (ended : AcceptEnded) : Type 0 where
   pub answers : List (Result T Fault)
@@ -77,7 +77,7 @@ pub record AcceptTrace {T : Type 0} (calls : List (AcceptCall T))
   pub ends : LastAnswer answers last ended
   pub in_order : calls ≡ Accepted (Err last) ∷ turn_calls answers
 
--- an accept worker's run, as its gate tells it
+-- a run of accepts, as its gate tells it
 pub record IsAccepting {T : Type 0} (before after : List (AcceptCall T) → Type 0)
     (ended : AcceptEnded) : Type 0 where
   pub calls : List (AcceptCall T)

@@ -67,7 +67,7 @@ pub record IsEnding {T : Type 0} (before after : List (AcceptCall T) → Type 0)
   pub ends : LastFault (row_after old taken) last ended
   pub told : Tells before after (Accepted (Err last) ∷ turn_calls (answers_of taken))
 
--- an accept worker's run so far, with its pauses: so many faults came in a row at last
+-- a run of accepts so far, with its pauses: so many faults came in a row at last
 pub record IsAcceptingSoFar {T : Type 0} (before now : List (AcceptCall T) → Type 0)
     (faults : ℕ) : Type 0 where
   pub answers : List (Result T Fault)
@@ -86,14 +86,14 @@ IfAcceptEnded (Over ended) P = P ended
 IfAcceptEnded _ P = Unit {0}
 
 -- a fault that may pass was borne, after so many in a row: one more is in a row, and a pause of so
--- long is asked for; only private functions cite it
+-- long is asked for
 pub record IsBorne (fault : Fault) (old new ms : ℕ) : Type 0 where
   pub may_pass : MayPass fault
   pub row : new ≡ old + 1
   pub borne : new ≤ 1024
   pub pause : ms ≡ pause_after new
 
--- a step asks for a pause, or ended the task; only private functions cite it
+-- a step asks for a pause, or ended the task
 abbrev pub IsStopOfAccepts : AcceptStep → Type 0
 IsStopOfAccepts (Pauses ms) = Unit {0}
 IsStopOfAccepts (Over ended) = Unit {0}

@@ -1,12 +1,9 @@
--- What the traces of the workers mean. Lists are newest first.
-use Rattle.std.specs.Prelude.{◌≡◌, ◌*◌, ◌+◌, ◌^◌, min, ℕ, suc, List, [], ◌∷◌, ◌++◌, length, take}
-use Rattle.std.specs.Prelude.{Result, Ok}
-use Rattle.rwloops.specs.declared.fault.WriteFault.{WriteFault}
+-- What the traces of copies and of accepts mean. Lists are newest first.
+use Rattle.std.specs.Prelude.{◌≡◌, ◌*◌, ◌+◌, ◌^◌, min, ℕ, suc, List, [], ◌∷◌, ◌++◌, take, Ok}
 use Rattle.relay_core.specs.declared.copying.Ended.{Ended}
-use Rattle.relay_core.specs.declared.copying.Ended.TheVariants.{Eof, BookFull}
+use Rattle.relay_core.specs.declared.copying.Ended.TheVariants.{Eof}
 use Rattle.relay_core.specs.declared.accepting.AcceptEnded.{AcceptEnded}
-use Rattle.relay_core.specs.CopyTrace.{GateCall, Read, Wrote, reported, Whole, MayAnswer, CopyTrace}
-use Rattle.relay_core.specs.CopyTrace.{IsCopied}
+use Rattle.relay_core.specs.CopyTrace.{GateCall, Read, Wrote, reported}
 use Rattle.relay_core.specs.Passing.{Rest, Bytes, unwritten, Passing, EndsAt, IsPassing, IsPassed}
 use Rattle.relay_core.specs.AcceptTrace.{AcceptCall, Accepted, Delivered, Paused, pause_after}
 use Rattle.relay_core.specs.AcceptTrace.{AcceptTrace}
@@ -20,33 +17,11 @@ read_bytes [] = []
 read_bytes (Read (Ok bytes) ∷ earlier) = read_bytes earlier ++ bytes
 read_bytes (_ ∷ earlier) = read_bytes earlier
 
--- the bytes that the writes were offered, in order
-abbrev pub offered_bytes : List GateCall → List ℕ
-offered_bytes [] = []
-offered_bytes (Wrote bytes answer ∷ earlier) = offered_bytes earlier ++ bytes
-offered_bytes (_ ∷ earlier) = offered_bytes earlier
-
 -- the bytes that the writes took, in order: of each as many from the front as it reported
 abbrev pub taken_bytes : List GateCall → List ℕ
 taken_bytes [] = []
 taken_bytes (Wrote bytes answer ∷ earlier) = taken_bytes earlier ++ take (reported answer) bytes
 taken_bytes (_ ∷ earlier) = taken_bytes earlier
-
--- what a worker offers is what it read; what was taken is a front of it, and all of it at the
--- reader's end
-abbrev pub BytesPassInOrder : Type 0
-BytesPassInOrder = (calls : List GateCall) (ended : Ended) → CopyTrace calls ended →
-    (offered_bytes calls ≡ read_bytes calls)
-    × ((rest : List ℕ) × (read_bytes calls ≡ taken_bytes calls ++ rest))
-    × (ended ≡ Eof → taken_bytes calls ≡ read_bytes calls)
-
--- where the book was full, the last call is a write of what was read last, which took all of it or
--- failed having taken a front of it, and the answer that the gate gave has the count that is told
-abbrev pub FullBookTellsTheLastWrite : Type 0
-FullBookTellsTheLastWrite = (calls : List GateCall) (n : ℕ) → CopyTrace calls (BookFull n) →
-    (bytes : List ℕ) × (answer : Result ℕ WriteFault) × (earlier : List GateCall)
-    × (calls ≡ Wrote bytes answer ∷ Read (Ok bytes) ∷ earlier)
-    × MayAnswer Whole (length bytes) answer × (n ≡ reported answer)
 
 -- what was left to write before these calls, and what they read, is what they wrote, and what is
 -- left after them
@@ -76,12 +51,6 @@ LastPartJoins G tells Takes = (first second third : G) (old share new : ℕ) (fr
     → IsPassing Takes (tells first) (tells second) old share from between some reads
     → IsPassed Takes (tells second) (tells third) share new between ended later
     → IsPassed Takes (tells first) (tells third) old new from ended (reads + later)
-
--- a copy whose writes each take all that they are offered goes in rounds, as a worker's
-abbrev pub WholeWritesMakeRounds : (G : Type 0) → (G → List GateCall → Type 0) → Type 0
-WholeWritesMakeRounds G tells = (first last : G) (old new reads : ℕ) (ended : Ended)
-    → IsPassed Whole (tells first) (tells last) old new (Bytes []) ended reads
-    → IsCopied (tells first) (tells last) old new ended
 
 -- what was accepted, newest first
 abbrev pub accepted : {T : Type 0} → List (AcceptCall T) → List T
@@ -119,7 +88,7 @@ AcceptsPause G tells = (first second third fourth : G) (old new most ms : ℕ)
     → Tells (tells third) (tells fourth) (Paused ms ∷ [])
     → IsAcceptingSoFar (tells first) (tells fourth) new
 
--- a run so far, and a turn that ended it, are the run of an accept worker
+-- a run so far, and a turn that ended it, are a whole run of accepts
 abbrev pub AcceptsEnd : {T : Type 0} (G : Type 0) → (G → List (AcceptCall T) → Type 0) → Type 0
 AcceptsEnd G tells = (first second third : G) (old most : ℕ) (ended : AcceptEnded)
     → IsAcceptingSoFar (tells first) (tells second) old

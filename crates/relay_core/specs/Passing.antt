@@ -104,11 +104,6 @@ next_dir (Bytes []) = dir.Read
 next_dir (Bytes (byte ∷ left)) = dir.Write
 next_dir Close = dir.Write
 
--- what holds where a step ended no copy
-abbrev pub IfOpen : Step → Type 0 → Type 0
-IfOpen (Over ended) P = Unit {0}
-IfOpen _ P = P
-
 -- what holds of the direction where a step waits
 abbrev pub IfWaits : Step → (Dir → Type 0) → Type 0
 IfWaits (Waits dir) P = P dir

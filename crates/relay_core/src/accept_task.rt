@@ -78,14 +78,14 @@ impl Accepting {
                     self.pause_ms = 0;
                     gate.deliver(taken);
                 }
-                Some(Err(fault)) => return self.after(fault),
+                Some(Err(fault)) => return self.after_fault(fault),
             }
         }
         AcceptStep::Again
     }
 
-    // What follows a fault.
-    fn after(&mut self, fault: Fault) -> AcceptStep
+    /// What follows a fault that an accept answered: a pause, or the end.
+    pub fn after_fault(&mut self, fault: Fault) -> AcceptStep
         ensures stops { IsStopOfAccepts result }
         ensures pauses { IfPauses result (λ ms. IsBorne fault self.old self.new ms) }
         ensures ended { IfAcceptEnded result (LastFault self.old fault) }

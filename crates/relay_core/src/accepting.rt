@@ -1,13 +1,8 @@
-//! The worker that accepts: it delivers what it accepted, and waits between faults.
+//! How accepting ends, and when it is tried again after a fault.
 
-ghost use Rattle.std.specs.Prelude.{◌≡◌, ◌<◌, ◌*◌, ◌↔◌, min, true, List, ◌∷◌};
-ghost use Rattle.relay_core.specs.declared.accepting.AcceptEnded.{AcceptEnded};
-ghost use Rattle.relay_core.specs.AcceptTrace.{AcceptCall, Accepted, Delivered, Paused};
-ghost use Rattle.relay_core.specs.AcceptTrace.{IsAccepting};
+ghost use Rattle.std.specs.Prelude.{◌≡◌, ◌<◌, ◌*◌, min};
 
-use crate::accept_task::{AcceptStep, Accepting};
 use rwloops::Fault;
-use std::sync::Wait;
 
 /// The most faults in a row after which an accept is tried again.
 pub const MAX_FAULTS_IN_A_ROW: u32 = 1_024;
@@ -18,31 +13,7 @@ const FIRST_PAUSE_MS: u64 = 5;
 /// The longest pause, in milliseconds, as Go's `net/http` has it.
 const LONGEST_PAUSE_MS: u64 = 1_000;
 
-/// Where a worker accepts, and to whom it delivers.
-pub trait AcceptGate {
-    /// What is accepted.
-    type T;
-
-    /// This list is told: each call so far with its answer, newest first.
-    ghost tells: { Self → List (AcceptCall Self.T) → Type 0 };
-
-    /// Accepts one, or says why it can't.
-    fn accept(&mut self) -> Result<Self::T, Fault>
-        ensures told { (calls : List (AcceptCall Self.T)) → tells self.old calls
-            → tells self.new (Accepted result ∷ calls) };
-
-    /// Hands on what was accepted.
-    fn deliver(&mut self, taken: Self::T)
-        ensures told { (calls : List (AcceptCall Self.T)) → tells self.old calls
-            → tells self.new (Delivered taken ∷ calls) };
-
-    /// Waits so many milliseconds before the next accept.
-    fn pause(&mut self, ms: u64)
-        ensures told { (calls : List (AcceptCall Self.T)) → tells self.old calls
-            → tells self.new (Paused ms ∷ calls) };
-}
-
-/// How an accept worker ended. This project's own rule.
+/// How accepting ended. This project's own rule.
 #[derive(Clone, Copy, Debug, PartialEq, Eq, Drop)]
 pub enum AcceptEnded {
     /// The listener was closed.
@@ -67,21 +38,4 @@ pub fn next_pause_ms(before_ms: u64) -> u64
         return LONGEST_PAUSE_MS;
     }
     2 * before_ms
-}
-
-/// Accepts and delivers until the listener is closed or drained. After another fault it pauses and
-/// accepts again, at most `MAX_FAULTS_IN_A_ROW` times in a row.
-pub fn accept_worker<G: AcceptGate>(rt: &impl Wait, gate: &mut G) -> AcceptEnded
-    ensures { IsAccepting (G.tells gate.old) (G.tells gate.new) result }
-{
-    let mut accepting = Accepting::new();
-    for _ in rt.forever() {
-        match accepting.resume(gate) {
-            AcceptStep::Again => {}
-            AcceptStep::Pauses(ms) => gate.pause(ms),
-            AcceptStep::Ended(ended) => return ended,
-            AcceptStep::Waits => unreachable!(),
-        }
-    }
-    unreachable!()
 }

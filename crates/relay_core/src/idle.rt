@@ -2,6 +2,12 @@
 
 ghost use Rattle.std.specs.Prelude.{◌≡◌, ◌≤◌, ◌+◌, ◌*◌, ◌-◌, ◌^◌, ◌↔◌, min, true, ℕ, Some};
 
+/// What tells the moment, in nanoseconds from a start of its own.
+pub trait Moments {
+    /// The moment now.
+    fn now(&self) -> u64;
+}
+
 /// The nanoseconds of a millisecond. The clause below has the figure itself, so that another value
 /// is refused.
 const NANOS_PER_MS: u64 = 1_000_000;

@@ -1,26 +1,12 @@
-//! What the definitions of the workers mean. The functions do nothing: their contracts are laws,
-//! which the check proves.
+//! What the definitions of copies and accepts mean. The functions do nothing: their contracts are
+//! laws, which the check proves.
 
-ghost use Rattle.relay_core.specs.Laws.{BytesPassInOrder, EachIsDeliveredInOrder, PausesAreCapped};
+ghost use Rattle.relay_core.specs.Laws.{EachIsDeliveredInOrder, PausesAreCapped};
 ghost use Rattle.relay_core.specs.Laws.{NothingIsLost, BytesPassInParts, PartsJoin, LastPartJoins};
-ghost use Rattle.relay_core.specs.Laws.{WholeWritesMakeRounds, FullBookTellsTheLastWrite};
 ghost use Rattle.relay_core.specs.Laws.{AcceptsBegin, AcceptsGoOn, AcceptsPause, AcceptsEnd};
 
-use crate::gate::CopyGate;
 use crate::poll_accept::PollAcceptGate;
 use crate::poll_gate::PollGate;
-
-/// A worker offers its writer exactly the bytes that it read, in order and once. What was written
-/// is a front of them, and all of them where it ended at the reader's end.
-pub fn bytes_pass_in_order()
-    ensures { BytesPassInOrder }
-{}
-
-/// Where a worker ended at a full book, its last write took all that was read last or failed, and
-/// the count that the end tells is that of the answer which the gate gave.
-pub fn full_book_tells_the_last_write()
-    ensures { FullBookTellsTheLastWrite }
-{}
 
 /// However often a copy says that it waits, what it keeps is exactly what it has read and not yet
 /// written, in order. What a whole copy wrote is a front of what it read, and all of it where it
@@ -37,18 +23,13 @@ pub fn parts_join<G: PollGate>()
     ensures last { LastPartJoins G G.tells G.takes }
 {}
 
-/// Over a gate that waits, a copy that is resumed to its end is a run of `copy_worker`.
-pub fn whole_writes_make_rounds<G: CopyGate>()
-    ensures { WholeWritesMakeRounds G G.tells }
-{}
-
-/// An accept worker delivers exactly what it accepted, in order.
+/// A run of accepts delivers exactly what it accepted, in order.
 pub fn each_is_delivered_in_order<T>()
     ensures { EachIsDeliveredInOrder T }
 {}
 
-/// The turns of an accept task, with the pauses between them that it asks for, are a run of an
-/// accept worker, and what it delivers is what it accepted.
+/// The turns of an accept task, with the pauses between them that it asks for, are a run of
+/// accepts, and what it delivers is what it accepted.
 pub fn accepts_join<G: PollAcceptGate>()
     ensures begins { AcceptsBegin G G.tells }
     ensures goes_on { AcceptsGoOn G G.tells }

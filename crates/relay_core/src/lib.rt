@@ -1,6 +1,6 @@
 //! What a relay does with bytes, connections and pairs, as far as it can be said without a socket
-//! or a thread: the worker that copies, the worker that accepts, and the decisions about pairs.
-//! What they copy and accept through are traits.
+//! or a thread: copying and accepting as values that go on when they are told to, and the decisions
+//! about pairs. What they copy and accept through are traits.
 #![tactic(auto)]
 
 mod accept_task;
@@ -9,7 +9,6 @@ mod buffers;
 mod capacity;
 mod copying;
 mod credits;
-mod gate;
 mod idle;
 mod kept;
 pub mod laws;
@@ -23,17 +22,15 @@ mod poll_accept;
 mod poll_gate;
 mod resuming;
 mod source_state;
-mod waiting;
 mod ways;
 
 pub use accept_task::{ACCEPTS_IN_A_ROW, AcceptStep, Accepting};
-pub use accepting::{AcceptEnded, AcceptGate, MAX_FAULTS_IN_A_ROW, accept_worker, next_pause_ms};
-pub use buffers::{BUFFER_BYTES, FIRST_BUFFER_BYTES, LOOP_BUFFER_BYTES, copy_by_need};
+pub use accepting::{AcceptEnded, MAX_FAULTS_IN_A_ROW, next_pause_ms};
+pub use buffers::LOOP_BUFFER_BYTES;
 pub use capacity::Capacity;
-pub use copying::{Ended, copy_worker};
-pub use credits::{Credits, LockedBook};
-pub use gate::CopyGate;
-pub use idle::{has_come, idle_deadline, pause_end, silence_end};
+pub use copying::Ended;
+pub use credits::Credits;
+pub use idle::{Moments, has_come, idle_deadline, pause_end, silence_end};
 pub use lent::LoopMemory;
 pub use loops::{Loops, MAX_LOOPS};
 pub use pair_limit::{DEFAULT_PAIRS, MAX_PAIRS, PairLimit, has_room_for_pair};

@@ -3,7 +3,6 @@
 ghost use Rattle.std.specs.Prelude.{List, ◌∷◌, IfSome, IfNone};
 ghost use Rattle.relay_core.specs.AcceptTrace.{AcceptCall, Accepted, Delivered};
 
-use crate::accepting::AcceptGate;
 use rwloops::Fault;
 
 /// Where a task accepts, by calls that answer at once, and to whom it delivers. It isn't asked to
@@ -32,20 +31,4 @@ pub trait PollAcceptGate {
     fn deliver(&mut self, taken: Self::T)
         ensures told { (calls : List (AcceptCall Self.T)) → tells self.old calls
             → tells self.new (Delivered taken ∷ calls) };
-}
-
-impl<G: AcceptGate> PollAcceptGate for G {
-    type T = G::T;
-
-    ghost tells = { G.AcceptGate.tells };
-
-    ghost blocked = { λ _. ⊥ };
-
-    fn poll_accept(&mut self) -> Option<Result<G::T, Fault>> {
-        Some(self.accept())
-    }
-
-    fn deliver(&mut self, taken: G::T) {
-        AcceptGate::deliver(self, taken)
-    }
 }

@@ -1,12 +1,7 @@
 //! Moments of a clock that starts with the relay.
 
+pub use relay_core::Moments;
 use std::time::{Clock, Instant};
-
-/// What tells the moment, in nanoseconds from a start of its own.
-pub trait Moments {
-    /// The moment now.
-    fn now(&self) -> u64;
-}
 
 /// The nanoseconds since a start. Where the clock can't be read it tells the greatest moment, so
 /// that what hangs on time ends and doesn't stay for ever.

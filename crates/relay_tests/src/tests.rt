@@ -36,7 +36,6 @@ mod leaving;
 mod live_threads;
 mod odd_clock;
 mod odd_moments;
-mod pairs;
 mod places;
 mod slots;
 mod standing;

@@ -1,0 +1,6 @@
+mod AnsweringLemmas
+mod DeliveryLemmas
+mod LawsLemmas
+mod RoundLemmas
+mod SessionEnds
+mod WholeWriteLemmas

@@ -1,1 +1,6 @@
+pub mod Answering
+pub mod CopyTrace
+pub mod Devices
+pub mod Laws
+pub mod Serving
 pub mod Worker

@@ -2,7 +2,8 @@
 use Rattle.std.specs.Prelude.{◌≡◌, ℕ, List, Option, Some, None}
 use Rattle.relay_core.specs.declared.copying.Ended.{Ended}
 use Rattle.relay_core.specs.declared.copying.Ended.TheVariants.{BookFull}
-use Rattle.relay_core.specs.CopyTrace.{GateCall, IsCopied}
+use Rattle.relay_core.specs.CopyTrace.{GateCall}
+use Rattle.relay_workers.specs.CopyTrace.{IsCopied}
 
 -- how a worker ended and what its share has: of a copy that began with an empty share; without one
 -- it made no call

@@ -1,9 +1,12 @@
 //! What a worker copies through: two descriptors, of which one is read and the other written.
 
+ghost use Rattle.std.specs.Prelude.{◌≡◌, ◌+◌, ◌*◌, ◌-◌, ◌^◌, ℕ, min, Some, None, IfSome, IfNone};
+ghost use Rattle.deadline_core.specs.declared.deadline.Deadline.{Deadline};
+
+use crate::gate::CopyGate;
+use deadline_core::Deadline;
 use fd_descriptor::{Alarms, FdHandle, HalfClose, Resource};
-use relay_conn::idle_time::IdleTime;
-use relay_core::CopyGate;
-use relay_facts::clock::Moments;
+use relay_core::{Moments, idle_deadline};
 use rwloops::{Fault, TryRead, TryWrite, WriteFault};
 use std::sync::Wait;
 
@@ -13,7 +16,8 @@ use std::sync::Wait;
 #[derive(Drop)]
 pub struct FdGate<X: Resource, R, C, A> {
     rt: R,
-    idle: IdleTime<C>,
+    clock: C,
+    idle_ms: Option<u32>,
     alarms: A,
     source: FdHandle<X>,
     target: FdHandle<X>,
@@ -31,15 +35,27 @@ impl<X: Resource, R: Wait, C: Moments, A: Alarms> FdGate<X, R, C, A> {
     ) -> FdGate<X, R, C, A> {
         FdGate {
             rt,
-            idle: IdleTime::new(clock, idle_ms),
+            clock,
+            idle_ms,
             alarms,
             source,
             target,
         }
     }
 
+    // The moment now, and the deadline of a call that begins now; none without an idle time.
+    fn next_deadline(&self) -> Option<(u64, Deadline)>
+        ensures none { IfNone result (self.now.idle_ms ≡ None) }
+        ensures idle { IfSome result (λ r. (ms : ℕ) × (self.now.idle_ms ≡ Some ms)
+            × (r.1 ≡ Deadline.At (min (r.0 + ms * 1000000) (2 ^ 64 - 1)))) }
+    {
+        let idle_ms = self.idle_ms?;
+        let now = self.clock.now();
+        Some((now, Deadline::At(idle_deadline(now, idle_ms))))
+    }
+
     fn time_the_read(&mut self) -> Result<(), Fault> {
-        match self.idle.next_deadline() {
+        match self.next_deadline() {
             Some((now, deadline)) => {
                 self.source
                     .set_read_deadline(&self.rt, deadline, now, &self.alarms)
@@ -49,7 +65,7 @@ impl<X: Resource, R: Wait, C: Moments, A: Alarms> FdGate<X, R, C, A> {
     }
 
     fn time_the_write(&mut self) -> Result<(), Fault> {
-        match self.idle.next_deadline() {
+        match self.next_deadline() {
             Some((now, deadline)) => {
                 self.target
                     .set_write_deadline(&self.rt, deadline, now, &self.alarms)

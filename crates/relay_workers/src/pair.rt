@@ -3,7 +3,9 @@
 ghost use Rattle.std.specs.Prelude.{◌≡◌, IfOk, IfErr, IfSome};
 ghost use Rattle.relay_workers.specs.Worker.{IsLeftBy};
 
-use relay_core::{CopyGate, Ended, copy_by_need};
+use crate::buffers::copy_by_need;
+use crate::gate::CopyGate;
+use relay_core::Ended;
 use relay_ledger::{Book, CarriedShare, Full};
 use std::snapshot::Snapshot;
 use std::sync::ledger::Ledger;

@@ -41,7 +41,7 @@ FILES = {
     "TURNS_IN_A_ROW": "crates/relay_core/src/resuming.rt",
     "ACCEPTS_IN_A_ROW": "crates/relay_core/src/accept_task.rt",
     "OWN_ROOM_BYTES": "crates/relay_core/src/kept.rt",
-    "BUFFER_BYTES": "crates/relay_core/src/buffers.rt",
+    "BUFFER_BYTES": "crates/relay_workers/src/buffers.rt",
     "KEYS": "crates/conntable/src/token.rt",
     "LAST_ID": "crates/conntable/src/token.rt",
     "MAX_TRY_BYTES": "crates/rwloops/src/limits.rt",

@@ -1,8 +1,27 @@
 //! The text of an address, and that a rules file reads it back as the address that it was.
 
-use crate::tests::fake_desk::Place;
+use arrayvec::ArrayString;
 use relay_admin::{Addr, Rules};
 use std::alloc::Global;
+
+/// An address by literals.
+#[derive(Clone, Copy)]
+enum Place {
+    Tcp([u8; 4], u16),
+    Unix(&'static str),
+}
+
+impl Place {
+    fn addr(self) -> Addr {
+        match self {
+            Place::Tcp(ip, port) => Addr::Tcp(ip, port),
+            Place::Unix(path) => match ArrayString::from(path) {
+                Ok(held) => Addr::Unix(held),
+                Err(_) => Addr::Unix(ArrayString::new()),
+            },
+        }
+    }
+}
 
 // A path of 100 bytes.
 const PATH: &str = "/xxxxxxxxxxxxxxxxxxxxxxxxxxxxxxxxxxxxxxxxxxxxxxxxx\

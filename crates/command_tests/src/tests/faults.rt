@@ -1,7 +1,7 @@
 //! Each fault's line and status.
 
 use arrayvec::ArrayString;
-use relay_admin::{Command, DeskAnswer, ServeFault, reply_of};
+use relay_admin::{DeskAnswer, ServeFault, reply_in};
 use relay_command::{Fault, NO_MEMORY};
 use std::alloc::Global;
 use std::prelude::HostRuntime;
@@ -50,7 +50,7 @@ fn is_told_alike(alloc: Global, fault: ServeFault, answer: &DeskAnswer) -> bool 
     let Ok(line) = format!(in alloc; "{fault}\n") else {
         return false;
     };
-    let Ok(reply) = reply_of(alloc, &Command::Reload, answer) else {
+    let Ok(reply) = reply_in(alloc, answer) else {
         return false;
     };
     reply.as_slice() == line.as_bytes()

@@ -1,5 +1,6 @@
 //! Copies that are resumed, by scripted gates that say "not yet", and memory for one that is
 //! refused.
+mod counted;
 mod paced_gate;
 
 ghost use Rattle.std.specs.Prelude.{◌≡◌};
@@ -9,13 +10,13 @@ use base_types::Dir;
 use linked_list_allocator::LocalHeap;
 use paced_gate::{Pace, PacedGate};
 use relay_core::laws::{bytes_pass_in_parts, parts_join};
-use relay_core::{Copying, Ended, LOOP_BUFFER_BYTES, LockedBook, LoopMemory, Step, TURNS_IN_A_ROW};
-use relay_ledger::{Book, PARTS, Share};
+use relay_core::{Copying, Credits, Ended, LOOP_BUFFER_BYTES, LoopMemory, Step, TURNS_IN_A_ROW};
+use relay_ledger::{Book, Full, PARTS, Share};
 use rwloops::{DevKind, Fault, WriteFault};
 use std::alloc::{AllocGlobal, Allocator, Global};
 use std::marker::Brand;
+use std::sync::Wait;
 use std::sync::ledger::{Blank, Ledger};
-use std::sync::{Mutex, Wait};
 
 const RESET: Fault = Fault::Device(DevKind::Reset);
 
@@ -51,19 +52,30 @@ struct Course {
 
 const WHOLE: (usize, usize) = (LOOP_BUFFER_BYTES, LOOP_BUFFER_BYTES);
 
+/// A book that one thread alone credits.
+#[derive(Drop)]
+struct OwnBook<L: Ledger> {
+    book: Book<L>,
+}
+
+impl<L: Ledger> Credits<L> for OwnBook<L> {
+    fn credit(&mut self, share: &mut Share<L>, n: u64) -> Result<(), Full> {
+        self.book.credit(share, n)
+    }
+}
+
 /// Resumes a copy to its end.
 fn turns_of<L: Ledger, R: Wait, A: Allocator>(
     rt: &R,
     gate: &mut PacedGate,
     copying: &mut Copying<A>,
     memory: &mut LoopMemory<A>,
-    book: &Mutex<Book<L>>,
+    credits: &mut OwnBook<L>,
     share: &mut Share<L>,
 ) -> (Turns, Ended) {
     let mut turns = Turns(0, 0, 0);
-    let mut credits = LockedBook { rt, book };
     for _ in rt.forever() {
-        let step = copying.resume(gate, &mut credits, share, memory);
+        let step = copying.resume(gate, credits, share, memory);
         if let Some(ended) = turns.note(step) {
             return (turns, ended);
         }
@@ -86,9 +98,16 @@ fn resumed<L: Ledger, R: Wait, A: Allocator>(
     let Ok(mut share) = book.open_share() else {
         return None;
     };
-    let book = Mutex::new(book);
+    let mut book = OwnBook { book };
     let (mut gate, mut copying, mut memory) = (gate, copying, memory);
-    let (turns, ended) = turns_of(rt, &mut gate, &mut copying, &mut memory, &book, &mut share);
+    let (turns, ended) = turns_of(
+        rt,
+        &mut gate,
+        &mut copying,
+        &mut memory,
+        &mut book,
+        &mut share,
+    );
     let amount = share.amount();
     share.give_up();
     Some(Course {

@@ -22,9 +22,9 @@ use Rattle.relay_admin.specs.admin.Parts.{said_of}
 use Rattle.relay_admin.specs.admin.Progress.{LastComesTo, NextComesTo, ReplyComesTo, ahead_of, position}
 use Rattle.relay_admin.specs.admin.Reply.{Answer, AddsExchanges, Exchanges, HasAskedId, IsReplyTo, asked_for, reply_text}
 use Rattle.relay_admin.specs.admin.Reply as answers
-use Rattle.relay_admin.proofs.admin.LineTranscripts.{adds_then, asked_line}
-use Rattle.relay_admin.proofs.admin.Listings.{by_whole}
-use Rattle.relay_admin.proofs.admin.StepLemmas.{ends_line_of, last_comes, next_comes, ready_after, reply_comes}
+use Rattle.relay_admin.proofs.LineTranscripts.{adds_then, asked_line}
+use Rattle.relay_admin.proofs.Listings.{by_whole}
+use Rattle.relay_admin.proofs.StepLemmas.{ends_line_of, last_comes, next_comes, ready_after, reply_comes}
 
 -- ---- The questions that may be answered later
 

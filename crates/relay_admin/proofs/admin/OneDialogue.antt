@@ -9,7 +9,7 @@ use Rattle.relay_admin.specs.declared.admin.end.AdminEnd.TheVariants as ends
 use Rattle.relay_admin.specs.admin.Listing.{ids_to_show}
 use Rattle.relay_admin.specs.admin.Reply.{asked_for, looked_at}
 use Rattle.relay_admin.proofs.admin.CommandLemmas.{one_command}
-use Rattle.relay_admin.proofs.admin.Listings.{answer_asks_nothing}
+use Rattle.relay_admin.proofs.Listings.{answer_asks_nothing}
 
 -- what a command asks of the desk: itself, but where it ends the session
 abbrev asks_where : Command → Option AdminEnd → List Command

@@ -7,6 +7,8 @@ use Rattle.relay_admin.specs.declared.admin.listing.Listing.{Listing}
 use Rattle.relay_admin.specs.declared.admin.listing.Making.{Making}
 use Rattle.relay_admin.specs.declared.admin.listing.Making.TheVariants as making
 use Rattle.relay_admin.specs.declared.admin.listing.Part.{Part}
+use Rattle.relay_admin.specs.declared.admin.listing.NextPart.{NextPart}
+use Rattle.relay_admin.specs.declared.admin.listing.NextPart.TheVariants as next
 use Rattle.relay_admin.specs.declared.admin.listing.Part.TheVariants as part
 use Rattle.relay_admin.specs.declared.admin.reply_text.TheConstants.{OUT_OF_MEMORY, SHOWN_ALL}
 use Rattle.relay_admin.specs.admin.Listing.{Said, whole, each}
@@ -77,3 +79,18 @@ PartComes part (whole text) (whole text') asked asked' =
     (asked' ≡ asked) × IsPartOfLine part text text'
 PartComes part (each left) (whole text') asked asked' = ⊥
 PartComes part (whole text) (each left') asked asked' = ⊥
+
+-- an id is taken of those that were to come, and is to be looked at
+abbrev pub TakesId : ℕ → Said → Said → Type 0
+TakesId id (each left) (each left') = left ≡ id ∷ left'
+TakesId id _ _ = ⊥
+
+-- what holds of a part that is made
+abbrev pub IfMade : {A : Type 0} → NextPart A → (Part A → Type 0) → Type 0
+IfMade (next.Made part) P = P part
+IfMade (next.LookAt id) P = Unit {0}
+
+-- what holds of an id that is to be looked at
+abbrev pub IfLooksAt : {A : Type 0} → NextPart A → (ℕ → Type 0) → Type 0
+IfLooksAt (next.Made part) P = Unit {0}
+IfLooksAt (next.LookAt id) P = P id

@@ -1,19 +1,15 @@
 -- How far a session has come, and what bytes do to it.
-use Rattle.std.specs.Prelude.{◌≡◌, ◌≢◌, ◌≤◌, ◌<◌, ◌+◌, ◌*◌, ◌∷◌, ◌++◌, ◌⊎◌}
-use Rattle.relay_admin.specs.Words.{ℕ, Bool, List, []}
-use Rattle.relay_admin.specs.Words.{length, take, Option, Some, None, Result, Ok, Err, Appends}
-use Rattle.relay_admin.specs.Words.{lines_of}
-use Rattle.relay_admin.specs.Words.{line_feed, Lacks, EndsLines, WriteStopped}
+use Rattle.std.specs.Prelude.{◌≡◌, ◌≢◌, ◌≤◌, ◌<◌, ◌+◌, ◌++◌, ◌⊎◌}
+use Rattle.relay_admin.specs.Words.{ℕ, List, []}
+use Rattle.relay_admin.specs.Words.{length, Option, Some, None, lines_of}
+use Rattle.relay_admin.specs.Words.{line_feed, Lacks, EndsLines}
 use Rattle.relay_admin.specs.declared.admin.end.AdminEnd.{AdminEnd}
 use Rattle.relay_admin.specs.declared.admin.end.AdminEnd.TheVariants as ends
-use Rattle.relay_admin.specs.declared.admin.dialogue.Step.{Step}
-use Rattle.relay_admin.specs.declared.admin.dialogue.Step.TheVariants as step
 use Rattle.relay_admin.specs.declared.admin.dialogue.Dialogue.{Dialogue}
 use Rattle.relay_admin.specs.declared.admin.dialogue.TheConstants.{MAX_LINES, MAX_LINE_BYTES}
 use Rattle.relay_admin.specs.admin.Listing.{Said, Comes}
-use Rattle.relay_admin.specs.admin.Reply.{Exchange, AddsExchanges, questions_of}
-use Rattle.relay_admin.specs.admin.Transcript.{LineTranscript, Ending, ended, cut_off, Transcript}
-use Rattle.relay_admin.specs.admin.Devices.{IsFlushedOrUntouched}
+use Rattle.relay_admin.specs.admin.Reply.{Exchange, AddsExchanges}
+use Rattle.relay_admin.specs.admin.Transcript.{LineTranscript, Ending, ended, Transcript}
 
 -- the number of the line that is read, and what has come of it
 pub record Position : Type 0 where
@@ -38,31 +34,6 @@ pub record IsReady (at : Position) : Type 0 where
   pub short : length at.kept ≤ MAX_LINE_BYTES
   pub unended : Lacks line_feed at.kept
 
--- a reply was written, after the looks that it comes of
-pub record Delivers (said : Said) (asked asked' : Option (List Exchange))
-    (contents contents' : Option (List ℕ)) : Type 0 where
-  pub looks : List Exchange
-  pub text : List ℕ
-  pub comes : Comes said looks text
-  pub told : AddsExchanges asked asked' looks
-  pub written : Appends contents contents' text
-
--- a front of a reply was written, after the looks that this comes of; the others are missing
-pub record DeliversFront (said : Said) (asked asked' : Option (List Exchange))
-    (contents contents' : Option (List ℕ)) : Type 0 where
-  pub looks : List Exchange
-  pub missing : List Exchange
-  pub text : List ℕ
-  pub count : ℕ
-  pub unasked : questions_of missing ≡ []
-  pub comes : Comes said (looks ++ missing) text
-  pub told : AddsExchanges asked asked' looks
-  pub written : Appends contents contents' (take count text)
-
--- rises by one with each byte at least
-abbrev pub progress_of : Position → ℕ
-progress_of at = (MAX_LINE_BYTES + 1) * at.number + length at.kept
-
 -- what one line brought, with whatever its reply then comes to
 pub record AnswersLine (asked asked' : Option (List Exchange)) (line : List ℕ) (said : Said)
     (end : Option AdminEnd) : Type 0 where
@@ -70,15 +41,6 @@ pub record AnswersLine (asked asked' : Option (List Exchange)) (line : List ℕ)
   pub told : AddsExchanges asked asked' exchanges
   pub are : (looks : List Exchange) (text : List ℕ) → Comes said looks text
       → LineTranscript line (exchanges ++ looks) text end
-
--- what was asked and written meanwhile is so
-pub record Meanwhile (asked asked' : Option (List Exchange)) (contents contents' : Option (List ℕ))
-    (P : List Exchange → List ℕ → Type 0) : Type 0 where
-  pub exchanges : List Exchange
-  pub replies : List ℕ
-  pub told : AddsExchanges asked asked' exchanges
-  pub written : Appends contents contents' replies
-  pub holds : P exchanges replies
 
 -- these bytes end some lines, which bring these questions and replies and lead on to the new
 -- position
@@ -95,20 +57,6 @@ abbrev pub Closes : Position → List ℕ → List Exchange → List ℕ → End
 Closes old bytes exchanges replies ending =
     (rest : List ℕ) → Transcript old.number (lines_of (old.kept ++ (bytes ++ rest))) exchanges
     replies ending
-
--- what bytes came to
-abbrev pub LinesComeTo : Step → Position → Position → List ℕ
-    → Option (List Exchange) → Option (List Exchange) → Option (List ℕ) → Option (List ℕ) → Type 0
-LinesComeTo step.GoesOn old new bytes asked asked' contents contents' =
-    IsReady new × (progress_of old + length bytes ≤ progress_of new)
-    × Meanwhile asked asked' contents contents'
-    (λ exchanges replies. Advances old new bytes exchanges replies)
-LinesComeTo (step.Ended end) old new bytes asked asked' contents contents' =
-    (end ≢ ends.End) × Meanwhile asked asked' contents contents'
-    (λ exchanges replies. Closes old bytes exchanges replies (ended end))
-LinesComeTo step.CutOff old new bytes asked asked' contents contents' =
-    Meanwhile asked asked' contents contents'
-    (λ exchanges replies. Closes old bytes exchanges replies cut_off)
 
 -- what the reply to a whole line came to: the session goes on, or it ends by the line, or since no
 -- line more may come
@@ -158,37 +106,3 @@ LastComesTo None old asked asked' = (asked' ≡ asked)
 LastComesTo (Some told) old asked asked' = Asks asked asked'
     (λ exchanges. (looks : List Exchange) (text : List ℕ) → Comes told.0 looks text
     → Transcript old.number (lines_of old.kept) (exchanges ++ looks) text (ended told.1))
-
--- what a whole line came to
-abbrev pub LineComesTo : Step → Position → Position
-    → Option (List Exchange) → Option (List Exchange) → Option (List ℕ) → Option (List ℕ) → Type 0
-LineComesTo step.GoesOn old new asked asked' contents contents' =
-    (old.number < MAX_LINES) × (new ≡ record { number = old.number + 1; kept = [] })
-    × Meanwhile asked asked' contents contents'
-    (λ exchanges replies. LineTranscript old.kept exchanges replies None)
-LineComesTo (step.Ended end) old new asked asked' contents contents' =
-    (end ≢ ends.End) × Meanwhile asked asked' contents contents'
-    (λ exchanges replies. (lines : List (List ℕ))
-    → Transcript old.number (old.kept ∷ lines) exchanges replies (ended end))
-LineComesTo step.CutOff old new asked asked' contents contents' =
-    Meanwhile asked asked' contents contents'
-    (λ exchanges replies. (lines : List (List ℕ))
-    → Transcript old.number (old.kept ∷ lines) exchanges replies cut_off)
-
--- what the end of the bytes came to
-abbrev pub EndComesTo : {E : Type 0} → Result AdminEnd E → Position
-    → Option (List Exchange) → Option (List Exchange) → Option (List ℕ) → Option (List ℕ) → Type 0
-EndComesTo (Ok end) old asked asked' contents contents' =
-    Meanwhile asked asked' contents contents'
-    (λ exchanges replies. Transcript old.number (lines_of old.kept) exchanges replies (ended end))
-EndComesTo (Err fault) old asked asked' contents contents' =
-    Meanwhile asked asked' contents contents'
-    (λ exchanges replies. Transcript old.number (lines_of old.kept) exchanges replies cut_off)
-
--- how the sink stands after bytes
-abbrev pub SinkAfter : Step → Option (List ℕ) → Option (List ℕ)
-    → Bool → Bool → Bool → ℕ → Bool → Type 0
-SinkAfter step.CutOff contents contents' flushed flushed' failed interruptions took_nothing =
-    WriteStopped failed interruptions took_nothing
-SinkAfter _ contents contents' flushed flushed' failed interruptions took_nothing =
-    (interruptions ≡ 0) × IsFlushedOrUntouched contents contents' flushed flushed'

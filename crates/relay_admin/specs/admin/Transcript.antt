@@ -1,18 +1,15 @@
 -- An admin session on whole texts: which lines bring which questions, replies and end.
 use Rattle.std.specs.Prelude.{◌≡◌, ◌≢◌, ◌≤◌, ◌<◌, ◌+◌, ◌∷◌, ◌++◌}
 use Rattle.relay_admin.specs.Words.{ℕ, List, [], length}
-use Rattle.relay_admin.specs.Words.{take, Option, Some, None, IfSome, Appends, Consumes, lines_of}
-use Rattle.relay_admin.specs.Words.{ended_lines, line_feed, Lacks}
+use Rattle.relay_admin.specs.Words.{take, Option, Some, None, lines_of}
 use Rattle.relay_admin.specs.declared.admin.command.Command.{Command}
 use Rattle.relay_admin.specs.declared.admin.dialogue.TheConstants.{MAX_LINES, MAX_LINE_BYTES}
 use Rattle.relay_admin.specs.declared.admin.end.AdminEnd.{AdminEnd}
 use Rattle.relay_admin.specs.declared.admin.end.AdminEnd.TheVariants as ends
-use Rattle.relay_admin.specs.declared.admin.end.AdminFault.{AdminFault}
-use Rattle.relay_admin.specs.declared.admin.end.AdminFault.TheVariants as faults
 use Rattle.relay_admin.specs.admin.Command.{IsCommand, SpellsCommand, command_text, end_of}
 use Rattle.relay_admin.specs.admin.Listing.{AnswerComesTo, ids_to_show}
 use Rattle.relay_admin.specs.admin.Reply.{Answer, fine, reply_text, bad_command}
-use Rattle.relay_admin.specs.admin.Reply.{Exchange, asked_for, AddsExchanges, HasAskedId, questions_of}
+use Rattle.relay_admin.specs.admin.Reply.{Exchange, asked_for, HasAskedId, questions_of}
 
 -- a line, what is asked for it, the reply, and how the session ends by it, if it does
 pub data LineTranscript : List ℕ → List Exchange → List ℕ → Option AdminEnd → Type 0 where
@@ -64,42 +61,3 @@ pub data Transcript : ℕ → List (List ℕ) → List Exchange → List ℕ →
 -- the whole text brings these questions and replies, and stops so
 abbrev pub IsTranscriptOf : List ℕ → List Exchange → List ℕ → Ending → Type 0
 IsTranscriptOf text exchanges replies ending = Transcript 1 (lines_of text) exchanges replies ending
-
--- the whole lines of these bytes bring these questions and replies, and none of them ends the
--- session
-pub record IsTranscriptOfWholeLines (bytes : List ℕ) (exchanges : List Exchange)
-    (replies : List ℕ) : Type 0 where
-  pub lines : List (List ℕ)
-  pub more : List ℕ
-  pub split : bytes ≡ ended_lines lines ++ more
-  pub unended : Lacks line_feed more
-  pub are : Transcript 1 lines exchanges replies (ended ends.End)
-
--- what was asked and written meanwhile; where the source tells its text, it is the text's
-pub record Serves (remaining : Option (List ℕ)) (asked asked' : Option (List Exchange))
-    (contents contents' : Option (List ℕ)) (ending : Ending) : Type 0 where
-  pub exchanges : List Exchange
-  pub replies : List ℕ
-  pub told : AddsExchanges asked asked' exchanges
-  pub written : Appends contents contents' replies
-  pub are : IfSome remaining (λ text. IsTranscriptOf text exchanges replies ending)
-
--- what was read, asked and written meanwhile: that of all whole lines that were read
-pub record ServesWholeLines (remaining remaining' : Option (List ℕ))
-    (asked asked' : Option (List Exchange))
-    (contents contents' : Option (List ℕ)) : Type 0 where
-  pub bytes : List ℕ
-  pub exchanges : List Exchange
-  pub replies : List ℕ
-  pub consumed : Consumes remaining remaining' bytes
-  pub told : AddsExchanges asked asked' exchanges
-  pub written : Appends contents contents' replies
-  pub are : IsTranscriptOfWholeLines bytes exchanges replies
-
--- what was asked and written before a fault
-abbrev pub ServesBeforeFault : AdminFault → Option (List ℕ) → Option (List ℕ)
-    → Option (List Exchange) → Option (List Exchange) → Option (List ℕ) → Option (List ℕ) → Type 0
-ServesBeforeFault faults.Read remaining remaining' asked asked' contents contents' =
-    ServesWholeLines remaining remaining' asked asked' contents contents'
-ServesBeforeFault faults.Write remaining remaining' asked asked' contents contents' =
-    Serves remaining asked asked' contents contents' cut_off

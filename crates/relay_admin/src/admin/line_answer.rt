@@ -1,15 +1,12 @@
 //! What one line of a session asks, and its reply.
 
-ghost use Rattle.std.specs.Prelude.{◌≡◌, ◌≤◌};
+ghost use Rattle.std.specs.Prelude.{◌≤◌};
 ghost use Rattle.relay_admin.specs.Words.{length};
 ghost use Rattle.relay_admin.specs.declared.admin.dialogue.TheConstants.{MAX_LINE_BYTES};
 ghost use Rattle.relay_admin.specs.admin.LineMeaning.{LineMeans};
 ghost use Rattle.relay_admin.specs.admin.Later.{LineComesBy};
-ghost use Rattle.relay_admin.specs.admin.Parts.{said_of};
-ghost use Rattle.relay_admin.specs.admin.Progress.{AnswersLine};
 
 use crate::admin::command::Command;
-use crate::admin::desk::{Desk, ask};
 use crate::admin::end::AdminEnd;
 use crate::admin::line_reply::{LineReply, line_reply_to};
 use crate::admin::next_line::NextLine;
@@ -20,15 +17,15 @@ use std::alloc::{Allocator, Global};
 
 /// What a line is to a session.
 #[derive(Drop)]
-pub(crate) enum LineIs<A: Allocator> {
+pub enum LineIs<A: Allocator> {
     /// It asks nothing: its reply, and how the session ends by it, if it does.
     Answered(LineReply<A>, Option<AdminEnd>),
     /// It asks this.
     Asks(Command),
 }
 
-// What a line without its line feed is.
-fn line_is<A: Allocator>(line: &[u8]) -> LineIs<A>
+/// What a line without its line feed is.
+pub fn line_is<A: Allocator>(line: &[u8]) -> LineIs<A>
     requires { length line.now ≤ MAX_LINE_BYTES }
     ensures { LineMeans result line.now }
 {
@@ -41,28 +38,8 @@ fn line_is<A: Allocator>(line: &[u8]) -> LineIs<A>
     }
 }
 
-/// Answers a line without its line feed: the reply, and how the session ends by it, if it does.
-/// The desk may take memory of `alloc`, the reply of `memory`.
-pub(crate) fn answer_line<A: Allocator + Copy, D: Desk>(
-    alloc: Global,
-    memory: A,
-    desk: &mut D,
-    line: &[u8],
-) -> (LineReply<A>, Option<AdminEnd>)
-    requires { length line.now ≤ MAX_LINE_BYTES }
-    ensures { AnswersLine (D.exchanges desk.old) (D.exchanges desk.new)
-        line.now (said_of result.0) result.1 }
-{
-    match line_is(line) {
-        LineIs::Answered(reply, end) => (reply, end),
-        LineIs::Asks(command) => {
-            let answer = ask(alloc, desk, &command);
-            (line_reply_to(memory, &command, answer), None)
-        }
-    }
-}
-
-/// The same at a desk that may answer later.
+/// What comes of a line without its line feed, at a desk that may answer later. The desk may take
+/// memory of `alloc`, the reply of `memory`.
 pub(crate) fn ask_line<A: Allocator + Copy, D: SessionDesk>(
     alloc: Global,
     memory: A,

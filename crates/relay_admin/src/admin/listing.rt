@@ -2,15 +2,15 @@
 //! an id, a line for each. So it takes no memory for all at once, and others go on between two parts.
 //! What comes meanwhile isn't in it, and what goes may not be shown.
 
-ghost use Rattle.std.specs.Prelude.{◌≡◌, ◌∷◌, [], true, IfNone, IfSome, option_map};
+ghost use Rattle.std.specs.Prelude.{◌≡◌, ◌∷◌, [], true, List, Option, IfNone, IfSome, option_map};
 ghost use Rattle.relay_admin.specs.admin.Listing.{each, whole};
-ghost use Rattle.relay_admin.specs.admin.Parts.{IsPartOfLook, IsPartOfLine, PartComes};
-ghost use Rattle.relay_admin.specs.admin.Parts.{ids_left, left_of, line_of_ids};
+ghost use Rattle.relay_admin.specs.admin.Parts.{IfLooksAt, IfMade, IsPartOfLook, IsPartOfLine};
+ghost use Rattle.relay_admin.specs.admin.Parts.{PartComes, TakesId, ids_left, left_of, line_of_ids};
 ghost use Rattle.relay_admin.specs.admin.Reply as answers;
+ghost use Rattle.relay_admin.specs.admin.Reply.{Exchange};
 ghost use Rattle.relay_admin.specs.admin.Shown.{particulars_of};
 ghost use Rattle.relay_admin.specs.declared.admin.listing.Making.{Making};
 
-use crate::admin::desk::Desk;
 use crate::admin::id_line::{add_ids, first_word};
 use crate::admin::reply_bytes::Reply;
 use crate::admin::reply_text::{OUT_OF_MEMORY, SHOWN_ALL};
@@ -44,6 +44,15 @@ pub enum Part<A: Allocator> {
     Line(Reply<A>),
     /// The last line, or the last piece: no id is left, or memory for a line was refused.
     Last(Reply<A>),
+}
+
+/// How the next part of a listing begins.
+#[derive(Drop)]
+pub enum NextPart<A: Allocator> {
+    /// It is made, and nobody is asked.
+    Made(Part<A>),
+    /// It shows this id, once that was looked at.
+    LookAt(u64),
 }
 
 impl Listing {
@@ -80,30 +89,25 @@ impl Listing {
         ensures { PartComes result (left_of self.old) (left_of self.new)
             (D.exchanges desk.old) (D.exchanges desk.new) }
     {
-        if let Making::OneLine(is_begun) = self.making {
-            return self.next_piece(is_begun);
-        }
-        match self.next_id() {
-            Some(id) => part_of(memory, desk.look(id)),
-            None => Part::Last(Reply::Fixed(SHOWN_ALL)),
+        match self.begin_part() {
+            NextPart::Made(part) => part,
+            NextPart::LookAt(id) => part_of(memory, desk.look(id)),
         }
     }
 
-    /// The same at the desk of a program that has one session.
-    pub(crate) fn next_part_at<A: Allocator + Copy, D: Desk>(
-        &mut self,
-        memory: A,
-        desk: &mut D,
-    ) -> Part<A>
-        ensures { PartComes result (left_of self.old) (left_of self.new)
-            (D.exchanges desk.old) (D.exchanges desk.new) }
+    /// Begins the next part: it is made, or an id is to be looked at, of which `part_of` makes it.
+    pub fn begin_part<A: Allocator>(&mut self) -> NextPart<A>
+        ensures made { IfMade result (λ part. (asked : Option (List Exchange))
+            → PartComes part (left_of self.old) (left_of self.new) asked asked) }
+        ensures look { IfLooksAt result (λ id.
+            TakesId id (left_of self.old) (left_of self.new)) }
     {
         if let Making::OneLine(is_begun) = self.making {
-            return self.next_piece(is_begun);
+            return NextPart::Made(self.next_piece(is_begun));
         }
         match self.next_id() {
-            Some(id) => part_of(memory, desk.look(id)),
-            None => Part::Last(Reply::Fixed(SHOWN_ALL)),
+            Some(id) => NextPart::LookAt(id),
+            None => NextPart::Made(Part::Last(Reply::Fixed(SHOWN_ALL))),
         }
     }
 
@@ -138,8 +142,8 @@ impl Listing {
     }
 }
 
-// The part of an id for which this was seen: its line, or the last one where memory was refused.
-fn part_of<A: Allocator + Copy>(memory: A, seen: Option<Shown>) -> Part<A>
+/// The part of an id for which this was seen: its line, or the last one where memory was refused.
+pub fn part_of<A: Allocator + Copy>(memory: A, seen: Option<Shown>) -> Part<A>
     ensures { IsPartOfLook result (option_map (λ seen. particulars_of seen) seen) }
 {
     let Some(seen) = seen else {

@@ -5,7 +5,6 @@ ghost use Rattle.relay_admin.specs.admin.Reply.{IsReplyTo, answer_of, reply_text
 ghost use Rattle.relay_admin.specs.admin.Reply as answers;
 ghost use Rattle.relay_admin.specs.admin.ReplyBytes.{bytes_of};
 
-use crate::admin::command::Command;
 use crate::admin::desk::DeskAnswer;
 use crate::admin::reply_bytes::Reply;
 use crate::admin::reply_text::{
@@ -16,19 +15,7 @@ use crate::rules::rule::MAX_NAME_BYTES;
 use arrayvec::ArrayString;
 use base_types::OutOfMemory;
 use itoa::Buffer;
-use std::alloc::{Allocator, Global};
-
-/// The reply to an answer, with its line feed. It hangs on the answer alone, whatever the command
-/// is. The only fault is want of memory.
-pub fn reply_of(
-    alloc: Global,
-    _command: &Command,
-    answer: &DeskAnswer,
-) -> Result<Vec<u8>, OutOfMemory>
-    ensures { IfOk result (λ reply. reply.items ≡ reply_text (answer_of answer.now)) }
-{
-    reply_in(alloc, answer)
-}
+use std::alloc::Allocator;
 
 /// The reply to an answer, with its line feed, in memory of this allocator. The only fault is want
 /// of memory.

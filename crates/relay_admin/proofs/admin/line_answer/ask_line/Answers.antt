@@ -1,5 +1,5 @@
 use Rattle.relay_admin.specs.admin.Parts.{said_of}
-use Rattle.relay_admin.proofs.admin.LineTranscripts.{asked_line}
+use Rattle.relay_admin.proofs.LineTranscripts.{asked_line}
 use Rattle.relay_admin.proofs.admin.line_answer.ask_line.Goals as goal
 
 pub returns-in-Answered : goal.returns-in-Answered

@@ -1,7 +1,7 @@
 use Rattle.std.proofs.Common.{◌∙◌, None, sym}
 use Rattle.relay_admin.specs.admin.Reply.{bad_command}
 use Rattle.relay_admin.specs.admin.Transcript.{no_command}
-use Rattle.relay_admin.proofs.admin.LineTranscripts.{unasked, last_line_of}
+use Rattle.relay_admin.proofs.LineTranscripts.{unasked, last_line_of}
 use Rattle.relay_admin.proofs.admin.line_answer.line_is.Goals as goal
 
 pub returns-in_default : goal.returns-in_default

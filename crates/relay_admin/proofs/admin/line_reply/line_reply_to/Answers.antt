@@ -1,7 +1,7 @@
 use Rattle.std.proofs.Common.{subst}
 use Rattle.relay_admin.specs.admin.Reply.{IsReplyTo, answer_of}
 use Rattle.relay_admin.specs.admin.ReplyBytes.{bytes_of}
-use Rattle.relay_admin.proofs.admin.Listings.{by_whole}
+use Rattle.relay_admin.proofs.Listings.{by_whole}
 use Rattle.relay_admin.proofs.admin.line_reply.line_reply_to.Goals as goal
 
 pub returns-in-Err : goal.returns-in-Err

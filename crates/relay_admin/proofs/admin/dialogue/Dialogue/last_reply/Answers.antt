@@ -3,8 +3,8 @@ use Rattle.relay_admin.specs.admin.Progress.{LastComesTo, position}
 use Rattle.relay_admin.specs.admin.Parts.{said_of}
 use Rattle.relay_admin.proofs.Words.{Some}
 use Rattle.relay_admin.proofs.TextLemmas.{number_same, number_positive}
-use Rattle.relay_admin.proofs.admin.SessionLemmas.{no_last_line}
-use Rattle.relay_admin.proofs.admin.StepLemmas.{last_comes}
+use Rattle.relay_admin.proofs.SessionLemmas.{no_last_line}
+use Rattle.relay_admin.proofs.StepLemmas.{last_comes}
 use Rattle.relay_admin.proofs.admin.dialogue.Dialogue.last_reply.Goals as goal
 
 pub returns-then-is_empty-clause-does : goal.returns-then-is_empty-clause-does

@@ -2,7 +2,7 @@ use Rattle.stream_base.proofs.LineReaderLemmas.{line_found, line_grown, line_is_
 use Rattle.relay_admin.specs.declared.admin.dialogue.TheConstants.{MAX_LINE_BYTES}
 use Rattle.relay_admin.specs.admin.Progress.{position}
 use Rattle.relay_admin.proofs.admin.LaterLemmas.{line_comes, ready_by}
-use Rattle.relay_admin.proofs.admin.StepLemmas.{long_comes}
+use Rattle.relay_admin.proofs.StepLemmas.{long_comes}
 use Rattle.relay_admin.proofs.admin.dialogue.Dialogue.next_reply.Goals as goal
 
 -- no line is whole

@@ -1,5 +1,0 @@
-use Rattle.relay_core.proofs.LawsLemmas.{full_book_tells_the_last_write}
-use Rattle.relay_core.proofs.laws.full_book_tells_the_last_write.Goals as goal
-
-pub returns : goal.returns
-returns c = full_book_tells_the_last_write
