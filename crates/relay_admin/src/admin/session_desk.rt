@@ -20,7 +20,7 @@ use crate::admin::shown::Shown;
 use base_types::OutOfMemory;
 use std::alloc::Global;
 
-/// What an `AdminSession` asks, as a session asks its `Desk`: once for each line that asks something,
+/// What an `AdminSession` asks: once for each line that asks something,
 /// in the order of the lines, and for nothing else. Each question has a type of answers. Where
 /// `close`, `drain` or `deadline` answer `None`, the answer comes later, by `AdminSession::answer`;
 /// until then the session asks nothing more.
