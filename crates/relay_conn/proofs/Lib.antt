@@ -1,3 +1,4 @@
+pub mod ConnectionLemmas
 pub mod DeadlinesLemmas
 pub mod DrainedLemmas
 pub mod RelayingLemmas

@@ -8,12 +8,22 @@ use Rattle.base_types.specs.declared.direction.Dir.TheVariants as dir
 use Rattle.deadline_core.specs.Moments.{earlier_of}
 use Rattle.relay_core.specs.declared.ways.Way.{Way}
 use Rattle.relay_core.specs.declared.ways.Way.TheVariants.{Up, Down}
-use Rattle.relay_conn.specs.Deadlines.{limit_moment, gives_up_at}
+use Rattle.deadline_core.specs.declared.call_deadlines.CallDeadlines.{CallDeadlines}
+use Rattle.deadline_core.specs.declared.deadline.Deadline.{Deadline}
+use Rattle.relay_conn.specs.Deadlines.{limit_moment, gives_up_at, TellsCalls}
 use Rattle.relay_conn.specs.declared.connection.Connection.{Connection}
 use Rattle.relay_conn.specs.declared.connection.Phase.{Phase}
 use Rattle.relay_conn.specs.declared.connection.Phase.TheVariants as phase
 use Rattle.relay_conn.specs.declared.dialing.Dialing.{Dialing}
 use Rattle.relay_conn.specs.declared.relaying.Relaying.{Relaying}
+
+-- the reads of a side and the writes to it were told when they give up, of both ways' calls before and
+-- after
+abbrev pub TellsSide : (up new_up down new_down : CallDeadlines) → Side → Deadline → Type 0
+TellsSide up new_up down new_down First at =
+    TellsCalls up new_up dir.Read at × TellsCalls down new_down dir.Write at
+TellsSide up new_up down new_down Second at =
+    TellsCalls down new_down dir.Read at × TellsCalls up new_up dir.Write at
 
 module _ {U D R : Type 0} where
   -- the moment at which a target is given up: when it is to be connected, or a side's read gives up
@@ -66,6 +76,13 @@ module _ {U D R : Type 0} where
   down_share (Some (phase.Dialing d)) = Some d.down.share
   down_share (Some (phase.Relaying r)) = Some r.down.share
 
+  -- the shares of a connection
+  abbrev pub up_share_of : Connection U D R → Option ℕ
+  up_share_of connection = up_share connection.phase
+
+  abbrev pub down_share_of : Connection U D R → Option ℕ
+  down_share_of connection = down_share connection.phase
+
   -- the descriptor of a side of a connection was drained
   abbrev pub DrainedIn : Option (Phase U D R) → Side → Type 0
   DrainedIn None side = ⊥
@@ -76,3 +93,16 @@ module _ {U D R : Type 0} where
 
   abbrev pub SideDrained : Connection U D R → Side → Type 0
   SideDrained connection side = DrainedIn connection.phase side
+
+  -- the calls of a side of a connection were told when they give up
+  abbrev pub ToldIn : Option (Phase U D R) → Option (Phase U D R) → Side → Deadline → Type 0
+  ToldIn (Some (phase.Dialing old)) (Some (phase.Dialing new)) side at =
+      TellsSide old.up.time.deadlines new.up.time.deadlines
+      old.down.time.deadlines new.down.time.deadlines side at
+  ToldIn (Some (phase.Relaying old)) (Some (phase.Relaying new)) side at =
+      TellsSide old.up.gate.time.deadlines new.up.gate.time.deadlines
+      old.down.gate.time.deadlines new.down.gate.time.deadlines side at
+  ToldIn old new side at = ⊥
+
+  abbrev pub SideTold : Connection U D R → Connection U D R → Side → Deadline → Type 0
+  SideTold old new side at = ToldIn old.phase new.phase side at

@@ -1,8 +1,9 @@
 -- The moments at which a connection's calls give up.
 use Rattle.std.specs.Prelude.{◌≡◌, ◌≤◌, ℕ, ◌+◌, ◌*◌, ◌-◌, ◌^◌, min, Option, Some, None, List, ◌∷◌}
+use Rattle.std.specs.Prelude.{Bool, true, false}
 use Rattle.base_types.specs.declared.direction.Dir.{Dir}
 use Rattle.base_types.specs.declared.direction.Dir.TheVariants as dir
-use Rattle.deadline_core.specs.CallHistory.{CallEvent, Begun, Told, HasHistory, moment_of}
+use Rattle.deadline_core.specs.CallHistory.{CallEvent, Begun, Answered, Told, HasHistory, moment_of}
 use Rattle.deadline_core.specs.declared.call_deadlines.CallDeadlines.{CallDeadlines}
 use Rattle.deadline_core.specs.declared.deadline.Deadline.{Deadline}
 use Rattle.relay_core.specs.declared.pair_tasks.FlowState.{FlowState}
@@ -43,3 +44,18 @@ pub record BeginsCall (idle_ms : Option ℕ) (old new : CallDeadlines) (of : Dir
 abbrev pub TellsCalls : CallDeadlines → CallDeadlines → Dir → Deadline → Type 0
 TellsCalls old new of deadline =
     (events : List CallEvent) → HasHistory old events → HasHistory new (Told of deadline ∷ events)
+
+-- a call of this direction is under way: it was before, and goes on as it was timed, or it has begun,
+-- by this idle time
+pub record IsTimed (was_under_way : Bool) (idle_ms : Option ℕ) (old new : CallDeadlines) (of : Dir) :
+    Type 0 where
+  pub goes_on : was_under_way ≡ true → new ≡ old
+  pub begins : was_under_way ≡ false → BeginsCall idle_ms old new of
+
+-- the same, and it has its answer
+pub record IsOver (was_under_way : Bool) (idle_ms : Option ℕ) (old new : CallDeadlines) (of : Dir) :
+    Type 0 where
+  pub between : CallDeadlines
+  pub timed : IsTimed was_under_way idle_ms old between of
+  pub ended : (events : List CallEvent) → HasHistory between events
+      → HasHistory new (Answered of ∷ events)

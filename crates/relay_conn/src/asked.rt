@@ -1,8 +1,8 @@
 //! What sessions ask of a side of a connection, which its loop has it do.
 
-ghost use Rattle.std.specs.Prelude.{◌≡◌, OnOk};
+ghost use Rattle.std.specs.Prelude.{◌≡◌, OnOk, OnErr};
 ghost use Rattle.relay_conn.specs.Asked.{id_on, KeepsConnection};
-ghost use Rattle.relay_conn.specs.Connection.{SideDrained};
+ghost use Rattle.relay_conn.specs.Connection.{awaited_by, SideDrained, SideTold};
 
 use crate::connection::{Connection, Phase};
 use crate::side::{drain_side, takes_deadline};
@@ -27,6 +27,7 @@ impl<U: Ledger, D: Ledger, R: Wait + Clock + Copy> Connection<U, D, R> {
     /// Drains a side: the read and the write that are under way there go on, and none begins.
     pub fn drain(&mut self, rt: &R, side: Side) -> Result<(), Fault>
         ensures drained { OnOk result (SideDrained self.old side) }
+        ensures awaits { awaited_by self.new ≡ awaited_by self.old }
         ensures kept { KeepsConnection self.old self.new }
     {
         match &mut self.phase {
@@ -39,6 +40,8 @@ impl<U: Ledger, D: Ledger, R: Wait + Clock + Copy> Connection<U, D, R> {
     /// Sets the deadline of a side's reads and writes, unless it is drained or closed. It is to be
     /// told of the moment next, since that may have come already.
     pub fn set_deadline(&mut self, side: Side, deadline: Deadline) -> Result<(), Fault>
+        ensures told { OnOk result (SideTold self.old self.new side deadline) }
+        ensures refused { OnErr result (awaited_by self.new ≡ awaited_by self.old) }
         ensures kept { KeepsConnection self.old self.new }
     {
         match &mut self.phase {

@@ -149,6 +149,7 @@ impl<U: Ledger, D: Ledger, R: Wait + Clock + Copy> Connection<U, D, R> {
     ghost use Rattle.relay_conn.specs.Asked.{KeepsConnection};
     ghost use Rattle.relay_conn.specs.Connection.{awaited_by, IfDialing, IfRelaying, IsRelaying};
     ghost use Rattle.relay_conn.specs.Connection.{given_up_at, up_share, down_share};
+    ghost use Rattle.relay_conn.specs.Dialing.{Connects, DialsOn, WaysBegin};
     ghost use Rattle.relay_conn.specs.Heard.{IsTime};
     ghost use Rattle.relay_conn.specs.Relaying.{GoneOn};
     ghost use Rattle.relay_conn.specs.declared.connection.Phase.{Phase};
@@ -193,6 +194,10 @@ impl<U: Ledger, D: Ledger, R: Wait + Clock + Copy> Connection<U, D, R> {
         ensures stays { IsRelaying self.old.phase → IsRelaying self.new.phase }
         ensures timely { IfDialing self.old.phase (λ old. IsTime why (given_up_at old)
             → (result ≡ PairNext.Closes) ⊎ IsRelaying self.new.phase) }
+        ensures dials { IfDialing self.old.phase (λ old. IfDialing self.new.phase (λ new.
+            DialsOn old new why result)) }
+        ensures connects { IfDialing self.old.phase (λ old. IfRelaying self.new.phase (λ new.
+            Connects old new why result)) }
         ensures kept { KeepsConnection self.old self.new }
     {
         let step = match &mut self.phase {
@@ -210,6 +215,8 @@ impl<U: Ledger, D: Ledger, R: Wait + Clock + Copy> Connection<U, D, R> {
     // Has its ways begin.
     fn begin(&mut self, rt: &R, books: &mut LoopBooks<U, D>, memory: &mut LoopMemory) -> PairNext
         ensures relays { IsRelaying self.new.phase }
+        ensures begun { IfDialing self.old.phase (λ old. IfRelaying self.new.phase (λ new.
+            WaysBegin old new result)) }
         ensures kept { KeepsConnection self.old self.new }
     {
         match self.phase.take() {

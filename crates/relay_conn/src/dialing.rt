@@ -7,6 +7,7 @@ ghost use Rattle.fd_descriptor.specs.TaskHalf.{descriptor_of_half};
 ghost use Rattle.readiness.specs.declared.loop_token.Side.{Side};
 ghost use Rattle.relay_conn.specs.Connection.{given_up_at};
 ghost use Rattle.relay_conn.specs.Deadlines.{TellsCalls};
+ghost use Rattle.relay_conn.specs.Dialing.{KeepsDial};
 ghost use Rattle.relay_conn.specs.Heard.{KeepsWhatIsTold, IsTime, stop_told};
 ghost use Rattle.relay_conn.specs.declared.dialing.DialStep.{DialStep};
 ghost use Rattle.relay_core.specs.SourceState.{resumed};
@@ -87,12 +88,8 @@ impl<U: Ledger, D: Ledger, R: Wait + Clock + Copy> Dialing<U, D, R> {
     /// Goes on by what its loop heard. A target that is connected, or has failed, before the moment
     /// comes is told so, also where this is late.
     pub(crate) fn go_on(&mut self, rt: &R, why: Why) -> DialStep
-        ensures unread { self.new.client.reader ≡ self.old.client.reader }
-        ensures target_unread { self.new.target.reader ≡ self.old.target.reader }
-        ensures up { self.new.up ≡ self.old.up }
-        ensures down { self.new.down ≡ self.old.down }
-        ensures connect_by { self.new.connect_by ≡ self.old.connect_by }
-        ensures told { KeepsWhatIsTold self.old.tasks self.new.tasks why }
+        ensures kept { KeepsDial self.old self.new why }
+        ensures waits { result ≡ DialStep.Waits → self.new.failure ≡ self.old.failure }
         ensures timely { result ≡ DialStep.Waits → IsTime why (given_up_at self.old) → ⊥ }
         ensures late { result ≡ DialStep.Late → IsTime why (given_up_at self.old) }
         ensures timeout { result ≡ DialStep.Late
@@ -131,6 +128,7 @@ impl<U: Ledger, D: Ledger, R: Wait + Clock + Copy> Dialing<U, D, R> {
           failure = self.new.failure;
         } }
         ensures timed { result ≡ DialStep.Late → ⊥ }
+        ensures waits { result ≡ DialStep.Waits → self.new.failure ≡ self.old.failure }
         ensures failed { result ≡ DialStep.Failed → IsSome self.new.failure }
     {
         match self.target.connected(rt) {
@@ -147,6 +145,7 @@ impl<U: Ledger, D: Ledger, R: Wait + Clock + Copy> Dialing<U, D, R> {
           failure = self.new.failure;
         } }
         ensures timed { result ≡ DialStep.Late → ⊥ }
+        ensures waits { result ≡ DialStep.Waits → self.new.failure ≡ self.old.failure }
         ensures failed { result ≡ DialStep.Failed → IsSome self.new.failure }
     {
         if !stop_ahead_of(Way::Up, why) {
@@ -175,6 +174,7 @@ impl<U: Ledger, D: Ledger, R: Wait + Clock + Copy> Dialing<U, D, R> {
         ensures timeout { result ≡ DialStep.Late
             → self.new.failure ≡ Some (How.NoTarget Cause.Timeout) }
         ensures others { (result ≡ DialStep.Connected → ⊥) × (result ≡ DialStep.Failed → ⊥) }
+        ensures waits { result ≡ DialStep.Waits → self.new.failure ≡ self.old.failure }
         ensures kept { self.new ≡ record self.old { failure = self.new.failure } }
     {
         match why {
@@ -209,8 +209,13 @@ impl<U: Ledger, D: Ledger, R: Wait + Clock + Copy> Dialing<U, D, R> {
             self.new.up.time.deadlines Dir.Read deadline) }
         ensures target { side ≡ Side.Second → OnOk result (TellsCalls
             self.old.down.time.deadlines self.new.down.time.deadlines Dir.Read deadline) }
+        ensures client_written { side ≡ Side.First → OnOk result (TellsCalls
+            self.old.down.time.deadlines self.new.down.time.deadlines Dir.Write deadline) }
+        ensures target_written { side ≡ Side.Second → OnOk result (TellsCalls
+            self.old.up.time.deadlines self.new.up.time.deadlines Dir.Write deadline) }
         ensures refused_up { OnErr result (self.new.up ≡ self.old.up) }
         ensures refused_down { OnErr result (self.new.down ≡ self.old.down) }
+        ensures connect_by { self.new.connect_by ≡ self.old.connect_by }
     {
         match side {
             Side::First => takes_deadline(&mut self.client.reader)?,
@@ -226,6 +231,11 @@ impl<U: Ledger, D: Ledger, R: Wait + Clock + Copy> Dialing<U, D, R> {
             self.new.up.time.deadlines Dir.Read deadline }
         ensures target { side ≡ Side.Second → TellsCalls self.old.down.time.deadlines
             self.new.down.time.deadlines Dir.Read deadline }
+        ensures client_written { side ≡ Side.First → TellsCalls self.old.down.time.deadlines
+            self.new.down.time.deadlines Dir.Write deadline }
+        ensures target_written { side ≡ Side.Second → TellsCalls self.old.up.time.deadlines
+            self.new.up.time.deadlines Dir.Write deadline }
+        ensures connect_by { self.new.connect_by ≡ self.old.connect_by }
     {
         match side {
             Side::First => {

@@ -6,8 +6,7 @@ ghost use Rattle.relay_conn.specs.Refused as spec;
 use readiness::{HoldFault, NoPlace};
 use relay_log::ended::{Cause, Ended as How};
 
-/// What refused a connection.
-#[derive(Clone, Copy, Debug, PartialEq, Eq, Drop)]
+/// What refused a connection. It can't be dropped, so that it is told.
 pub enum Refused {
     /// The loop has as many tasks as it may, or has given its last serial.
     Places,

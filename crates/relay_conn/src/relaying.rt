@@ -50,8 +50,12 @@ impl<U: Ledger, D: Ledger, R: Wait + Clock + Copy> Relaying<U, D, R> {
         ensures up_feeds_target { KeepsHalf dialing.target.writer result.up.gate.target }
         ensures target_feeds_down { result.down.gate.source ≡ dialing.target.reader }
         ensures down_feeds_client { KeepsHalf dialing.client.writer result.down.gate.target }
+        ensures up_state { result.up.gate.source_state ≡ dialing.client.state }
+        ensures down_state { result.down.gate.source_state ≡ dialing.target.state }
         ensures up_time { result.up.gate.time ≡ dialing.up.time }
         ensures down_time { result.down.gate.time ≡ dialing.down.time }
+        ensures up_copying { result.up.copying ≡ dialing.up.copying }
+        ensures down_copying { result.down.copying ≡ dialing.down.copying }
         ensures up_share { result.up.share ≡ dialing.up.share }
         ensures down_share { result.down.share ≡ dialing.down.share }
         ensures tasks { result.tasks ≡ dialing.tasks }
@@ -220,6 +224,8 @@ impl<U: Ledger, D: Ledger, R: Wait + Clock + Copy> Relaying<U, D, R> {
             → OnOk result (WasDrained (descriptor_of_half self.old.down.gate.source)) }
         ensures tasks { self.new.tasks ≡ self.old.tasks }
         ensures failure { self.new.failure ≡ self.old.failure }
+        ensures up_time { self.new.up.gate.time ≡ self.old.up.gate.time }
+        ensures down_time { self.new.down.gate.time ≡ self.old.down.gate.time }
     {
         match side {
             Side::First => drain_side(rt, &mut self.up.gate.source),

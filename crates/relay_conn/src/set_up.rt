@@ -1,10 +1,12 @@
 //! Setting a connection up between a client and a target that is dialled: first what only it knows,
 //! then what others find. From then on it can do without memory.
 
-ghost use Rattle.std.specs.Prelude.{◌≡◌, ◌<◌, ◌+◌, ◌^◌, None, IfOk, OnOk, IfSome};
+ghost use Rattle.std.specs.Prelude.{◌≡◌, ◌<◌, ◌+◌, ◌^◌, Some, None, IfOk, OnOk};
+ghost use Rattle.std.specs.Prelude.{IfSome, IfNone, OnSome};
 ghost use Rattle.std.specs.Arc.{arc_value};
 ghost use Rattle.base_types.specs.declared.direction.Dir.{Dir};
 ghost use Rattle.relay_core.specs.declared.pair_tasks.FlowState.{FlowState};
+ghost use Rattle.relay_facts.specs.Books.{TakesBack};
 ghost use Rattle.relay_ledger.specs.Book.{OpensOne};
 ghost use Rattle.relay_conn.specs.Dialled.{dialled_to};
 ghost use Rattle.relay_conn.specs.SetUp.{IsSetUp};
@@ -207,6 +209,25 @@ impl<'a, R: Wait + Clock + Copy> SetUp<'a, R> {
         ensures fits { IfSome result (λ given. entered_id given.entered + 1 < 2 ^ 64) }
     {
         let (up, down) = books.open_shares()?;
+        self.enter_with(books, facts, place, up, down)
+    }
+
+    // Enters a connection that has these shares, or settles them.
+    fn enter_with<U: Ledger, D: Ledger>(
+        &self,
+        books: &mut LoopBooks<U, D>,
+        facts: &Arc<ConnectionFacts>,
+        place: Place,
+        up: CarriedShare<U>,
+        down: CarriedShare<D>,
+    ) -> Option<Given<U, D>>
+        ensures given { IfSome result (λ given. (given.up ≡ up) × (given.down ≡ down)) }
+        ensures kept { OnSome result (books.new ≡ books.old) }
+        ensures up { IfNone result (TakesBack books.old.up.book books.new.up.book (Some up)) }
+        ensures down { IfNone result
+            (TakesBack books.old.down.book books.new.down.book (Some down)) }
+        ensures fits { IfSome result (λ given. entered_id given.entered + 1 < 2 ^ 64) }
+    {
         match self.enter(facts, place) {
             Some(entered) => Some(Given { entered, up, down }),
             None => {

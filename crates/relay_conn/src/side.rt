@@ -62,7 +62,10 @@ pub(crate) fn open_side<R: Wait + Copy>(
 {
     let state = SourceState::new(sock.is_tcp());
     match poller.open(alloc, sock, token) {
-        Ok(handle) => side_of(rt, handle, state).ok_or(Refused::Memory),
+        Ok(handle) => match side_of(rt, handle, state) {
+            Some(side) => Ok(side),
+            None => Err(Refused::Memory),
+        },
         Err(fault) => Err(Refused::of_hold(fault)),
     }
 }

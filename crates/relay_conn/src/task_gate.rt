@@ -2,9 +2,10 @@
 //! calls that give way where they would wait.
 
 ghost use Rattle.std.specs.Prelude.{◌≡◌, ◌≤◌, ◌<◌, ◌↔◌, length, true, false, Some, None};
-ghost use Rattle.std.specs.Prelude.{OnOk, IfOk, IfSome, IfNone};
+ghost use Rattle.std.specs.Prelude.{OnOk, IfOk, IfErr, IfSome, IfNone};
 ghost use Rattle.base_types.specs.declared.direction.Dir.{Dir};
 ghost use Rattle.fd_descriptor.specs.TaskHalf.{is_under_way};
+ghost use Rattle.relay_conn.specs.Deadlines.{IsTimed, IsOver};
 ghost use Rattle.relay_core.specs.SourceState.{resumed, ReadsAll};
 
 use crate::way_time::WayTime;
@@ -70,6 +71,8 @@ impl<R: Wait + Copy, C: Moments> TaskGate<R, C> {
     // Begins a read, where none is under way.
     fn begin_read(&mut self) -> Result<(), Fault>
         ensures begun { OnOk result (is_under_way self.new.source ≡ true) }
+        ensures timed { OnOk result (IsTimed (is_under_way self.old.source) self.old.time.idle.idle_ms
+            self.old.time.deadlines self.new.time.deadlines Dir.Read) }
         ensures state { self.new.source_state ≡ self.old.source_state }
         ensures target { self.new.target ≡ self.old.target }
         ensures idle { self.new.time.idle ≡ self.old.time.idle }
@@ -84,6 +87,8 @@ impl<R: Wait + Copy, C: Moments> TaskGate<R, C> {
     // Begins a write, where none is under way.
     fn begin_write(&mut self) -> Result<(), Fault>
         ensures begun { OnOk result (is_under_way self.new.target ≡ true) }
+        ensures timed { OnOk result (IsTimed (is_under_way self.old.target) self.old.time.idle.idle_ms
+            self.old.time.deadlines self.new.time.deadlines Dir.Write) }
         ensures source { self.new.source ≡ self.old.source }
         ensures state { self.new.source_state ≡ self.old.source_state }
         ensures idle { self.new.time.idle ≡ self.old.time.idle }
@@ -108,6 +113,13 @@ impl<R: Wait + Copy, C: Moments> TaskGate<R, C> {
         ensures empty { IfSome result (λ answer. OnOk answer
             (self.old.source_state.is_empty ≡ false)) }
         ensures target { self.new.target ≡ self.old.target }
+        ensures stays { IfNone result (is_under_way self.new.source ≡ true) }
+        ensures waits { IfNone result (IsTimed (is_under_way self.old.source)
+            self.old.time.idle.idle_ms self.old.time.deadlines self.new.time.deadlines Dir.Read) }
+        ensures ended { IfSome result (λ answer. OnOk answer
+            (is_under_way self.new.source ≡ false)) }
+        ensures over { IfSome result (λ answer. OnOk answer (IsOver (is_under_way self.old.source)
+            self.old.time.idle.idle_ms self.old.time.deadlines self.new.time.deadlines Dir.Read)) }
     {
         if let Err(fault) = self.begin_read() {
             return Some(Err(fault));
@@ -125,6 +137,47 @@ impl<R: Wait + Copy, C: Moments> TaskGate<R, C> {
             self.source_state.note_read(buf.len(), count);
         }
         Some(answer)
+    }
+
+    // Writes. A write of which a part was taken stays under way: the rest is offered to the same
+    // call.
+    fn write(&mut self, bytes: &[u8]) -> Option<Result<usize, WriteFault>>
+        ensures within { IfSome result (λ answer. IfOk answer (λ count. count ≤ length bytes.now)) }
+        ensures some { 0 < length bytes.now → IfSome result (λ answer. IfOk answer (λ count.
+            0 < count)) }
+        ensures failed { IfSome result (λ answer. IfErr answer (λ failed.
+            failed.count ≤ length bytes.now)) }
+        ensures blocked { IfNone result (self.new.blocked ≡ Some Dir.Write) }
+        ensures stays { IfNone result (is_under_way self.new.target ≡ true) }
+        ensures waits { IfNone result (IsTimed (is_under_way self.old.target)
+            self.old.time.idle.idle_ms self.old.time.deadlines self.new.time.deadlines Dir.Write) }
+        ensures part { IfSome result (λ answer. IfOk answer (λ count. count < length bytes.now
+            → IsTimed (is_under_way self.old.target) self.old.time.idle.idle_ms
+            self.old.time.deadlines self.new.time.deadlines Dir.Write)) }
+        ensures over { IfSome result (λ answer. IfOk answer (λ count. count ≡ length bytes.now
+            → IsOver (is_under_way self.old.target) self.old.time.idle.idle_ms
+            self.old.time.deadlines self.new.time.deadlines Dir.Write)) }
+        ensures source { self.new.source ≡ self.old.source }
+        ensures state { self.new.source_state ≡ self.old.source_state }
+    {
+        if let Err(fault) = self.begin_write() {
+            return Some(Err(WriteFault { fault, count: 0 }));
+        }
+        match self.target.poll_write(bytes) {
+            Progress::Part(0) => {
+                self.blocked = Some(Dir::Write);
+                None
+            }
+            Progress::Part(count) => Some(Ok(count)),
+            Progress::Whole => {
+                self.time.end(Dir::Write);
+                Some(Ok(bytes.len()))
+            }
+            Progress::Failed(failed) => {
+                self.time.end(Dir::Write);
+                Some(Err(failed))
+            }
+        }
     }
 }
 
@@ -144,26 +197,8 @@ where
         self.read(buf)
     }
 
-    // A write of which a part was taken stays under way: the rest is offered to the same call.
     fn poll_write(&mut self, bytes: &[u8]) -> Option<Result<usize, WriteFault>> {
-        if let Err(fault) = self.begin_write() {
-            return Some(Err(WriteFault { fault, count: 0 }));
-        }
-        match self.target.poll_write(bytes) {
-            Progress::Part(0) => {
-                self.blocked = Some(Dir::Write);
-                None
-            }
-            Progress::Part(count) => Some(Ok(count)),
-            Progress::Whole => {
-                self.time.end(Dir::Write);
-                Some(Ok(bytes.len()))
-            }
-            Progress::Failed(failed) => {
-                self.time.end(Dir::Write);
-                Some(Err(failed))
-            }
-        }
+        self.write(bytes)
     }
 
     fn poll_close_write(&mut self) -> Option<Result<(), Fault>> {

@@ -1,1 +1,3 @@
+pub mod ArmedLemmas
 pub mod RequestsLemmas
+pub mod SetUpLemmas

@@ -1,1 +1,4 @@
 pub mod Requests
+pub mod SetUp
+pub mod Taken
+pub mod Turns

@@ -2,8 +2,10 @@
 //! them go on, and ends them.
 #![tactic(auto)]
 
+mod arrival;
 mod loops;
 mod requests;
 mod set_up;
+mod taken;
 
 pub use loops::{LoopContext, run_loop};

@@ -1,11 +1,17 @@
 //! The loops: each a thread that resumes the tasks of its connections, and has books of its own.
 
-ghost use Rattle.std.specs.Prelude.{◌≡◌};
+ghost use Rattle.std.specs.Prelude.{◌≡◌, IfErr};
+ghost use Rattle.readiness.specs.EventLoop.{tasks_of};
 ghost use Rattle.readiness.specs.declared.loop_token.Side.{Side};
-ghost use Rattle.relay_facts.specs.Books.{IsBlankOf};
+ghost use Rattle.relay_facts.specs.Books.{IsBlankOf, TakesBack};
 ghost use Rattle.relay_conn.specs.Asked.{id_on};
+ghost use Rattle.relay_conn.specs.Connection.{up_share_of, down_share_of};
+ghost use Rattle.relay_loops.specs.Taken.{NothingWaits};
+ghost use Rattle.relay_loops.specs.Turns as spec;
+ghost use Rattle.relay_loops.specs.Turns.{IsTurnOf, StayArmed, IsPollerFault};
 ghost use Rattle.relay_shared.specs.Index.{gone_id};
 
+use crate::taken::{Next, Taken};
 use fd_descriptor::PollCell;
 use readiness::{EventLoop, Host, Side, Turn, Why};
 use relay_admin::ServeFault;
@@ -13,8 +19,10 @@ use relay_conn::connection::Connection;
 use relay_core::{LoopMemory, PairNext};
 use relay_facts::books::LoopBooks;
 use relay_facts::clock::{Moments, RelayClock};
+use relay_facts::connection_facts::Acceptance;
 use relay_facts::totals::Totals;
 use relay_ledger::PARTS;
+use relay_log::ended::Ended as How;
 use relay_shared::fault::of_poller;
 use relay_shared::inbox::Inbox;
 use relay_shared::index::Gone;
@@ -49,10 +57,21 @@ impl<R: Wait + Clock + Copy> LoopContext<R> {
         }
     }
 
-    fn take_inbox(&self, taken: &mut Inbox) {
-        if let Some(handle) = self.shared.loops.get(self.place) {
-            handle.give_all(&self.rt, taken);
-        }
+    /// The log is told of a client that isn't served.
+    pub(crate) fn tell_refused(&self, acceptance: &Acceptance, how: How) {
+        let now = self.clock.now();
+        self.shared.tell_refused(&self.rt, acceptance, now, how);
+    }
+}
+
+// What follows for its loop of what follows for a connection.
+fn follows_of(next: PairNext) -> Turn
+    ensures { result ≡ spec.follows_of next }
+{
+    match next {
+        PairNext::Waits => Turn::Waits,
+        PairNext::Again => Turn::Again,
+        PairNext::Closes => Turn::Over,
     }
 }
 
@@ -61,9 +80,9 @@ impl<R: Wait + Clock + Copy> LoopContext<R> {
 pub(crate) struct LoopHost<U: Ledger, D: Ledger, R: Wait + Clock + Copy> {
     pub(crate) context: LoopContext<R>,
     pub(crate) books: LoopBooks<U, D>,
-    /// What is being done of the inbox, empty between turns: it and the inbox change places, so that
-    /// a turn takes no memory for a list.
-    taken: Inbox,
+    /// An inbox that is empty between turns: it and the loop's change places, so that a turn takes no
+    /// memory for a list.
+    spare: Inbox,
     /// It is lent to each task while that goes on.
     memory: LoopMemory,
 }
@@ -95,19 +114,20 @@ impl<U: Ledger, D: Ledger, R: Wait + Clock + Copy> Host for LoopHost<U, D, R> {
 
 impl<U: Ledger, D: Ledger, R: Wait + Clock + Copy> LoopHost<U, D, R> {
     /// Has a connection go on, and says what follows for its loop.
-    pub(crate) fn go_on_with(&mut self, task: &mut Connection<U, D, R>, why: Why) -> Turn {
+    pub(crate) fn go_on_with(&mut self, task: &mut Connection<U, D, R>, why: Why) -> Turn
+        ensures { IsTurnOf task.old task.new why result }
+    {
         let next = task.go_on(&self.context.rt, &mut self.books, why, &mut self.memory);
         task.tell_bytes(&self.context.clock);
-        match next {
-            PairNext::Waits => Turn::Waits,
-            PairNext::Again => Turn::Again,
-            PairNext::Closes => Turn::Over,
-        }
+        follows_of(next)
     }
 
     /// Ends a connection, which is counted until it has ended; then who waits for that is told.
     pub(crate) fn end(&mut self, task: Connection<U, D, R>) -> Gone
-        ensures { gone_id result ≡ id_on task Side.First }
+        ensures gone { gone_id result ≡ id_on task Side.First }
+        ensures up { TakesBack self.old.books.up.book self.new.books.up.book (up_share_of task) }
+        ensures down { TakesBack self.old.books.down.book self.new.books.down.book
+            (down_share_of task) }
     {
         let now = self.context.clock.now();
         let shared = &self.context.shared;
@@ -124,21 +144,46 @@ impl<U: Ledger, D: Ledger, R: Wait + Clock + Copy> LoopHost<U, D, R> {
 }
 
 impl<U: Ledger, D: Ledger, R: Wait + Net + Clock + Copy> LoopHost<U, D, R> {
-    // Serves what was asked, and sets up what was delivered. The inbox is held for the exchange alone.
-    fn empty_inbox(&mut self, tasks: &mut ConnLoop<U, D, R>) {
-        let mut taken = mem::replace(&mut self.taken, Inbox::empty(self.context.alloc));
-        self.context.take_inbox(&mut taken);
-        while let Some(request) = taken.next_request() {
-            self.serve(tasks, request);
+    // What waits in its inbox, which is held for the exchange alone.
+    fn take_inbox(&mut self) -> Taken
+        ensures kept { self.new ≡ record self.old { spare = self.new.spare } }
+    {
+        let mut inbox = mem::replace(&mut self.spare, Inbox::empty(self.context.alloc));
+        if let Some(handle) = self.context.shared.loops.get(self.context.place) {
+            handle.give_all(&self.context.rt, &mut inbox);
         }
-        while let Some(accepted) = taken.next_socket() {
-            self.set_up(tasks, accepted);
+        Taken::of(inbox)
+    }
+
+    // Serves what was asked, and sets up what was delivered, until nothing is left.
+    fn empty_inbox(&mut self, tasks: &mut ConnLoop<U, D, R>)
+        ensures left { NothingWaits self.new.spare }
+        ensures armed { StayArmed (tasks_of tasks.old) (tasks_of tasks.new) }
+    {
+        let mut taken = self.take_inbox();
+        loop {
+            taken = match taken.next() {
+                Next::Request(request, rest) => {
+                    self.serve(tasks, request);
+                    rest
+                }
+                Next::Socket(delivered, rest) => {
+                    self.set_up(tasks, delivered);
+                    rest
+                }
+                Next::Nothing(inbox) => {
+                    self.spare = inbox;
+                    return;
+                }
+            };
         }
-        self.taken = taken;
     }
 
     // Turns until the relay stops, or the poller fails.
-    fn turn_until_stop(&mut self, tasks: &mut ConnLoop<U, D, R>) -> Result<(), ServeFault> {
+    fn turn_until_stop(&mut self, tasks: &mut ConnLoop<U, D, R>) -> Result<(), ServeFault>
+        ensures faults { IfErr result IsPollerFault }
+        ensures armed { StayArmed (tasks_of tasks.old) (tasks_of tasks.new) }
+    {
         let rt = self.context.rt;
         for _ in rt.forever() {
             let now = self.context.clock.now();
@@ -164,6 +209,7 @@ pub fn run_loop<R>(
 ) -> Result<Option<Totals>, ServeFault>
 where
     R: Wait + Net<Listener = TcpListener, Stream = TcpStream> + Clock + Copy,
+    ensures faults { IfErr result IsPollerFault }
 {
     let (up, down) = (Blank::new(PARTS), Blank::new(PARTS));
     run_on::<Brand, Brand, R>(context, parts, memory, up, down)
@@ -183,6 +229,7 @@ where
     R: Wait + Net<Listener = TcpListener, Stream = TcpStream> + Clock + Copy,
     requires up { IsBlankOf U.name U.parts up }
     requires down { IsBlankOf D.name D.parts down }
+    ensures faults { IfErr result IsPollerFault }
 {
     let LoopParts { driver, published } = parts;
     let alloc = context.alloc;
@@ -190,7 +237,7 @@ where
     let mut host = LoopHost {
         context,
         books: LoopBooks::<U, D>::new(up, down, published),
-        taken: match Inbox::new(alloc) {
+        spare: match Inbox::new(alloc) {
             Ok(inbox) => inbox,
             // Requests then take memory as they come.
             Err(_) => Inbox::empty(alloc),

@@ -1,12 +1,16 @@
 //! What admin sessions ask of a loop's connections: the loop carries it out on its own values,
 //! between two of its turns, and answers.
 
-ghost use Rattle.std.specs.Prelude.{◌≡◌, ◌≢◌, ◌↔◌, true, None, IfSome};
+ghost use Rattle.std.specs.Prelude.{◌≡◌, ◌≢◌, ◌↔◌, true, false, Some, None, IfSome};
 ghost use Rattle.readiness.specs.EventLoop.{tasks_of};
-ghost use Rattle.readiness.specs.LoopToken.{side_in};
+ghost use Rattle.readiness.specs.LoopToken.{place_in, side_in};
+ghost use Rattle.readiness.specs.TaskAlarms.{AreArmed, AreArmedBut, KeepsArmed};
 ghost use Rattle.readiness.specs.Tasks.{task_in, OthersKept, SameTasks};
+ghost use Rattle.readiness.specs.Tasks.{gave_way_in, ComesNext};
 ghost use Rattle.readiness.specs.declared.tasks.Turn.{Turn};
+ghost use Rattle.relay_conn.specs.Connection.{awaited_by};
 ghost use Rattle.relay_loops.specs.Requests.{IsHere, TellsDrain, TellsDeadline, TellsClose};
+ghost use Rattle.relay_loops.specs.Turns.{StayArmed};
 ghost use Rattle.relay_shared.specs.Requests.{IsCarriedOut, unknown_answer};
 ghost use Rattle.relay_shared.specs.declared.requests.Asks.{Asks};
 
@@ -34,7 +38,15 @@ fn is_here<U: Ledger, D: Ledger, R: Wait + Clock + Copy>(
 
 impl<U: Ledger, D: Ledger, R: Wait + Clock + Copy> LoopHost<U, D, R> {
     /// Carries a request out, and answers it then.
-    pub(crate) fn serve(&mut self, tasks: &mut ConnLoop<U, D, R>, request: Request) {
+    pub(crate) fn serve(&mut self, tasks: &mut ConnLoop<U, D, R>, request: Request)
+        ensures gone { (IsHere (tasks_of tasks.old) request.question → ⊥) → tasks.new ≡ tasks.old }
+        ensures closed { IsHere (tasks_of tasks.old) request.question
+            → request.question.asks ≡ Asks.Close
+            → task_in (tasks_of tasks.new) request.question.token ≡ None }
+        ensures others { OthersKept (tasks_of tasks.old) (tasks_of tasks.new)
+            request.question.token }
+        ensures armed { StayArmed (tasks_of tasks.old) (tasks_of tasks.new) }
+    {
         let Request { ticket, question } = request;
         let answer = self.carry_out(tasks, question);
         self.context.shared.answer(&self.context.rt, ticket, answer);
@@ -50,6 +62,7 @@ impl<U: Ledger, D: Ledger, R: Wait + Clock + Copy> LoopHost<U, D, R> {
         ensures ended { IsHere (tasks_of tasks.old) question → question.asks ≡ Asks.Close
             → TellsClose (task_in (tasks_of tasks.old) question.token) result }
         ensures others { OthersKept (tasks_of tasks.old) (tasks_of tasks.new) question.token }
+        ensures armed { StayArmed (tasks_of tasks.old) (tasks_of tasks.new) }
     {
         if !is_here(tasks, &question) {
             return question.asks.unknown();
@@ -68,6 +81,7 @@ impl<U: Ledger, D: Ledger, R: Wait + Clock + Copy> LoopHost<U, D, R> {
         ensures told { TellsClose (task_in (tasks_of tasks.old) token) result }
         ensures closed { task_in (tasks_of tasks.new) token ≡ None }
         ensures others { OthersKept (tasks_of tasks.old) (tasks_of tasks.new) token }
+        ensures armed { StayArmed (tasks_of tasks.old) (tasks_of tasks.new) }
     {
         match tasks.take(token) {
             Some(task) => Answer::Close(Some(self.end(task))),
@@ -79,6 +93,7 @@ impl<U: Ledger, D: Ledger, R: Wait + Clock + Copy> LoopHost<U, D, R> {
     fn drain_asked(&mut self, tasks: &mut ConnLoop<U, D, R>, token: u64) -> Answer
         ensures told { TellsDrain (task_in (tasks_of tasks.old) token) (side_in token) result }
         ensures others { OthersKept (tasks_of tasks.old) (tasks_of tasks.new) token }
+        ensures armed { StayArmed (tasks_of tasks.old) (tasks_of tasks.new) }
     {
         let rt = self.context.rt;
         match tasks.task_mut(token) {
@@ -97,6 +112,7 @@ impl<U: Ledger, D: Ledger, R: Wait + Clock + Copy> LoopHost<U, D, R> {
     ) -> Answer
         ensures told { TellsDeadline (task_in (tasks_of tasks.old) token) result }
         ensures others { OthersKept (tasks_of tasks.old) (tasks_of tasks.new) token }
+        ensures armed { StayArmed (tasks_of tasks.old) (tasks_of tasks.new) }
     {
         let Some(task) = tasks.task_mut(token) else {
             return Answer::Deadline(None);
@@ -111,7 +127,11 @@ impl<U: Ledger, D: Ledger, R: Wait + Clock + Copy> LoopHost<U, D, R> {
     fn follow(&mut self, tasks: &mut ConnLoop<U, D, R>, token: u64, turn: Turn)
         ensures over { turn ≡ Turn.Over → task_in (tasks_of tasks.new) token ≡ None }
         ensures stays { turn ≢ Turn.Over → SameTasks (tasks_of tasks.old) (tasks_of tasks.new) }
+        ensures comes { turn ≡ Turn.Again → gave_way_in (tasks_of tasks.old) token ≡ Some false
+            → ComesNext (tasks_of tasks.new) token }
         ensures others { OthersKept (tasks_of tasks.old) (tasks_of tasks.new) token }
+        ensures armed { AreArmedBut awaited_by (Some (place_in token)) (tasks_of tasks.old)
+            → AreArmed awaited_by (tasks_of tasks.new) }
     {
         self.carry_on(tasks, token, turn);
         tasks.keep_time(&*self, token);
@@ -121,7 +141,10 @@ impl<U: Ledger, D: Ledger, R: Wait + Clock + Copy> LoopHost<U, D, R> {
     fn carry_on(&mut self, tasks: &mut ConnLoop<U, D, R>, token: u64, turn: Turn)
         ensures over { turn ≡ Turn.Over → task_in (tasks_of tasks.new) token ≡ None }
         ensures stays { turn ≢ Turn.Over → SameTasks (tasks_of tasks.old) (tasks_of tasks.new) }
+        ensures comes { turn ≡ Turn.Again → gave_way_in (tasks_of tasks.old) token ≡ Some false
+            → ComesNext (tasks_of tasks.new) token }
         ensures others { OthersKept (tasks_of tasks.old) (tasks_of tasks.new) token }
+        ensures armed { KeepsArmed (tasks_of tasks.old) (tasks_of tasks.new) }
     {
         match turn {
             Turn::Waits => {}

@@ -1,11 +1,17 @@
 //! Setting a connection up for an accepted socket.
 
-ghost use Rattle.std.specs.Prelude.{◌≡◌, IfOk, IfSome};
+ghost use Rattle.std.specs.Prelude.{◌≡◌, ◌⊎◌, IfOk, IfSome, OnOk, OnErr};
 ghost use Rattle.std.specs.Arc.{arc_value};
+ghost use Rattle.readiness.specs.EventLoop.{tasks_of};
+ghost use Rattle.readiness.specs.Tasks.{HasPlace, IsPut, SameTasks, next_place};
 ghost use Rattle.relay_conn.specs.Deadlines.{IsIdleEnd};
 ghost use Rattle.relay_conn.specs.Dialled.{dialled_to};
+ghost use Rattle.relay_loops.specs.SetUp.{IsConnectionFor, IsServed};
+ghost use Rattle.relay_ledger.specs.Book.{OpensOne};
+ghost use Rattle.relay_loops.specs.Turns.{StayArmed};
 
 use crate::loops::{ConnLoop, LoopContext, LoopHost};
+use crate::taken::Delivered;
 use readiness::{Poller, Sock};
 use relay_conn::connection::Connection;
 use relay_conn::dialled::dial;
@@ -14,8 +20,7 @@ use relay_conn::set_up::{Begins, SetUp};
 use relay_core::idle_deadline;
 use relay_facts::clock::Moments;
 use relay_facts::connection_facts::{Acceptance, ConnectionFacts};
-use relay_log::ended::Ended as How;
-use relay_shared::inbox::{Accepted, Counted};
+use relay_shared::inbox::Counted;
 use std::net::Net;
 use std::sync::ledger::Ledger;
 use std::sync::{Arc, Wait};
@@ -23,7 +28,10 @@ use std::time::Clock;
 
 impl<R: Wait + Net + Clock + Copy> LoopContext<R> {
     // What a connection of its loop is set up by.
-    fn set_up<'a>(&'a self, poller: &'a Poller) -> SetUp<'a, R> {
+    fn set_up<'a>(&'a self, poller: &'a Poller) -> SetUp<'a, R>
+        ensures poller { result.poller.now ≡ poller.now }
+        ensures clock { result.clock ≡ self.now.clock }
+    {
         SetUp {
             rt: self.rt,
             alloc: self.alloc,
@@ -37,6 +45,7 @@ impl<R: Wait + Net + Clock + Copy> LoopContext<R> {
     fn facts(&self, acceptance: &Acceptance) -> Option<Arc<ConnectionFacts>>
         ensures rule { IfSome result (λ facts.
             (arc_value facts).acceptance.rule ≡ acceptance.now.rule) }
+        ensures place { IfSome result (λ facts. (arc_value facts).loop_place ≡ self.now.place) }
     {
         let facts = ConnectionFacts::new(acceptance.try_clone()?, self.place);
         Arc::new(self.alloc, facts).ok()
@@ -63,6 +72,8 @@ impl<R: Wait + Net + Clock + Copy> LoopContext<R> {
             (arc_value begins.facts).acceptance.rule ≡ acceptance.now.rule) }
         ensures client { IfOk result (λ begins. begins.client ≡ sock) }
         ensures counted { IfOk result (λ begins. begins.counted ≡ counted) }
+        ensures time { IfOk result (λ begins.
+            IsIdleEnd (arc_value self.now.shared).safeguards.connect_ms begins.connect_by) }
     {
         let Some(facts) = self.facts(acceptance) else {
             return Err(Refused::Memory);
@@ -78,22 +89,6 @@ impl<R: Wait + Net + Clock + Copy> LoopContext<R> {
             Err(cause) => Err(Refused::Target(cause)),
         }
     }
-
-    // A client isn't served, since there is no target, or what it takes was refused.
-    fn refuse(&self, acceptance: &Acceptance, how: How) {
-        if let Some(counts) = acceptance.served.counts.of_loop(self.place) {
-            counts.note_refused(how);
-        }
-        let now = self.clock.now();
-        self.shared.tell_refused(&self.rt, acceptance, now, how);
-    }
-
-    // A connection is about to go on.
-    fn note_begin(&self, acceptance: &Acceptance) {
-        if let Some(counts) = acceptance.served.counts.of_loop(self.place) {
-            counts.note_begin();
-        }
-    }
 }
 
 impl<U: Ledger, D: Ledger, R: Wait + Net + Clock + Copy> LoopHost<U, D, R> {
@@ -104,7 +99,16 @@ impl<U: Ledger, D: Ledger, R: Wait + Net + Clock + Copy> LoopHost<U, D, R> {
         sock: Sock,
         acceptance: &Acceptance,
         counted: Counted,
-    ) -> Result<Connection<U, D, R>, Refused> {
+    ) -> Result<Connection<U, D, R>, Refused>
+        ensures set_up { IfOk result (IsConnectionFor acceptance.now counted
+            (arc_value self.old.context.shared).safeguards.connect_ms
+            (next_place (tasks_of tasks.new))) }
+        ensures placed { OnOk result (HasPlace (tasks_of tasks.new)) }
+        ensures up { OnOk result (OpensOne self.old.books.up.book self.new.books.up.book) }
+        ensures down { OnOk result (OpensOne self.old.books.down.book self.new.books.down.book) }
+        ensures tasks { SameTasks (tasks_of tasks.old) (tasks_of tasks.new) }
+        ensures armed { StayArmed (tasks_of tasks.old) (tasks_of tasks.new) }
+    {
         let begins = self.context.begins(sock, acceptance, counted)?;
         match tasks.vacant() {
             Ok(place) => {
@@ -116,31 +120,58 @@ impl<U: Ledger, D: Ledger, R: Wait + Net + Clock + Copy> LoopHost<U, D, R> {
         }
     }
 
-    /// Sets a connection up. An accepted socket whose setting up is refused is dropped, and nothing
-    /// is left of it.
-    pub(crate) fn set_up(&mut self, tasks: &mut ConnLoop<U, D, R>, accepted: Accepted) {
-        let Accepted {
-            sock,
-            acceptance,
-            counted,
-        } = accepted;
-        match self.connection(tasks, sock, &acceptance, counted) {
-            Ok(connection) => {
-                self.context.note_begin(&acceptance);
-                self.put(tasks, connection);
-            }
-            Err(refused) => {
-                self.context.refuse(&acceptance, refused.how());
-                self.context.shared.note_end();
-            }
-        }
-    }
-
     // Has a connection be a task of its loop, which goes on by its first event or at its moment.
-    fn put(&mut self, tasks: &mut ConnLoop<U, D, R>, connection: Connection<U, D, R>) {
+    // Where there is no place for it, it ends.
+    fn put(&mut self, tasks: &mut ConnLoop<U, D, R>, connection: Connection<U, D, R>)
+        ensures put { HasPlace (tasks_of tasks.old) → IsPut (tasks_of tasks.old) (tasks_of tasks.new)
+            (next_place (tasks_of tasks.old)) connection }
+        ensures kept { HasPlace (tasks_of tasks.old) → self.new ≡ self.old }
+        ensures armed { StayArmed (tasks_of tasks.old) (tasks_of tasks.new) }
+    {
         match tasks.put(connection) {
             Ok(place) => tasks.keep_time(&*self, place.first),
             Err(connection) => drop(self.end(connection)),
+        }
+    }
+
+    // Has a client that was accepted be served by a task of its own; or says what refused it, and
+    // then nothing is left of it.
+    fn connect(
+        &mut self,
+        tasks: &mut ConnLoop<U, D, R>,
+        sock: Sock,
+        acceptance: &Acceptance,
+        counted: Counted,
+    ) -> Result<(), Refused>
+        ensures served { OnOk result (IsServed (tasks_of tasks.old) (tasks_of tasks.new)
+            acceptance.now counted (arc_value self.old.context.shared).safeguards.connect_ms) }
+        ensures refused { OnErr result (SameTasks (tasks_of tasks.old) (tasks_of tasks.new)) }
+        ensures armed { StayArmed (tasks_of tasks.old) (tasks_of tasks.new) }
+    {
+        let connection = self.connection(tasks, sock, acceptance, counted)?;
+        self.put(tasks, connection);
+        Ok(())
+    }
+
+    /// Sets a connection up. Where that is refused its socket is dropped, and its rule is told why.
+    pub(crate) fn set_up(&mut self, tasks: &mut ConnLoop<U, D, R>, delivered: Delivered)
+        ensures served { IsServed (tasks_of tasks.old) (tasks_of tasks.new)
+            delivered.arrival.acceptance delivered.counted
+            (arc_value self.old.context.shared).safeguards.connect_ms
+            ⊎ SameTasks (tasks_of tasks.old) (tasks_of tasks.new) }
+        ensures armed { StayArmed (tasks_of tasks.old) (tasks_of tasks.new) }
+    {
+        let Delivered {
+            sock,
+            arrival,
+            counted,
+        } = delivered;
+        match self.connect(tasks, sock, arrival.acceptance(), counted) {
+            Ok(()) => arrival.served(&self.context),
+            Err(why) => {
+                arrival.refused(&self.context, why);
+                self.context.shared.note_end();
+            }
         }
     }
 }

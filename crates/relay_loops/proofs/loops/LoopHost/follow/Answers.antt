@@ -11,3 +11,9 @@ returns-clause-stays g c = λ is other. c.keep_time.ensures.kept other ∙ c.car
 pub returns-clause-others : goal.returns-clause-others
 returns-clause-others g c = λ other apart.
     c.keep_time.ensures.kept other ∙ c.carry_on.ensures.others other apart
+
+pub returns-clause-comes : goal.returns-clause-comes
+returns-clause-comes g c = λ is gave. c.keep_time.ensures.come c.args.token (c.carry_on.ensures.comes is gave)
+
+pub returns-clause-armed : goal.returns-clause-armed
+returns-clause-armed g c = λ armed. c.keep_time.ensures.armed (c.carry_on.ensures.armed _ _ armed)

@@ -1,0 +1,53 @@
+-- What becomes of a connection as its ways begin.
+use Rattle.std.proofs.Common.{◌≡◌, Option, Some, None, sym, subst}
+use Rattle.readiness.specs.declared.agenda.Why.{Why}
+use Rattle.readiness.specs.declared.agenda.Why.TheVariants as why
+use Rattle.relay_conn.specs.Connection.{IfDialing, IfRelaying}
+use Rattle.relay_conn.specs.Dialing.{Begins, Connects, KeepsDial, WaysBegin}
+use Rattle.relay_conn.specs.Relaying.{GoneOn}
+use Rattle.relay_conn.specs.declared.connection.Phase.{Phase}
+use Rattle.relay_conn.specs.declared.connection.Phase.TheVariants as phase
+use Rattle.relay_conn.specs.declared.dialing.Dialing.{Dialing}
+use Rattle.relay_conn.specs.declared.relaying.Relaying.{Relaying}
+use Rattle.relay_core.specs.declared.pair_tasks.PairNext.{PairNext}
+
+module _ {U D R : Type 0} where
+  begun_in : (new : Option (Phase U D R)) (dialing : Dialing U D R) (fresh : Relaying U D R) (next : PairNext)
+      → Begins dialing fresh → IfRelaying new (λ relaying. GoneOn fresh relaying why.Again next)
+      → IfRelaying new (λ relaying. WaysBegin dialing relaying next)
+  begun_in None dialing fresh next begins gone = tt
+  begun_in (Some (phase.Dialing d)) dialing fresh next begins gone = tt
+  begun_in (Some (phase.Relaying r)) dialing fresh next begins gone = record {
+    fresh = fresh;
+    begins = begins;
+    gone_on = gone;
+  }
+
+  -- the ways of what was dialled have begun
+  pub begun : (old new : Option (Phase U D R)) (dialing : Dialing U D R) (fresh : Relaying U D R) (next : PairNext)
+      → old ≡ Some (phase.Dialing dialing) → Begins dialing fresh
+      → IfRelaying new (λ relaying. GoneOn fresh relaying why.Again next)
+      → IfDialing old (λ d. IfRelaying new (λ relaying. WaysBegin d relaying next))
+  begun old new dialing fresh next is begins gone =
+      subst (λ p. IfDialing p (λ d. IfRelaying new (λ relaying. WaysBegin d relaying next))) (sym is)
+      (begun_in new dialing fresh next begins gone)
+
+  connected_in : (new : Option (Phase U D R)) (old mid : Dialing U D R) (why : Why) (next : PairNext)
+      → KeepsDial old mid why → IfRelaying new (λ relaying. WaysBegin mid relaying next)
+      → IfRelaying new (λ relaying. Connects old relaying why next)
+  connected_in None old mid why next kept begins = tt
+  connected_in (Some (phase.Dialing d)) old mid why next kept begins = tt
+  connected_in (Some (phase.Relaying r)) old mid why next kept begins = record {
+    dialing = mid;
+    kept = kept;
+    begun = begins;
+  }
+
+  -- they have begun by what the dial was told
+  pub connected : (before new : Option (Phase U D R)) (old mid : Dialing U D R) (why : Why) (next : PairNext)
+      → before ≡ Some (phase.Dialing old) → KeepsDial old mid why
+      → IfRelaying new (λ relaying. WaysBegin mid relaying next)
+      → IfDialing before (λ d. IfRelaying new (λ relaying. Connects d relaying why next))
+  connected before new old mid why next is kept begins =
+      subst (λ p. IfDialing p (λ d. IfRelaying new (λ relaying. Connects d relaying why next))) (sym is)
+      (connected_in new old mid why next kept begins)

@@ -1,0 +1,37 @@
+-- What a loop does with its connections, as their loop and their books see it.
+use Rattle.std.specs.Prelude.{◌≡◌}
+use Rattle.readiness.specs.TaskAlarms.{AreArmed}
+use Rattle.readiness.specs.declared.agenda.Why.{Why}
+use Rattle.readiness.specs.declared.tasks.Tasks.{Tasks}
+use Rattle.readiness.specs.declared.tasks.Turn.{Turn}
+use Rattle.readiness.specs.declared.tasks.Turn.TheVariants as turn
+use Rattle.relay_admin.specs.declared.serve_fault.ServeFault.{ServeFault}
+use Rattle.relay_conn.specs.Connection.{awaited_by}
+use Rattle.relay_conn.specs.GoneOn.{ConnectionGoneOn}
+use Rattle.relay_conn.specs.declared.connection.Connection.{Connection}
+use Rattle.relay_core.specs.declared.pair_tasks.PairNext.{PairNext}
+use Rattle.relay_core.specs.declared.pair_tasks.PairNext.TheVariants as next
+use Rattle.relay_shared.specs.Fault.{poller_fault}
+use Rattle.rwloops.specs.declared.fault.Fault.{Fault}
+
+-- what follows for a loop of what follows for a connection
+abbrev pub follows_of : PairNext → Turn
+follows_of next.Waits = turn.Waits
+follows_of next.Again = turn.Again
+follows_of next.Closes = turn.Over
+
+-- a poller's fault, as the relay tells it
+abbrev pub IsPollerFault : ServeFault → Type 0
+IsPollerFault told = (fault : Fault) × (told ≡ poller_fault fault)
+
+module _ {U D R : Type 0} where
+  -- a connection went on by what its loop heard, and its loop does what follows of that
+  pub record IsTurnOf (old new : Connection U D R) (why : Why) (told : Turn) : Type 0 where
+    pub next : PairNext
+    pub gone_on : ConnectionGoneOn old new why next
+    pub follows : told ≡ follows_of next
+
+  -- each connection that awaits a moment has an alarm by then, where each had one before
+  abbrev pub StayArmed : {A : Type 0} → Tasks (Connection U D R) A → Tasks (Connection U D R) A
+      → Type 0
+  StayArmed old new = AreArmed awaited_by old → AreArmed awaited_by new
