@@ -1,2 +1,3 @@
-pub mod ListeningLemmas
 pub mod DrainedLemmas
+pub mod EndingLemmas
+pub mod ListeningLemmas

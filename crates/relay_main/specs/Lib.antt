@@ -2,6 +2,7 @@ pub mod Accepting
 pub mod Accounts
 pub mod Deadlines
 pub mod Desk
+pub mod Ending
 pub mod Finishing
 pub mod Listening
 pub mod Pauses

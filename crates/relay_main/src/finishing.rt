@@ -1,15 +1,11 @@
 //! A relay that finishes: it takes nobody more, lets its connections go on to their own ends, and
 //! ends once none stands and no session waits for the answer of a loop, or a moment has come.
 
-ghost use Rattle.std.specs.Prelude.{◌≡◌, ◌↔◌, true, None, IsSome};
-ghost use Rattle.readiness.specs.EventLoop.{tasks_of};
-ghost use Rattle.readiness.specs.Tasks.{task_in};
-ghost use Rattle.relay_main.specs.Finishing.{HasFinished};
+ghost use Rattle.std.specs.Prelude.{◌≡◌, ◌↔◌, true, IsSome};
+ghost use Rattle.relay_main.specs.Finishing.{HasFinished, IsOver};
 
+use crate::ending::LastClients;
 use crate::main_loop::MainLoop;
-use crate::main_task::MainTask;
-use arrayvec::ArrayVec;
-use relay_admin::MAX_RULES;
 use relay_core::{has_come, pause_end};
 use relay_facts::clock::Moments;
 use std::fs::Files;
@@ -21,15 +17,28 @@ use std::time::Clock;
 /// The key of the alarm for the moment, which no task has as a token.
 const FINISH_KEY: u64 = 0;
 
-/// Whether a relay has finished that finishes at this moment at the latest, or doesn't at all, where
-/// so many connections stand, and sessions' replies wait for answers or don't.
-pub(crate) fn has_finished(finish_at: Option<u64>, now: u64, standing: u64, is_held: bool) -> bool
+// Whether a relay has finished that finishes at this moment at the latest, or doesn't at all, where
+// so many connections stand, and sessions' replies wait for answers or don't.
+fn has_finished(finish_at: Option<u64>, now: u64, standing: u64, is_held: bool) -> bool
     ensures { result ≡ true ↔ HasFinished finish_at now standing is_held }
 {
     match finish_at {
         Some(at) => at <= now || (standing == 0 && !is_held),
         None => false,
     }
+}
+
+/// Whether no turn more is wanted: a session said stop, or the relay has finished.
+pub(crate) fn is_over(
+    is_stopped: bool,
+    finish_at: Option<u64>,
+    now: u64,
+    standing: u64,
+    is_held: bool,
+) -> bool
+    ensures { result ≡ true ↔ IsOver is_stopped finish_at now standing is_held }
+{
+    is_stopped || has_finished(finish_at, now, standing, is_held)
 }
 
 impl<R: Wait + Net + Files + Clock + Copy> MainLoop<R> {
@@ -52,22 +61,10 @@ impl<R: Wait + Net + Files + Clock + Copy> MainLoop<R> {
     // Lets the last clients of all rules in, and closes their listeners.
     fn listen_no_more(&mut self) {
         let rt = self.host.rt;
-        let mut tokens = ArrayVec::<u64, MAX_RULES>::new();
         for served in self.host.shared.rules.lock(&rt).iter() {
             served.remove_path(&rt);
-            let _ = tokens.try_push(served.token());
         }
-        for token in tokens.iter() {
-            self.end_rule(*token);
-        }
-    }
-
-    // Lets the last clients of the rule in whose task has this token, and closes its listener.
-    fn end_rule(&mut self, token: u64)
-        ensures gone { task_in (tasks_of self.new.tasks) token ≡ None }
-    {
-        if let Some(MainTask::Rule(task)) = self.tasks.take(token) {
-            self.host.let_last_in(task);
-        }
+        let tokens = self.rule_tokens();
+        self.end_rules(tokens.as_slice(), LastClients::AreLetIn);
     }
 }

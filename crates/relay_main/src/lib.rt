@@ -6,6 +6,7 @@ mod accepting;
 mod accounts;
 mod admin;
 mod desk;
+mod ending;
 mod finishing;
 mod listening;
 mod main_host;
@@ -18,6 +19,7 @@ mod session;
 mod session_state;
 mod sessions;
 
+pub use ending::AcceptsEnded;
 pub use listening::GivenListener;
-pub use main_loop::{AcceptsEnded, MainLoop};
+pub use main_loop::MainLoop;
 pub use sessions::Sessions;

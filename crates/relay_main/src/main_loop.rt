@@ -1,19 +1,24 @@
 //! The main thread's loop: it accepts by all rules, and serves the admin sessions, until the relay
 //! stops or has finished.
 
-ghost use Rattle.std.specs.Prelude.{◌≡◌, [], IfErr};
+ghost use Rattle.std.specs.Prelude.{◌≡◌, ◌↔◌, ℕ, true, false, Some, [], IfErr};
 ghost use Rattle.std.specs.Arc.{arc_value};
+ghost use Rattle.readiness.specs.EventLoop.{tasks_of};
+ghost use Rattle.readiness.specs.Tasks.{ComesNext, SameTasks, StillCome, gave_way_in};
 ghost use Rattle.relay_admin.specs.ServeFault.{IsRunFault};
 ghost use Rattle.relay_admin.specs.declared.serve_fault.ServeFault.{ServeFault};
+ghost use Rattle.relay_main.specs.Finishing.{IsOver};
 
-use crate::finishing::has_finished;
+use crate::ending::{AcceptsEnded, end_tasks};
+use crate::finishing::is_over;
 use crate::listening::Listeners;
 use crate::main_host::MainHost;
 use crate::main_task::MainTask;
 use crate::opening::{listen_by, open_admin};
 use crate::sessions::Sessions;
+use arrayvec::ArrayVec;
 use readiness::{EventLoop, LoopDriver};
-use relay_admin::ServeFault;
+use relay_admin::{MAX_RULES, ServeFault};
 use relay_facts::bound_path::BoundPath;
 use relay_facts::clock::{Moments, RelayClock};
 use relay_facts::served_rule::ServedRule;
@@ -38,12 +43,6 @@ pub struct MainLoop<R: Wait + Clock + Copy> {
     pub(crate) admin: u64,
     /// The moment at which the relay ends at the latest, where it finishes.
     pub(crate) finish_at: Option<u64>,
-}
-
-/// That no accept is under way any more, and no rule listens: the end of the loop alone makes one.
-#[derive(Clone, Copy)]
-pub struct AcceptsEnded {
-    by_loop: (),
 }
 
 impl<R: Wait + Clock + Copy> MainLoop<R> {
@@ -88,9 +87,9 @@ impl<R: Wait + Clock + Copy> MainLoop<R> {
         } = self;
         drop(listeners);
         let (mut tasks, mut host) = (tasks, host);
-        tasks.end_all(&mut host);
+        let ended = end_tasks(&mut tasks, &mut host);
         let MainHost { rt, shared, .. } = host;
-        (rt, shared, AcceptsEnded { by_loop: () })
+        (rt, shared, ended)
     }
 }
 
@@ -130,12 +129,27 @@ impl<R: Wait + Net + Files + Clock + Copy> MainLoop<R> {
         Ok(())
     }
 
-    // Has all accept tasks go on.
-    fn accept_again(&mut self) {
+    /// The tokens of the tasks that accept by the rules in force.
+    pub(crate) fn rule_tokens(&self) -> ArrayVec<u64, MAX_RULES> {
+        let mut tokens = ArrayVec::new();
         for served in self.host.shared.rules.lock(&self.host.rt).iter() {
-            self.tasks.again(served.token());
+            let _ = tokens.try_push(served.token());
         }
+        tokens
+    }
+
+    // Has all accept tasks go on.
+    fn accept_again(&mut self)
+        ensures kept { SameTasks (tasks_of self.old.tasks) (tasks_of self.new.tasks) }
+        ensures admin { gave_way_in (tasks_of self.old.tasks) self.old.admin ≡ Some false
+            → ComesNext (tasks_of self.new.tasks) self.old.admin }
+        ensures others { StillCome (tasks_of self.old.tasks) (tasks_of self.new.tasks) }
+    {
         self.tasks.again(self.admin);
+        let tokens = self.rule_tokens();
+        for token in tokens.as_slice() {
+            self.tasks.again(*token);
+        }
     }
 
     /// Turns until an admin session says stop, until the relay has finished, or the poller fails.
@@ -149,7 +163,7 @@ impl<R: Wait + Net + Files + Clock + Copy> MainLoop<R> {
                 return Err(of_poller(fault));
             }
             sessions.serve(self);
-            if self.is_over(sessions.are_held()) {
+            if self.is_over(self.host.shared.is_stopped(), sessions.are_held()) {
                 return Ok(());
             }
             if self.host.takes_unarmed() {
@@ -159,10 +173,14 @@ impl<R: Wait + Net + Files + Clock + Copy> MainLoop<R> {
         unreachable!()
     }
 
-    // Whether no turn more is wanted, where sessions' replies wait for answers or don't.
-    fn is_over(&self, is_held: bool) -> bool {
-        let shared = &self.host.shared;
+    // Whether no turn more is wanted, where a session said stop or none did, and sessions' replies wait
+    // for answers or don't.
+    fn is_over(&self, is_stopped: bool, is_held: bool) -> bool
+        ensures { (now standing : ℕ)
+            × (result ≡ true ↔ IsOver is_stopped self.now.finish_at now standing is_held) }
+    {
         let now = self.host.clock.now();
-        shared.is_stopped() || has_finished(self.finish_at, now, shared.standing(), is_held)
+        let standing = self.host.shared.standing();
+        is_over(is_stopped, self.finish_at, now, standing, is_held)
     }
 }
