@@ -1,3 +1,4 @@
+pub mod BindingLemmas
 pub mod DrainedLemmas
 pub mod EndingLemmas
 pub mod ListeningLemmas

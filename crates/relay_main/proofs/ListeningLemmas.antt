@@ -1,5 +1,5 @@
 -- The place of the first that passes tells the first itself.
-use Rattle.std.proofs.Common.{◌≡◌, ◌<◌, ◌≤◌, ◌∙◌, sym, ap, refl, ℕ, Bool, true, false, List, [], ◌∷◌, length, get_or, arith}
+use Rattle.std.proofs.Common.{◌≡◌, ◌<◌, ◌≤◌, ◌∙◌, sym, ap, refl, ℕ, Bool, true, false, cond, List, [], ◌∷◌, length, get_or, arith}
 use Rattle.std.specs.Prelude.{Option, Some, None, find, slice_get}
 use Rattle.std.specs.Option.{option_map}
 use Rattle.std.specs.List.{position_or_len}
@@ -31,3 +31,15 @@ pub first_passes : {X : Type 0} (p : X → Bool) (xs : List X) (i : ℕ) (x : X)
     → position_or_len p xs ≡ i
 first_passes p xs i x within before passes =
     position_or_len_is p xs i x (omega arith) (λ k lt. before k x lt) (λ lt. passes)
+
+found_first : {X : Type 0} (p : X → Bool) (y x : X) (rest : Option X) (b : Bool) → p y ≡ b
+    → (rest ≡ Some x → p x ≡ true) → cond b (Some y) rest ≡ Some x → p x ≡ true
+found_first p y x rest true is later e =
+    let one : y ≡ x = cc in
+    ap p (sym one) ∙ is
+found_first p y x rest false is later e = later e
+
+-- what is found passes
+pub find_passes : {X : Type 0} (p : X → Bool) (xs : List X) (x : X) → find p xs ≡ Some x → p x ≡ true
+find_passes p [] x e = absurd (cc)
+find_passes p (y ∷ ys) x e = found_first p y x (find p ys) (p y) refl (find_passes p ys x) e

@@ -1,5 +1,5 @@
 -- The accounts of rules.
-use Rattle.std.specs.Prelude.{Bool, List, Option, filter, find, not}
+use Rattle.std.specs.Prelude.{◌≡◌, ℕ, Bool, true, List, Option, Some, filter, find, length, not, slice_get}
 use Rattle.std.specs.List.{list_any}
 use Rattle.std.specs.Arc.{arc_value}
 use Rattle.std.specs.declared.alloc.Global.{Global}
@@ -16,6 +16,12 @@ is_account_of addr account = same_address (address_of (arc_value account).listen
 -- the first account of this address
 abbrev pub account_at : Addr → List (Arc ServedRule Global) → Option (Arc ServedRule Global)
 account_at addr accounts = find (is_account_of addr) accounts
+
+-- an account for each of these rules, in their order, and of its address
+pub record AreAccountsOf (rules : List Rule) (accounts : List (Arc ServedRule Global)) : Type 0 where
+  pub count : length accounts ≡ length rules
+  pub own : (k : ℕ) (rule : Rule) (account : Arc ServedRule Global) → slice_get rules k ≡ Some rule
+      → slice_get accounts k ≡ Some account → is_account_of rule.listen account ≡ true
 
 -- a rule of these listens at this address
 abbrev pub is_listened_at : Addr → List Rule → Bool

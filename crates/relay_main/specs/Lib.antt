@@ -1,11 +1,13 @@
 pub mod Accepting
 pub mod Accounts
+pub mod Binding
 pub mod Deadlines
 pub mod Desk
 pub mod Ending
 pub mod Finishing
 pub mod Listening
 pub mod Pauses
+pub mod Plan
 pub mod Reload
 pub mod Session
 pub mod Sessions

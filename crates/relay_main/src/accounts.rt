@@ -2,7 +2,7 @@
 //! counted of it. An account is by the rule's listening address. It outlives the rule's listener, and
 //! its place in the file as long as connections of it stand.
 
-ghost use Rattle.std.specs.Prelude.{◌≡◌, IfSome, IfNone, IfOk, option_copied};
+ghost use Rattle.std.specs.Prelude.{◌≡◌, true, IfSome, IfNone, IfOk, option_copied};
 ghost use Rattle.std.specs.Arc.{arc_value};
 ghost use Rattle.std.specs.List.{position_or_len};
 ghost use Rattle.relay_facts.specs.Counts.{loops_of};
@@ -25,9 +25,12 @@ fn place_of(accounts: &[Arc<ServedRule>], listen: &Addr) -> usize
     accounts.len()
 }
 
-// The account of this address, if there is one.
+/// The account of this address, if there is one.
 #[tactic(auto, using(std::proofs::lemmas::List::Folds::find_at, std::proofs::lemmas::Option::slice_get_past))]
-fn account_at<'a>(accounts: &'a [Arc<ServedRule>], listen: &Addr) -> Option<&'a Arc<ServedRule>>
+pub(crate) fn account_at<'a>(
+    accounts: &'a [Arc<ServedRule>],
+    listen: &Addr,
+) -> Option<&'a Arc<ServedRule>>
     ensures { option_copied result ≡ spec.account_at listen.now accounts.now }
 {
     let place = place_of(accounts, listen);
@@ -46,6 +49,7 @@ pub(crate) fn account_of(
     rule: &Rule,
     loops: usize,
 ) -> Result<Arc<ServedRule>, ServeFault>
+    ensures own { IfOk result (λ served. spec.is_account_of rule.now.listen served ≡ true) }
     ensures known { IfSome (spec.account_at rule.now.listen accounts.now)
         (λ account. IfOk result (λ served. arc_value served ≡ arc_value account)) }
     ensures listen { IfNone (spec.account_at rule.now.listen accounts.now)
@@ -57,6 +61,22 @@ pub(crate) fn account_of(
         Some(account) => Ok(Arc::try_clone(account)?),
         None => Ok(ServedRule::new(alloc, rule, loops)?),
     }
+}
+
+/// The accounts of these rules, in their order: each as `account_of` gives it.
+pub(crate) fn accounts_of(
+    alloc: Global,
+    accounts: &[Arc<ServedRule>],
+    rules: &[Rule],
+    loops: usize,
+) -> Result<Vec<Arc<ServedRule>>, ServeFault>
+    ensures { IfOk result (λ all. spec.AreAccountsOf rules.now all.items) }
+{
+    let mut all = Vec::new(alloc);
+    for rule in rules {
+        all.push(account_of(alloc, accounts, rule, loops)?)?;
+    }
+    Ok(all)
 }
 
 /// The accounts at whose addresses no rule of these listens.

@@ -5,6 +5,7 @@
 mod accepting;
 mod accounts;
 mod admin;
+mod binding;
 mod desk;
 mod ending;
 mod finishing;
@@ -13,6 +14,7 @@ mod main_host;
 mod main_loop;
 mod main_task;
 mod opening;
+mod plan;
 mod reload;
 mod rule_task;
 mod session;

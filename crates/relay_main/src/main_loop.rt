@@ -105,7 +105,17 @@ impl<R: Wait + Net + Files + Clock + Copy> MainLoop<R> {
         } = self;
         let shared = &host.shared;
         for served in shared.rules.lock(&host.rt).iter() {
-            listen_by(&host.rt, *alloc, tasks, &shared.index, served, listeners, 0)?;
+            let rule = served.rule(&host.rt);
+            listen_by(
+                &host.rt,
+                *alloc,
+                tasks,
+                &shared.index,
+                &rule,
+                served,
+                listeners,
+                0,
+            )?;
         }
         Ok(())
     }

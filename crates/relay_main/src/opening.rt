@@ -1,8 +1,12 @@
 //! Opening: the listeners in the rules' order, and the admin socket.
 
-ghost use Rattle.std.specs.Prelude.{◌≡◌, IfErr};
+ghost use Rattle.std.specs.Prelude.{◌≡◌, IfSome, IfOk, IfErr, Ok};
+ghost use Rattle.std.specs.Arc.{arc_value};
+ghost use Rattle.readiness.specs.EventLoop.{tasks_of};
 ghost use Rattle.relay_admin.specs.ServeFault.{IsRunFault};
 ghost use Rattle.relay_admin.specs.declared.serve_fault.ServeFault.{ServeFault};
+ghost use Rattle.relay_main.specs.Binding.{HasCome, StillStand};
+ghost use Rattle.relay_main.specs.Listening.{given_at, left_by};
 
 use crate::admin::{AdminDoor, AdminTask};
 use crate::listening::{Listeners, Opened};
@@ -11,7 +15,7 @@ use crate::rule_task::{RuleListener, RuleTask};
 use arrayvec::ArrayString;
 use fd_descriptor::{FdHandle, TaskReader};
 use readiness::{EventLoop, HoldFault, Listen, ListenRes, Poller};
-use relay_admin::{Addr, ServeFault};
+use relay_admin::{Addr, Rule, ServeFault};
 use relay_core::Accepting;
 use relay_facts::bound_path::BoundPath;
 use relay_facts::served_rule::ServedRule;
@@ -22,19 +26,25 @@ use std::fs::Files;
 use std::net::Net;
 use std::sync::{Arc, Mutex, Wait};
 
-// Listens at a rule's address.
+// Listens at a rule's address, by its account.
 fn bind<R: Wait + Net + Files>(
     rt: &R,
+    rule: &Rule,
     served: &ServedRule,
     listeners: &mut Listeners,
-) -> Result<Listen, ServeFault> {
-    match listeners.open(rt, &served.listen) {
+) -> Result<Listen, ServeFault>
+    ensures given { IfSome (given_at rule.now.listen listeners.old.given.items)
+        (λ listener. result ≡ Ok listener) }
+    ensures left { listeners.new.given.items ≡ left_by rule.now.listen listeners.old.given.items }
+    ensures faults { IfErr result (λ fault. fault ≡ ServeFault.Listen rule.now.name) }
+{
+    match listeners.open(rt, &rule.listen) {
         Ok(Opened::Given(socket)) => Ok(socket),
         Ok(Opened::Bound(socket)) => {
             served.note_bound(rt);
             Ok(socket)
         }
-        Err(_) => Err(ServeFault::Listen(served.rule(rt).name)),
+        Err(_) => Err(ServeFault::Listen(rule.name)),
     }
 }
 
@@ -69,8 +79,8 @@ fn listener_in<R: Wait + Copy>(
     })
 }
 
-// Has a task accept from this socket from the next turn on; its listener stands in the index under
-// the next id. After a fault nothing of it is left.
+// Has a task accept from this socket from the next turn on, and gives its token; its listener stands
+// in the index under the next id. After a fault nothing of it is left.
 fn hold_rule<R: Wait + Copy>(
     rt: R,
     alloc: Global,
@@ -79,7 +89,11 @@ fn hold_rule<R: Wait + Copy>(
     socket: Listen,
     served: &Arc<ServedRule>,
     now: u64,
-) -> Result<(), ServeFault> {
+) -> Result<u64, ServeFault>
+    ensures stand { StillStand (tasks_of tasks.old) (tasks_of tasks.new) }
+    ensures come { IfOk result (λ token.
+        HasCome (arc_value served.now) (tasks_of tasks.old) (tasks_of tasks.new) token) }
+{
     let Ok(place) = tasks.vacant() else {
         return Err(ServeFault::Memory);
     };
@@ -98,7 +112,7 @@ fn hold_rule<R: Wait + Copy>(
         Ok(_) => {
             served.note_listener(id, place.first, now);
             tasks.again(place.first);
-            Ok(())
+            Ok(place.first)
         }
         Err(_) => {
             let _ = index.leave(id);
@@ -107,18 +121,23 @@ fn hold_rule<R: Wait + Copy>(
     }
 }
 
-/// Listens at a rule's address, and has a task accept there from the next turn on. After a fault
-/// nothing of it is left.
+/// Listens at a rule's address, and has a task accept there from the next turn on, by the rule's
+/// account, whose token it gives. After a fault nothing of it is left.
 pub(crate) fn listen_by<R: Wait + Net + Files + Copy>(
     rt: &R,
     alloc: Global,
     tasks: &mut EventLoop<MainTask<R>>,
     index: &Mutex<RelayIndex>,
+    rule: &Rule,
     served: &Arc<ServedRule>,
     listeners: &mut Listeners,
     now: u64,
-) -> Result<(), ServeFault> {
-    let socket = bind(rt, served, listeners)?;
+) -> Result<u64, ServeFault>
+    ensures stand { StillStand (tasks_of tasks.old) (tasks_of tasks.new) }
+    ensures come { IfOk result (λ token.
+        HasCome (arc_value served.now) (tasks_of tasks.old) (tasks_of tasks.new) token) }
+{
+    let socket = bind(rt, rule, &**served, listeners)?;
     hold_rule(*rt, alloc, tasks, &mut *index.lock(rt), socket, served, now)
 }
 

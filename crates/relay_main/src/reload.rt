@@ -1,36 +1,28 @@
-//! New rules for a relay that runs. The main thread, whose loop accepts, reads them and binds the
-//! addresses at which nobody listens; then it has the rules that stay say what is new, and closes
-//! the listeners of those that have gone.
+//! New rules for a relay that runs. The main thread, whose loop accepts, reads them and carries out
+//! the plan to them: it binds, or is refused and has changed nothing; then it has all rules say what
+//! is new, and ends the listeners of those that have gone.
 
-ghost use Rattle.std.specs.Prelude.{◌≡◌, ◌≢◌, None};
+ghost use Rattle.std.specs.Prelude.{◌≡◌, ◌≢◌, ℕ, None, IfSome, OnErr};
 ghost use Rattle.readiness.specs.EventLoop.{tasks_of};
 ghost use Rattle.readiness.specs.Tasks.{task_in};
+ghost use Rattle.relay_main.specs.Binding.{StillStand};
 ghost use Rattle.relay_admin.specs.declared.admin.answers.ReloadAnswer.{ReloadAnswer};
 ghost use Rattle.relay_main.specs.Reload.{answer_of_fault};
 
-use crate::accounts::{account_of, without_rules};
+use crate::accounts::account_at;
+use crate::binding::AllBound;
+use crate::ending::LastClients;
 use crate::main_loop::MainLoop;
 use crate::main_task::MainTask;
-use crate::opening::listen_by;
-use relay_admin::{ReloadAnswer, Rule, Rules, ServeFault, Verdict};
+use crate::plan::{Plan, plan_of};
+use relay_admin::{Addr, ReloadAnswer, Rule, Rules, ServeFault, Verdict};
 use relay_facts::rules_file::text_of;
 use relay_facts::served_rule::ServedRule;
 use rwloops::Fault;
-use std::alloc::Global;
 use std::fs::Files;
 use std::net::Net;
 use std::sync::{Arc, Wait};
 use std::time::Clock;
-
-/// A rule of the file, as it is to be served.
-#[derive(Drop)]
-struct Planned {
-    rule: Rule,
-    /// Its account.
-    served: Arc<ServedRule>,
-    /// Its address is to be bound: it has no listener, or none any more.
-    is_new: bool,
-}
 
 // What a session is answered where a reload is refused.
 fn answer_of_fault(fault: ServeFault) -> ReloadAnswer
@@ -44,13 +36,13 @@ fn answer_of_fault(fault: ServeFault) -> ReloadAnswer
     }
 }
 
-// A list of the same rules.
-fn listed(alloc: Global, planned: &[Planned]) -> Result<Vec<Arc<ServedRule>>, ServeFault> {
-    let mut list = Vec::new(alloc);
-    for one in planned {
-        list.push(Arc::try_clone(&one.served)?)?;
+// Has the accounts of these rules, among those, say what the rules say.
+fn change<R: Wait>(rt: &R, accounts: &[Arc<ServedRule>], rules: &[Rule], _bound: &AllBound) {
+    for rule in rules {
+        if let Some(served) = account_at(accounts, &rule.listen) {
+            served.change(rt, rule);
+        }
     }
-    Ok(list)
 }
 
 impl<R: Wait + Net + Files + Clock + Copy> MainLoop<R> {
@@ -66,40 +58,28 @@ impl<R: Wait + Net + Files + Clock + Copy> MainLoop<R> {
         Ok(all)
     }
 
-    // Whether a rule's listener stands. Of one whose listener has gone the path goes too, so that
-    // another can be bound.
-    fn listens(&self, rt: &R, served: &ServedRule) -> bool {
-        let stands = self.host.shared.index.lock(rt).find(served.id()).is_some();
-        if !stands {
-            served.remove_path(rt);
+    // The addresses of these accounts at which their listeners stand.
+    fn standing(&self, rt: &R, accounts: &[Arc<ServedRule>]) -> Result<Vec<Addr>, ServeFault> {
+        let mut standing = Vec::new(self.alloc);
+        for served in accounts {
+            if self.host.shared.index.lock(rt).find(served.id()).is_some() {
+                standing.push(served.listen)?;
+            }
         }
-        stands
+        Ok(standing)
     }
 
-    // The rules of the file, as they are to be served.
-    fn all_planned(
-        &self,
-        rt: &R,
-        accounts: &[Arc<ServedRule>],
-        rules: &[Rule],
-    ) -> Result<Vec<Planned>, ServeFault> {
-        let mut all = Vec::new(self.alloc);
-        for rule in rules {
-            let served = account_of(self.alloc, accounts, rule, self.host.shared.loops.len())?;
-            let is_new = !self.listens(rt, &served);
-            all.push(Planned {
-                rule: *rule,
-                served,
-                is_new,
-            })?;
-        }
-        Ok(all)
-    }
-
-    // Ends the listener of a rule, if it has one.
-    fn end_listener(&mut self, rt: &R, served: &ServedRule) {
-        self.close_listener(served.token());
-        served.remove_path(rt);
+    // The plan to these rules.
+    fn planned(&self, rt: &R, rules: &[Rule]) -> Result<Plan, ServeFault> {
+        let accounts = self.accounts(rt)?;
+        let standing = self.standing(rt, accounts.as_slice())?;
+        plan_of(
+            self.alloc,
+            accounts,
+            standing.as_slice(),
+            rules,
+            self.host.shared.loops.len(),
+        )
     }
 
     /// Closes the listener whose task has this token, and ends the task; none where there is no such
@@ -123,62 +103,36 @@ impl<R: Wait + Net + Files + Clock + Copy> MainLoop<R> {
         None
     }
 
-    // Listens for a rule that has no listener.
-    fn listen_by(&mut self, rt: &R, served: &Arc<ServedRule>, now: u64) -> Result<(), ServeFault> {
-        let MainLoop {
-            alloc,
-            tasks,
-            host,
-            listeners,
-            ..
-        } = self;
-        listen_by(
-            rt,
-            *alloc,
-            tasks,
-            &host.shared.index,
-            served,
-            listeners,
-            now,
-        )
-    }
-
-    // Listens for all rules that have no listener, or for none.
-    fn listen_for(&mut self, rt: &R, planned: &[Planned], now: u64) -> Result<(), ServeFault> {
-        let mut listened = Ok(());
-        for one in planned {
-            if one.is_new && listened.is_ok() {
-                listened = self.listen_by(rt, &one.served, now);
-            }
-        }
-        if listened.is_err() {
-            for one in planned {
-                if one.is_new {
-                    self.end_listener(rt, &one.served);
-                }
-            }
-        }
-        listened
-    }
-
     // Serves these rules from now on; or, after a fault, those of before.
-    fn serve_rules(&mut self, rt: &R, rules: &[Rule], now: u64) -> Result<(), ServeFault> {
-        let accounts = self.accounts(rt)?;
-        let planned = self.all_planned(rt, accounts.as_slice(), rules)?;
-        let list = listed(self.alloc, planned.as_slice())?;
-        let mut gone = without_rules(accounts, rules);
-        self.listen_for(rt, planned.as_slice(), now)?;
-        for one in planned.iter() {
-            one.served.change(rt, &one.rule);
+    fn serve_rules(&mut self, rt: &R, rules: &[Rule], now: u64) -> Result<(), ServeFault>
+        ensures refused { OnErr result
+            (StillStand (tasks_of self.old.tasks) (tasks_of self.new.tasks)) }
+    {
+        let plan = self.planned(rt, rules)?;
+        let bound = self.bind_all(rt, plan.serve.as_slice(), plan.bind.as_slice(), now)?;
+        self.go_over(rt, plan, bound);
+        Ok(())
+    }
+
+    // Goes over to a plan of which all is bound.
+    fn go_over(&mut self, rt: &R, plan: Plan, bound: AllBound) {
+        let Plan {
+            serve,
+            bind,
+            keep,
+            end,
+        } = plan;
+        change(rt, serve.as_slice(), bind.as_slice(), &bound);
+        change(rt, serve.as_slice(), keep.as_slice(), &bound);
+        *self.host.shared.rules.lock(rt) = serve;
+        for served in end.iter() {
+            self.end_rule(served.token(), LastClients::AreReset);
+            served.remove_path(rt);
         }
-        *self.host.shared.rules.lock(rt) = list;
-        for served in gone.iter() {
-            self.end_listener(rt, served);
-        }
+        let mut gone = end;
         gone.retain(|served| served.standing() > 0);
         self.gone = gone;
         self.host.shared.reloads.add(1);
-        Ok(())
     }
 
     /// Reads the rules file again, and serves its rules from now on. Where it can't be read, is bad,
