@@ -5,3 +5,4 @@ mod headers;
 mod health;
 mod nets;
 mod picks;
+mod values;
