@@ -1,6 +1,7 @@
 //! Headers as others write them, texts of addresses, runs of picks and of checks.
 
 mod addresses;
+mod configs;
 mod headers;
 mod health;
 mod nets;
