@@ -2,6 +2,7 @@
 
 mod addresses;
 mod configs;
+mod fault_lines;
 mod headers;
 mod health;
 mod nets;

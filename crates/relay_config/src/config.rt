@@ -47,7 +47,7 @@ pub struct Config {
 }
 
 /// The keys of a configuration.
-const KEYS: &[Key] = &[Key::Connections, Key::ConnectTimeout, Key::Rule];
+pub(crate) const KEYS: &[Key] = &[Key::Connections, Key::ConnectTimeout, Key::Rule];
 
 impl Config {
     /// The configuration that a text is, or its first fault, in this order: a text that is too

@@ -42,7 +42,7 @@ pub struct Rule {
 }
 
 /// The keys of a rule.
-const KEYS: &[Key] = &[Key::Name, Key::Listen, Key::Target, Key::Balance, Key::Idle];
+pub(crate) const KEYS: &[Key] = &[Key::Name, Key::Listen, Key::Target, Key::Balance, Key::Idle];
 
 /// The rules that items say.
 pub(crate) fn rules_in(alloc: Global, items: &[Value]) -> Result<Vec<Rule>, Fault>

@@ -27,7 +27,7 @@ pub struct Target {
 }
 
 /// The keys of a target.
-const KEYS: &[Key] = &[Key::At, Key::Weight, Key::Backup];
+pub(crate) const KEYS: &[Key] = &[Key::At, Key::Weight, Key::Backup];
 
 /// The targets of a rule, one at least.
 #[tactic(auto, unfolding(crate::specs::Config::targets_of))]
