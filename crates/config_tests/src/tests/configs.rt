@@ -401,3 +401,54 @@ fn a_text_has_at_most_a_mebibyte(rt: HostRuntime) {
         assert!(rt; has_no_rules(rt.alloc(), text.as_slice()));
     }
 }
+
+/// A text of so many items in a list.
+fn list_text(alloc: Global, front: &str, item: &str, count: usize) -> Option<String> {
+    let mut text = String::from_str(alloc, front).ok()?;
+    for _ in 0..count {
+        text.push_str(item).ok()?;
+    }
+    text.push_str("]\n").ok()?;
+    Some(text)
+}
+
+// What stands before a list's items, an item, how many there may be, and the list.
+const LISTS: &[(&str, &str, usize, Place, Key)] = &[
+    ("rule = [", "{}, ", 1_024, Place::Top, Key::Rule),
+    (
+        "[[rule]]\nname = \"web\"\nlisten = [",
+        "\"unix:/a\", ",
+        16,
+        Place::Rule(0),
+        Key::Listen,
+    ),
+    (
+        "[[rule]]\nname = \"web\"\nlisten = [\"unix:/a\"]\ntarget = [",
+        "{}, ",
+        64,
+        Place::Rule(0),
+        Key::Target,
+    ),
+];
+
+/// Whether a list of so many items is told as one of too many, or memory was refused.
+fn is_too_long(alloc: Global, row: &(&str, &str, usize, Place, Key), count: usize) -> Option<bool> {
+    let text = list_text(alloc, row.0, row.1, count)?;
+    let fault = Fault::At(Spot::of(row.3, row.4), Wrong::TooMany);
+    match Config::parse(alloc, text.as_bytes()) {
+        Ok(_) => Some(false),
+        Err(Fault::Memory) => None,
+        Err(found) => Some(found == fault),
+    }
+}
+
+#[test]
+fn lists_have_their_greatest_sizes(rt: HostRuntime) {
+    for row in LISTS {
+        let most = row.2;
+        let front = row.0;
+        assert!(rt; is_too_long(rt.alloc(), row, most) != Some(true), "{front}");
+        let more = is_too_long(rt.alloc(), row, most.saturating_add(1));
+        assert!(rt; more != Some(false), "{front}");
+    }
+}
