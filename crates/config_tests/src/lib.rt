@@ -1,4 +1,4 @@
-//! The tests of `text_reading`, `ip_text`, `proxy_header` and `target_pick`. They stand beside them,
+//! The tests of texts, of headers, of targets and of values. They stand beside their crates,
 //! so that these aren't proved again with their tests.
 #![tactic(auto)]
 

@@ -1,0 +1,112 @@
+//! What is said of texts that are no configurations.
+
+use relay_config::{Config, Fault, fault_line};
+use std::alloc::Global;
+
+const ROWS: &[(&str, &str)] = &[
+    (
+        "connections = \n",
+        "bad config: line 1, column 15: no TOML: invalid value, expected a string, number, boolean, date-time, \
+        array or inline table",
+    ),
+    (
+        "conections = 5\n",
+        "bad config: unknown key \"conections\"; \"connections\" is meant?",
+    ),
+    ("zone = 1\n", "bad config: unknown key \"zone\""),
+    (
+        "connections = 0\n",
+        "bad config: connections: 0 is not from 1 to 50000",
+    ),
+    (
+        "connections = \"5\"\n",
+        "bad config: connections: \"5\" is not a whole number",
+    ),
+    (
+        "connect_timeout = 5\n",
+        "bad config: connect_timeout: 5 is not a text in quotes",
+    ),
+    (
+        "[rule]\n",
+        "bad config: rule: a table is not a list of tables ([[rule]])",
+    ),
+    ("rule = [1]\n", "bad config: rule 1: 1 is not a table"),
+    ("[[rule]]\n", "bad config: rule 1: name is missing"),
+    (
+        "[[rule]]\nname = \"web\"\nidle = \"30x\"\n",
+        "bad config: rule \"web\": idle: \"30x\" is no time (as 500ms, 30s, 5m, 2h, at most a day; or never)",
+    ),
+    (
+        "[[rule]]\nname = \"web\"\nidel = \"30s\"\n",
+        "bad config: rule \"web\": unknown key \"idel\"; \"idle\" is meant?",
+    ),
+    (
+        "[[rule]]\nname = \"Web\"\n",
+        "bad config: rule \"Web\": name: \"Web\" is no name (a letter, then letters, digits and \"-\", all \
+        small, at most 16)",
+    ),
+    (
+        "[[rule]]\nname = \"web\"\nbalance = \"random\"\n",
+        "bad config: rule \"web\": balance: \"random\" is none of \"round-robin\", \"least-connections\", \
+        \"first\", \"source\"",
+    ),
+    (
+        "[[rule]]\nname = \"web\"\n",
+        "bad config: rule \"web\": listen is missing",
+    ),
+    (
+        "[[rule]]\nname = \"web\"\nlisten = \"tcp:0.0.0.0:1\"\n",
+        "bad config: rule \"web\": listen: \"tcp:0.0.0.0:1\" is not a list of texts",
+    ),
+    (
+        "[[rule]]\nname = \"web\"\nlisten = []\n",
+        "bad config: rule \"web\": listen: the list is empty",
+    ),
+    (
+        "[[rule]]\nname = \"web\"\nlisten = [\"tcp:app:80\"]\n",
+        "bad config: rule \"web\": listen 1: \"tcp:app:80\" is no address to listen at (as \
+        tcp:0.0.0.0:443, tcp:[::]:443, unix:/run/x.sock)",
+    ),
+    (
+        "[[rule]]\nname = \"web\"\nlisten = [\"unix:/a\", \"unix:/a\"]\n",
+        "bad config: rule \"web\": listen 2: \"unix:/a\" is listened at already",
+    ),
+    (
+        "[[rule]]\nname = \"web\"\nlisten = [\"unix:/a\"]\ntarget = [{ at = \"b:80\" }]\n",
+        "bad config: rule \"web\": target 1: at: \"b:80\" is no address (as tcp:10.0.0.1:443, tcp:[::1]:443, \
+        tcp:app.internal:443, unix:/run/x.sock)",
+    ),
+    (
+        "[[rule]]\nname = \"web\"\nlisten = [\"unix:/a\"]\ntarget = [{ at = \"unix:/b\", wieght = 2 }]\n",
+        "bad config: rule \"web\": target 1: unknown key \"wieght\"; \"weight\" is meant?",
+    ),
+    (
+        "[[rule]]\nname = \"web\"\nlisten = [\"unix:/a\"]\ntarget = [{ at = \"unix:/b\", backup = 1 }]\n",
+        "bad config: rule \"web\": target 1: backup: 1 is not true or false",
+    ),
+    (
+        "[[rule]]\nname = \"web\"\nlisten = [\"unix:/a\"]\ntarget = [{ at = \"unix:/b\" }]\n[[rule]]\nname = \"web\"\n",
+        "bad config: rule \"web\": name: \"web\" is the name of a rule before it",
+    ),
+];
+
+/// Whether a text's fault has this line, or memory was refused.
+fn says(alloc: Global, text: &str, want: &str) -> bool {
+    let Err(fault) = Config::parse(alloc, text.as_bytes()) else {
+        return false;
+    };
+    if fault == Fault::Memory {
+        return true;
+    }
+    match fault_line(alloc, text.as_bytes(), fault) {
+        Ok(line) => line.as_str() == want,
+        Err(_) => true,
+    }
+}
+
+#[test]
+fn a_fault_names_the_rule_the_key_the_value_and_what_is_wanted(rt: HostRuntime) {
+    for (text, want) in ROWS {
+        assert!(rt; says(rt.alloc(), text, want), "{want}");
+    }
+}

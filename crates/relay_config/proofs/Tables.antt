@@ -1,0 +1,35 @@
+-- The keys of a table, and those that aren't known.
+use Rattle.std.proofs.Common.{◌≡◌, ◌∙◌, sym, ap, refl, ℕ, suc, ◌+◌, List, [], ◌∷◌, length, map, Bool, true, false, not, Some, None, String, Global, string_bytes, cond}
+use Rattle.std.specs.Prelude.{nat_lt, if◌then◌else◌}
+use Rattle.std.specs.List.{position, position_or_len, prefix_len}
+use Rattle.std.specs.Map.{keys_of}
+use Rattle.toml.specs.View.{members_view}
+use Rattle.toml.proofs.Views.{Entry}
+use Rattle.relay_config.specs.Reading.{keys_in}
+
+keys_in-view : (es : List Entry) → keys_in (members_view es) ≡ map string_bytes (keys_of es)
+keys_in-view [] = refl
+keys_in-view (e ∷ es) = ap (λ (ks : List (List ℕ)). string_bytes e.0 ∷ ks) (keys_in-view es)
+
+prefix_len-map : {X Y : Type 0} (f : X → Y) (p : Y → Bool) (xs : List X) → prefix_len p (map f xs) ≡ prefix_len (λ x. p (f x)) xs
+prefix_len-map f p [] = refl
+prefix_len-map f p (x ∷ xs) = by_test (p (f x)) (prefix_len-map f p xs)
+  where
+    by_test : (b : Bool) → prefix_len p (map f xs) ≡ prefix_len (λ x. p (f x)) xs
+        → (if b then 1 + prefix_len p (map f xs) else 0) ≡ (if b then 1 + prefix_len (λ x. p (f x)) xs else 0)
+    by_test true h = ap (λ n. 1 + n) h
+    by_test false h = refl
+
+length-map : {X Y : Type 0} (f : X → Y) (xs : List X) → length (map f xs) ≡ length xs
+length-map f [] = refl
+length-map f (x ∷ xs) = ap suc (length-map f xs)
+
+pub position_of_key : (p : List ℕ → Bool) (es : List Entry)
+    → position (λ word. p (string_bytes word)) (keys_of es) ≡ position p (keys_in (members_view es))
+position_of_key p es = sym (ap (position p) (keys_in-view es) ∙ of_map (keys_of es))
+  where
+    of_map : (ks : List (String Global)) → position p (map string_bytes ks) ≡ position (λ word. p (string_bytes word)) ks
+    of_map ks =
+        ap (λ n. cond (nat_lt n (length (map string_bytes ks))) (Some n) None) (prefix_len-map string_bytes (λ k. not (p k)) ks)
+        ∙ ap (λ m. cond (nat_lt (position_or_len (λ word. p (string_bytes word)) ks) m) (Some (position_or_len (λ word. p (string_bytes word)) ks)) None)
+        (length-map string_bytes ks)

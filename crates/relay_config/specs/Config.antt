@@ -1,0 +1,225 @@
+-- What a table says, and what a text.
+use Rattle.std.specs.Prelude.{◌≡◌, ◌<◌, ◌≤◌, ℕ, Bool, false, ◌||◌, List, [], ◌∷◌, length, map, Option, Some, None, Result, Ok, Err, unwrap_or, if◌then◌else◌}
+use Rattle.std.specs.List.{list_any}
+use Rattle.std.specs.Str.{IsUtf8, bytes_eq}
+use Rattle.config_values.specs.Addr.{Address, address_at, address_of, same_address}
+use Rattle.target_pick.specs.declared.picking.Balance.{Balance}
+use Rattle.target_pick.specs.declared.picking.Balance.TheVariants as balance
+use Rattle.toml.specs.Data.{Data, Members}
+use Rattle.toml.specs.Parse.{parse_document}
+use Rattle.relay_config.specs.Fault.{item_spot, spot}
+use Rattle.relay_config.specs.Reading.{◌>>=◌, at_key, each_in, flag, if_there, items_in, known_alone, members, needed, number, some_items, spelled}
+use Rattle.relay_config.specs.Values.{balance_at, listener_at, rule_name, time_or_never}
+use Rattle.relay_config.specs.declared.config.Config.{Config}
+use Rattle.relay_config.specs.declared.config.Limits.{Limits}
+use Rattle.relay_config.specs.declared.config.TheConstants.{DEFAULT_CONNECT_MS, DEFAULT_CONNECTIONS, MAX_BYTES, MAX_CONNECTIONS, MAX_RULES}
+use Rattle.relay_config.specs.declared.fault.Fault.{Fault}
+use Rattle.relay_config.specs.declared.fault.Fault.TheVariants as fault
+use Rattle.relay_config.specs.declared.fault.Key.{Key}
+use Rattle.relay_config.specs.declared.fault.Key.TheVariants as key
+use Rattle.relay_config.specs.declared.fault.Place.{Place}
+use Rattle.relay_config.specs.declared.fault.Place.TheVariants as place
+use Rattle.relay_config.specs.declared.fault.Wrong.TheVariants as wrong
+use Rattle.relay_config.specs.declared.listen.TheConstants.{MAX_LISTENERS}
+use Rattle.relay_config.specs.declared.rule.Head.{Head}
+use Rattle.relay_config.specs.declared.rule.Rule.{Rule}
+use Rattle.relay_config.specs.declared.target.Target.{Target}
+use Rattle.relay_config.specs.declared.target.TheConstants.{MAX_TARGETS}
+
+-- ---- What is said
+
+-- a target, by what it says
+pub record TargetEntry : Type 0 where
+  pub at : Address
+  pub weight : ℕ
+  pub backup : Bool
+
+-- a rule, but for its lists
+pub record HeadEntry : Type 0 where
+  pub name : List ℕ
+  pub idle : Option ℕ
+  pub balance : Balance
+
+-- a rule
+pub record RuleEntry : Type 0 where
+  pub head : HeadEntry
+  pub listen : List Address
+  pub targets : List TargetEntry
+
+-- a configuration, but for its rules
+pub record LimitsEntry : Type 0 where
+  pub connections : ℕ
+  pub connect_timeout : Option ℕ
+
+-- a configuration
+pub record ConfigEntry : Type 0 where
+  pub limits : LimitsEntry
+  pub rules : List RuleEntry
+
+-- what values of the program say
+abbrev pub target_entry : Target → TargetEntry
+target_entry target = record { at = address_of target.at; weight = target.weight; backup = target.is_backup }
+
+-- the head of a rule
+abbrev pub head_entry : Head → HeadEntry
+head_entry head = record { name = head.name.bytes; idle = head.idle_ms; balance = head.balance }
+
+-- a rule
+abbrev pub rule_entry : Rule → RuleEntry
+rule_entry rule = record {
+  head = head_entry rule.head;
+  listen = map address_of rule.listen.items;
+  targets = map target_entry rule.targets.items;
+}
+
+-- the limits of a configuration
+abbrev pub limits_entry : Limits → LimitsEntry
+limits_entry limits = record { connections = limits.connections; connect_timeout = limits.connect_ms }
+
+-- a configuration
+abbrev pub config_entry : Config → ConfigEntry
+config_entry config = record { limits = limits_entry config.limits; rules = map rule_entry config.rules.items }
+
+-- ---- A target
+
+-- the keys of a target
+abbrev pub target_keys : List Key
+target_keys = key.At ∷ key.Weight ∷ key.Backup ∷ []
+
+-- the target that a table says
+unfoldable pub target_in : Place → Members → Result TargetEntry Fault
+target_in here table = do
+  alone ← known_alone target_keys here table
+  value ← needed (spot here key.At) (at_key key.At table)
+  address ← spelled address_at (spot here key.At) value
+  weight ← if_there (number 0 65535 (spot here key.Weight)) (at_key key.Weight table)
+  backup ← if_there (flag (spot here key.Backup)) (at_key key.Backup table)
+  Ok (record { at = address; weight = unwrap_or weight 1; backup = unwrap_or backup false })
+
+-- the target behind these of a rule
+unfoldable pub target_behind : ℕ → List TargetEntry → Data → Result TargetEntry Fault
+target_behind rule found d = do
+  table ← members (item_spot (place.Rule rule) key.Target (length found)) d
+  target_in (place.Target rule (length found)) table
+
+-- the targets of a rule, one at least
+unfoldable pub targets_of : ℕ → Members → Result (List TargetEntry) Fault
+targets_of rule table = do
+  ds ← some_items MAX_TARGETS (place.Rule rule) key.Target table
+  each_in (target_behind rule) [] ds
+
+-- ---- Listeners
+
+-- one of them has the address
+abbrev pub has_address : Address → List Address → Bool
+has_address address found = list_any (λ (other : Address). same_address other address) found
+
+-- a rule listens at the address
+abbrev pub has_listener : Address → List RuleEntry → Bool
+has_listener address rules = list_any (λ (rule : RuleEntry). has_address address rule.listen) rules
+
+-- the listener behind these of the rule behind those; no address stands twice
+unfoldable pub listener_behind : List RuleEntry → List Address → Data → Result Address Fault
+listener_behind before found d = do
+  address ← spelled listener_at (item_spot (place.Rule (length before)) key.Listen (length found)) d
+  if has_address address found || has_listener address before
+      then Err (fault.At (item_spot (place.Rule (length before)) key.Listen (length found)) wrong.Twice)
+      else Ok address
+
+-- the listeners of a rule, one at least
+unfoldable pub listeners_of : List RuleEntry → Members → Result (List Address) Fault
+listeners_of before table = do
+  ds ← some_items MAX_LISTENERS (place.Rule (length before)) key.Listen table
+  each_in (listener_behind before) [] ds
+
+-- ---- A rule
+
+-- the keys of a rule
+abbrev pub rule_keys : List Key
+rule_keys = key.Name ∷ key.Listen ∷ key.Target ∷ key.Balance ∷ key.Idle ∷ []
+
+-- a rule has the name
+abbrev pub has_name : List ℕ → List RuleEntry → Bool
+has_name name rules = list_any (λ (rule : RuleEntry). bytes_eq rule.head.name name) rules
+
+-- the name that a value spells, which no rule before this one has
+unfoldable pub new_name : List RuleEntry → Data → Result (List ℕ) Fault
+new_name before d = do
+  name ← spelled rule_name (spot (place.Rule (length before)) key.Name) d
+  if has_name name before then Err (fault.At (spot (place.Rule (length before)) key.Name) wrong.Twice) else Ok name
+
+-- the name of the rule behind these
+unfoldable pub name_in : List RuleEntry → Members → Result (List ℕ) Fault
+name_in before table = do
+  alone ← known_alone rule_keys (place.Rule (length before)) table
+  value ← needed (spot (place.Rule (length before)) key.Name) (at_key key.Name table)
+  new_name before value
+
+-- the head of the rule behind these
+unfoldable pub head_in : List RuleEntry → Members → Result HeadEntry Fault
+head_in before table = do
+  name ← name_in before table
+  idle ← if_there (spelled time_or_never (spot (place.Rule (length before)) key.Idle)) (at_key key.Idle table)
+  picks ← if_there (spelled balance_at (spot (place.Rule (length before)) key.Balance)) (at_key key.Balance table)
+  Ok (record { name = name; idle = unwrap_or idle None; balance = unwrap_or picks balance.RoundRobin })
+
+-- the rule behind these
+unfoldable pub rule_in : List RuleEntry → Members → Result RuleEntry Fault
+rule_in before table = do
+  head ← head_in before table
+  listen ← listeners_of before table
+  targets ← targets_of (length before) table
+  Ok (record { head = head; listen = listen; targets = targets })
+
+-- the rule of an item, behind these
+unfoldable pub rule_behind : List RuleEntry → Data → Result RuleEntry Fault
+rule_behind found d = do
+  table ← members (item_spot place.Top key.Rule (length found)) d
+  rule_in found table
+
+-- ---- A configuration
+
+-- the keys of a configuration
+abbrev pub config_keys : List Key
+config_keys = key.Connections ∷ key.ConnectTimeout ∷ key.Rule ∷ []
+
+-- the limits that a table says
+unfoldable pub limits_in : Members → Result LimitsEntry Fault
+limits_in table = do
+  alone ← known_alone config_keys place.Top table
+  connections ← if_there (number 1 MAX_CONNECTIONS (spot place.Top key.Connections)) (at_key key.Connections table)
+  timeout ← if_there (spelled time_or_never (spot place.Top key.ConnectTimeout)) (at_key key.ConnectTimeout table)
+  Ok (record {
+    connections = unwrap_or connections DEFAULT_CONNECTIONS;
+    connect_timeout = unwrap_or timeout (Some DEFAULT_CONNECT_MS);
+  })
+
+-- the rules that a table says
+unfoldable pub rules_of : Members → Result (List RuleEntry) Fault
+rules_of table = do
+  ds ← items_in MAX_RULES place.Top key.Rule table
+  each_in rule_behind [] ds
+
+-- the configuration that a table says
+unfoldable pub config_in : Members → Result ConfigEntry Fault
+config_in table = do
+  limits ← limits_in table
+  rules ← rules_of table
+  Ok (record { limits = limits; rules = rules })
+
+-- the text is TOML, and this table
+pub record IsToml (text : List ℕ) (table : Members) : Type 0 where
+  pub short : length text ≤ MAX_BYTES
+  pub utf8 : IsUtf8 text
+  pub read : parse_document text ≡ Some table
+
+-- the text is this configuration
+abbrev pub SaysConfig : List ℕ → ConfigEntry → Type 0
+SaysConfig text config = (table : Members) × IsToml text table × (config_in table ≡ Ok config)
+
+-- the text is no configuration, for this reason first
+pub data SaysFault (text : List ℕ) : Fault → Type 0 where
+  too_long : MAX_BYTES < length text → SaysFault text fault.TooLong
+  no_toml : {line column : ℕ} → length text ≤ MAX_BYTES → (IsUtf8 text → parse_document text ≡ None)
+      → SaysFault text (fault.Toml line column)
+  of_table : {first : Fault} {table : Members} → IsToml text table → config_in table ≡ Err first → SaysFault text first

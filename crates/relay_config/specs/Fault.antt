@@ -1,0 +1,46 @@
+-- Keys, and what a call answers where it may lack memory.
+use Rattle.std.specs.Prelude.{◌≡◌, ◌≢◌, ℕ, List, Some, None, Result, Ok, Err, codes}
+use Rattle.std.specs.Str.{IsUtf8}
+use Rattle.toml.specs.Parse.{parse_document}
+use Rattle.relay_config.specs.declared.fault.Fault.{Fault}
+use Rattle.relay_config.specs.declared.fault.Fault.TheVariants.{Memory, Toml}
+use Rattle.relay_config.specs.declared.fault.Key.{Key}
+use Rattle.relay_config.specs.declared.fault.Key.TheVariants as key
+use Rattle.relay_config.specs.declared.fault.Place.{Place}
+use Rattle.relay_config.specs.declared.fault.Spot.{Spot}
+
+-- the word of each key
+abbrev pub key_word : Key → List ℕ
+key_word key.At = codes "at"
+key_word key.Backup = codes "backup"
+key_word key.Balance = codes "balance"
+key_word key.ConnectTimeout = codes "connect_timeout"
+key_word key.Connections = codes "connections"
+key_word key.Idle = codes "idle"
+key_word key.Listen = codes "listen"
+key_word key.Name = codes "name"
+key_word key.Rule = codes "rule"
+key_word key.Target = codes "target"
+key_word key.Weight = codes "weight"
+
+-- a key of a table
+abbrev pub spot : Place → Key → Spot
+spot place key = record { place = place; key = key; item = None }
+
+-- an item of the list at a key
+abbrev pub item_spot : Place → Key → ℕ → Spot
+item_spot place key number = record { place = place; key = key; item = Some number }
+
+-- what was read is, by its view, the meaning
+abbrev pub Reads : {X Y : Type 0} → (X → Y) → Result X Fault → Result Y Fault → Type 0
+Reads view (Ok x) meaning = meaning ≡ Ok (view x)
+Reads view (Err fault) meaning = meaning ≡ Err fault
+
+-- what was answered is, by its view, the meaning, or else memory was refused
+abbrev pub Answers : {X Y : Type 0} → (X → Y) → Result X Fault → Result Y Fault → Type 0
+Answers view (Ok x) meaning = meaning ≡ Ok (view x)
+Answers view (Err fault) meaning = fault ≢ Memory → meaning ≡ Err fault
+
+-- the fault of a text that is no TOML, or want of memory
+abbrev pub IsNoToml : List ℕ → Fault → Type 0
+IsNoToml text fault = (fault ≢ Memory) → (line column : ℕ) × (fault ≡ Toml line column) × (IsUtf8 text → parse_document text ≡ None)

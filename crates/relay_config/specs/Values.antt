@@ -1,0 +1,54 @@
+-- Values of a configuration: what their texts spell.
+use Rattle.std.specs.Prelude.{◌==◌, ℕ, Bool, false, ◌&&◌, ◌||◌, List, [], ◌∷◌, length, nat_le, Option, Some, None, codes, option_map, option_and_then, if◌then◌else◌}
+use Rattle.std.specs.List.{list_all}
+use Rattle.std.specs.Str.{bytes_eq}
+use Rattle.config_values.specs.Addr.{Address, address_at, name, unix, v4, v6}
+use Rattle.config_values.specs.Time.{time_at}
+use Rattle.target_pick.specs.declared.picking.Balance.{Balance}
+use Rattle.target_pick.specs.declared.picking.Balance.TheVariants as balance
+use Rattle.relay_config.specs.declared.rule.TheConstants.{MAX_NAME_BYTES}
+
+-- a time, or "never", which is none
+abbrev pub time_or_never : List ℕ → Option (Option ℕ)
+time_or_never text = if bytes_eq text (codes "never") then Some None else option_map (λ (ms : ℕ). Some ms) (time_at text)
+
+-- the word of a way to pick targets
+abbrev pub balance_at : List ℕ → Option Balance
+balance_at text =
+    if bytes_eq text (codes "round-robin") then Some balance.RoundRobin
+    else if bytes_eq text (codes "least-connections") then Some balance.LeastConnections
+    else if bytes_eq text (codes "first") then Some balance.First
+    else if bytes_eq text (codes "source") then Some balance.Source
+    else None
+
+-- a to z
+abbrev pub is_letter : ℕ → Bool
+is_letter byte = nat_le 97 byte && nat_le byte 122
+
+-- a to z, 0 to 9 or "-"
+abbrev pub is_name_byte : ℕ → Bool
+is_name_byte byte = is_letter byte || (nat_le 48 byte && nat_le byte 57) || (byte == 45)
+
+-- the first byte is a letter
+abbrev pub begins_with_letter : List ℕ → Bool
+begins_with_letter [] = false
+begins_with_letter (byte ∷ bytes) = is_letter byte
+
+-- such bytes, as many as a name may have, the first a letter
+abbrev pub is_rule_name : List ℕ → Bool
+is_rule_name bytes = begins_with_letter bytes && list_all is_name_byte bytes && nat_le (length bytes) MAX_NAME_BYTES
+
+-- a rule's name
+abbrev pub rule_name : List ℕ → Option (List ℕ)
+rule_name text = if is_rule_name text then Some text else None
+
+-- an address at which the system can listen: no name
+abbrev pub listener : Address → Option Address
+listener (v4 ip port) = Some (v4 ip port)
+listener (v6 ip scope port) = Some (v6 ip scope port)
+listener (unix path) = Some (unix path)
+listener (name host port) = None
+
+-- such an address, by its text
+abbrev pub listener_at : List ℕ → Option Address
+listener_at text = option_and_then listener (address_at text)

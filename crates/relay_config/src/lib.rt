@@ -1,0 +1,23 @@
+//! The configuration of a relay, read from a TOML text: its limits, its rules with their listeners
+//! and targets, or the first fault of the text.
+#![tactic(auto)]
+
+mod config;
+mod fault;
+mod line;
+mod listen;
+mod looked_up;
+mod rule;
+mod table;
+mod target;
+mod values;
+mod words;
+
+pub use config::{
+    Config, DEFAULT_CONNECT_MS, DEFAULT_CONNECTIONS, Limits, MAX_BYTES, MAX_CONNECTIONS, MAX_RULES,
+};
+pub use fault::{Fault, Key, Place, Spot, Wrong};
+pub use line::fault_line;
+pub use listen::MAX_LISTENERS;
+pub use rule::{Head, MAX_NAME_BYTES, Rule};
+pub use target::{MAX_TARGETS, Target};

@@ -1,0 +1,183 @@
+//! What is said of a fault, for who wrote the text.
+
+use crate::config::{MAX_BYTES, MAX_RULES};
+use crate::fault::{Fault, Key, Place, Spot, Wrong};
+use crate::listen::MAX_LISTENERS;
+use crate::looked_up::{key_number, keys_of, nearest, value_of};
+use crate::target::MAX_TARGETS;
+use crate::words::{wanted, wanted_type};
+use std::alloc::{AllocError, Global};
+use toml::{Table, Value};
+
+/// The most bytes of a value or a key that are shown.
+const MAX_SHOWN_BYTES: usize = 60;
+
+/// The line that says a fault of this text, without a line feed: the rule by its name, the key, the
+/// value as it is written, and what is wanted. An error where memory is refused.
+pub fn fault_line(alloc: Global, text: &[u8], fault: Fault) -> Result<String, AllocError> {
+    match fault {
+        Fault::Memory => String::from_str(alloc, "bad config: out of memory"),
+        Fault::TooLong => format!(in alloc; "bad config: more than {MAX_BYTES} bytes"),
+        Fault::Toml(line, column) => toml_line(alloc, text, line, column),
+        Fault::Unknown(place, number) => match toml::table_from_slice(alloc, text) {
+            Ok(table) => unknown_line(alloc, &table, place, number),
+            Err(_) => Err(AllocError),
+        },
+        Fault::At(spot, wrong) => match toml::table_from_slice(alloc, text) {
+            Ok(table) => spot_line(alloc, &table, spot, wrong),
+            Err(_) => Err(AllocError),
+        },
+    }
+}
+
+/// What the reader of TOML says, and where.
+fn toml_line(alloc: Global, text: &[u8], line: usize, column: usize) -> Result<String, AllocError> {
+    match toml::table_from_slice(alloc, text) {
+        Ok(_) => Err(AllocError),
+        Err(error) => {
+            let why = error.message();
+            format!(in alloc; "bad config: line {line}, column {column}: no TOML: {why}")
+        }
+    }
+}
+
+/// A key that the table may not have, and the nearest one that it may.
+fn unknown_line(
+    alloc: Global,
+    table: &Table,
+    place: Place,
+    number: usize,
+) -> Result<String, AllocError> {
+    let here = place_words(alloc, table, place)?;
+    let here = here.as_str();
+    let word = key_number(table, place, number);
+    let shown = cut(word);
+    match nearest(alloc, keys_of(place), word)? {
+        Some(key) => {
+            let key = key.word();
+            format!(in alloc; "bad config: {here}unknown key \"{shown}\"; \"{key}\" is meant?")
+        }
+        None => format!(in alloc; "bad config: {here}unknown key \"{shown}\""),
+    }
+}
+
+/// What is wrong with a key or an item.
+fn spot_line(alloc: Global, table: &Table, spot: Spot, wrong: Wrong) -> Result<String, AllocError> {
+    let here = spot_words(alloc, table, spot)?;
+    let here = here.as_str();
+    if wrong == Wrong::Missing {
+        return format!(in alloc; "bad config: {here} is missing");
+    }
+    let what = what_is_wrong(alloc, table, spot, wrong)?;
+    let what = what.as_str();
+    format!(in alloc; "bad config: {here}: {what}")
+}
+
+fn what_is_wrong(
+    alloc: Global,
+    table: &Table,
+    spot: Spot,
+    wrong: Wrong,
+) -> Result<String, AllocError> {
+    let value = shown(alloc, value_of(table, spot))?;
+    let value = value.as_str();
+    match wrong {
+        Wrong::Missing => String::from_str(alloc, "missing"),
+        Wrong::Type => {
+            let wanted = wanted_type(spot);
+            format!(in alloc; "{value} is not {wanted}")
+        }
+        Wrong::Value => {
+            let wanted = wanted(spot.key);
+            format!(in alloc; "{value} is {wanted}")
+        }
+        Wrong::Empty => String::from_str(alloc, "the list is empty"),
+        Wrong::TooMany => too_many(alloc, spot.key),
+        Wrong::Twice => twice(alloc, spot.key, value),
+    }
+}
+
+fn too_many(alloc: Global, key: Key) -> Result<String, AllocError> {
+    let most = match key {
+        Key::Listen => MAX_LISTENERS,
+        Key::Target => MAX_TARGETS,
+        _ => MAX_RULES,
+    };
+    format!(in alloc; "more than {most}")
+}
+
+fn twice(alloc: Global, key: Key, value: &str) -> Result<String, AllocError> {
+    match key {
+        Key::Name => format!(in alloc; "{value} is the name of a rule before it"),
+        _ => format!(in alloc; "{value} is listened at already"),
+    }
+}
+
+/// The rule by its name, or else by its number from 1, and the target by its number.
+fn place_words(alloc: Global, table: &Table, place: Place) -> Result<String, AllocError> {
+    match place {
+        Place::Top => Ok(String::new(alloc)),
+        Place::Rule(rule) => rule_words(alloc, table, rule),
+        Place::Target(rule, target) => {
+            let rule = rule_words(alloc, table, rule)?;
+            let rule = rule.as_str();
+            let number = target.saturating_add(1);
+            format!(in alloc; "{rule}target {number}: ")
+        }
+    }
+}
+
+fn rule_words(alloc: Global, table: &Table, rule: usize) -> Result<String, AllocError> {
+    let name = value_of(table, Spot::of(Place::Rule(rule), Key::Name));
+    match name {
+        Some(Value::String(name)) => {
+            let name = cut(name.as_str());
+            format!(in alloc; "rule \"{name}\": ")
+        }
+        _ => {
+            let number = rule.saturating_add(1);
+            format!(in alloc; "rule {number}: ")
+        }
+    }
+}
+
+/// The place, the key, and the item by its number from 1.
+fn spot_words(alloc: Global, table: &Table, spot: Spot) -> Result<String, AllocError> {
+    let here = place_words(alloc, table, spot.place)?;
+    let here = here.as_str();
+    let key = spot.key.word();
+    match spot.item {
+        Some(number) => {
+            let number = number.saturating_add(1);
+            format!(in alloc; "{here}{key} {number}")
+        }
+        None => format!(in alloc; "{here}{key}"),
+    }
+}
+
+/// A value as it is written, or what it is where that may be long.
+fn shown(alloc: Global, value: Option<&Value>) -> Result<String, AllocError> {
+    match value {
+        Some(Value::String(text)) => {
+            let text = cut(text.as_str());
+            format!(in alloc; "\"{text}\"")
+        }
+        Some(Value::Integer(number)) => format!(in alloc; "{number}"),
+        Some(Value::Boolean(flag)) => format!(in alloc; "{flag}"),
+        Some(Value::Float(_)) => String::from_str(alloc, "a number with a fraction"),
+        Some(Value::Datetime(_)) => String::from_str(alloc, "a date or a time of day"),
+        Some(Value::Array(_)) => String::from_str(alloc, "a list"),
+        Some(Value::Table(_)) => String::from_str(alloc, "a table"),
+        None => Ok(String::new(alloc)),
+    }
+}
+
+/// The front of a text, as many whole characters as are shown at most.
+fn cut(text: &str) -> &str {
+    for size in (MAX_SHOWN_BYTES - 3..=MAX_SHOWN_BYTES).rev() {
+        if let Some(front) = text.get(..size) {
+            return front;
+        }
+    }
+    text
+}

@@ -1,0 +1,33 @@
+//! What is wanted of each key, in words.
+
+use crate::fault::{Key, Spot};
+
+/// What a value isn't, which is of the key's type.
+pub(crate) fn wanted(key: Key) -> &'static str {
+    match key {
+        Key::ConnectTimeout | Key::Idle =>
+            "no time (as 500ms, 30s, 5m, 2h, at most a day; or never)",
+        Key::Connections => "not from 1 to 50000",
+        Key::Weight => "not from 0 to 65535",
+        Key::Name => "no name (a letter, then letters, digits and \"-\", all small, at most 16)",
+        Key::Balance => "none of \"round-robin\", \"least-connections\", \"first\", \"source\"",
+        Key::Listen => {
+            "no address to listen at (as tcp:0.0.0.0:443, tcp:[::]:443, unix:/run/x.sock)"
+        }
+        _ =>
+            "no address (as tcp:10.0.0.1:443, tcp:[::1]:443, tcp:app.internal:443, unix:/run/x.sock)",
+    }
+}
+
+/// The type that a key or an item has to have.
+pub(crate) fn wanted_type(spot: Spot) -> &'static str {
+    match (spot.key, spot.item) {
+        (Key::Rule, None) => "a list of tables ([[rule]])",
+        (Key::Target, None) => "a list of tables ([[rule.target]])",
+        (Key::Listen, None) => "a list of texts",
+        (Key::Rule, Some(_)) | (Key::Target, Some(_)) => "a table",
+        (Key::Connections, _) | (Key::Weight, _) => "a whole number",
+        (Key::Backup, _) => "true or false",
+        _ => "a text in quotes",
+    }
+}
