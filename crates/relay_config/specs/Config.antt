@@ -1,5 +1,5 @@
 -- What a table says, and what a text.
-use Rattle.std.specs.Prelude.{◌≡◌, ◌<◌, ◌≤◌, ℕ, Bool, false, ◌||◌, List, [], ◌∷◌, length, map, Option, Some, None, Result, Ok, Err, unwrap_or, if◌then◌else◌}
+use Rattle.std.specs.Prelude.{◌≡◌, ◌<◌, ◌≤◌, ℕ, Bool, false, ◌||◌, List, [], ◌∷◌, length, map, Option, Some, None, Result, Ok, Err, option_map, unwrap_or, if◌then◌else◌}
 use Rattle.std.specs.List.{list_any}
 use Rattle.std.specs.Str.{IsUtf8, bytes_eq}
 use Rattle.config_values.specs.Addr.{Address, address_at, address_of, same_address}
@@ -21,6 +21,8 @@ use Rattle.relay_config.specs.declared.fault.Place.{Place}
 use Rattle.relay_config.specs.declared.fault.Place.TheVariants as place
 use Rattle.relay_config.specs.declared.fault.Wrong.TheVariants as wrong
 use Rattle.relay_config.specs.declared.listen.TheConstants.{MAX_LISTENERS}
+use Rattle.relay_config.specs.declared.service.Service.{Service}
+use Rattle.relay_config.specs.declared.service.TheConstants.{MAX_LOOPS}
 use Rattle.relay_config.specs.declared.rule.Head.{Head}
 use Rattle.relay_config.specs.declared.rule.Rule.{Rule}
 use Rattle.relay_config.specs.declared.target.Target.{Target}
@@ -46,14 +48,22 @@ pub record RuleEntry : Type 0 where
   pub listen : List Address
   pub targets : List TargetEntry
 
--- a configuration, but for its rules
+-- the limits of a relay
 pub record LimitsEntry : Type 0 where
   pub connections : ℕ
+  pub rule_connections : Option ℕ
   pub connect_timeout : Option ℕ
+
+-- how a relay runs
+pub record ServiceEntry : Type 0 where
+  pub loops : Option ℕ
+  pub replaces_stale : Bool
+  pub metrics : Option Address
 
 -- a configuration
 pub record ConfigEntry : Type 0 where
   pub limits : LimitsEntry
+  pub service : ServiceEntry
   pub rules : List RuleEntry
 
 -- what values of the program say
@@ -74,11 +84,27 @@ rule_entry rule = record {
 
 -- the limits of a configuration
 abbrev pub limits_entry : Limits → LimitsEntry
-limits_entry limits = record { connections = limits.connections; connect_timeout = limits.connect_ms }
+limits_entry limits = record {
+  connections = limits.connections;
+  rule_connections = limits.rule_connections;
+  connect_timeout = limits.connect_ms;
+}
+
+-- how a relay runs
+abbrev pub service_entry : Service → ServiceEntry
+service_entry service = record {
+  loops = service.loops;
+  replaces_stale = service.replaces_stale;
+  metrics = option_map address_of service.metrics;
+}
 
 -- a configuration
 abbrev pub config_entry : Config → ConfigEntry
-config_entry config = record { limits = limits_entry config.limits; rules = map rule_entry config.rules.items }
+config_entry config = record {
+  limits = limits_entry config.limits;
+  service = service_entry config.service;
+  rules = map rule_entry config.rules.items;
+}
 
 -- ---- A target
 
@@ -181,18 +207,29 @@ rule_behind found d = do
 
 -- the keys of a configuration
 abbrev pub config_keys : List Key
-config_keys = key.Connections ∷ key.ConnectTimeout ∷ key.Rule ∷ []
+config_keys =
+    key.Connections ∷ key.ConnectionsPerRule ∷ key.ConnectTimeout ∷ key.Loops ∷ key.ReplaceStale ∷ key.Metrics ∷ key.Rule ∷ []
 
 -- the limits that a table says
 unfoldable pub limits_in : Members → Result LimitsEntry Fault
 limits_in table = do
   alone ← known_alone config_keys place.Top table
   connections ← if_there (number 1 MAX_CONNECTIONS (spot place.Top key.Connections)) (at_key key.Connections table)
+  each ← if_there (number 1 MAX_CONNECTIONS (spot place.Top key.ConnectionsPerRule)) (at_key key.ConnectionsPerRule table)
   timeout ← if_there (spelled time_or_never (spot place.Top key.ConnectTimeout)) (at_key key.ConnectTimeout table)
   Ok (record {
     connections = unwrap_or connections DEFAULT_CONNECTIONS;
+    rule_connections = each;
     connect_timeout = unwrap_or timeout (Some DEFAULT_CONNECT_MS);
   })
+
+-- how a relay runs, as a table says
+unfoldable pub service_in : Members → Result ServiceEntry Fault
+service_in table = do
+  loops ← if_there (number 1 MAX_LOOPS (spot place.Top key.Loops)) (at_key key.Loops table)
+  replaces ← if_there (flag (spot place.Top key.ReplaceStale)) (at_key key.ReplaceStale table)
+  metrics ← if_there (spelled listener_at (spot place.Top key.Metrics)) (at_key key.Metrics table)
+  Ok (record { loops = loops; replaces_stale = unwrap_or replaces false; metrics = metrics })
 
 -- the rules that a table says
 unfoldable pub rules_of : Members → Result (List RuleEntry) Fault
@@ -204,8 +241,9 @@ rules_of table = do
 unfoldable pub config_in : Members → Result ConfigEntry Fault
 config_in table = do
   limits ← limits_in table
+  service ← service_in table
   rules ← rules_of table
-  Ok (record { limits = limits; rules = rules })
+  Ok (record { limits = limits; service = service; rules = rules })
 
 -- the text is TOML, and this table
 pub record IsToml (text : List ℕ) (table : Members) : Type 0 where

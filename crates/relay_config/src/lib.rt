@@ -1,5 +1,5 @@
-//! The configuration of a relay, read from a TOML text: its limits, its rules with their listeners
-//! and targets, or the first fault of the text.
+//! The configuration of a relay, read from a TOML text: its limits, how it runs, its rules with
+//! their listeners and targets, or the first fault of the text.
 #![tactic(auto)]
 
 mod config;
@@ -8,6 +8,7 @@ mod line;
 mod listen;
 mod looked_up;
 mod rule;
+mod service;
 mod table;
 mod target;
 mod values;
@@ -20,4 +21,5 @@ pub use fault::{Fault, Key, Place, Spot, Wrong};
 pub use line::fault_line;
 pub use listen::MAX_LISTENERS;
 pub use rule::{Head, MAX_NAME_BYTES, Rule};
+pub use service::{MAX_LOOPS, Service};
 pub use target::{MAX_TARGETS, Target};

@@ -156,6 +156,18 @@ pub(crate) fn listener_of_value(spot: Spot, value: &Value) -> Result<Addr, Fault
     }
 }
 
+/// The address of a listener at a key, if the table has one.
+pub(crate) fn listener_in(table: &Table, place: Place, key: Key) -> Result<Option<Addr>, Fault>
+    ensures { Reads (option_map address_of) result
+        (if_there (spelled listener_at (spot place key)) (at_key key (table_view table.now))) }
+{
+    let Some(value) = value_at(table, key) else {
+        return Ok(None);
+    };
+    let addr = listener_of_value(Spot::of(place, key), value)?;
+    Ok(Some(addr))
+}
+
 fn number_of_value(low: u32, high: u32, spot: Spot, value: &Value) -> Result<u32, Fault>
     ensures value { result ≡ number low high spot (view value.now) }
     ensures most { IfOk result (λ n. n ≤ high) }

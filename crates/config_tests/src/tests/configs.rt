@@ -1,13 +1,19 @@
 //! Texts that are configurations, with what they say, and texts that are none, with their first fault.
 
 use config_values::addr_of;
-use relay_config::{Config, Fault, Key, Limits, MAX_BYTES, Place, Rule, Spot, Target, Wrong};
+use relay_config::{
+    Config, Fault, Key, Limits, MAX_BYTES, Place, Rule, Service, Spot, Target, Wrong,
+};
 use std::alloc::Global;
 use target_pick::Balance;
 
 const GOOD: &str = "# relay.toml
 connections = 4000
+connections_per_rule = 500
 connect_timeout = \"2s\"
+loops = 2
+replace_stale = true
+metrics = \"tcp:127.0.0.1:9464\"
 
 [[rule]]
 name = \"web\"
@@ -90,6 +96,7 @@ fn a_configuration_is_read_as_it_says(rt: HostRuntime) {
     let alloc = rt.alloc();
     let limits = Limits {
         connections: 4_000,
+        rule_connections: Some(500),
         connect_ms: Some(2_000),
     };
     assert!(rt; has_limits(alloc, GOOD, &limits, 2));
@@ -104,16 +111,41 @@ fn a_configuration_is_read_as_it_says(rt: HostRuntime) {
 fn what_isnt_said_is_as_without_a_configuration(rt: HostRuntime) {
     let limits = Limits {
         connections: 512,
+        rule_connections: None,
         connect_ms: Some(5_000),
     };
     assert!(rt; has_limits(rt.alloc(), "", &limits, 0));
     assert!(rt; has_limits(rt.alloc(), "rule = []\n", &limits, 0));
     let never = Limits {
         connections: 50_000,
+        rule_connections: None,
         connect_ms: None,
     };
     let text = "connections = 50000\nconnect_timeout = \"never\"\n";
     assert!(rt; has_limits(rt.alloc(), text, &never, 0));
+}
+
+/// Whether a text's relay runs on so many loops, and has its old sockets removed and its metrics
+/// answered like this, or memory was refused.
+fn runs(alloc: Global, text: &str, loops: Option<u32>, removes: bool, metrics: &[u8]) -> bool {
+    let service = Service {
+        loops,
+        replaces_stale: removes,
+        metrics: addr_of(metrics),
+    };
+    match Config::parse(alloc, text.as_bytes()) {
+        Ok(config) => config.service == service,
+        Err(fault) => fault == Fault::Memory,
+    }
+}
+
+#[test]
+fn a_relay_runs_as_its_configuration_says(rt: HostRuntime) {
+    let alloc = rt.alloc();
+    assert!(rt; runs(alloc, GOOD, Some(2), true, b"tcp:127.0.0.1:9464"));
+    assert!(rt; runs(alloc, "", None, false, b""));
+    let text = "loops = 64\nreplace_stale = false\nmetrics = \"unix:/run/metrics.sock\"\n";
+    assert!(rt; runs(alloc, text, Some(64), false, b"unix:/run/metrics.sock"));
 }
 
 /// Where something is wrong, and what, as a literal: a table, a key, an item of its list.
@@ -183,6 +215,42 @@ const TOP: &[Row] = &[
         "connect_timeout = \"5\"\nconnections = 0\n",
         Place::Top,
         Key::Connections,
+        None,
+        Wrong::Value,
+    ),
+    (
+        "connections_per_rule = 50001\nconnect_timeout = \"5\"\n",
+        Place::Top,
+        Key::ConnectionsPerRule,
+        None,
+        Wrong::Value,
+    ),
+    (
+        "connections_per_rule = 0\nconnections = 0\n",
+        Place::Top,
+        Key::Connections,
+        None,
+        Wrong::Value,
+    ),
+    (
+        "loops = 65\nreplace_stale = 1\n",
+        Place::Top,
+        Key::Loops,
+        None,
+        Wrong::Value,
+    ),
+    ("loops = 0\n", Place::Top, Key::Loops, None, Wrong::Value),
+    (
+        "metrics = 1\nreplace_stale = \"yes\"\n",
+        Place::Top,
+        Key::ReplaceStale,
+        None,
+        Wrong::Type,
+    ),
+    (
+        "metrics = \"tcp:localhost:9464\"\nrule = 1\n",
+        Place::Top,
+        Key::Metrics,
         None,
         Wrong::Value,
     ),
