@@ -11,17 +11,23 @@ use Rattle.relay_config.specs.declared.fault.Spot.{Spot}
 
 -- the word of each key
 abbrev pub key_word : Key → List ℕ
+key_word key.Admin = codes "admin"
 key_word key.At = codes "at"
 key_word key.Backup = codes "backup"
 key_word key.Balance = codes "balance"
 key_word key.ConnectTimeout = codes "connect_timeout"
 key_word key.Connections = codes "connections"
 key_word key.ConnectionsPerRule = codes "connections_per_rule"
+key_word key.File = codes "file"
+key_word key.Format = codes "format"
 key_word key.Idle = codes "idle"
 key_word key.Listen = codes "listen"
+key_word key.Log = codes "log"
 key_word key.Loops = codes "loops"
 key_word key.Metrics = codes "metrics"
+key_word key.Mode = codes "mode"
 key_word key.Name = codes "name"
+key_word key.Path = codes "path"
 key_word key.ReplaceStale = codes "replace_stale"
 key_word key.Rule = codes "rule"
 key_word key.Target = codes "target"

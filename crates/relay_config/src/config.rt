@@ -9,6 +9,7 @@ ghost use Rattle.relay_config.specs.Config.{limits_entry, limits_in, rule_entry,
 ghost use Rattle.relay_config.specs.Fault.{Answers, IsNoToml, Reads};
 
 use crate::fault::{Fault, Key, Place};
+use crate::log::{Log, log_in};
 use crate::rule::{Rule, rules_in};
 use crate::service::{Service, service_of};
 use crate::table::known_alone;
@@ -47,6 +48,8 @@ pub struct Limits {
 pub struct Config {
     pub limits: Limits,
     pub service: Service,
+    /// Where ended and refused connections are told; with `None` nowhere.
+    pub log: Option<Log>,
     pub rules: Vec<Rule>,
 }
 
@@ -58,6 +61,8 @@ pub(crate) const KEYS: &[Key] = &[
     Key::Loops,
     Key::ReplaceStale,
     Key::Metrics,
+    Key::Admin,
+    Key::Log,
     Key::Rule,
 ];
 
@@ -65,8 +70,9 @@ impl Config {
     /// The configuration that a text is, or its first fault, in this order: a text that is too
     /// long; one that is no TOML; then of each table a key that it may not have, and its keys in
     /// turn: `connections`, `connections_per_rule`, `connect_timeout`, `loops`, `replace_stale`,
-    /// `metrics`, `rule`; of a rule `name`, `idle`, `balance`, `listen`, `target`; of a target `at`,
-    /// `weight`, `backup`. `Memory` may come at any time.
+    /// `metrics`, `admin` with `path` and `mode`, `log` with `file` and `format`, `rule`; of a rule
+    /// `name`, `idle`, `balance`, `listen`, `target`; of a target `at`, `weight`, `backup`. `Memory`
+    /// may come at any time.
     pub fn parse(alloc: Global, text: &[u8]) -> Result<Config, Fault>
         ensures config { IfOk result (λ config. SaysConfig text.now (config_entry config)) }
         ensures fault { IfErr result (λ fault. fault ≢ Fault.Memory → SaysFault text.now fault) }
@@ -119,10 +125,12 @@ fn config_of(alloc: Global, table: &Table) -> Result<Config, Fault>
 {
     let limits = limits_of(table)?;
     let service = service_of(table)?;
+    let log = log_in(alloc, table)?;
     let rules = rules_of(alloc, table)?;
     Ok(Config {
         limits,
         service,
+        log,
         rules,
     })
 }

@@ -1,9 +1,11 @@
-//! How a relay runs: its event loops, old sockets in its way, and where it answers for metrics.
+//! How a relay runs: its event loops, old sockets in its way, where it answers for metrics, and where
+//! it serves admin sessions.
 
 ghost use Rattle.toml.specs.View.{table_view};
 ghost use Rattle.relay_config.specs.Config.{service_entry, service_in};
 ghost use Rattle.relay_config.specs.Fault.{Reads};
 
+use crate::admin::{Admin, admin_in};
 use crate::fault::{Fault, Key, Place};
 use crate::values::{flag_in, listener_in, number_in};
 use config_values::Addr;
@@ -21,6 +23,8 @@ pub struct Service {
     pub replaces_stale: bool,
     /// Where requests for metrics are answered, which is no name; with `None` nowhere.
     pub metrics: Option<Addr>,
+    /// Where admin sessions are served, if the text says it.
+    pub admin: Option<Admin>,
 }
 
 /// How a relay runs, as a table says.
@@ -31,9 +35,11 @@ pub(crate) fn service_of(table: &Table) -> Result<Service, Fault>
     let loops = number_in(table, Place::Top, Key::Loops, 1, MAX_LOOPS)?;
     let replaces = flag_in(table, Place::Top, Key::ReplaceStale)?;
     let metrics = listener_in(table, Place::Top, Key::Metrics)?;
+    let admin = admin_in(table)?;
     Ok(Service {
         loops,
         replaces_stale: replaces.unwrap_or(false),
         metrics,
+        admin,
     })
 }

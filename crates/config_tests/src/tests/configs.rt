@@ -2,7 +2,8 @@
 
 use config_values::addr_of;
 use relay_config::{
-    Config, Fault, Key, Limits, MAX_BYTES, Place, Rule, Service, Spot, Target, Wrong,
+    Admin, Config, Fault, Format, Key, Limits, Log, MAX_BYTES, Place, Rule, Service, Spot, Target,
+    Wrong,
 };
 use std::alloc::Global;
 use target_pick::Balance;
@@ -132,6 +133,7 @@ fn runs(alloc: Global, text: &str, loops: Option<u32>, removes: bool, metrics: &
         loops,
         replaces_stale: removes,
         metrics: addr_of(metrics),
+        admin: None,
     };
     match Config::parse(alloc, text.as_bytes()) {
         Ok(config) => config.service == service,
@@ -146,6 +148,62 @@ fn a_relay_runs_as_its_configuration_says(rt: HostRuntime) {
     assert!(rt; runs(alloc, "", None, false, b""));
     let text = "loops = 64\nreplace_stale = false\nmetrics = \"unix:/run/metrics.sock\"\n";
     assert!(rt; runs(alloc, text, Some(64), false, b"unix:/run/metrics.sock"));
+}
+
+/// Whether a relay serves admin sessions at this path, made with this mode.
+fn is_admin(admin: &Option<Admin>, path: &str, mode: Option<u16>) -> bool {
+    match admin {
+        Some(admin) => admin.path.as_str() == path && admin.mode == mode,
+        None => path.is_empty(),
+    }
+}
+
+/// Whether a relay has its log in this file, in this form.
+fn is_log(log: &Option<Log>, file: &str, format: Format) -> bool {
+    match log {
+        Some(log) => log.file.as_str() == file && log.format == format,
+        None => file.is_empty(),
+    }
+}
+
+// A text, the path and the mode of the admin socket, and the file and the form of the log.
+const SEEN: &[(&str, &str, Option<u16>, &str, Format)] = &[
+    ("", "", None, "", Format::Text),
+    (
+        "admin = \"admin.sock\"\nlog = \"-\"\n",
+        "admin.sock",
+        None,
+        "-",
+        Format::Text,
+    ),
+    (
+        "admin = { path = \"/run/a.sock\", mode = \"0660\" }\nlog = { file = \"/var/a b.log\", format = \"json\" }\n",
+        "/run/a.sock",
+        Some(0o660),
+        "/var/a b.log",
+        Format::Json,
+    ),
+    (
+        "[admin]\npath = \"a\"\n[log]\nfile = \"b\"\nformat = \"text\"\n",
+        "a",
+        None,
+        "b",
+        Format::Text,
+    ),
+    ("[log]\nfile = \"b\"\n", "", None, "b", Format::Text),
+];
+
+#[test]
+fn admin_sessions_and_the_log_are_where_the_configuration_says(rt: HostRuntime) {
+    for (text, path, mode, file, format) in SEEN {
+        let same = match Config::parse(rt.alloc(), text.as_bytes()) {
+            Ok(config) => {
+                is_admin(&config.service.admin, path, *mode) && is_log(&config.log, file, *format)
+            }
+            Err(fault) => fault == Fault::Memory,
+        };
+        assert!(rt; same, "{text}");
+    }
 }
 
 /// Where something is wrong, and what, as a literal: a table, a key, an item of its list.
@@ -168,6 +226,11 @@ const TEXTS: &[(&str, Fault)] = &[
     ("a = 1\n\nb = tru\n", Fault::Toml(3, 5)),
     ("\u{e9} = 1\n", Fault::Toml(1, 1)),
     ("conections = 5\n", Fault::Unknown(Place::Top, 0)),
+    (
+        "admin = { path = \"a\", user = \"b\" }\n",
+        Fault::Unknown(Place::Admin, 1),
+    ),
+    ("log = { path = \"a\" }\n", Fault::Unknown(Place::Log, 0)),
     (
         "connections = 5\nrules = []\nzone = 1\n",
         Fault::Unknown(Place::Top, 1),
@@ -251,6 +314,57 @@ const TOP: &[Row] = &[
         "metrics = \"tcp:localhost:9464\"\nrule = 1\n",
         Place::Top,
         Key::Metrics,
+        None,
+        Wrong::Value,
+    ),
+    ("admin = \"\"\n", Place::Top, Key::Admin, None, Wrong::Value),
+    (
+        "admin = \"a\\u0000b\"\n",
+        Place::Top,
+        Key::Admin,
+        None,
+        Wrong::Value,
+    ),
+    (
+        "admin = 1\nlog = 1\n",
+        Place::Top,
+        Key::Admin,
+        None,
+        Wrong::Type,
+    ),
+    ("[admin]\n", Place::Admin, Key::Path, None, Wrong::Missing),
+    (
+        "admin = { path = \"a\", mode = \"660\" }\n",
+        Place::Admin,
+        Key::Mode,
+        None,
+        Wrong::Value,
+    ),
+    (
+        "admin = { path = \"a\", mode = 660 }\n",
+        Place::Admin,
+        Key::Mode,
+        None,
+        Wrong::Type,
+    ),
+    (
+        "log = []\nrule = 1\n",
+        Place::Top,
+        Key::Log,
+        None,
+        Wrong::Type,
+    ),
+    (
+        "log = { file = \"\", format = \"xml\" }\n",
+        Place::Log,
+        Key::File,
+        None,
+        Wrong::Value,
+    ),
+    (
+        "log = { file = \"a\", format = \"xml\" }\n",
+        Place::Log,
+        Key::Format,
         None,
         Wrong::Value,
     ),

@@ -49,6 +49,30 @@ const ROWS: &[(&str, &str)] = &[
         unix:/run/x.sock)",
     ),
     (
+        "admin = \"\"\n",
+        "bad config: admin: \"\" is no path of a socket (1 to 100 bytes)",
+    ),
+    (
+        "admin = 1\n",
+        "bad config: admin: 1 is not a path in quotes or a table ({ path = .., mode = .. })",
+    ),
+    (
+        "[admin]\nmode = \"0660\"\n",
+        "bad config: admin: path is missing",
+    ),
+    (
+        "admin = { path = \"a\", mode = \"660\" }\n",
+        "bad config: admin: mode: \"660\" is no mode (0 and three octal digits, as 0660)",
+    ),
+    (
+        "log = { fiel = \"a\" }\n",
+        "bad config: log: unknown key \"fiel\"; \"file\" is meant?",
+    ),
+    (
+        "log = { file = \"a\", format = \"xml\" }\n",
+        "bad config: log: format: \"xml\" is none of \"text\", \"json\"",
+    ),
+    (
         "[rule]\n",
         "bad config: rule: a table is not a list of tables ([[rule]])",
     ),
