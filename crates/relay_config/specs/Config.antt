@@ -1,15 +1,18 @@
 -- What a table says, and what a text.
-use Rattle.std.specs.Prelude.{◌≡◌, ◌<◌, ◌≤◌, ℕ, Bool, false, ◌||◌, List, [], ◌∷◌, length, map, Option, Some, None, Result, Ok, Err, unwrap_or, if◌then◌else◌}
+use Rattle.std.specs.Prelude.{◌≡◌, ◌<◌, ◌≤◌, ℕ, Bool, false, ◌||◌, List, [], ◌∷◌, length, map, Option, Some, None, Result, Ok, Err, option_map, string_bytes, unwrap_or, if◌then◌else◌}
 use Rattle.std.specs.List.{list_any}
 use Rattle.std.specs.Str.{IsUtf8, bytes_eq}
 use Rattle.config_values.specs.Addr.{Address, address_at, address_of, same_address}
 use Rattle.target_pick.specs.declared.picking.Balance.{Balance}
 use Rattle.target_pick.specs.declared.picking.Balance.TheVariants as balance
-use Rattle.toml.specs.Data.{Data, Members}
+use Rattle.config_values.specs.Mode.{mode_at}
+use Rattle.toml.specs.Data.{Data, Members, as_table}
 use Rattle.toml.specs.Parse.{parse_document}
 use Rattle.relay_config.specs.Fault.{item_spot, spot}
-use Rattle.relay_config.specs.Reading.{◌>>=◌, at_key, each_in, flag, if_there, items_in, known_alone, members, needed, number, some_items, spelled}
-use Rattle.relay_config.specs.Values.{balance_at, listener_at, rule_name, time_or_never}
+use Rattle.relay_config.specs.Reading.{◌>>=◌, at_key, each_in, flag, if_there, items_in, known_alone, members, needed, number, some_items, spelled, table_or}
+use Rattle.relay_config.specs.Values.{balance_at, file_path, format_at, listener_at, rule_name, time_or_never}
+use Rattle.relay_config.specs.declared.admin.Admin.{Admin}
+use Rattle.relay_config.specs.declared.admin.TheConstants.{MAX_ADMIN_BYTES}
 use Rattle.relay_config.specs.declared.config.Config.{Config}
 use Rattle.relay_config.specs.declared.config.Limits.{Limits}
 use Rattle.relay_config.specs.declared.config.TheConstants.{DEFAULT_CONNECT_MS, DEFAULT_CONNECTIONS, MAX_BYTES, MAX_CONNECTIONS, MAX_RULES}
@@ -21,6 +24,12 @@ use Rattle.relay_config.specs.declared.fault.Place.{Place}
 use Rattle.relay_config.specs.declared.fault.Place.TheVariants as place
 use Rattle.relay_config.specs.declared.fault.Wrong.TheVariants as wrong
 use Rattle.relay_config.specs.declared.listen.TheConstants.{MAX_LISTENERS}
+use Rattle.relay_config.specs.declared.service.Service.{Service}
+use Rattle.relay_config.specs.declared.service.TheConstants.{MAX_LOOPS}
+use Rattle.relay_config.specs.declared.log.Format.{Format}
+use Rattle.relay_config.specs.declared.log.Format.TheVariants as format
+use Rattle.relay_config.specs.declared.log.Log.{Log}
+use Rattle.relay_config.specs.declared.log.TheConstants.{MAX_LOG_BYTES}
 use Rattle.relay_config.specs.declared.rule.Head.{Head}
 use Rattle.relay_config.specs.declared.rule.Rule.{Rule}
 use Rattle.relay_config.specs.declared.target.Target.{Target}
@@ -46,14 +55,34 @@ pub record RuleEntry : Type 0 where
   pub listen : List Address
   pub targets : List TargetEntry
 
--- a configuration, but for its rules
+-- the limits of a relay
 pub record LimitsEntry : Type 0 where
   pub connections : ℕ
+  pub rule_connections : Option ℕ
   pub connect_timeout : Option ℕ
+
+-- the socket of admin sessions
+pub record AdminEntry : Type 0 where
+  pub path : List ℕ
+  pub mode : Option ℕ
+
+-- a log
+pub record LogEntry : Type 0 where
+  pub file : List ℕ
+  pub format : Format
+
+-- how a relay runs
+pub record ServiceEntry : Type 0 where
+  pub loops : Option ℕ
+  pub replaces_stale : Bool
+  pub metrics : Option Address
+  pub admin : Option AdminEntry
 
 -- a configuration
 pub record ConfigEntry : Type 0 where
   pub limits : LimitsEntry
+  pub service : ServiceEntry
+  pub log : Option LogEntry
   pub rules : List RuleEntry
 
 -- what values of the program say
@@ -74,11 +103,37 @@ rule_entry rule = record {
 
 -- the limits of a configuration
 abbrev pub limits_entry : Limits → LimitsEntry
-limits_entry limits = record { connections = limits.connections; connect_timeout = limits.connect_ms }
+limits_entry limits = record {
+  connections = limits.connections;
+  rule_connections = limits.rule_connections;
+  connect_timeout = limits.connect_ms;
+}
+
+-- the socket of admin sessions
+abbrev pub admin_entry : Admin → AdminEntry
+admin_entry admin = record { path = admin.path.bytes; mode = admin.mode }
+
+-- a log
+abbrev pub log_entry : Log → LogEntry
+log_entry log = record { file = string_bytes log.file; format = log.format }
+
+-- how a relay runs
+abbrev pub service_entry : Service → ServiceEntry
+service_entry service = record {
+  loops = service.loops;
+  replaces_stale = service.replaces_stale;
+  metrics = option_map address_of service.metrics;
+  admin = option_map admin_entry service.admin;
+}
 
 -- a configuration
 abbrev pub config_entry : Config → ConfigEntry
-config_entry config = record { limits = limits_entry config.limits; rules = map rule_entry config.rules.items }
+config_entry config = record {
+  limits = limits_entry config.limits;
+  service = service_entry config.service;
+  log = option_map log_entry config.log;
+  rules = map rule_entry config.rules.items;
+}
 
 -- ---- A target
 
@@ -177,22 +232,83 @@ rule_behind found d = do
   table ← members (item_spot place.Top key.Rule (length found)) d
   rule_in found table
 
+-- ---- Admin sessions and the log
+
+-- the keys of the admin socket's table
+abbrev pub admin_keys : List Key
+admin_keys = key.Path ∷ key.Mode ∷ []
+
+-- the admin socket that a table says
+unfoldable pub admin_in : Members → Result AdminEntry Fault
+admin_in table = do
+  alone ← known_alone admin_keys place.Admin table
+  value ← needed (spot place.Admin key.Path) (at_key key.Path table)
+  path ← spelled (file_path MAX_ADMIN_BYTES) (spot place.Admin key.Path) value
+  mode ← if_there (spelled mode_at (spot place.Admin key.Mode)) (at_key key.Mode table)
+  Ok (record { path = path; mode = mode })
+
+-- the admin socket at a path, with no mode
+unfoldable pub admin_alone : Data → Result AdminEntry Fault
+admin_alone d = do
+  path ← spelled (file_path MAX_ADMIN_BYTES) (spot place.Top key.Admin) d
+  Ok (record { path = path; mode = None })
+
+-- the admin socket that a value says: a table, or a path alone
+unfoldable pub admin_at : Data → Result AdminEntry Fault
+admin_at d = table_or admin_in (admin_alone d) (as_table d)
+
+-- the keys of the log's table
+abbrev pub log_keys : List Key
+log_keys = key.File ∷ key.Format ∷ []
+
+-- the log that a table says
+unfoldable pub log_in : Members → Result LogEntry Fault
+log_in table = do
+  alone ← known_alone log_keys place.Log table
+  value ← needed (spot place.Log key.File) (at_key key.File table)
+  file ← spelled (file_path MAX_LOG_BYTES) (spot place.Log key.File) value
+  form ← if_there (spelled format_at (spot place.Log key.Format)) (at_key key.Format table)
+  Ok (record { file = file; format = unwrap_or form format.Text })
+
+-- the log at a path, as text
+unfoldable pub log_alone : Data → Result LogEntry Fault
+log_alone d = do
+  file ← spelled (file_path MAX_LOG_BYTES) (spot place.Top key.Log) d
+  Ok (record { file = file; format = format.Text })
+
+-- the log that a value says: a table, or a path alone
+unfoldable pub log_at : Data → Result LogEntry Fault
+log_at d = table_or log_in (log_alone d) (as_table d)
+
 -- ---- A configuration
 
 -- the keys of a configuration
 abbrev pub config_keys : List Key
-config_keys = key.Connections ∷ key.ConnectTimeout ∷ key.Rule ∷ []
+config_keys =
+    key.Connections ∷ key.ConnectionsPerRule ∷ key.ConnectTimeout ∷ key.Loops ∷ key.ReplaceStale ∷ key.Metrics ∷ key.Admin
+    ∷ key.Log ∷ key.Rule ∷ []
 
 -- the limits that a table says
 unfoldable pub limits_in : Members → Result LimitsEntry Fault
 limits_in table = do
   alone ← known_alone config_keys place.Top table
   connections ← if_there (number 1 MAX_CONNECTIONS (spot place.Top key.Connections)) (at_key key.Connections table)
+  each ← if_there (number 1 MAX_CONNECTIONS (spot place.Top key.ConnectionsPerRule)) (at_key key.ConnectionsPerRule table)
   timeout ← if_there (spelled time_or_never (spot place.Top key.ConnectTimeout)) (at_key key.ConnectTimeout table)
   Ok (record {
     connections = unwrap_or connections DEFAULT_CONNECTIONS;
+    rule_connections = each;
     connect_timeout = unwrap_or timeout (Some DEFAULT_CONNECT_MS);
   })
+
+-- how a relay runs, as a table says
+unfoldable pub service_in : Members → Result ServiceEntry Fault
+service_in table = do
+  loops ← if_there (number 1 MAX_LOOPS (spot place.Top key.Loops)) (at_key key.Loops table)
+  replaces ← if_there (flag (spot place.Top key.ReplaceStale)) (at_key key.ReplaceStale table)
+  metrics ← if_there (spelled listener_at (spot place.Top key.Metrics)) (at_key key.Metrics table)
+  admin ← if_there admin_at (at_key key.Admin table)
+  Ok (record { loops = loops; replaces_stale = unwrap_or replaces false; metrics = metrics; admin = admin })
 
 -- the rules that a table says
 unfoldable pub rules_of : Members → Result (List RuleEntry) Fault
@@ -204,8 +320,10 @@ rules_of table = do
 unfoldable pub config_in : Members → Result ConfigEntry Fault
 config_in table = do
   limits ← limits_in table
+  service ← service_in table
+  log ← if_there log_at (at_key key.Log table)
   rules ← rules_of table
-  Ok (record { limits = limits; rules = rules })
+  Ok (record { limits = limits; service = service; log = log; rules = rules })
 
 -- the text is TOML, and this table
 pub record IsToml (text : List ℕ) (table : Members) : Type 0 where

@@ -60,6 +60,11 @@ flag at d = or_fault (At at wrong.Type) (as_bool d)
 abbrev pub members : Spot → Data → Result Members Fault
 members at d = or_fault (At at wrong.Type) (as_table d)
 
+-- what is made of a table, or else the other answer
+abbrev pub table_or : {A : Type 0} → (Members → Result A Fault) → Result A Fault → Option Members → Result A Fault
+table_or read other (Some table) = read table
+table_or read other None = other
+
 -- how many items there are
 abbrev pub item_count : Items → ℕ
 item_count no_items = 0

@@ -1,11 +1,13 @@
 -- Values of a configuration: what their texts spell.
-use Rattle.std.specs.Prelude.{◌==◌, ℕ, Bool, false, ◌&&◌, ◌||◌, List, [], ◌∷◌, length, nat_le, Option, Some, None, codes, option_map, option_and_then, if◌then◌else◌}
+use Rattle.std.specs.Prelude.{◌==◌, ℕ, Bool, false, not, ◌&&◌, ◌||◌, List, [], ◌∷◌, length, nat_le, Option, Some, None, codes, option_map, option_and_then, if◌then◌else◌}
 use Rattle.std.specs.List.{list_all}
 use Rattle.std.specs.Str.{bytes_eq}
 use Rattle.config_values.specs.Addr.{Address, address_at, name, unix, v4, v6}
 use Rattle.config_values.specs.Time.{time_at}
 use Rattle.target_pick.specs.declared.picking.Balance.{Balance}
 use Rattle.target_pick.specs.declared.picking.Balance.TheVariants as balance
+use Rattle.relay_config.specs.declared.log.Format.{Format}
+use Rattle.relay_config.specs.declared.log.Format.TheVariants as format
 use Rattle.relay_config.specs.declared.rule.TheConstants.{MAX_NAME_BYTES}
 
 -- a time, or "never", which is none
@@ -20,6 +22,25 @@ balance_at text =
     else if bytes_eq text (codes "first") then Some balance.First
     else if bytes_eq text (codes "source") then Some balance.Source
     else None
+
+-- the word of a form of the log
+abbrev pub format_at : List ℕ → Option Format
+format_at text =
+    if bytes_eq text (codes "text") then Some format.Text
+    else if bytes_eq text (codes "json") then Some format.Json
+    else None
+
+-- no zero byte
+abbrev pub is_path_byte : ℕ → Bool
+is_path_byte byte = not (byte == 0)
+
+-- some such bytes, at most so many
+abbrev pub is_file_path : ℕ → List ℕ → Bool
+is_file_path most path = nat_le 1 (length path) && nat_le (length path) most && list_all is_path_byte path
+
+-- a file's path of at most so many bytes
+abbrev pub file_path : ℕ → List ℕ → Option (List ℕ)
+file_path most text = if is_file_path most text then Some text else None
 
 -- a to z
 abbrev pub is_letter : ℕ → Bool

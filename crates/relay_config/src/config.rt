@@ -9,7 +9,9 @@ ghost use Rattle.relay_config.specs.Config.{limits_entry, limits_in, rule_entry,
 ghost use Rattle.relay_config.specs.Fault.{Answers, IsNoToml, Reads};
 
 use crate::fault::{Fault, Key, Place};
+use crate::log::{Log, log_in};
 use crate::rule::{Rule, rules_in};
+use crate::service::{Service, service_of};
 use crate::table::known_alone;
 use crate::values::{items_in, number_in, time_in};
 use std::alloc::Global;
@@ -35,6 +37,8 @@ pub const DEFAULT_CONNECT_MS: u64 = 5_000;
 pub struct Limits {
     /// How many connections may stand at once: 1 to 50,000.
     pub connections: u32,
+    /// How many of them may be those of one rule: 1 to 50,000; with `None` as many as there are.
+    pub rule_connections: Option<u32>,
     /// How long a connect to a target may take, in milliseconds; with `None` for ever.
     pub connect_ms: Option<u64>,
 }
@@ -43,17 +47,32 @@ pub struct Limits {
 #[derive(Drop)]
 pub struct Config {
     pub limits: Limits,
+    pub service: Service,
+    /// Where ended and refused connections are told; with `None` nowhere.
+    pub log: Option<Log>,
     pub rules: Vec<Rule>,
 }
 
 /// The keys of a configuration.
-pub(crate) const KEYS: &[Key] = &[Key::Connections, Key::ConnectTimeout, Key::Rule];
+pub(crate) const KEYS: &[Key] = &[
+    Key::Connections,
+    Key::ConnectionsPerRule,
+    Key::ConnectTimeout,
+    Key::Loops,
+    Key::ReplaceStale,
+    Key::Metrics,
+    Key::Admin,
+    Key::Log,
+    Key::Rule,
+];
 
 impl Config {
     /// The configuration that a text is, or its first fault, in this order: a text that is too
     /// long; one that is no TOML; then of each table a key that it may not have, and its keys in
-    /// turn: `connections`, `connect_timeout`, `rule`; of a rule `name`, `idle`, `balance`,
-    /// `listen`, `target`; of a target `at`, `weight`, `backup`. `Memory` may come at any time.
+    /// turn: `connections`, `connections_per_rule`, `connect_timeout`, `loops`, `replace_stale`,
+    /// `metrics`, `admin` with `path` and `mode`, `log` with `file` and `format`, `rule`; of a rule
+    /// `name`, `idle`, `balance`, `listen`, `target`; of a target `at`, `weight`, `backup`. `Memory`
+    /// may come at any time.
     pub fn parse(alloc: Global, text: &[u8]) -> Result<Config, Fault>
         ensures config { IfOk result (λ config. SaysConfig text.now (config_entry config)) }
         ensures fault { IfErr result (λ fault. fault ≢ Fault.Memory → SaysFault text.now fault) }
@@ -105,8 +124,15 @@ fn config_of(alloc: Global, table: &Table) -> Result<Config, Fault>
     ensures { Answers config_entry result (config_in (table_view table.now)) }
 {
     let limits = limits_of(table)?;
+    let service = service_of(table)?;
+    let log = log_in(alloc, table)?;
     let rules = rules_of(alloc, table)?;
-    Ok(Config { limits, rules })
+    Ok(Config {
+        limits,
+        service,
+        log,
+        rules,
+    })
 }
 
 #[tactic(auto, unfolding(crate::specs::Config::limits_in))]
@@ -115,9 +141,17 @@ fn limits_of(table: &Table) -> Result<Limits, Fault>
 {
     known_alone(KEYS, Place::Top, table)?;
     let connections = number_in(table, Place::Top, Key::Connections, 1, MAX_CONNECTIONS)?;
+    let each = number_in(
+        table,
+        Place::Top,
+        Key::ConnectionsPerRule,
+        1,
+        MAX_CONNECTIONS,
+    )?;
     let connect = time_in(table, Place::Top, Key::ConnectTimeout)?;
     Ok(Limits {
         connections: connections.unwrap_or(DEFAULT_CONNECTIONS),
+        rule_connections: each,
         connect_ms: connect.unwrap_or(Some(DEFAULT_CONNECT_MS)),
     })
 }

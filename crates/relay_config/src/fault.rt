@@ -6,14 +6,24 @@ ghost use Rattle.relay_config.specs.Fault.{item_spot, key_word, spot};
 /// A key of a configuration.
 #[derive(Clone, Copy, Debug, PartialEq, Eq, Drop)]
 pub enum Key {
+    Admin,
     At,
     Backup,
     Balance,
     ConnectTimeout,
     Connections,
+    ConnectionsPerRule,
+    File,
+    Format,
     Idle,
     Listen,
+    Log,
+    Loops,
+    Metrics,
+    Mode,
     Name,
+    Path,
+    ReplaceStale,
     Rule,
     Target,
     Weight,
@@ -25,14 +35,24 @@ impl Key {
         ensures { result.now ≡ key_word self }
     {
         match self {
+            Key::Admin => "admin",
             Key::At => "at",
             Key::Backup => "backup",
             Key::Balance => "balance",
             Key::ConnectTimeout => "connect_timeout",
             Key::Connections => "connections",
+            Key::ConnectionsPerRule => "connections_per_rule",
+            Key::File => "file",
+            Key::Format => "format",
             Key::Idle => "idle",
             Key::Listen => "listen",
+            Key::Log => "log",
+            Key::Loops => "loops",
+            Key::Metrics => "metrics",
+            Key::Mode => "mode",
             Key::Name => "name",
+            Key::Path => "path",
+            Key::ReplaceStale => "replace_stale",
             Key::Rule => "rule",
             Key::Target => "target",
             Key::Weight => "weight",
@@ -40,11 +60,13 @@ impl Key {
     }
 }
 
-/// A table of a configuration: the whole, a rule by its number, or a target of a rule. Numbers are
-/// from 0.
+/// A table of a configuration: the whole, that of `admin` or `log`, a rule by its number, or a target
+/// of a rule. Numbers are from 0.
 #[derive(Clone, Copy, Debug, PartialEq, Eq, Drop)]
 pub enum Place {
     Top,
+    Admin,
+    Log,
     Rule(usize),
     Target(usize, usize),
 }

@@ -113,10 +113,13 @@ fn twice(alloc: Global, key: Key, value: &str) -> Result<String, AllocError> {
     }
 }
 
-/// The rule by its name, or else by its number from 1, and the target by its number.
+/// The key of the table, or the rule by its name, or else by its number from 1, and the target by its
+/// number.
 fn place_words(alloc: Global, table: &Table, place: Place) -> Result<String, AllocError> {
     match place {
         Place::Top => Ok(String::new(alloc)),
+        Place::Admin => String::from_str(alloc, "admin: "),
+        Place::Log => String::from_str(alloc, "log: "),
         Place::Rule(rule) => rule_words(alloc, table, rule),
         Place::Target(rule, target) => {
             let rule = rule_words(alloc, table, rule)?;

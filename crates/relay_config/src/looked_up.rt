@@ -2,7 +2,7 @@
 
 use crate::fault::{Key, Place, Spot};
 use crate::table::value_at;
-use crate::{config, rule, target};
+use crate::{admin, config, log, rule, target};
 use std::alloc::{AllocError, Global};
 use strsim::levenshtein;
 use toml::{Table, Value};
@@ -17,6 +17,8 @@ const MAX_EDITS: usize = 2;
 pub(crate) fn table_at(table: &Table, place: Place) -> Option<&Table> {
     match place {
         Place::Top => Some(table),
+        Place::Admin => value_at(table, Key::Admin)?.as_table(),
+        Place::Log => value_at(table, Key::Log)?.as_table(),
         Place::Rule(rule) => item_at(table, Key::Rule, rule)?.as_table(),
         Place::Target(rule, target) => {
             let rule = item_at(table, Key::Rule, rule)?.as_table()?;
@@ -56,6 +58,8 @@ pub(crate) fn key_number(table: &Table, place: Place, number: usize) -> &str {
 pub(crate) fn keys_of(place: Place) -> &'static [Key] {
     match place {
         Place::Top => config::KEYS,
+        Place::Admin => admin::KEYS,
+        Place::Log => log::KEYS,
         Place::Rule(_) => rule::KEYS,
         Place::Target(_, _) => target::KEYS,
     }

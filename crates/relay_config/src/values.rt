@@ -7,14 +7,16 @@ ghost use Rattle.toml.specs.View.{array_view, items_view, table_view, view};
 ghost use Rattle.relay_config.specs.Fault.{Reads, spot};
 ghost use Rattle.relay_config.specs.Reading.{at_key, flag, if_there, list, members, needed, number};
 ghost use Rattle.relay_config.specs.Reading.{items_in, some_items, spelled, text};
-ghost use Rattle.relay_config.specs.Values.{balance_at, is_name_byte, is_rule_name, listener_at};
+ghost use Rattle.config_values.specs.Mode.{mode_at};
+ghost use Rattle.relay_config.specs.Values.{balance_at, format_at, is_name_byte, is_rule_name, listener_at};
 ghost use Rattle.relay_config.specs.Values.{rule_name, time_or_never};
 
 use crate::fault::{Fault, Key, Place, Spot, Wrong};
+use crate::log::Format;
 use crate::rule::MAX_NAME_BYTES;
 use crate::table::value_at;
 use arrayvec::ArrayString;
-use config_values::{Addr, addr_of, time_of};
+use config_values::{Addr, addr_of, mode_of, time_of};
 use target_pick::Balance;
 use toml::value::Array;
 use toml::{Table, Value};
@@ -30,7 +32,8 @@ pub(crate) fn needed(table: &Table, place: Place, key: Key) -> Result<&Value, Fa
     }
 }
 
-fn text_of(spot: Spot, value: &Value) -> Result<&str, Fault>
+/// The text that a value is.
+pub(crate) fn text_of(spot: Spot, value: &Value) -> Result<&str, Fault>
     ensures { Reads (λ bytes. bytes.now) result (text spot (view value.now)) }
 {
     match value.as_str() {
@@ -91,6 +94,39 @@ pub(crate) fn balance_in(table: &Table, place: Place, key: Key) -> Result<Option
     };
     let balance = balance_of_value(Spot::of(place, key), value)?;
     Ok(Some(balance))
+}
+
+/// The mode of a file at a key, if the table has one.
+pub(crate) fn mode_in(table: &Table, place: Place, key: Key) -> Result<Option<u16>, Fault>
+    ensures { result ≡ if_there (spelled mode_at (spot place key))
+        (at_key key (table_view table.now)) }
+{
+    let Some(value) = value_at(table, key) else {
+        return Ok(None);
+    };
+    let text = text_of(Spot::of(place, key), value)?;
+    match mode_of(text.as_bytes()) {
+        Some(mode) => Ok(Some(mode)),
+        None => Err(Fault::At(Spot::of(place, key), Wrong::Value)),
+    }
+}
+
+/// The form of the log at a key, if the table has one.
+pub(crate) fn format_in(table: &Table, place: Place, key: Key) -> Result<Option<Format>, Fault>
+    ensures { result ≡ if_there (spelled format_at (spot place key))
+        (at_key key (table_view table.now)) }
+{
+    let Some(value) = value_at(table, key) else {
+        return Ok(None);
+    };
+    let text = text_of(Spot::of(place, key), value)?;
+    if text == "text" {
+        Ok(Some(Format::Text))
+    } else if text == "json" {
+        Ok(Some(Format::Json))
+    } else {
+        Err(Fault::At(Spot::of(place, key), Wrong::Value))
+    }
 }
 
 /// A rule's name, by the text of a value.
@@ -154,6 +190,18 @@ pub(crate) fn listener_of_value(spot: Spot, value: &Value) -> Result<Addr, Fault
         Some(addr) => Ok(addr),
         None => Err(Fault::At(spot, Wrong::Value)),
     }
+}
+
+/// The address of a listener at a key, if the table has one.
+pub(crate) fn listener_in(table: &Table, place: Place, key: Key) -> Result<Option<Addr>, Fault>
+    ensures { Reads (option_map address_of) result
+        (if_there (spelled listener_at (spot place key)) (at_key key (table_view table.now))) }
+{
+    let Some(value) = value_at(table, key) else {
+        return Ok(None);
+    };
+    let addr = listener_of_value(Spot::of(place, key), value)?;
+    Ok(Some(addr))
 }
 
 fn number_of_value(low: u32, high: u32, spot: Spot, value: &Value) -> Result<u32, Fault>

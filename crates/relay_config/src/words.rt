@@ -7,11 +7,16 @@ pub(crate) fn wanted(key: Key) -> &'static str {
     match key {
         Key::ConnectTimeout | Key::Idle =>
             "no time (as 500ms, 30s, 5m, 2h, at most a day; or never)",
-        Key::Connections => "not from 1 to 50000",
+        Key::Connections | Key::ConnectionsPerRule => "not from 1 to 50000",
+        Key::Loops => "not from 1 to 64",
         Key::Weight => "not from 0 to 65535",
+        Key::Admin | Key::Path => "no path of a socket (1 to 100 bytes)",
+        Key::Mode => "no mode (0 and three octal digits, as 0660)",
+        Key::Log | Key::File => "no path of a file (1 to 4095 bytes; - is standard error)",
+        Key::Format => "none of \"text\", \"json\"",
         Key::Name => "no name (a letter, then letters, digits and \"-\", all small, at most 16)",
         Key::Balance => "none of \"round-robin\", \"least-connections\", \"first\", \"source\"",
-        Key::Listen => {
+        Key::Listen | Key::Metrics => {
             "no address to listen at (as tcp:0.0.0.0:443, tcp:[::]:443, unix:/run/x.sock)"
         }
         _ =>
@@ -25,9 +30,12 @@ pub(crate) fn wanted_type(spot: Spot) -> &'static str {
         (Key::Rule, None) => "a list of tables ([[rule]])",
         (Key::Target, None) => "a list of tables ([[rule.target]])",
         (Key::Listen, None) => "a list of texts",
+        (Key::Admin, _) => "a path in quotes or a table ({ path = .., mode = .. })",
+        (Key::Log, _) => "a path in quotes or a table ({ file = .., format = .. })",
         (Key::Rule, Some(_)) | (Key::Target, Some(_)) => "a table",
-        (Key::Connections, _) | (Key::Weight, _) => "a whole number",
-        (Key::Backup, _) => "true or false",
+        (Key::Connections | Key::ConnectionsPerRule | Key::Loops | Key::Weight, _) =>
+            "a whole number",
+        (Key::Backup | Key::ReplaceStale, _) => "true or false",
         _ => "a text in quotes",
     }
 }

@@ -1,13 +1,20 @@
 //! Texts that are configurations, with what they say, and texts that are none, with their first fault.
 
 use config_values::addr_of;
-use relay_config::{Config, Fault, Key, Limits, MAX_BYTES, Place, Rule, Spot, Target, Wrong};
+use relay_config::{
+    Admin, Config, Fault, Format, Key, Limits, Log, MAX_BYTES, Place, Rule, Service, Spot, Target,
+    Wrong,
+};
 use std::alloc::Global;
 use target_pick::Balance;
 
 const GOOD: &str = "# relay.toml
 connections = 4000
+connections_per_rule = 500
 connect_timeout = \"2s\"
+loops = 2
+replace_stale = true
+metrics = \"tcp:127.0.0.1:9464\"
 
 [[rule]]
 name = \"web\"
@@ -90,6 +97,7 @@ fn a_configuration_is_read_as_it_says(rt: HostRuntime) {
     let alloc = rt.alloc();
     let limits = Limits {
         connections: 4_000,
+        rule_connections: Some(500),
         connect_ms: Some(2_000),
     };
     assert!(rt; has_limits(alloc, GOOD, &limits, 2));
@@ -104,16 +112,98 @@ fn a_configuration_is_read_as_it_says(rt: HostRuntime) {
 fn what_isnt_said_is_as_without_a_configuration(rt: HostRuntime) {
     let limits = Limits {
         connections: 512,
+        rule_connections: None,
         connect_ms: Some(5_000),
     };
     assert!(rt; has_limits(rt.alloc(), "", &limits, 0));
     assert!(rt; has_limits(rt.alloc(), "rule = []\n", &limits, 0));
     let never = Limits {
         connections: 50_000,
+        rule_connections: None,
         connect_ms: None,
     };
     let text = "connections = 50000\nconnect_timeout = \"never\"\n";
     assert!(rt; has_limits(rt.alloc(), text, &never, 0));
+}
+
+/// Whether a text's relay runs on so many loops, and has its old sockets removed and its metrics
+/// answered like this, or memory was refused.
+fn runs(alloc: Global, text: &str, loops: Option<u32>, removes: bool, metrics: &[u8]) -> bool {
+    let service = Service {
+        loops,
+        replaces_stale: removes,
+        metrics: addr_of(metrics),
+        admin: None,
+    };
+    match Config::parse(alloc, text.as_bytes()) {
+        Ok(config) => config.service == service,
+        Err(fault) => fault == Fault::Memory,
+    }
+}
+
+#[test]
+fn a_relay_runs_as_its_configuration_says(rt: HostRuntime) {
+    let alloc = rt.alloc();
+    assert!(rt; runs(alloc, GOOD, Some(2), true, b"tcp:127.0.0.1:9464"));
+    assert!(rt; runs(alloc, "", None, false, b""));
+    let text = "loops = 64\nreplace_stale = false\nmetrics = \"unix:/run/metrics.sock\"\n";
+    assert!(rt; runs(alloc, text, Some(64), false, b"unix:/run/metrics.sock"));
+}
+
+/// Whether a relay serves admin sessions at this path, made with this mode.
+fn is_admin(admin: &Option<Admin>, path: &str, mode: Option<u16>) -> bool {
+    match admin {
+        Some(admin) => admin.path.as_str() == path && admin.mode == mode,
+        None => path.is_empty(),
+    }
+}
+
+/// Whether a relay has its log in this file, in this form.
+fn is_log(log: &Option<Log>, file: &str, format: Format) -> bool {
+    match log {
+        Some(log) => log.file.as_str() == file && log.format == format,
+        None => file.is_empty(),
+    }
+}
+
+// A text, the path and the mode of the admin socket, and the file and the form of the log.
+const SEEN: &[(&str, &str, Option<u16>, &str, Format)] = &[
+    ("", "", None, "", Format::Text),
+    (
+        "admin = \"admin.sock\"\nlog = \"-\"\n",
+        "admin.sock",
+        None,
+        "-",
+        Format::Text,
+    ),
+    (
+        "admin = { path = \"/run/a.sock\", mode = \"0660\" }\nlog = { file = \"/var/a b.log\", format = \"json\" }\n",
+        "/run/a.sock",
+        Some(0o660),
+        "/var/a b.log",
+        Format::Json,
+    ),
+    (
+        "[admin]\npath = \"a\"\n[log]\nfile = \"b\"\nformat = \"text\"\n",
+        "a",
+        None,
+        "b",
+        Format::Text,
+    ),
+    ("[log]\nfile = \"b\"\n", "", None, "b", Format::Text),
+];
+
+#[test]
+fn admin_sessions_and_the_log_are_where_the_configuration_says(rt: HostRuntime) {
+    for (text, path, mode, file, format) in SEEN {
+        let same = match Config::parse(rt.alloc(), text.as_bytes()) {
+            Ok(config) => {
+                is_admin(&config.service.admin, path, *mode) && is_log(&config.log, file, *format)
+            }
+            Err(fault) => fault == Fault::Memory,
+        };
+        assert!(rt; same, "{text}");
+    }
 }
 
 /// Where something is wrong, and what, as a literal: a table, a key, an item of its list.
@@ -136,6 +226,11 @@ const TEXTS: &[(&str, Fault)] = &[
     ("a = 1\n\nb = tru\n", Fault::Toml(3, 5)),
     ("\u{e9} = 1\n", Fault::Toml(1, 1)),
     ("conections = 5\n", Fault::Unknown(Place::Top, 0)),
+    (
+        "admin = { path = \"a\", user = \"b\" }\n",
+        Fault::Unknown(Place::Admin, 1),
+    ),
+    ("log = { path = \"a\" }\n", Fault::Unknown(Place::Log, 0)),
     (
         "connections = 5\nrules = []\nzone = 1\n",
         Fault::Unknown(Place::Top, 1),
@@ -183,6 +278,93 @@ const TOP: &[Row] = &[
         "connect_timeout = \"5\"\nconnections = 0\n",
         Place::Top,
         Key::Connections,
+        None,
+        Wrong::Value,
+    ),
+    (
+        "connections_per_rule = 50001\nconnect_timeout = \"5\"\n",
+        Place::Top,
+        Key::ConnectionsPerRule,
+        None,
+        Wrong::Value,
+    ),
+    (
+        "connections_per_rule = 0\nconnections = 0\n",
+        Place::Top,
+        Key::Connections,
+        None,
+        Wrong::Value,
+    ),
+    (
+        "loops = 65\nreplace_stale = 1\n",
+        Place::Top,
+        Key::Loops,
+        None,
+        Wrong::Value,
+    ),
+    ("loops = 0\n", Place::Top, Key::Loops, None, Wrong::Value),
+    (
+        "metrics = 1\nreplace_stale = \"yes\"\n",
+        Place::Top,
+        Key::ReplaceStale,
+        None,
+        Wrong::Type,
+    ),
+    (
+        "metrics = \"tcp:localhost:9464\"\nrule = 1\n",
+        Place::Top,
+        Key::Metrics,
+        None,
+        Wrong::Value,
+    ),
+    ("admin = \"\"\n", Place::Top, Key::Admin, None, Wrong::Value),
+    (
+        "admin = \"a\\u0000b\"\n",
+        Place::Top,
+        Key::Admin,
+        None,
+        Wrong::Value,
+    ),
+    (
+        "admin = 1\nlog = 1\n",
+        Place::Top,
+        Key::Admin,
+        None,
+        Wrong::Type,
+    ),
+    ("[admin]\n", Place::Admin, Key::Path, None, Wrong::Missing),
+    (
+        "admin = { path = \"a\", mode = \"660\" }\n",
+        Place::Admin,
+        Key::Mode,
+        None,
+        Wrong::Value,
+    ),
+    (
+        "admin = { path = \"a\", mode = 660 }\n",
+        Place::Admin,
+        Key::Mode,
+        None,
+        Wrong::Type,
+    ),
+    (
+        "log = []\nrule = 1\n",
+        Place::Top,
+        Key::Log,
+        None,
+        Wrong::Type,
+    ),
+    (
+        "log = { file = \"\", format = \"xml\" }\n",
+        Place::Log,
+        Key::File,
+        None,
+        Wrong::Value,
+    ),
+    (
+        "log = { file = \"a\", format = \"xml\" }\n",
+        Place::Log,
+        Key::Format,
         None,
         Wrong::Value,
     ),

@@ -27,6 +27,52 @@ const ROWS: &[(&str, &str)] = &[
         "bad config: connect_timeout: 5 is not a text in quotes",
     ),
     (
+        "connections_per_rule = 0\n",
+        "bad config: connections_per_rule: 0 is not from 1 to 50000",
+    ),
+    ("loops = 65\n", "bad config: loops: 65 is not from 1 to 64"),
+    (
+        "loops = \"2\"\n",
+        "bad config: loops: \"2\" is not a whole number",
+    ),
+    (
+        "loop = 2\n",
+        "bad config: unknown key \"loop\"; \"loops\" is meant?",
+    ),
+    (
+        "replace_stale = \"yes\"\n",
+        "bad config: replace_stale: \"yes\" is not true or false",
+    ),
+    (
+        "metrics = \"tcp:localhost:9464\"\n",
+        "bad config: metrics: \"tcp:localhost:9464\" is no address to listen at (as tcp:0.0.0.0:443, tcp:[::]:443, \
+        unix:/run/x.sock)",
+    ),
+    (
+        "admin = \"\"\n",
+        "bad config: admin: \"\" is no path of a socket (1 to 100 bytes)",
+    ),
+    (
+        "admin = 1\n",
+        "bad config: admin: 1 is not a path in quotes or a table ({ path = .., mode = .. })",
+    ),
+    (
+        "[admin]\nmode = \"0660\"\n",
+        "bad config: admin: path is missing",
+    ),
+    (
+        "admin = { path = \"a\", mode = \"660\" }\n",
+        "bad config: admin: mode: \"660\" is no mode (0 and three octal digits, as 0660)",
+    ),
+    (
+        "log = { fiel = \"a\" }\n",
+        "bad config: log: unknown key \"fiel\"; \"file\" is meant?",
+    ),
+    (
+        "log = { file = \"a\", format = \"xml\" }\n",
+        "bad config: log: format: \"xml\" is none of \"text\", \"json\"",
+    ),
+    (
         "[rule]\n",
         "bad config: rule: a table is not a list of tables ([[rule]])",
     ),
