@@ -143,18 +143,13 @@ proctype Main() {
 #ifndef END_WAITS_BEFORE_ITS_ACCEPT_ENDS
   atomic { if :: accepting -> users[LISTENER]--; accepting = 0 :: else -> skip fi };
 #endif
+#ifndef END_LEAVES_THE_LISTENER
+  close(LISTENER, 0);                                   /* EventLoop::end_all */
+#endif
 #ifndef END_JOINS_NOBODY
   admin_over;                                           /* StartedThreads::join */
   loops_over == LOOPS;
 #endif
-  do                                                    /* close_listeners */
-  :: id < IDS ->
-     if
-     :: in_table[id] -> close(id, 0); id = 0
-     :: else -> id++
-     fi
-  :: else -> break
-  od;
   atomic {
     handed_over[0] = 0;
 #if CONNS > 1
@@ -282,7 +277,7 @@ proctype World() {
 init {
   byte k = 0;
   atomic {
-    in_table[LISTENER] = 1;
+    in_table[LISTENER] = 1; opened[LISTENER] = 1;
     do :: k < LOOPS -> run Loop(k); k++ :: else -> k = 0; break od;
     run Admin(); run Main(); run World(); run Typist()
   };
@@ -291,7 +286,7 @@ init {
   /* Nothing more will happen: the relay has ended, and nothing of it is left. */
   assert(main_over && admin_over && loops_over == LOOPS);
   do
-  :: k < IDS -> assert(!in_table[k] && users[k] == 0 && destroyed[k] == closed[k] && alarm[k] == NEVER); k++
+  :: k < IDS -> assert(!in_table[k] && users[k] == 0 && destroyed[k] == closed[k] && destroyed[k] == opened[k] && alarm[k] == NEVER); k++
   :: else -> k = 0; break
   od;
   do

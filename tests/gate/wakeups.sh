@@ -184,6 +184,8 @@ finish
 # fails | loops | -DSTOP_ONCE_QUIET -DNOTHING_IS_REFUSED -DPAIR_THAT_ENDED_LEAVES_ITS_TARGET | a pair that ended leaves its target open
 # fails | loops | -DSTOP_ONCE_QUIET -DEVENTS=0 -DUNDO_LEAVES_THE_CLIENT | a set-up that failed leaves the client's side
 # fails | loops | -DSTOP_ONCE_QUIET -DEVENTS=0 -DUNDO_CLOSES_BEFORE_ITS_CALLS_END | a set-up that failed closes before the calls that it has begun end
+# fails | loops | -DSTOP_ONCE_QUIET -DEVENTS=0 -DCLOSES=1 -DSIDES_ARE_ENTERED_BEFORE_A_REFUSAL | a set-up enters its sides, and is refused after it
+# fails | loops | -DSTOP_ONCE_QUIET -DNOTHING_IS_REFUSED -DEVENTS=0 -DEND_LEAVES_THE_LISTENER | the end leaves the listener open
 # fails | loops | -DSTOP_ONCE_QUIET -DNOTHING_IS_REFUSED -DSETTINGS=1 -DCLOSES=1 -DEVENTS=0 -DLAST_MOMENT=0 -DCLOSE_LEAVES_THE_ALARMS | a close leaves the alarms
 # fails | loops | -DSTOP_ONCE_QUIET -DNOTHING_IS_REFUSED -DSETTINGS=1 -DEVENTS=0 -DDEADLINE_NAMES_NOBODY -DALARM_WAKES_NO_LOOP | a deadline from outside wakes no loop that sleeps
 # fails | loops | -DSTOP_ONCE_QUIET -DNOTHING_IS_REFUSED -DSETTINGS=1 -DEVENTS=0 -DDEADLINE_NAMES_NOBODY -DALARM_WAKES_THE_LOOP_BEFORE_IT_ARMS | a deadline wakes the loop before it is armed
