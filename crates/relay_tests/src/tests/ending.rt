@@ -17,10 +17,10 @@ use std::thread::Threads;
 use std::time::{Clock, Duration, Instant};
 
 /// So many relays end one after the other.
-const RELAYS: u32 = 60;
+const RELAYS: u32 = 30;
 
 /// The longest that all of them may take. A wait that nobody ends takes a second each time.
-const LONGEST_MS: u64 = 10_000;
+const LONGEST_MS: u64 = 20_000;
 
 /// A writer that is broken: a relay can't say that it listens, once all its threads run.
 #[derive(Drop)]
