@@ -6,6 +6,7 @@ use Rattle.config_values.specs.Addr.{Address, address_at, address_of, same_addre
 use Rattle.target_pick.specs.declared.picking.Balance.{Balance}
 use Rattle.target_pick.specs.declared.picking.Balance.TheVariants as balance
 use Rattle.config_values.specs.Mode.{mode_at}
+use Rattle.config_values.specs.Rate.{rate_at}
 use Rattle.toml.specs.Data.{Data, Members, as_table}
 use Rattle.toml.specs.Parse.{parse_document}
 use Rattle.relay_config.specs.Fault.{item_spot, spot}
@@ -13,6 +14,7 @@ use Rattle.relay_config.specs.Reading.{◌>>=◌, at_key, each_in, flag, if_ther
 use Rattle.relay_config.specs.Values.{balance_at, file_path, format_at, listener_at, rule_name, time_or_never}
 use Rattle.relay_config.specs.declared.admin.Admin.{Admin}
 use Rattle.relay_config.specs.declared.admin.TheConstants.{MAX_ADMIN_BYTES}
+use Rattle.relay_config.specs.declared.clients.Clients.{Clients}
 use Rattle.relay_config.specs.declared.config.Config.{Config}
 use Rattle.relay_config.specs.declared.config.Limits.{Limits}
 use Rattle.relay_config.specs.declared.config.TheConstants.{DEFAULT_CONNECT_MS, DEFAULT_CONNECTIONS, MAX_BYTES, MAX_CONNECTIONS, MAX_RULES}
@@ -43,6 +45,13 @@ pub record TargetEntry : Type 0 where
   pub weight : ℕ
   pub backup : Bool
 
+-- how many clients a rule serves, and how they are kept
+pub record ClientsEntry : Type 0 where
+  pub connections : Option ℕ
+  pub keepalive : Option ℕ
+  pub source_connections : Option ℕ
+  pub source_accepts : Option ℕ
+
 -- a rule, but for its lists
 pub record HeadEntry : Type 0 where
   pub name : List ℕ
@@ -52,6 +61,7 @@ pub record HeadEntry : Type 0 where
 -- a rule
 pub record RuleEntry : Type 0 where
   pub head : HeadEntry
+  pub clients : ClientsEntry
   pub listen : List Address
   pub targets : List TargetEntry
 
@@ -93,10 +103,20 @@ target_entry target = record { at = address_of target.at; weight = target.weight
 abbrev pub head_entry : Head → HeadEntry
 head_entry head = record { name = head.name.bytes; idle = head.idle_ms; balance = head.balance }
 
+-- how many clients a rule serves
+abbrev pub clients_entry : Clients → ClientsEntry
+clients_entry clients = record {
+  connections = clients.connections;
+  keepalive = clients.keepalive_ms;
+  source_connections = clients.source_connections;
+  source_accepts = clients.source_accepts;
+}
+
 -- a rule
 abbrev pub rule_entry : Rule → RuleEntry
 rule_entry rule = record {
   head = head_entry rule.head;
+  clients = clients_entry rule.clients;
   listen = map address_of rule.listen.items;
   targets = map target_entry rule.targets.items;
 }
@@ -191,7 +211,9 @@ listeners_of before table = do
 
 -- the keys of a rule
 abbrev pub rule_keys : List Key
-rule_keys = key.Name ∷ key.Listen ∷ key.Target ∷ key.Balance ∷ key.Idle ∷ []
+rule_keys =
+    key.Name ∷ key.Listen ∷ key.Target ∷ key.Balance ∷ key.Idle ∷ key.Connections ∷ key.Keepalive ∷ key.ConnectionsPerSource
+    ∷ key.AcceptsPerSource ∷ []
 
 -- a rule has the name
 abbrev pub has_name : List ℕ → List RuleEntry → Bool
@@ -218,13 +240,28 @@ head_in before table = do
   picks ← if_there (spelled balance_at (spot (place.Rule (length before)) key.Balance)) (at_key key.Balance table)
   Ok (record { name = name; idle = unwrap_or idle None; balance = unwrap_or picks balance.RoundRobin })
 
+-- how many clients the rule at a place serves
+unfoldable pub clients_in : Place → Members → Result ClientsEntry Fault
+clients_in here table = do
+  connections ← if_there (number 1 MAX_CONNECTIONS (spot here key.Connections)) (at_key key.Connections table)
+  keepalive ← if_there (spelled time_or_never (spot here key.Keepalive)) (at_key key.Keepalive table)
+  each ← if_there (number 1 MAX_CONNECTIONS (spot here key.ConnectionsPerSource)) (at_key key.ConnectionsPerSource table)
+  accepts ← if_there (spelled rate_at (spot here key.AcceptsPerSource)) (at_key key.AcceptsPerSource table)
+  Ok (record {
+    connections = connections;
+    keepalive = unwrap_or keepalive None;
+    source_connections = each;
+    source_accepts = accepts;
+  })
+
 -- the rule behind these
 unfoldable pub rule_in : List RuleEntry → Members → Result RuleEntry Fault
 rule_in before table = do
   head ← head_in before table
+  clients ← clients_in (place.Rule (length before)) table
   listen ← listeners_of before table
   targets ← targets_of (length before) table
-  Ok (record { head = head; listen = listen; targets = targets })
+  Ok (record { head = head; clients = clients; listen = listen; targets = targets })
 
 -- the rule of an item, behind these
 unfoldable pub rule_behind : List RuleEntry → Data → Result RuleEntry Fault

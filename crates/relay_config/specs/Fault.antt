@@ -11,6 +11,7 @@ use Rattle.relay_config.specs.declared.fault.Spot.{Spot}
 
 -- the word of each key
 abbrev pub key_word : Key → List ℕ
+key_word key.AcceptsPerSource = codes "accepts_per_source"
 key_word key.Admin = codes "admin"
 key_word key.At = codes "at"
 key_word key.Backup = codes "backup"
@@ -18,9 +19,11 @@ key_word key.Balance = codes "balance"
 key_word key.ConnectTimeout = codes "connect_timeout"
 key_word key.Connections = codes "connections"
 key_word key.ConnectionsPerRule = codes "connections_per_rule"
+key_word key.ConnectionsPerSource = codes "connections_per_source"
 key_word key.File = codes "file"
 key_word key.Format = codes "format"
 key_word key.Idle = codes "idle"
+key_word key.Keepalive = codes "keepalive"
 key_word key.Listen = codes "listen"
 key_word key.Log = codes "log"
 key_word key.Loops = codes "loops"

@@ -71,7 +71,8 @@ impl Config {
     /// long; one that is no TOML; then of each table a key that it may not have, and its keys in
     /// turn: `connections`, `connections_per_rule`, `connect_timeout`, `loops`, `replace_stale`,
     /// `metrics`, `admin` with `path` and `mode`, `log` with `file` and `format`, `rule`; of a rule
-    /// `name`, `idle`, `balance`, `listen`, `target`; of a target `at`, `weight`, `backup`. `Memory`
+    /// `name`, `idle`, `balance`, `connections`, `keepalive`, `connections_per_source`,
+    /// `accepts_per_source`, `listen`, `target`; of a target `at`, `weight`, `backup`. `Memory`
     /// may come at any time.
     pub fn parse(alloc: Global, text: &[u8]) -> Result<Config, Fault>
         ensures config { IfOk result (λ config. SaysConfig text.now (config_entry config)) }

@@ -6,6 +6,7 @@ ghost use Rattle.relay_config.specs.Fault.{item_spot, key_word, spot};
 /// A key of a configuration.
 #[derive(Clone, Copy, Debug, PartialEq, Eq, Drop)]
 pub enum Key {
+    AcceptsPerSource,
     Admin,
     At,
     Backup,
@@ -13,9 +14,11 @@ pub enum Key {
     ConnectTimeout,
     Connections,
     ConnectionsPerRule,
+    ConnectionsPerSource,
     File,
     Format,
     Idle,
+    Keepalive,
     Listen,
     Log,
     Loops,
@@ -35,6 +38,7 @@ impl Key {
         ensures { result.now ≡ key_word self }
     {
         match self {
+            Key::AcceptsPerSource => "accepts_per_source",
             Key::Admin => "admin",
             Key::At => "at",
             Key::Backup => "backup",
@@ -42,9 +46,11 @@ impl Key {
             Key::ConnectTimeout => "connect_timeout",
             Key::Connections => "connections",
             Key::ConnectionsPerRule => "connections_per_rule",
+            Key::ConnectionsPerSource => "connections_per_source",
             Key::File => "file",
             Key::Format => "format",
             Key::Idle => "idle",
+            Key::Keepalive => "keepalive",
             Key::Listen => "listen",
             Key::Log => "log",
             Key::Loops => "loops",

@@ -3,6 +3,7 @@
 #![tactic(auto)]
 
 mod admin;
+mod clients;
 mod config;
 mod fault;
 mod line;
@@ -18,6 +19,7 @@ mod values;
 mod words;
 
 pub use admin::{Admin, MAX_ADMIN_BYTES};
+pub use clients::Clients;
 pub use config::{
     Config, DEFAULT_CONNECT_MS, DEFAULT_CONNECTIONS, Limits, MAX_BYTES, MAX_CONNECTIONS, MAX_RULES,
 };

@@ -7,6 +7,7 @@ ghost use Rattle.relay_config.specs.Config.{name_in, new_name, rule_in};
 ghost use Rattle.relay_config.specs.Fault.{Answers, Reads};
 ghost use Rattle.relay_config.specs.Reading.{each_in};
 
+use crate::clients::{Clients, clients_of};
 use crate::fault::{Fault, Key, Place, Spot, Wrong};
 use crate::listen::listeners_of;
 use crate::table::known_alone;
@@ -35,6 +36,7 @@ pub struct Head {
 #[derive(Drop)]
 pub struct Rule {
     pub head: Head,
+    pub clients: Clients,
     /// Where it listens: 1 to 16 addresses, none of them a name.
     pub listen: Vec<Addr>,
     /// 1 to 64 targets.
@@ -42,7 +44,17 @@ pub struct Rule {
 }
 
 /// The keys of a rule.
-pub(crate) const KEYS: &[Key] = &[Key::Name, Key::Listen, Key::Target, Key::Balance, Key::Idle];
+pub(crate) const KEYS: &[Key] = &[
+    Key::Name,
+    Key::Listen,
+    Key::Target,
+    Key::Balance,
+    Key::Idle,
+    Key::Connections,
+    Key::Keepalive,
+    Key::ConnectionsPerSource,
+    Key::AcceptsPerSource,
+];
 
 /// The rules that items say.
 pub(crate) fn rules_in(alloc: Global, items: &[Value]) -> Result<Vec<Rule>, Fault>
@@ -75,10 +87,12 @@ fn rule_of(alloc: Global, before: &[Rule], table: &Table) -> Result<Rule, Fault>
         (rule_in (map rule_entry before.now) (table_view table.now)) }
 {
     let head = head_of(before, table)?;
+    let clients = clients_of(Place::Rule(before.len()), table)?;
     let listen = listeners_of(alloc, before, table)?;
     let targets = targets_of(alloc, before.len(), table)?;
     Ok(Rule {
         head,
+        clients,
         listen,
         targets,
     })

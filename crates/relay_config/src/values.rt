@@ -8,6 +8,7 @@ ghost use Rattle.relay_config.specs.Fault.{Reads, spot};
 ghost use Rattle.relay_config.specs.Reading.{at_key, flag, if_there, list, members, needed, number};
 ghost use Rattle.relay_config.specs.Reading.{items_in, some_items, spelled, text};
 ghost use Rattle.config_values.specs.Mode.{mode_at};
+ghost use Rattle.config_values.specs.Rate.{rate_at};
 ghost use Rattle.relay_config.specs.Values.{balance_at, format_at, is_name_byte, is_rule_name, listener_at};
 ghost use Rattle.relay_config.specs.Values.{rule_name, time_or_never};
 
@@ -16,7 +17,7 @@ use crate::log::Format;
 use crate::rule::MAX_NAME_BYTES;
 use crate::table::value_at;
 use arrayvec::ArrayString;
-use config_values::{Addr, addr_of, mode_of, time_of};
+use config_values::{Addr, addr_of, mode_of, rate_of, time_of};
 use target_pick::Balance;
 use toml::value::Array;
 use toml::{Table, Value};
@@ -107,6 +108,21 @@ pub(crate) fn mode_in(table: &Table, place: Place, key: Key) -> Result<Option<u1
     let text = text_of(Spot::of(place, key), value)?;
     match mode_of(text.as_bytes()) {
         Some(mode) => Ok(Some(mode)),
+        None => Err(Fault::At(Spot::of(place, key), Wrong::Value)),
+    }
+}
+
+/// The rate at a key, if the table has one.
+pub(crate) fn rate_in(table: &Table, place: Place, key: Key) -> Result<Option<u64>, Fault>
+    ensures { result ≡ if_there (spelled rate_at (spot place key))
+        (at_key key (table_view table.now)) }
+{
+    let Some(value) = value_at(table, key) else {
+        return Ok(None);
+    };
+    let text = text_of(Spot::of(place, key), value)?;
+    match rate_of(text.as_bytes()) {
+        Some(rate) => Ok(Some(rate)),
         None => Err(Fault::At(Spot::of(place, key), Wrong::Value)),
     }
 }

@@ -5,10 +5,12 @@ use crate::fault::{Key, Spot};
 /// What a value isn't, which is of the key's type.
 pub(crate) fn wanted(key: Key) -> &'static str {
     match key {
-        Key::ConnectTimeout | Key::Idle =>
+        Key::ConnectTimeout | Key::Idle | Key::Keepalive =>
             "no time (as 500ms, 30s, 5m, 2h, at most a day; or never)",
-        Key::Connections | Key::ConnectionsPerRule => "not from 1 to 50000",
+        Key::Connections | Key::ConnectionsPerRule | Key::ConnectionsPerSource =>
+            "not from 1 to 50000",
         Key::Loops => "not from 1 to 64",
+        Key::AcceptsPerSource => "no rate (as 100/s, from 1 to 1000000)",
         Key::Weight => "not from 0 to 65535",
         Key::Admin | Key::Path => "no path of a socket (1 to 100 bytes)",
         Key::Mode => "no mode (0 and three octal digits, as 0660)",
@@ -33,8 +35,9 @@ pub(crate) fn wanted_type(spot: Spot) -> &'static str {
         (Key::Admin, _) => "a path in quotes or a table ({ path = .., mode = .. })",
         (Key::Log, _) => "a path in quotes or a table ({ file = .., format = .. })",
         (Key::Rule, Some(_)) | (Key::Target, Some(_)) => "a table",
-        (Key::Connections | Key::ConnectionsPerRule | Key::Loops | Key::Weight, _) =>
+        (Key::Connections | Key::ConnectionsPerRule | Key::ConnectionsPerSource, _) =>
             "a whole number",
+        (Key::Loops | Key::Weight, _) => "a whole number",
         (Key::Backup | Key::ReplaceStale, _) => "true or false",
         _ => "a text in quotes",
     }
