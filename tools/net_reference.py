@@ -26,9 +26,11 @@ SECTIONS = {
         "Conn::set_write_timeout", "Conn::set_deadline", "Conn::close_write", "Conn::close", "Conn::peer_addr", "Conn::local_addr",
     ),
     "Many connections on a few threads": (
-        "Net::serve", "Task", "Task::begin", "Task::step", "Next", "Cause", "Conn::poll_read", "Conn::poll_write", "Conn::wake",
-        "Service", "Service::local_addr", "Service::wait", "Service::stop",
+        "Net::serve", "Task", "Task::begin", "Task::step", "Next", "Waits", "Cause", "Cause::idle", "Cause::within", "Conn::poll_read",
+        "Conn::poll_write", "Conn::wake", "Service", "Service::local_addr", "Service::shutdown", "Service::wait", "Service::stop",
+        "Service::closer", "Conn::closer", "ServiceCloser", "ServiceCloser::shutdown", "ServiceCloser::try_clone",
     ),
+    "Lines": ("Lines", "Lines::new", "Lines::poll", "Lines::read", "Heard", "Lines::line", "Lines::find", "Lines::find_in"),
     "What a program is generic over": ("Runs", "Unlinks", "Unlinks::unlink"),
     "For programs that look at times and errors themselves": (
         "Limits", "Limits::none", "Limits::each", "Limits::until", "Limits::with_time", "Limits::with_until", "Times", "error_with",
@@ -42,6 +44,7 @@ GO = {
     "Conn::set_read_timeout": "none: `SetReadDeadline` before each read", "Conn::set_write_timeout": "none: `SetWriteDeadline` before each write",
     "Conn::close_write": "`TCPConn.CloseWrite`", "Conn::close": "`Conn.Close`, which also ends the calls under way and waits for them",
     "Conn::peer_addr": "`Conn.RemoteAddr`", "Conn::local_addr": "`Conn.LocalAddr`", "Conn::try_clone": "none: goroutines share one value",
+    "Service::shutdown": "`http.Server.Shutdown`", "Service::stop": "`http.Server.Close`", "Lines": "`bufio.Scanner`, with a buffer of a limit",
     "Net": "none: its runtime has the poller", "Net::serve": "none: a goroutine a connection", "address_of": "`net.ResolveTCPAddr`, which looks names up",
 }
 # Which time ends a call's wait.
@@ -51,7 +54,9 @@ TIMES = {
     "Conn::write": "the write time-out, from when the call has its direction to itself, and the deadline: the earlier",
     "Conn::poll_read": "the deadline, where it has passed; a task's own time is in `Next`", "Conn::poll_write": "the deadline, where it has passed; a task's own time is in `Next`",
     "Conn::close_write": "none", "Conn::close": "none: it waits until the calls under way have ended, which it ends",
-    "Service::wait": "none",
+    "Service::wait": "none, but the time of a shutdown that was asked for", "Service::shutdown": "`within`, from the call on",
+    "Lines::read": "the reader's own: of a connection the read time-out and the deadline",
+    "Lines::poll": "the deadline, where it has passed; a task's own time is in `Next`",
 }
 # How calls fail whose clauses name no call of a handle, and what comes beside those that do.
 FAILS = {
@@ -60,6 +65,7 @@ FAILS = {
     "Listener::bind": "`OutOfMemory`, `Other` where the net has its 4,096 sockets, or the system's error: the address is taken, isn't this machine's, or isn't allowed",
     "Listener::accept": "`OutOfMemory`, or the system's error where the poller refuses the socket",
     "Conn::connect": "`OutOfMemory`, or the system's error; `WouldBlock` where the queue at a Unix path is full",
+    "Lines::poll": "as `Conn::poll_read`", "Lines::read": "as its reader does, or `Other` after 2^64 reads",
     "Conn::flush": "never", "Task::begin": "as the program's own does",
     "address_of": "`InvalidInput`",
 }
@@ -179,7 +185,7 @@ def page():
         "## Errors",
         "",
         "Each call below names the kinds by which it may fail. Where they are read from a clause of its own, it is proved to fail by no",
-        "other; `Net::start`, `Net::serve`, `Listener::bind`, `Listener::accept` and `Conn::connect` have no such clause.",
+        "other; `Net::start`, `Net::serve`, `Listener::bind`, `Listener::accept`, `Conn::connect`, `Lines::poll` and `Lines::read` have no such clause.",
         "",
         "| Kind | When |",
         "|---|---|",

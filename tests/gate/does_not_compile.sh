@@ -1,6 +1,7 @@
 #!/bin/sh
-# Uses of the lock word's values, and of calls under way, that the compiler refuses. Each line below that ends in
-# `// refused: CODE` has to be refused with that code, and no other line with any. It proves nothing and takes about a minute.
+# Uses of the lock word's values, of calls under way and of a relay's connections, that the compiler refuses. Each line below
+# that ends in `// refused: CODE` has to be refused with that code, and no other line with any. It proves nothing and takes
+# about two minutes.
 set -eu
 root=$(cd "$(dirname "$0")/../.." && pwd)
 work=$(mktemp -d)
@@ -9,6 +10,8 @@ mkdir -p "$work/crates/misuse/src" "$work/crates/misuse/specs" "$work/crates/mis
 touch "$work/crates/misuse/specs/Lib.antt" "$work/crates/misuse/proofs/Lib.antt"
 cp "$root/HANDLES" "$work/"
 below='base_types lockword_core lockword fdmutex deadline_core rwloops fd_descriptor'
+below="$below stream_base conntable readiness relay_ledger relay_admin relay_core relay_log log_writer relay_metrics"
+below="$below relay_facts relay_shared relay_conn relay_loops"
 for crate in $below; do
     (cd "$root/crates" && tar --exclude=out --exclude=must-fail --exclude=wrong-bodies -cf - "$crate") | tar -C "$work/crates" -xf -
 done
@@ -168,6 +171,23 @@ where
     handle.read(&rt, buf) // refused: borrow-e0382
 }
 END
+
+# A side of a connection that ends is closed, and once.
+cd "$work/crates/relay_conn"
+cp src/connection.rt "$work/connection.rt"
+sed -i -e 's|^            target,$|            target, // refused: linear-value-let-go|' -e '/^        target\.close(rt);$/d' src/connection.rt
+refuses_in connection 'a side that is left open'
+cp "$work/connection.rt" src/connection.rt
+sed -i 's|^        target\.close(rt);$|&\n        target.close(rt); // refused: borrow-e0382|' src/connection.rt
+refuses_in connection 'a side that is closed twice'
+cp "$work/connection.rt" src/connection.rt
+
+# A client that was delivered to its loop is counted, and why it is refused is told.
+cd "$work/crates/relay_loops"
+sed -i -e '/^                arrival\.refused(/d' \
+    -e 's|^        match self\.connect(tasks, .*{$|& // refused: linear-value-let-go|' \
+    -e 's|^            Err(why) => {$|& // refused: linear-value-let-go|' src/set_up.rt
+refuses_in set_up 'a client that is neither served nor refused'
 
 # The same inside the word: a `LockWord` that keeps a mutex beside its table, and a try that takes it before its step.
 cd "$work/crates/lockword"

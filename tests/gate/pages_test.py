@@ -131,7 +131,7 @@ ROWS = (
     ("admin", "examples/balancer/two_relays.cfg", r"check port 8011", "check", "checks the relayed port"),
     ("admin", "examples/balancer/two_relays.cfg", r"GET /healthz\n", "GET /\n", "don't ask /healthz"),
     ("faults", GUIDE, r"admin socket, log, address", "log, admin socket, address", "`serve` checks in the order ["),
-    ("faults", "crates/relay_serve/src/serving.rt", r"(    server\.open\(admin\)\?;\n)(.*\n)(.*start_log.*\n)", r"\3\2\1", "`serve` checks in the order ["),
+    ("faults", "crates/relay_server/src/serving.rt", r"(    server\.open\(settings\.admin\.as_str\(\)\)\?;\n)(.*\n)(.*start_log.*\n)", r"\3\2\1", "`serve` checks in the order ["),
     ("stale", README, END, "\nRattle has contracts, which a prover checks before the program is built.\n", "builds a program with nothing proved"),
     ("metrics", TEXTFILE, r"way=", "direction=", "has no label ['direction']"),
     ("samples", UNIT, r"RuntimeDirectory=pollrelay", "RuntimeDirectory=relay", "says /run/pollrelay, and the unit has RuntimeDirectory=relay"),
@@ -152,6 +152,7 @@ ROWS = (
     ("figures", "docs/GATE.md", END, "\nIt tries 1,234 wrong bodies of 77 crates.\n", "1,234 wrong bodies: there are"),
     ("figures", "docs/GATE.md", END, "\nIt tries 1,234 wrong bodies of 77 crates.\n", "77 crates: there are"),
     ("plants", "docs/testing.md", r"\| finish takes no last clients \|", "| finish takes clients |", "aren't those of `tests/plants`"),
+    ("plants", "crates/relay_main/src/ending.rt", r"self\.end_rule\(one\.token, last\);", "self.end_rule(one.token, last_clients);", "0 times, and not once"),
     ("figures", "examples/first_connection.sh", END, "# Proving takes three quarters of an hour.\n", "proving takes three quarters of an hour here"),
 )
 

@@ -28,7 +28,7 @@ sys.path.insert(1, f"{sys.path[0]}/..")
 from lib.places import ROOT
 
 # What a test may take on a machine that is full of other work, in seconds.
-TEST_SECONDS = 300
+TEST_SECONDS = 900
 # What a part may take: so long, or so many times what the table says.
 PART_SECONDS, TIMES = 1_500, 5
 # How much is shown of what a failed part said.

@@ -1,13 +1,15 @@
 -- Networks, their texts, and who is let in.
-use Rattle.std.specs.Prelude.{◌≡◌, ◌-◌, ◌/◌, ◌^◌, ◌≤◌, ◌⊎◌, ℕ, List, [], ◌∷◌, ◌++◌, Any}
-use Rattle.std.specs.Net.Addr.{ipv4_bits, ipv6_bits, IsCanonicalOf}
+use Rattle.std.specs.Prelude.{◌≡◌, ◌-◌, ◌/◌, ◌^◌, ◌≤◌, ◌⊎◌, ℕ, List, [], ◌∷◌, ◌++◌, Any, Option, Some, None}
+use Rattle.std.specs.Net.Addr.{ipv4_bits, ipv4_octets, ipv6_bits, ipv6_segments, IsCanonicalOf}
 use Rattle.std.specs.Net.Grammar.{IsIpv4Text, IsIpv6Text}
 use Rattle.std.specs.declared.net.ipv4_addr.Ipv4Addr.{Ipv4Addr}
 use Rattle.std.specs.declared.net.ipv6_addr.Ipv6Addr.{Ipv6Addr}
 use Rattle.std.specs.declared.net.ip_addr.IpAddr.{IpAddr}
 use Rattle.std.specs.declared.net.ip_addr.IpAddr.TheVariants as Ip
 use Rattle.stream_base.specs.Lines.{Lacks}
-use Rattle.text_reading.specs.Reading.{SpellsNumber}
+use Rattle.config_values.specs.Ip as ip
+use Rattle.config_values.specs.Ip.{ip_at}
+use Rattle.text_reading.specs.Reading.{◌>>=◌, SpellsNumber, number_within, split_at_first}
 use Rattle.client_nets.specs.declared.net.Net.{Net}
 use Rattle.client_nets.specs.declared.net.Net.TheVariants.{V4, V6}
 
@@ -47,6 +49,47 @@ SpellsNet text net =
     ((address bits : List ℕ) × (text ≡ address ++ slash ∷ bits) × Lacks slash address
     × SpellsParts address bits net)
     ⊎ (Lacks slash text × SpellsAlone text net)
+
+-- ---- The same as a function of the text
+
+-- a network: the octets or the segments of an address, and how many of its bits count
+pub data Network : Type 0 where
+  v4 : List ℕ → ℕ → Network
+  v6 : List ℕ → ℕ → Network
+
+-- the network that a value of the program is
+abbrev pub network_of : Net → Network
+network_of (V4 first bits) = v4 (ipv4_octets first) bits
+network_of (V6 first bits) = v6 (ipv6_segments first) bits
+
+-- the network of an address and the text of a number of bits
+abbrev pub with_bits : ip.Ip → List ℕ → Option Network
+with_bits (ip.v4 octets) bits = number_within 0 32 bits >>= λ n. Some (v4 octets n)
+with_bits (ip.v6 segments) bits = number_within 0 128 bits >>= λ n. Some (v6 segments n)
+
+-- the network of an address alone
+abbrev pub whole : ip.Ip → Network
+whole (ip.v4 octets) = v4 octets 32
+whole (ip.v6 segments) = v6 segments 128
+
+-- the network of two texts, which stood on both sides of a slash
+unfoldable pub parts_at : List ℕ → List ℕ → Option Network
+parts_at address bits = ip_at address >>= λ found. with_bits found bits
+
+-- the network of the text of an address
+unfoldable pub alone_at : List ℕ → Option Network
+alone_at text = ip_at text >>= λ found. Some (whole found)
+
+-- either, by where the slash stands
+abbrev pub by_slash : List ℕ → Option (List ℕ × List ℕ) → Option Network
+by_slash text (Some parts) = parts_at parts.0 parts.1
+by_slash text None = alone_at text
+
+-- the network that a text spells
+unfoldable pub net_at : List ℕ → Option Network
+net_at text = by_slash text (split_at_first slash text)
+
+-- ---- Who is let in
 
 -- a list has the address
 abbrev pub IsListed : List Net → IpAddr → Type 0

@@ -1,9 +1,12 @@
 //! A network: all addresses that begin as one does.
 
 ghost use Rattle.std.specs.Prelude.{◌↔◌, IsTrue, MatchOption};
+ghost use Rattle.text_reading.specs.Reading.{Views};
 ghost use Rattle.client_nets.specs.Net.{IsIn, IsInV4, IsInV6, SpellsAlone, SpellsNet, SpellsParts};
+ghost use Rattle.client_nets.specs.Net.{alone_at, net_at, network_of, parts_at};
 ghost use Rattle.client_nets.specs.declared.net.Net.{Net};
 
+use config_values::ip_of;
 use std::net::{IpAddr, Ipv4Addr, Ipv6Addr};
 use text_reading::{number_between, split_once};
 
@@ -18,9 +21,12 @@ pub enum Net {
 impl Net {
     /// The network that a text spells, as `10.0.0.0/8` or `2001:db8::/32`; an address alone is the
     /// network of this address. `None` where the text spells none.
+    #[tactic(auto, unfolding(crate::specs::Net::net_at))]
     pub fn parse(text: &[u8]) -> Option<Net>
-        ensures { MatchOption result ((net : Net) → SpellsNet text.now net → ⊥)
+        ensures spelled { MatchOption result ((net : Net) → SpellsNet text.now net → ⊥)
             (λ net. SpellsNet text.now net) }
+        // The same as a function of the text.
+        ensures value { Views network_of result (net_at text.now) }
     {
         match split_once(text, b'/') {
             Some(parts) => with_bits(parts.0, parts.1),
@@ -41,34 +47,36 @@ impl Net {
 }
 
 /// The network of an address and a number of bits.
-#[tactic(auto, using(crate::proofs::Nets::no_bits_v4, crate::proofs::Nets::no_bits_v6, crate::proofs::Nets::no_parts))]
+#[tactic(auto, using(crate::proofs::Nets::no_bits_v4, crate::proofs::Nets::no_bits_v6, crate::proofs::Nets::no_parts), unfolding(crate::specs::Net::parts_at))]
 fn with_bits(address: &[u8], bits: &[u8]) -> Option<Net>
-    ensures { MatchOption result ((net : Net) → SpellsParts address.now bits.now net → ⊥)
+    ensures spelled { MatchOption result ((net : Net) → SpellsParts address.now bits.now net → ⊥)
         (λ net. SpellsParts address.now bits.now net) }
+    ensures value { Views network_of result (parts_at address.now bits.now) }
 {
-    match IpAddr::parse_ascii(address) {
-        Ok(IpAddr::V4(first)) => match number_between(0, 32, bits) {
+    match ip_of(address) {
+        Some(IpAddr::V4(first)) => match number_between(0, 32, bits) {
             Some(bits) => Some(Net::V4(first, bits as u8)),
             None => None,
         },
-        Ok(IpAddr::V6(first)) => match number_between(0, 128, bits) {
+        Some(IpAddr::V6(first)) => match number_between(0, 128, bits) {
             Some(bits) => Some(Net::V6(first, bits as u8)),
             None => None,
         },
-        Err(_) => None,
+        None => None,
     }
 }
 
 /// The network of an address alone.
-#[tactic(auto, using(crate::proofs::Nets::no_alone))]
+#[tactic(auto, using(crate::proofs::Nets::no_alone), unfolding(crate::specs::Net::alone_at))]
 fn alone(text: &[u8]) -> Option<Net>
-    ensures { MatchOption result ((net : Net) → SpellsAlone text.now net → ⊥)
+    ensures spelled { MatchOption result ((net : Net) → SpellsAlone text.now net → ⊥)
         (λ net. SpellsAlone text.now net) }
+    ensures value { Views network_of result (alone_at text.now) }
 {
-    match IpAddr::parse_ascii(text) {
-        Ok(IpAddr::V4(first)) => Some(Net::V4(first, 32)),
-        Ok(IpAddr::V6(first)) => Some(Net::V6(first, 128)),
-        Err(_) => None,
+    match ip_of(text) {
+        Some(IpAddr::V4(first)) => Some(Net::V4(first, 32)),
+        Some(IpAddr::V6(first)) => Some(Net::V6(first, 128)),
+        None => None,
     }
 }
 

@@ -7,4 +7,6 @@ mod headers;
 mod health;
 mod nets;
 mod picks;
+mod rule_faults;
+mod rule_keys;
 mod values;

@@ -3,11 +3,14 @@ use Rattle.std.proofs.Common.{◌≡◌, ◌∙◌, sym, ap, refl, subst, ℕ, L
 use Rattle.std.specs.Prelude.{◌==◌, if◌then◌else◌}
 use Rattle.std.proofs.lemmas.Bool.Decides.{nat_tests}
 use Rattle.std.proofs.lemmas.Option.{none-some}
-use Rattle.std.specs.Net.Grammar.{IsColonHex, IsDotted}
+use Rattle.std.specs.Net.Addr.{ipv4_octets, ipv6_segments}
+use Rattle.std.specs.Net.Grammar.{IsColonHex, IsDotted, IsIpText}
 use Rattle.std.specs.Net.Reader.{read_ipv4, read_ipv6, whole_value}
 use Rattle.std.proofs.NetLemmas.Ipv4.{read_ipv4_complete, read_ipv4_sound}
-use Rattle.std.proofs.NetLemmas.Ipv6.{EndsGroups-nil, read_ipv6_complete, read_ipv6_sound}
-use Rattle.config_values.specs.Ip.{ipv4_at, ipv6_at}
+use Rattle.std.specs.declared.net.ip_addr.IpAddr.{IpAddr}
+use Rattle.std.specs.declared.net.ip_addr.IpAddr.TheVariants as variant
+use Rattle.std.proofs.NetLemmas.Ipv6.{EndsGroups-nil, IsDotted-not_colon_hex, read_ipv6_complete, read_ipv6_sound}
+use Rattle.config_values.specs.Ip.{ip_at, ip_view, ipv4_at, ipv6_at, of_either}
 
 more_left : (found : List ℕ) (x : ℕ) (rest : List ℕ) → whole_value (Some (found, x ∷ rest)) ≡ None
 more_left found x rest = by_test (length (x ∷ rest) == 0) (grind (arith, nat_tests))
@@ -47,3 +50,20 @@ ipv4_complete text octets is =
 pub none_at : (o : Option (List ℕ)) → ((x : List ℕ) → o ≡ Some x → ⊥) → o ≡ None
 none_at (Some x) h = absurd (h x refl)
 none_at None h = refl
+
+-- ---- Both families
+
+pub ip_complete : (text : List ℕ) (address : IpAddr) → IsIpText text address → ip_at text ≡ Some (ip_view address)
+unfolding ip_at
+ip_complete text (variant.V4 a) is =
+    ap (λ (o : Option (List ℕ)). of_either o (ipv6_at text)) (ipv4_complete text (ipv4_octets a) is)
+ip_complete text (variant.V6 a) is =
+    let none = none_at (ipv4_at text) (λ octets e. IsDotted-not_colon_hex text octets (ipv6_segments a) (ipv4_sound text octets e) is) in
+    ap (λ (o : Option (List ℕ)). of_either o (ipv6_at text)) none ∙ ap (of_either None) (ipv6_complete text (ipv6_segments a) is)
+
+pub ip_none : (text : List ℕ) → ((address : IpAddr) → IsIpText text address → ⊥) → ip_at text ≡ None
+unfolding ip_at
+ip_none text none =
+    let four = none_at (ipv4_at text) (λ octets e. none (variant.V4 (record { octets = octets })) (ipv4_sound text octets e)) in
+    let six = none_at (ipv6_at text) (λ segments e. none (variant.V6 (record { segments = segments })) (ipv6_sound text segments e)) in
+    ap (λ (o : Option (List ℕ)). of_either o (ipv6_at text)) four ∙ ap (of_either None) six

@@ -38,19 +38,20 @@ impl<R: Runs> Task<R> for Echo {
         Ok(Echo::new(self.idle))
     }
 
-    // It is over at the end, at a fault, and where its time is over and nothing goes on.
-    fn step(&mut self, conn: &mut Conn<R>, cause: Cause) -> Next {
+    // It is over at the end, at a fault, and where nothing goes on and its time is over or, with
+    // nothing left to write, its service ends.
+    fn step(&mut self, _rt: &R, conn: &mut Conn<R>, cause: Cause) -> Next {
         for _ in 0..16u8 {
             if self.from == self.to {
                 match conn.poll_read(&mut self.buf) {
                     Some(Ok(count)) if count > 0 => (self.from, self.to) = (0, count),
-                    None if cause == Cause::Ready => return Next::Read(Some(self.idle)),
+                    None => return Next::Read(cause.idle(self.idle)),
                     _ => return Next::Over,
                 }
             }
             match conn.poll_write(&self.buf[self.from..self.to]) {
                 Some(Ok(count)) => self.from += count,
-                None if cause == Cause::Ready => return Next::Write(Some(self.idle)),
+                None => return Next::Write(cause.within(self.idle)),
                 _ => return Next::Over,
             }
         }

@@ -1,9 +1,11 @@
 pub mod Address
 pub mod Conn
+pub mod Ending
 pub mod Errors
 pub mod Failures
 pub mod Home
 pub mod Limits
+pub mod Lines
 pub mod Listener
 pub mod Polled
 pub mod Service

@@ -75,6 +75,11 @@ impl<R: Runs> Listener<R> {
         Ok(Listener { handle, guard })
     }
 
+    /// Its id in the table of its net.
+    pub(crate) fn id(&self) -> u64 {
+        self.guard.id
+    }
+
     /// Waits for a connection, as a socket that no poller knows yet.
     pub(crate) fn accept_sock(&mut self) -> io::Result<Sock>
         ensures keeps { KeepsHandle (listening_handle self.old) (listening_handle self.new) }

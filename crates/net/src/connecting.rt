@@ -45,7 +45,7 @@ impl<R: Runs> Conn<R> {
         shared: &Arc<Shared<R>>,
         sock: Sock,
         peer: Option<Addr>,
-        home: &Home<'_>,
+        home: &Home<'_, R>,
     ) -> io::Result<Conn<R>>
         ensures open { IfOk result (λ conn. is_closed conn ≡ false) }
         ensures untold { IfOk result (λ conn. untold_of conn ≡ None) }

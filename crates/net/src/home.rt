@@ -4,6 +4,7 @@
 ghost use Rattle.std.specs.Prelude.{◌≡◌, IfOk, is_some};
 ghost use Rattle.net.specs.Home.{is_loop};
 
+use crate::closer::ServiceCloser;
 use crate::runs::Runs;
 use readiness::{LoopRemote, Poller, RemoteAlarms};
 use std::io;
@@ -11,33 +12,54 @@ use std::sync::Arc;
 
 /// A loop's place for a task, with what its connection needs of the loop.
 #[derive(Drop)]
-pub(crate) struct TaskPlace<'a> {
+pub(crate) struct TaskPlace<'a, R: Runs> {
     pub(crate) poller: &'a Poller,
     pub(crate) remote: &'a Arc<LoopRemote>,
     /// The token under which its socket is told, which is the key of its deadlines.
     pub(crate) token: u64,
+    /// What ends the service that has the task.
+    pub(crate) closer: &'a ServiceCloser<R>,
 }
 
 /// Where a connection is told of what may go on.
 #[derive(Drop)]
-pub(crate) enum Home<'a> {
+pub(crate) enum Home<'a, R: Runs> {
     /// By its net's poller.
     Net,
     /// By a loop's, under the token of its task.
-    Loop(TaskPlace<'a>),
+    Loop(TaskPlace<'a, R>),
 }
 
-impl<'a> Home<'a> {
+impl<'a, R: Runs> TaskPlace<'a, R> {
+    // What a connection has of this place.
+    fn link(&self, rt: R) -> io::Result<LoopLink<R>> {
+        let seat = self.seat()?;
+        let alarms = RemoteAlarms::new(rt, Arc::try_clone(self.remote)?);
+        let closer = self.closer.try_clone()?;
+        Ok(LoopLink {
+            alarms,
+            seat,
+            closer,
+        })
+    }
+
+    fn seat(&self) -> io::Result<TaskSeat> {
+        Ok(TaskSeat {
+            remote: Arc::try_clone(self.remote)?,
+            token: self.token,
+        })
+    }
+}
+
+impl<'a, R: Runs> Home<'a, R> {
     /// What a connection has of the loop, where a loop has a task for it.
-    pub(crate) fn link<R: Runs>(&self, rt: R) -> io::Result<Option<LoopLink<R>>>
+    pub(crate) fn link(&self, rt: R) -> io::Result<Option<LoopLink<R>>>
         ensures linked { IfOk result (λ link. is_some link ≡ is_loop self.now) }
     {
-        let Some(seat) = self.seat()? else {
-            return Ok(None);
-        };
-        let remote = Arc::try_clone(&seat.remote)?;
-        let alarms = RemoteAlarms::new(rt, remote);
-        Ok(Some(LoopLink { alarms, seat }))
+        match self {
+            Home::Net => Ok(None),
+            Home::Loop(place) => Ok(Some(place.link(rt)?)),
+        }
     }
 
     /// Who hears that the connection was closed, where a loop has a task for it.
@@ -46,10 +68,7 @@ impl<'a> Home<'a> {
     {
         match self {
             Home::Net => Ok(None),
-            Home::Loop(place) => Ok(Some(TaskSeat {
-                remote: Arc::try_clone(place.remote)?,
-                token: place.token,
-            })),
+            Home::Loop(place) => Ok(Some(place.seat()?)),
         }
     }
 }
@@ -61,6 +80,8 @@ pub(crate) struct LoopLink<R: Runs> {
     pub(crate) alarms: RemoteAlarms<R>,
     /// The task, for who has it go on.
     pub(crate) seat: TaskSeat,
+    /// What ends its service.
+    pub(crate) closer: ServiceCloser<R>,
 }
 
 /// A task of a loop, for who tells it something from another thread.

@@ -7,6 +7,7 @@
 
 mod accepting;
 mod address;
+mod closer;
 mod connecting;
 mod door;
 mod entry;
@@ -15,6 +16,8 @@ mod guard;
 mod home;
 pub mod laws;
 mod limits;
+mod lines;
+mod phase;
 mod polling;
 mod running;
 mod runs;
@@ -28,11 +31,13 @@ mod timing;
 
 pub use accepting::Listener;
 pub use address::{UNIX, address_of, tcp};
+pub use closer::ServiceCloser;
 pub use errors::error_with;
 pub use limits::{Limits, Times};
+pub use lines::{Heard, Lines};
 pub use readiness::Addr;
 pub use running::Net;
 pub use runs::{Runs, Unlinks};
 pub use service::Service;
 pub use stream::Conn;
-pub use task::{Cause, Next, Task};
+pub use task::{Cause, Next, Task, Waits};

@@ -41,7 +41,7 @@ pub(crate) fn moment_in(now: u64, time: Option<Duration>) -> Deadline
 }
 
 /// The one that comes first.
-fn earlier(one: Deadline, other: Deadline) -> Deadline
+pub(crate) fn earlier(one: Deadline, other: Deadline) -> Deadline
     ensures { result ≡ earlier_of one other }
 {
     match (one, other) {

@@ -1,17 +1,27 @@
 //! A loop of a service: a thread that has a task for each of its connections.
 
-ghost use Rattle.std.specs.Prelude.{◌≡◌};
+ghost use Rattle.std.specs.Prelude.{◌≡◌, ℕ, None};
+ghost use Rattle.readiness.specs.EventLoop.{tasks_of};
+ghost use Rattle.readiness.specs.Tasks.{task_in};
 
-use crate::door::Door;
+use crate::closer::ServiceCloser;
+use crate::door::{Door, Waiting};
 use crate::home::{Home, TaskPlace};
+use crate::phase::Phase;
 use crate::runs::Runs;
 use crate::served::Served;
 use crate::shared::Shared;
 use crate::stream::Conn;
 use crate::task::Task;
-use fd_descriptor::PollCell;
-use readiness::{EventLoop, Host, LoopDriver, LoopRemote, RemoteAlarms, Side, Sock, Turn, Why};
+use fd_descriptor::{Alarms, Deadline, Dirs, PollCell};
+use readiness::{
+    EventLoop, Host, LoopDriver, LoopRemote, MAX_NAMED, RemoteAlarms, Side, Sock, Turn, Why,
+};
 use std::sync::Arc;
+
+/// The key of the alarm at the end of the time of all tasks: no task has this token, since its
+/// serial is never given.
+const END_KEY: u64 = u64::MAX - 1;
 
 /// What a loop has beside its tasks.
 #[derive(Drop)]
@@ -20,6 +30,9 @@ pub(crate) struct LoopHost<T: Task<R>, R: Runs> {
     pub(crate) remote: Arc<LoopRemote>,
     pub(crate) alarms: RemoteAlarms<R>,
     pub(crate) door: Arc<Door>,
+    pub(crate) closer: ServiceCloser<R>,
+    /// How far its service had come when it looked last.
+    pub(crate) phase: Phase,
     /// Of which the task of each connection begins.
     pub(crate) task: T,
 }
@@ -41,7 +54,14 @@ impl<T: Task<R>, R: Runs> Host for LoopHost<T, R> {
     }
 
     fn resume(&mut self, task: &mut Served<T, R>, why: Why) -> Turn {
-        task.go_on(&self.shared.rt, self.shared.now(), &self.alarms, why)
+        let ending = self.phase.is_ending();
+        task.go_on(
+            &self.shared.rt,
+            self.shared.now(),
+            &self.alarms,
+            why,
+            ending,
+        )
     }
 
     fn until(&self, _task: &Served<T, R>) -> Option<u64> {
@@ -63,6 +83,7 @@ impl<T: Task<R>, R: Runs> LoopHost<T, R> {
             poller: tasks.poller(),
             remote: &self.remote,
             token: place.first,
+            closer: &self.closer,
         });
         let conn = Conn::hold(&self.shared, sock, peer, &home).ok()?;
         let served = Served::new(task, conn, place)?;
@@ -73,30 +94,67 @@ impl<T: Task<R>, R: Runs> LoopHost<T, R> {
         Some(())
     }
 
-    // Turns until the door is shut, or the poller fails.
-    fn turn_until_shut(&mut self, tasks: &mut EventLoop<Served<T, R>>) {
+    // Has the loop look again at the end of its time. Where the alarm is refused memory it looks
+    // within a second all the same, for as long as a turn takes at most.
+    fn set_end(&self, until: Deadline) {
+        if let Deadline::At(at) = until {
+            let _ = self.alarms.arm(END_KEY, Dirs::Read, at);
+        }
+    }
+
+    // Has all tasks go on once: more are named than a loop lists, so it resumes all.
+    fn name_all(&self) {
+        for token in 0..=MAX_NAMED {
+            self.remote.tell(&self.shared.rt, token as u64);
+        }
+    }
+
+    // Hears how far its service has come.
+    fn hear(&mut self, phase: Phase) {
+        if phase.until != self.phase.until {
+            self.set_end(phase.until);
+        }
+        if phase.is_ending() && !self.phase.is_ending() {
+            self.name_all();
+        }
+        self.phase = phase;
+    }
+
+    // Turns until the loop has done its part, the door is shut, or the poller fails.
+    fn turn_until_over(&mut self, tasks: &mut EventLoop<Served<T, R>>) {
         let rt = self.shared.rt;
         for _ in rt.forever() {
             let now = self.shared.now();
             if tasks.turn(&rt, now, self).is_err() {
                 return;
             }
-            let Some(waiting) = self.door.take(&rt, self.shared.alloc) else {
+            let Some(Waiting { socks, phase }) = self.door.take(&rt, self.shared.alloc) else {
                 return;
             };
-            for sock in waiting {
+            self.hear(phase);
+            for sock in socks {
                 let _ = self.set_up(tasks, sock);
+            }
+            // (the clock is read anew, since the turn may have waited for this moment)
+            if phase.is_ending() && phase.has_ended(self.shared.now(), tasks.len()) {
+                return;
             }
         }
     }
 }
 
-/// A loop from its first turn to its end, at which it closes what it has.
-pub(crate) fn run<T: Task<R>, R: Runs>(driver: LoopDriver, host: LoopHost<T, R>) {
+/// A loop from its first turn to its end, at which it closes what it has, and gives what is left.
+pub(crate) fn run<T: Task<R>, R: Runs>(
+    driver: LoopDriver,
+    host: LoopHost<T, R>,
+) -> EventLoop<Served<T, R>>
+    ensures none { (token : ℕ) → task_in (tasks_of result) token ≡ None }
+{
     let mut host = host;
     let mut tasks = EventLoop::on(driver);
-    host.turn_until_shut(&mut tasks);
+    host.turn_until_over(&mut tasks);
     let rt = host.shared.rt;
     host.door.shut(&rt);
     tasks.end_all(&mut host);
+    tasks
 }

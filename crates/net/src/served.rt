@@ -94,24 +94,31 @@ impl<T: Task<R>, R: Runs> Served<T, R> {
 
     /// Has the task go on, if what its loop tells is what it waits for. Where the alarm of its time
     /// is refused, it is over.
-    pub(crate) fn go_on(&mut self, rt: &R, now: u64, alarms: &RemoteAlarms<R>, why: Why) -> Turn
-        ensures passed { cause_of self.old.next self.old.until why ≡ None
+    pub(crate) fn go_on(
+        &mut self,
+        rt: &R,
+        now: u64,
+        alarms: &RemoteAlarms<R>,
+        why: Why,
+        ending: bool,
+    ) -> Turn
+        ensures passed { cause_of self.old.next self.old.until why ending ≡ None
             → (result ≡ Turn.Waits) × (self.new.task ≡ self.old.task)
             × (self.new.next ≡ self.old.next) × (self.new.until ≡ self.old.until) }
-        ensures told { cause_of self.old.next self.old.until why ≡ None
+        ensures told { cause_of self.old.next self.old.until why ending ≡ None
             → blocked_of self.new.conn ≡ unblocked (blocked_of self.old.conn) why }
-        ensures stepped { IfSome (cause_of self.old.next self.old.until why) (λ cause.
+        ensures stepped { IfSome (cause_of self.old.next self.old.until why ending) (λ cause.
             T.steps self.old.task cause self.new.next self.new.task) }
-        ensures turn { IfSome (cause_of self.old.next self.old.until why) (λ _.
+        ensures turn { IfSome (cause_of self.old.next self.old.until why ending) (λ _.
             (result ≡ Turn.Over) ⊎ (result ≡ turn_after self.new.next (blocked_of self.new.conn))
             × (self.new.until ≡ moment_of now (time_of self.new.next))) }
     {
         self.notify(rt, why);
         self.conn.blocked = told_of(self.conn.blocked, why);
-        let Some(cause) = self.next.cause(self.until, why) else {
+        let Some(cause) = self.next.cause(self.until, why, ending) else {
             return Turn::Waits;
         };
-        self.next = self.task.step(&mut self.conn, cause);
+        self.next = self.task.step(rt, &mut self.conn, cause);
         if self.set_time(now, alarms).is_err() {
             return Turn::Over;
         }

@@ -1,16 +1,18 @@
 //! A service: a listener whose connections are tasks of loops, many on each thread.
 
-ghost use Rattle.std.specs.Prelude.{◌≡◌, IfOk};
-ghost use Rattle.net.specs.Listener.{listens_at};
-ghost use Rattle.net.specs.Service.{serves_at};
+ghost use Rattle.std.specs.Prelude.{◌≡◌, IfOk, OnOk};
+ghost use Rattle.net.specs.Failures.{FailsForMemory};
+ghost use Rattle.net.specs.Listener.{HasStopped, listens_at};
+ghost use Rattle.net.specs.Service.{serves_at, ends_of, closer_of};
 
 use crate::accepting::Listener;
+use crate::closer::{Ends, ServiceCloser};
 use crate::door::Door;
 use crate::errors::told;
+use crate::phase::Phase;
 use crate::running::Net;
 use crate::runs::Runs;
 use crate::serve_loop::{LoopHost, run};
-use crate::shared::Shared;
 use crate::task::Task;
 use readiness::{Addr, LoopDriver, RemoteAlarms};
 use std::alloc::Global;
@@ -19,87 +21,109 @@ use std::net::Net as Sockets;
 use std::sync::Arc;
 use std::thread::{JoinHandle, Threads};
 use std::time::Duration;
-use std::{io, thread};
+use std::{io, mem, thread};
 
 /// How long an accept rests that the system refuses, as where no file can be opened any more.
 const REST_MS: u64 = 5;
 
-/// A loop, as others have it.
-#[derive(Drop)]
-struct ServiceLoop {
-    door: Arc<Door>,
-    thread: JoinHandle<()>,
-}
-
 /// A service that runs by itself: a thread accepts, and each connection is a task of one of the
 /// loops, in turn. When it is stopped, or let go, its listener and all its connections are closed.
 pub struct Service<R: Runs + Threads> {
-    rt: R,
     listener: Listener<R>,
+    closer: ServiceCloser<R>,
     accepting: Option<JoinHandle<()>>,
-    loops: Vec<ServiceLoop>,
+    loops: Vec<JoinHandle<()>>,
 }
 
 // Accepts until the listener is closed, and hands each connection to the next loop. What the system
 // refuses is tried again after a rest, so that a want of files or memory ends no service.
-fn accept_on<R: Runs>(rt: R, listener: Listener<R>, doors: Vec<Arc<Door>>) {
-    let mut listener = listener;
+fn hand_out<R: Runs>(rt: &R, listener: &mut Listener<R>, doors: &[Arc<Door>]) {
     for _ in rt.forever() {
-        for door in doors.as_slice() {
+        for door in doors {
             match listener.accept_sock() {
-                Ok(sock) => door.hand_in(&rt, sock),
+                Ok(sock) => door.hand_in(rt, sock),
                 Err(error) if error.kind() == ErrorKind::NotConnected => return,
-                Err(_) => thread::sleep(&rt, Duration::from_millis(REST_MS)),
+                Err(_) => thread::sleep(rt, Duration::from_millis(REST_MS)),
             }
         }
     }
 }
 
-// The doors of all loops, for the thread that accepts.
-fn doors_of(alloc: Global, loops: &[ServiceLoop]) -> io::Result<Vec<Arc<Door>>> {
+// What the thread does that accepts.
+fn accept_on<R: Runs>(rt: R, listener: Listener<R>, ends: Arc<Ends<R>>) {
+    let mut listener = listener;
+    hand_out(&rt, &mut listener, ends.doors.as_slice());
+    ends.no_more();
+}
+
+// What a loop is made of.
+#[derive(Drop)]
+struct Opened {
+    driver: LoopDriver,
+    door: Arc<Door>,
+}
+
+// So many loops that nobody runs yet.
+fn open_loops<R: Sockets>(rt: &R, alloc: Global, loops: usize) -> io::Result<Vec<Opened>> {
+    let mut opened = Vec::with_capacity(alloc, loops)?;
+    for _ in 0..loops {
+        let driver = told(LoopDriver::new(rt, alloc), None)?;
+        let door = Arc::new(alloc, Door::new(alloc, driver.remote()?))?;
+        opened.push(Opened { driver, door })?;
+    }
+    Ok(opened)
+}
+
+// The doors of all loops.
+fn doors_of(alloc: Global, opened: &[Opened]) -> io::Result<Vec<Arc<Door>>> {
     let mut doors = Vec::new(alloc);
-    for one in loops {
+    for one in opened {
         doors.push(Arc::try_clone(&one.door)?)?;
     }
     Ok(doors)
 }
 
 // Starts a loop that begins its tasks of this one.
-fn start_loop<T, R>(shared: &Arc<Shared<R>>, task: T) -> io::Result<ServiceLoop>
+fn start_loop<T, R>(
+    closer: &ServiceCloser<R>,
+    opened: Opened,
+    task: T,
+) -> io::Result<JoinHandle<()>>
 where
     T: Task<R> + Send + 'static,
     R: Runs + Threads + Sockets + Send + Sync + 'static,
 {
-    let (rt, alloc) = (shared.rt, shared.alloc);
-    let driver = told(LoopDriver::new(&rt, alloc), None)?;
-    let door = Arc::new(alloc, Door::new(alloc, driver.remote()?))?;
+    let shared = &closer.ends.shared;
+    let rt = shared.rt;
+    let Opened { driver, door } = opened;
     let host = LoopHost {
         shared: Arc::try_clone(shared)?,
         remote: driver.remote()?,
         alarms: RemoteAlarms::new(rt, driver.remote()?),
-        door: Arc::try_clone(&door)?,
+        door,
+        closer: closer.try_clone()?,
+        phase: Phase::serving(),
         task,
     };
-    let thread = thread::spawn(&rt, move || run(driver, host))?;
-    Ok(ServiceLoop { door, thread })
+    Ok(thread::spawn(&rt, move || drop(run(driver, host)))?)
 }
 
-// Starts so many loops, those that were started among them where one isn't.
+// Starts the loops, those that were started among them where one isn't.
 fn start_loops<T, R>(
-    started: &mut Vec<ServiceLoop>,
-    shared: &Arc<Shared<R>>,
-    loops: usize,
+    started: &mut Vec<JoinHandle<()>>,
+    closer: &ServiceCloser<R>,
+    opened: Vec<Opened>,
     task: &T,
 ) -> io::Result<()>
 where
     T: Task<R> + Send + 'static,
     R: Runs + Threads + Sockets + Send + Sync + 'static,
 {
-    started.reserve(loops)?;
-    for _ in 0..loops {
-        let own = task.begin(shared.alloc)?;
-        let one = start_loop(shared, own)?;
-        started.push(one)?;
+    started.reserve(opened.len())?;
+    for one in opened {
+        let own = task.begin(closer.ends.shared.alloc)?;
+        let thread = start_loop(closer, one, own)?;
+        started.push(thread)?;
     }
     Ok(())
 }
@@ -108,13 +132,13 @@ impl<R> Service<R>
 where
     R: Runs + Threads + Sockets + Send + Sync + 'static,
 {
-    fn start_accepting(&mut self, alloc: Global) -> io::Result<()>
+    fn start_accepting(&mut self) -> io::Result<()>
         ensures at { serves_at self.new ≡ serves_at self.old }
     {
-        let doors = doors_of(alloc, self.loops.as_slice())?;
+        let ends = Arc::try_clone(&self.closer.ends)?;
         let listener = self.listener.try_clone()?;
-        let rt = self.rt;
-        let accepting = thread::spawn(&rt, move || accept_on(rt, listener, doors))?;
+        let rt = ends.shared.rt;
+        let accepting = thread::spawn(&rt, move || accept_on(rt, listener, ends))?;
         self.accepting = Some(accepting);
         Ok(())
     }
@@ -131,37 +155,62 @@ where
         T: Task<R> + Send + 'static,
         ensures at { IfOk result (λ service. serves_at service ≡ listens_at listener) }
     {
-        let shared = &self.shared;
+        let (rt, alloc) = (self.shared.rt, self.shared.alloc);
+        let opened = open_loops(&rt, alloc, loops.max(1))?;
+        let closer = self.closer_of(listener.id(), opened.as_slice())?;
         let mut service = Service {
-            rt: shared.rt,
             listener,
+            closer,
             accepting: None,
-            loops: Vec::new(shared.alloc),
+            loops: Vec::new(alloc),
         };
-        start_loops(&mut service.loops, shared, loops.max(1), &task)?;
-        service.start_accepting(shared.alloc)?;
+        start_loops(&mut service.loops, &service.closer, opened, &task)?;
+        service.start_accepting()?;
         Ok(service)
+    }
+
+    // What ends the service of this listener and these loops.
+    fn closer_of(&self, listener: u64, opened: &[Opened]) -> io::Result<ServiceCloser<R>> {
+        let shared = Arc::try_clone(&self.shared)?;
+        let alloc = shared.alloc;
+        let doors = doors_of(alloc, opened)?;
+        let ends = Ends {
+            shared,
+            listener,
+            doors,
+        };
+        Ok(ServiceCloser {
+            ends: Arc::new(alloc, ends)?,
+        })
+    }
+}
+
+// Waits for all loops.
+fn join_all<R: Runs + Threads>(rt: &R, loops: Vec<JoinHandle<()>>) {
+    for one in loops {
+        one.join(rt);
     }
 }
 
 // Ends what a service has: first who accepts, then each loop with its connections.
 fn end_service<R: Runs + Threads>(
-    rt: &R,
     listener: Listener<R>,
+    closer: &ServiceCloser<R>,
     accepting: Option<JoinHandle<()>>,
-    loops: Vec<ServiceLoop>,
-) {
+    loops: Vec<JoinHandle<()>>,
+) -> (io::Result<()>, Listener<R>)
+    ensures stopped { OnOk result.0 (HasStopped result.1) }
+    ensures own { listens_at result.1 ≡ listens_at listener }
+{
+    let rt = closer.ends.shared.rt;
     let mut listener = listener;
-    let _ = listener.close();
+    let closed = listener.close();
     if let Some(accepting) = accepting {
-        accepting.join(rt);
+        accepting.join(&rt);
     }
-    for one in loops.as_slice() {
-        one.door.shut(rt);
-    }
-    for one in loops {
-        one.thread.join(rt);
-    }
+    closer.ends.shut();
+    join_all(&rt, loops);
+    (closed, listener)
 }
 
 impl<R: Runs + Threads> Service<R> {
@@ -172,16 +221,36 @@ impl<R: Runs + Threads> Service<R> {
         self.listener.local_addr()
     }
 
-    /// Waits until the listener is closed, by a clone or with its net, and then stops.
+    /// A handle that ends it, for other threads.
+    pub fn closer(&self) -> io::Result<ServiceCloser<R>>
+        ensures own { IfOk result (λ closer. ends_of closer ≡ ends_of (closer_of self.now)) }
+        ensures fails { FailsForMemory result }
+    {
+        self.closer.try_clone()
+    }
+
+    /// Waits until it is over: until the listener is closed and, where `ServiceCloser::shutdown` asked
+    /// for that, its tasks have ended, or their time has. Where the listener was closed otherwise, by
+    /// a clone or with its net, it then stops. At the end it has no connection and no listener.
     pub fn wait(self) {
         let mut service = self;
-        let rt = service.rt;
+        let rt = service.closer.ends.shared.rt;
         if let Some(accepting) = service.accepting.take() {
             accepting.join(&rt);
         }
+        if service.closer.ends.is_ending() {
+            let alloc = service.closer.ends.shared.alloc;
+            join_all(&rt, mem::replace(&mut service.loops, Vec::new(alloc)));
+        }
     }
 
-    /// Closes the listener and all connections, and ends the threads.
+    /// Ends it as `ServiceCloser::shutdown` asks for, and waits until it is over.
+    pub fn shutdown(self, within: Duration) {
+        self.closer.shutdown(within);
+        self.wait()
+    }
+
+    /// Closes the listener and all connections at once, and ends the threads.
     pub fn stop(self) {
         drop(self)
     }
@@ -190,11 +259,11 @@ impl<R: Runs + Threads> Service<R> {
 impl<R: Runs + Threads> Drop for Service<R> {
     fn drop(self) {
         let Service {
-            rt,
             listener,
+            closer,
             accepting,
             loops,
         } = self;
-        end_service(&rt, listener, accepting, loops);
+        let _ = end_service(listener, &closer, accepting, loops);
     }
 }

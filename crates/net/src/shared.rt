@@ -112,7 +112,7 @@ impl<R: Runs> Shared<R> {
 
     // Registers a socket with who tells it, and gives the key of its deadlines: in the net the id
     // and the token are those of its entry, in a loop both are its task's token.
-    fn register(&self, sock: &mut Sock, home: &Home<'_>, next: (u64, u64)) -> io::Result<u64> {
+    fn register(&self, sock: &mut Sock, home: &Home<'_, R>, next: (u64, u64)) -> io::Result<u64> {
         let (id, token) = next;
         match home {
             Home::Net => {
@@ -132,7 +132,7 @@ impl<R: Runs> Shared<R> {
         &self,
         sock: Sock,
         codes: &Arc<LastCodes>,
-        home: &Home<'_>,
+        home: &Home<'_, R>,
     ) -> io::Result<(u64, FdHandle<SockRes>)>
         ensures open { IfOk result (λ held. saw_closed held.1 ≡ false) }
     {

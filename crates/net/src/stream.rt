@@ -2,7 +2,7 @@
 //! who share it hear.
 
 ghost use Rattle.std.specs.Prelude.{◌≡◌, ◌≤◌, ◌<◌, ℕ, true, None, Some, IfOk, IfErr, IfSome};
-ghost use Rattle.std.specs.Prelude.{OnOk, Ok, Err, Result, length};
+ghost use Rattle.std.specs.Prelude.{OnOk, Ok, Err, Result, is_some, length};
 ghost use Rattle.std.specs.Io.{ReadsAtMost, WritesAtMost};
 ghost use Rattle.std.specs.Io.KnownBytes.{ReadConsumes, WriteAppends};
 ghost use Rattle.fd_descriptor.specs.FdHandle.{KeepsHandle, descriptor_of, marks_of};
@@ -13,6 +13,7 @@ ghost use Rattle.net.specs.Conn.{IsNotConnected, FailsBy, IsReadAnswer, IsWriteA
 ghost use Rattle.net.specs.Conn.{HasEnded, guard_of, handle_of, has_task, is_closed, untold_of};
 ghost use Rattle.net.specs.Failures.{FailsAs, FailsForMemory, IsFaultOf};
 
+use crate::closer::ServiceCloser;
 use crate::errors::{error_with, told};
 use crate::guard::Guard;
 use crate::runs::Runs;
@@ -161,6 +162,17 @@ impl<R: Runs> Conn<R> {
                 true
             }
             None => false,
+        }
+    }
+
+    /// What ends the service that has a task for the connection, if one has. Any thread may take it of
+    /// any clone, also a step of the task itself.
+    pub fn closer(&self) -> Option<&ServiceCloser<R>>
+        ensures { is_some result ≡ has_task self.now }
+    {
+        match &self.guard.link {
+            Some(link) => Some(&link.closer),
+            None => None,
         }
     }
 

@@ -2,7 +2,8 @@
 //! says what it waits for then. It never waits itself.
 
 ghost use Rattle.std.specs.Prelude.{◌≡◌, false};
-ghost use Rattle.net.specs.Task.{reads_of, writes_of, time_of, turn_after, cause_of};
+ghost use Rattle.net.specs.Task.{reads_of, writes_of, time_of, wait_of, turn_after, cause_of};
+ghost use Rattle.net.specs.Task.{ready_in, idle_of, within_of};
 
 use crate::runs::Runs;
 use crate::stream::Conn;
@@ -12,16 +13,26 @@ use std::alloc::Global;
 use std::io;
 use std::time::Duration;
 
-/// What a task goes on by, as it says at the end of a step. With a time it goes on after that at the
-/// latest.
+/// For how long a task waits. `Cause::idle` and `Cause::within` give a time that ends the task.
+#[derive(Clone, Copy, Debug, PartialEq, Eq, Drop)]
+pub enum Waits {
+    /// For as long as it takes.
+    Forever,
+    /// For so long at most: then a step comes by `Cause::TimeOver`, which says what follows.
+    AtMost(Duration),
+    /// No longer: the task is over.
+    NoLonger,
+}
+
+/// What a task goes on by, as it says at the end of a step, and for how long it waits for that.
 #[derive(Clone, Copy, Debug, PartialEq, Eq, Drop)]
 pub enum Next {
     /// A read that may not block.
-    Read(Option<Duration>),
+    Read(Waits),
     /// A write that may not block.
-    Write(Option<Duration>),
+    Write(Waits),
     /// Either of them.
-    ReadOrWrite(Option<Duration>),
+    ReadOrWrite(Waits),
     /// Its time alone.
     After(Duration),
     /// It gave way to others, and goes on in the next turn.
@@ -36,8 +47,36 @@ pub enum Cause {
     /// What it waits for may be, or it is its first step, or it gave way, or another closed its
     /// connection or gave it a deadline: the next read or write tells.
     Ready,
+    /// As `Ready`, once an end of its service was asked for (`ServiceCloser::shutdown`): all tasks
+    /// have a step so then, and their further steps are so too. A task that has nothing under way
+    /// does best to be over.
+    Ending,
     /// Its time is over.
     TimeOver,
+}
+
+impl Cause {
+    /// How long a task waits that has nothing under way: so long at most, and no longer where that
+    /// time is over or its service is ending.
+    pub fn idle(self, time: Duration) -> Waits
+        ensures { result ≡ idle_of self time }
+    {
+        match self {
+            Cause::Ready => Waits::AtMost(time),
+            Cause::Ending | Cause::TimeOver => Waits::NoLonger,
+        }
+    }
+
+    /// How long a task waits that has something under way: so long at most, and no longer where
+    /// that time is over.
+    pub fn within(self, time: Duration) -> Waits
+        ensures { result ≡ within_of self time }
+    {
+        match self {
+            Cause::Ready | Cause::Ending => Waits::AtMost(time),
+            Cause::TimeOver => Waits::NoLonger,
+        }
+    }
 }
 
 /// What a server does with its connections. A task is served by one thread, among many others.
@@ -54,9 +93,9 @@ pub trait Task<R: Runs>: Drop {
     fn begin(&self, alloc: Global) -> io::Result<Self>;
 
     /// Goes on with the connection, by reads and writes that don't wait (`Conn::poll_read`,
-    /// `Conn::poll_write`), and says when it goes on next. It bounds what it does at once, so that
-    /// others have their turn.
-    fn step(&mut self, conn: &mut Conn<R>, cause: Cause) -> Next
+    /// `Conn::poll_write`, `Lines::poll`), and says when it goes on next. It bounds what it does at
+    /// once, so that others have their turn. The runtime is for locks that are held for short.
+    fn step(&mut self, rt: &R, conn: &mut Conn<R>, cause: Cause) -> Next
         ensures stepped { steps self.old cause result self.new };
 }
 
@@ -79,6 +118,13 @@ impl Blocked {
     }
 }
 
+// Why a task goes on whose time isn't over.
+fn ready(ending: bool) -> Cause
+    ensures { result ≡ ready_in ending }
+{
+    if ending { Cause::Ending } else { Cause::Ready }
+}
+
 impl Next {
     fn reads(self) -> bool
         ensures { result ≡ reads_of self }
@@ -92,14 +138,25 @@ impl Next {
         matches!(self, Next::Write(_) | Next::ReadOrWrite(_))
     }
 
+    /// For how long it waits.
+    fn wait(self) -> Waits
+        ensures { result ≡ wait_of self }
+    {
+        match self {
+            Next::Read(wait) | Next::Write(wait) | Next::ReadOrWrite(wait) => wait,
+            Next::After(time) => Waits::AtMost(time),
+            Next::Again => Waits::Forever,
+            Next::Over => Waits::NoLonger,
+        }
+    }
+
     /// How long it waits at most.
     pub(crate) fn time(self) -> Option<Duration>
         ensures { result ≡ time_of self }
     {
-        match self {
-            Next::Read(time) | Next::Write(time) | Next::ReadOrWrite(time) => time,
-            Next::After(time) => Some(time),
-            Next::Again | Next::Over => None,
+        match self.wait() {
+            Waits::AtMost(time) => Some(time),
+            Waits::Forever | Waits::NoLonger => None,
         }
     }
 
@@ -110,7 +167,7 @@ impl Next {
     {
         let may_go_on = (self.reads() && !blocked.read) || (self.writes() && !blocked.write);
         match self {
-            Next::Over => Turn::Over,
+            _ if self.wait() == Waits::NoLonger => Turn::Over,
             Next::Again => Turn::Again,
             _ if may_go_on => Turn::Again,
             _ => Turn::Waits,
@@ -119,13 +176,14 @@ impl Next {
 
     /// Why a task goes on that said this, with its time over at that moment, if it does: what its
     /// loop tells of a direction that it doesn't wait for passes it over.
-    pub(crate) fn cause(self, until: Deadline, why: Why) -> Option<Cause>
-        ensures { result ≡ cause_of self until why }
+    pub(crate) fn cause(self, until: Deadline, why: Why, ending: bool) -> Option<Cause>
+        ensures { result ≡ cause_of self until why ending }
     {
+        let ready = ready(ending);
         match why {
             Why::Ready { read, write, .. } => {
                 if (self.reads() && read) || (self.writes() && write) {
-                    Some(Cause::Ready)
+                    Some(ready)
                 } else {
                     None
                 }
@@ -140,7 +198,7 @@ impl Next {
             },
             // The loop has no moment of a task.
             Why::Time { .. } => None,
-            Why::Due { .. } | Why::Named | Why::Again => Some(Cause::Ready),
+            Why::Due { .. } | Why::Named | Why::Again => Some(ready),
         }
     }
 }

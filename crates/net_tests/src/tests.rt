@@ -15,7 +15,9 @@ macro_rules! holds {
 
 mod addresses;
 mod connecting;
+mod ending;
 mod ends;
+mod line_reading;
 mod listening;
 mod memory;
 mod scenes;

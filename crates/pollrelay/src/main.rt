@@ -5,13 +5,12 @@
 use base_types::OutOfMemory;
 use listen_fds::{GivenSocket, ListenFds, MAX_SOCKETS, Unfit};
 use log_writer::open_log;
-use relay::{Capacity, GivenListener, Loops, PairLimit, Safeguards, text_of};
 use relay_admin::{Addr, Command, check_status};
 use relay_command::{
     Fault, HELP, Job, NO_MEMORY, VERSION, descriptors_allowed, descriptors_needed, job_of,
     reply_status, trace_status,
 };
-use relay_serve::{Given, LogPath, Outlets, serve};
+use relay_server::{Given, GivenListener, LogFiles, Settings, serve, text_of};
 use relay_shared::address::rule_address;
 use std::alloc::Global;
 use std::env::VarError;
@@ -58,10 +57,11 @@ fn run_trace(rt: &HostRuntime) -> ExitCode {
 
 /// Says on standard error where the process may have fewer descriptors than its relay may need. The
 /// relay starts all the same: it pauses once they run out.
-fn warn_of_descriptors<R: Files + Eprint + AllocGlobal>(rt: &R, capacity: Capacity) {
+fn warn_of_descriptors<R: Files + Threads + Eprint + AllocGlobal>(rt: &R, settings: &Settings) {
     let Ok(limits) = fs::read_to_string(rt, "/proc/self/limits") else {
         return;
     };
+    let capacity = settings.capacity(rt);
     let needed = descriptors_needed(capacity.pairs, capacity.loops);
     match descriptors_allowed(limits.as_str()) {
         Some(allowed) if allowed < needed => {
@@ -127,16 +127,7 @@ fn given_listeners(rt: &HostRuntime) -> Result<Vec<GivenListener>, Fault> {
 
 /// Runs a relay until an admin session says stop.
 // (the bounds are those of `serve`, and of who prints)
-fn run_relay<R>(
-    rt: R,
-    rules: &String,
-    admin: &String,
-    capacity: Capacity,
-    safeguards: Safeguards,
-    listeners: Vec<GivenListener>,
-    log: Option<String>,
-    metrics: Option<Addr>,
-) -> ExitCode
+fn run_relay<R>(rt: R, settings: &Settings, listeners: Vec<GivenListener>) -> ExitCode
 where
     R: Wait
         + Threads
@@ -152,26 +143,11 @@ where
         + Sync
         + 'static,
 {
-    let log = match log {
-        Some(path) => Some(LogPath { rt, path }),
-        None => None,
-    };
-    warn_of_descriptors(&rt, capacity);
+    warn_of_descriptors(&rt, settings);
     let errors = open_log(&rt, "-").ok();
     let given = Given { listeners, errors };
-    let outlets = Outlets { log, metrics };
     let mut output = io::writer(&rt);
-    let done = serve(
-        rt,
-        rules,
-        admin,
-        capacity,
-        safeguards,
-        given,
-        outlets,
-        &mut output,
-    );
-    match done {
+    match serve(rt, settings, given, LogFiles { rt }, &mut output) {
         Ok(()) => ExitCode::from(0),
         Err(fault) => told(&rt, Fault::Relay(fault)),
     }
@@ -241,35 +217,10 @@ fn main(rt: HostRuntime) -> ExitCode {
     match job(&rt) {
         Ok(Job::Trace) => run_trace(&rt),
         Ok(Job::Check { rules }) => check_file(&rt, rules.as_str()),
-        Ok(
-            Job::Serve {
-                rules,
-                admin,
-                loops,
-                pairs,
-                log,
-                metrics,
-                connect_ms,
-                per_rule,
-                replaces_stale,
-            },
-        ) => {
-            let safeguards = Safeguards {
-                connect_ms,
-                per_rule,
-                replaces_stale,
-            };
-            let capacity = Capacity {
-                loops: loops.unwrap_or_else(|| Loops::by_processors(&rt)),
-                pairs: pairs.unwrap_or_else(|| PairLimit::by_default()),
-            };
-            match given_listeners(&rt) {
-                Ok(given) => run_relay(
-                    rt, &rules, &admin, capacity, safeguards, given, log, metrics,
-                ),
-                Err(fault) => told(&rt, fault),
-            }
-        }
+        Ok(Job::Serve(settings)) => match given_listeners(&rt) {
+            Ok(given) => run_relay(rt, &settings, given),
+            Err(fault) => told(&rt, fault),
+        },
         Ok(Job::Ctl { admin, line }) => control(&rt, admin.as_str(), line.as_str()),
         Ok(Job::Help) => say(&rt, HELP),
         Ok(Job::Version) => say(&rt, VERSION),

@@ -34,10 +34,12 @@ pub data Asked : Type 0 where
 abbrev pub asked_of : Job → Asked
 asked_of job.Trace = Trace
 asked_of (job.Check rules) = Check (string_bytes rules)
-asked_of (job.Serve rules admin loops pairs log metrics connect_ms per_rule replaces_stale) =
-    Serve (string_bytes rules) (string_bytes admin) (option_map (λ l. l.count) loops)
-    (option_map (λ p. p.count) pairs) (option_map string_bytes log) (option_map address_of metrics)
-    connect_ms (option_map (λ p. p.count) per_rule) replaces_stale
+asked_of (job.Serve settings) =
+    Serve (string_bytes settings.rules) (string_bytes settings.admin)
+    (option_map (λ l. l.count) settings.loops) (option_map (λ p. p.count) settings.pairs)
+    (option_map string_bytes settings.log) (option_map address_of settings.metrics)
+    settings.safeguards.connect_ms (option_map (λ p. p.count) settings.safeguards.per_rule)
+    settings.safeguards.replaces_stale
 asked_of (job.Ctl admin line) = Ctl (string_bytes admin) (string_bytes line)
 asked_of job.Help = Help
 asked_of job.Version = Version

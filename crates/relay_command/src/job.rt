@@ -14,8 +14,8 @@ use crate::options::{connect_asked, log_asked, loops_asked, metrics_asked, pairs
 use base_types::OutOfMemory;
 use clap::ArgMatches;
 use clap::error::ErrorKind;
-use relay_admin::Addr;
-use relay_core::{Loops, PairLimit};
+use relay_facts::safeguards::Safeguards;
+use relay_facts::settings::Settings;
 use std::alloc::Global;
 
 /// What the program is asked to do.
@@ -24,31 +24,11 @@ pub enum Job {
     /// Run a trace script on standard input and output.
     Trace,
     /// Say whether the rules file at this path is good.
-    Check {
-        rules: String,
-    },
-    /// Run the relay by the rules file at `rules`, with its admin socket at `admin`, on so many
-    /// loops, or on as many as suit the machine, with so many connections at once, or with the
-    /// default, with its log in the file at `log`, or without one, and with its metrics at the
-    /// address `metrics`, or nowhere. A target has `connect_ms` milliseconds to be connected, or as
-    /// long as the system takes; a rule has so many connections at once, or as many as all; and
-    /// Unix sockets at which nobody listens any more give way, or keep it from starting.
-    Serve {
-        rules: String,
-        admin: String,
-        loops: Option<Loops>,
-        pairs: Option<PairLimit>,
-        log: Option<String>,
-        metrics: Option<Addr>,
-        connect_ms: Option<u32>,
-        per_rule: Option<PairLimit>,
-        replaces_stale: bool,
-    },
+    Check { rules: String },
+    /// Run the relay by these settings.
+    Serve(Settings),
     /// Ask the relay whose admin socket is at `admin` this line, which may be no admin command.
-    Ctl {
-        admin: String,
-        line: String,
-    },
+    Ctl { admin: String, line: String },
     /// Print what the program can be asked.
     Help,
     /// Print which version it is.
@@ -105,17 +85,20 @@ fn serve_job(alloc: Global, matches: &ArgMatches<'_>) -> Result<Option<Job>, Out
     let Some(per_rule) = pairs_asked(given(matches, "connections-per-rule")) else {
         return Ok(None);
     };
-    Ok(Some(Job::Serve {
+    let safeguards = Safeguards {
+        connect_ms,
+        per_rule,
+        replaces_stale: is_set(matches, "replace-stale"),
+    };
+    Ok(Some(Job::Serve(Settings {
         rules,
         admin,
         loops,
         pairs,
+        safeguards,
         log,
         metrics,
-        connect_ms,
-        per_rule,
-        replaces_stale: is_set(matches, "replace-stale"),
-    }))
+    })))
 }
 
 // A word behind those of a line, if there is one more.

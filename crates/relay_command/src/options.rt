@@ -10,6 +10,7 @@ ghost use Rattle.relay_admin.specs.rules.Addr.{address_of};
 use base_types::OutOfMemory;
 use relay_admin::{Addr, addr_of};
 use relay_core::{Loops, PairLimit};
+use relay_facts::safeguards::{DEFAULT_CONNECT_MS, MAX_CONNECT_MS};
 use std::alloc::Global;
 use stream_base::decimal::parse_decimal;
 
@@ -57,13 +58,6 @@ pub(crate) fn pairs_asked(given: Option<&str>) -> Option<Option<PairLimit>>
         },
     }
 }
-
-/// How many milliseconds a target has to be connected where nobody asks for another time. This
-/// project's own rule. The clauses below have the figures themselves, so that others are refused.
-const DEFAULT_CONNECT_MS: u32 = 5_000;
-
-/// The most that may be asked for: a day.
-const MAX_CONNECT_MS: u64 = 86_400_000;
 
 // How many milliseconds a target has by a text, in digits without a zero ahead; 0 is as long as the
 // system takes.

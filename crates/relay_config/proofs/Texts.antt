@@ -2,7 +2,8 @@
 use Rattle.std.proofs.Common.{◌≢◌, sym, subst, ℕ, ◌≤◌, List, length, Result, Ok, Err}
 use Rattle.std.specs.Prelude.{IfErr}
 use Rattle.toml.specs.Data.{Members}
-use Rattle.relay_config.specs.Config.{IsToml, SaysFault, config_entry, config_in, no_toml, of_table}
+use Rattle.relay_config.specs.Config.{IsToml, SaysFault, config_in, no_toml, of_table}
+use Rattle.relay_config.specs.Entries.{config_entry}
 use Rattle.relay_config.specs.Fault.{Answers, IsNoToml}
 use Rattle.relay_config.specs.declared.config.Config.{Config}
 use Rattle.relay_config.specs.declared.config.TheConstants.{MAX_BYTES}

@@ -1,4 +1,13 @@
 pub mod Fault
 pub mod Reading
 pub mod Values
+pub mod Entries
+pub mod Clients
+pub mod Sockets
+pub mod Nets
+pub mod Access
+pub mod Proxy
+pub mod Health
+pub mod Rule
+pub mod Service
 pub mod Config

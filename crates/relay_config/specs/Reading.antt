@@ -80,6 +80,10 @@ abbrev pub some : Spot → Items → Result Items Fault
 some at no_items = Err (At at wrong.Empty)
 some at (item d ds) = Ok (item d ds)
 
+-- a list of one item at least and at most so many
+abbrev pub some_list : ℕ → Spot → Data → Result Items Fault
+some_list most at d = list most at d >>= λ ds. some at ds
+
 -- these, and those that the items say, each of which stands behind those before it
 abbrev pub each_in : {A : Type 0} → (List A → Data → Result A Fault) → List A → Items → Result (List A) Fault
 each_in step found no_items = Ok found
@@ -100,6 +104,10 @@ items_there (Some ds) = ds
 -- the list at a key, of at most so many items; none where there is no such key
 unfoldable pub items_in : ℕ → Place → Key → Members → Result Items Fault
 items_in most place key table = if_there (list most (spot place key)) (at_key key table) >>= λ found. Ok (items_there found)
+
+-- the list at a key, of one item at least and at most so many; no items where there is no such key
+unfoldable pub some_if_there : ℕ → Place → Key → Members → Result Items Fault
+some_if_there most place key table = if_there (some_list most (spot place key)) (at_key key table) >>= λ found. Ok (items_there found)
 
 -- the keys of a table, in their order
 abbrev pub keys_in : Members → List (List ℕ)

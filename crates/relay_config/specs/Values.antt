@@ -1,18 +1,47 @@
 -- Values of a configuration: what their texts spell.
-use Rattle.std.specs.Prelude.{◌==◌, ℕ, Bool, false, not, ◌&&◌, ◌||◌, List, [], ◌∷◌, length, nat_le, Option, Some, None, codes, option_map, option_and_then, if◌then◌else◌}
+use Rattle.std.specs.Prelude.{◌==◌, ◌%◌, ℕ, Bool, false, not, ◌&&◌, ◌||◌, List, [], ◌∷◌, length, nat_le, Option, Some, None, codes, option_map, option_and_then, if◌then◌else◌}
 use Rattle.std.specs.List.{list_all}
 use Rattle.std.specs.Str.{bytes_eq}
 use Rattle.config_values.specs.Addr.{Address, address_at, name, unix, v4, v6}
+use Rattle.config_values.specs.Ip as ip
+use Rattle.config_values.specs.Ip.{Ip, ip_at, is_mapped}
 use Rattle.config_values.specs.Time.{time_at}
 use Rattle.target_pick.specs.declared.picking.Balance.{Balance}
 use Rattle.target_pick.specs.declared.picking.Balance.TheVariants as balance
 use Rattle.relay_config.specs.declared.log.Format.{Format}
 use Rattle.relay_config.specs.declared.log.Format.TheVariants as format
-use Rattle.relay_config.specs.declared.rule.TheConstants.{MAX_NAME_BYTES}
+use Rattle.relay_config.specs.declared.proxy.Version.{Version}
+use Rattle.relay_config.specs.declared.proxy.Version.TheVariants as version
+use Rattle.relay_config.specs.declared.spelled.TheConstants.{MAX_KEEPALIVE_MS}
+use Rattle.relay_config.specs.declared.rule_name.TheConstants.{MAX_NAME_BYTES}
 
 -- a time, or "never", which is none
 abbrev pub time_or_never : List ℕ → Option (Option ℕ)
 time_or_never text = if bytes_eq text (codes "never") then Some None else option_map (λ (ms : ℕ). Some ms) (time_at text)
+
+-- a time that the system takes for keepalives: whole seconds, not too many
+abbrev pub keepalive : ℕ → Option (Option ℕ)
+keepalive ms = if (ms % 1000 == 0) && nat_le ms MAX_KEEPALIVE_MS then Some (Some ms) else None
+
+-- such a time, or "never", which is none
+abbrev pub keepalive_at : List ℕ → Option (Option ℕ)
+keepalive_at text = if bytes_eq text (codes "never") then Some None else option_and_then keepalive (time_at text)
+
+-- an address that isn't IPv4-mapped
+abbrev pub unmapped : Ip → Option Ip
+unmapped (ip.v4 octets) = Some (ip.v4 octets)
+unmapped (ip.v6 segments) = if is_mapped segments then None else Some (ip.v6 segments)
+
+-- such an address, by its text
+abbrev pub source_at : List ℕ → Option Ip
+source_at text = option_and_then unmapped (ip_at text)
+
+-- the word of a version of the PROXY protocol
+abbrev pub version_at : List ℕ → Option Version
+version_at text =
+    if bytes_eq text (codes "v1") then Some version.V1
+    else if bytes_eq text (codes "v2") then Some version.V2
+    else None
 
 -- the word of a way to pick targets
 abbrev pub balance_at : List ℕ → Option Balance

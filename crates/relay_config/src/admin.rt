@@ -3,15 +3,17 @@
 ghost use Rattle.std.specs.Prelude.{◌≡◌, ◌≤◌, length, option_map, IfOk};
 ghost use Rattle.config_values.specs.Mode.{mode_at};
 ghost use Rattle.toml.specs.View.{table_view, view};
-ghost use Rattle.relay_config.specs.Config.{admin_alone, admin_at, admin_entry, admin_in};
+ghost use Rattle.relay_config.specs.Entries.{admin_entry};
+ghost use Rattle.relay_config.specs.Service.{admin_alone, admin_at, admin_in};
 ghost use Rattle.relay_config.specs.Fault.{Reads, spot};
 ghost use Rattle.relay_config.specs.Reading.{at_key, if_there, spelled};
 ghost use Rattle.relay_config.specs.Values.{file_path};
 
 use crate::fault::{Fault, Key, Place, Spot};
 use crate::paths::path_of;
+use crate::spelled::mode_in;
 use crate::table::{known_alone, value_at};
-use crate::values::{mode_in, needed};
+use crate::values::needed;
 use arrayvec::ArrayString;
 use toml::{Table, Value};
 
@@ -43,7 +45,7 @@ pub(crate) fn admin_in(table: &Table) -> Result<Option<Admin>, Fault>
 }
 
 /// The admin socket that a value says: a table, or a path alone.
-#[tactic(auto, unfolding(crate::specs::Config::admin_at))]
+#[tactic(auto, unfolding(crate::specs::Service::admin_at))]
 fn admin_of_value(value: &Value) -> Result<Admin, Fault>
     ensures { Reads admin_entry result (admin_at (view value.now)) }
 {
@@ -53,7 +55,7 @@ fn admin_of_value(value: &Value) -> Result<Admin, Fault>
     }
 }
 
-#[tactic(auto, unfolding(crate::specs::Config::admin_alone))]
+#[tactic(auto, unfolding(crate::specs::Service::admin_alone))]
 fn admin_alone(value: &Value) -> Result<Admin, Fault>
     ensures { Reads admin_entry result (admin_alone (view value.now)) }
 {
@@ -61,7 +63,7 @@ fn admin_alone(value: &Value) -> Result<Admin, Fault>
     Ok(Admin { path, mode: None })
 }
 
-#[tactic(auto, unfolding(crate::specs::Config::admin_in))]
+#[tactic(auto, unfolding(crate::specs::Service::admin_in))]
 fn admin_of(table: &Table) -> Result<Admin, Fault>
     ensures { Reads admin_entry result (admin_in (table_view table.now)) }
 {

@@ -4,16 +4,18 @@ ghost use Rattle.std.specs.Prelude.{◌≡◌, ◌≢◌, ◌≤◌, Some, None,
 ghost use Rattle.std.specs.Str.{IsUtf8};
 ghost use Rattle.toml.specs.Parse.{parse_document};
 ghost use Rattle.toml.specs.View.{table_view};
-ghost use Rattle.relay_config.specs.Config.{SaysConfig, SaysFault, config_entry, config_in};
-ghost use Rattle.relay_config.specs.Config.{limits_entry, limits_in, rule_entry, rules_of};
+ghost use Rattle.relay_config.specs.Config.{SaysConfig, SaysFault, config_in, limits_in, rules_of};
+ghost use Rattle.relay_config.specs.Entries.{config_entry, limits_entry, rule_entry};
 ghost use Rattle.relay_config.specs.Fault.{Answers, IsNoToml, Reads};
 
 use crate::fault::{Fault, Key, Place};
+use crate::items::items_in;
 use crate::log::{Log, log_in};
 use crate::rule::{Rule, rules_in};
 use crate::service::{Service, service_of};
+use crate::spelled::time_in;
 use crate::table::known_alone;
-use crate::values::{items_in, number_in, time_in};
+use crate::values::number_in;
 use std::alloc::Global;
 use toml::Table;
 
@@ -71,8 +73,11 @@ impl Config {
     /// long; one that is no TOML; then of each table a key that it may not have, and its keys in
     /// turn: `connections`, `connections_per_rule`, `connect_timeout`, `loops`, `replace_stale`,
     /// `metrics`, `admin` with `path` and `mode`, `log` with `file` and `format`, `rule`; of a rule
-    /// `name`, `idle`, `balance`, `listen`, `target`; of a target `at`, `weight`, `backup`. `Memory`
-    /// may come at any time.
+    /// `name`, `idle`, `balance`, `resolve`, `connections`, `connections_per_source`,
+    /// `accepts_per_source`, `keepalive`, `user_timeout`, `backlog`, `source`, `health` with `every`,
+    /// `timeout`, `fall` and `rise`, `allow`, `deny`, `proxy_protocol` with `from_client` and
+    /// `to_target`, `listen`, `target`; of a target `at`, `weight`, `backup`. `Memory` may come at
+    /// any time.
     pub fn parse(alloc: Global, text: &[u8]) -> Result<Config, Fault>
         ensures config { IfOk result (λ config. SaysConfig text.now (config_entry config)) }
         ensures fault { IfErr result (λ fault. fault ≢ Fault.Memory → SaysFault text.now fault) }

@@ -6,16 +6,26 @@ ghost use Rattle.relay_config.specs.Fault.{item_spot, key_word, spot};
 /// A key of a configuration.
 #[derive(Clone, Copy, Debug, PartialEq, Eq, Drop)]
 pub enum Key {
+    AcceptsPerSource,
     Admin,
+    Allow,
     At,
+    Backlog,
     Backup,
     Balance,
     ConnectTimeout,
     Connections,
     ConnectionsPerRule,
+    ConnectionsPerSource,
+    Deny,
+    Every,
+    Fall,
     File,
     Format,
+    FromClient,
+    Health,
     Idle,
+    Keepalive,
     Listen,
     Log,
     Loops,
@@ -23,9 +33,16 @@ pub enum Key {
     Mode,
     Name,
     Path,
+    ProxyProtocol,
     ReplaceStale,
+    Resolve,
+    Rise,
     Rule,
+    Source,
     Target,
+    Timeout,
+    ToTarget,
+    UserTimeout,
     Weight,
 }
 
@@ -35,16 +52,26 @@ impl Key {
         ensures { result.now ≡ key_word self }
     {
         match self {
+            Key::AcceptsPerSource => "accepts_per_source",
             Key::Admin => "admin",
+            Key::Allow => "allow",
             Key::At => "at",
+            Key::Backlog => "backlog",
             Key::Backup => "backup",
             Key::Balance => "balance",
             Key::ConnectTimeout => "connect_timeout",
             Key::Connections => "connections",
             Key::ConnectionsPerRule => "connections_per_rule",
+            Key::ConnectionsPerSource => "connections_per_source",
+            Key::Deny => "deny",
+            Key::Every => "every",
+            Key::Fall => "fall",
             Key::File => "file",
             Key::Format => "format",
+            Key::FromClient => "from_client",
+            Key::Health => "health",
             Key::Idle => "idle",
+            Key::Keepalive => "keepalive",
             Key::Listen => "listen",
             Key::Log => "log",
             Key::Loops => "loops",
@@ -52,22 +79,31 @@ impl Key {
             Key::Mode => "mode",
             Key::Name => "name",
             Key::Path => "path",
+            Key::ProxyProtocol => "proxy_protocol",
             Key::ReplaceStale => "replace_stale",
+            Key::Resolve => "resolve",
+            Key::Rise => "rise",
             Key::Rule => "rule",
+            Key::Source => "source",
             Key::Target => "target",
+            Key::Timeout => "timeout",
+            Key::ToTarget => "to_target",
+            Key::UserTimeout => "user_timeout",
             Key::Weight => "weight",
         }
     }
 }
 
-/// A table of a configuration: the whole, that of `admin` or `log`, a rule by its number, or a target
-/// of a rule. Numbers are from 0.
+/// A table of a configuration: the whole, that of `admin` or `log`, a rule by its number, its table
+/// of `proxy_protocol` or of `health`, or one of its targets. Numbers are from 0.
 #[derive(Clone, Copy, Debug, PartialEq, Eq, Drop)]
 pub enum Place {
     Top,
     Admin,
     Log,
     Rule(usize),
+    Proxy(usize),
+    Health(usize),
     Target(usize, usize),
 }
 

@@ -4,6 +4,7 @@ use crate::config::{MAX_BYTES, MAX_RULES};
 use crate::fault::{Fault, Key, Place, Spot, Wrong};
 use crate::listen::MAX_LISTENERS;
 use crate::looked_up::{key_number, keys_of, nearest, value_of};
+use crate::nets::MAX_NETS;
 use crate::target::MAX_TARGETS;
 use crate::words::{wanted, wanted_type};
 use std::alloc::{AllocError, Global};
@@ -101,6 +102,7 @@ fn too_many(alloc: Global, key: Key) -> Result<String, AllocError> {
     let most = match key {
         Key::Listen => MAX_LISTENERS,
         Key::Target => MAX_TARGETS,
+        Key::Allow | Key::Deny | Key::FromClient => MAX_NETS,
         _ => MAX_RULES,
     };
     format!(in alloc; "more than {most}")
@@ -121,6 +123,8 @@ fn place_words(alloc: Global, table: &Table, place: Place) -> Result<String, All
         Place::Admin => String::from_str(alloc, "admin: "),
         Place::Log => String::from_str(alloc, "log: "),
         Place::Rule(rule) => rule_words(alloc, table, rule),
+        Place::Proxy(rule) => key_words(alloc, table, rule, Key::ProxyProtocol),
+        Place::Health(rule) => key_words(alloc, table, rule, Key::Health),
         Place::Target(rule, target) => {
             let rule = rule_words(alloc, table, rule)?;
             let rule = rule.as_str();
@@ -128,6 +132,14 @@ fn place_words(alloc: Global, table: &Table, place: Place) -> Result<String, All
             format!(in alloc; "{rule}target {number}: ")
         }
     }
+}
+
+/// A key of a rule that has a table.
+fn key_words(alloc: Global, table: &Table, rule: usize, key: Key) -> Result<String, AllocError> {
+    let rule = rule_words(alloc, table, rule)?;
+    let rule = rule.as_str();
+    let key = key.word();
+    format!(in alloc; "{rule}{key}: ")
 }
 
 fn rule_words(alloc: Global, table: &Table, rule: usize) -> Result<String, AllocError> {

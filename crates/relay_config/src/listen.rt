@@ -3,14 +3,15 @@
 ghost use Rattle.std.specs.Prelude.{◌≡◌, [], map};
 ghost use Rattle.config_values.specs.Addr.{address_of};
 ghost use Rattle.toml.specs.View.{items_view, table_view, view};
-ghost use Rattle.relay_config.specs.Config.{has_address, has_listener, listener_behind};
-ghost use Rattle.relay_config.specs.Config.{listeners_of, rule_entry};
+ghost use Rattle.relay_config.specs.Entries.{rule_entry};
+ghost use Rattle.relay_config.specs.Rule.{has_address, has_listener, listener_behind, listeners_of};
 ghost use Rattle.relay_config.specs.Fault.{Answers, Reads};
 ghost use Rattle.relay_config.specs.Reading.{each_in};
 
 use crate::fault::{Fault, Key, Place, Spot, Wrong};
+use crate::items::some_items;
 use crate::rule::Rule;
-use crate::values::{listener_of_value, some_items};
+use crate::spelled::listener_of_value;
 use config_values::{Addr, is_same_addr};
 use std::alloc::Global;
 use toml::{Table, Value};
@@ -19,7 +20,7 @@ use toml::{Table, Value};
 pub const MAX_LISTENERS: usize = 16;
 
 /// The listeners of the rule behind these, one at least.
-#[tactic(auto, unfolding(crate::specs::Config::listeners_of))]
+#[tactic(auto, unfolding(crate::specs::Rule::listeners_of))]
 pub(crate) fn listeners_of(
     alloc: Global,
     before: &[Rule],
@@ -48,7 +49,7 @@ fn listeners_in(alloc: Global, before: &[Rule], items: &[Value]) -> Result<Vec<A
 }
 
 /// The listener behind these of the rule behind those.
-#[tactic(auto, unfolding(crate::specs::Config::listener_behind))]
+#[tactic(auto, unfolding(crate::specs::Rule::listener_behind))]
 fn listener_behind(before: &[Rule], found: &[Addr], value: &Value) -> Result<Addr, Fault>
     ensures { Reads address_of result
         (listener_behind (map rule_entry before.now) (map address_of found.now) (view value.now)) }

@@ -2,14 +2,16 @@
 
 ghost use Rattle.std.specs.Prelude.{◌≡◌, Ok, option_map};
 ghost use Rattle.toml.specs.View.{table_view, view};
-ghost use Rattle.relay_config.specs.Config.{log_alone, log_at, log_entry, log_in};
+ghost use Rattle.relay_config.specs.Entries.{log_entry};
+ghost use Rattle.relay_config.specs.Service.{log_alone, log_at, log_in};
 ghost use Rattle.relay_config.specs.Fault.{Answers, spot};
 ghost use Rattle.relay_config.specs.Reading.{at_key, if_there};
 
 use crate::fault::{Fault, Key, Place, Spot};
 use crate::paths::path_of;
+use crate::spelled::format_in;
 use crate::table::{known_alone, value_at};
-use crate::values::{format_in, needed};
+use crate::values::needed;
 use std::alloc::Global;
 use toml::{Table, Value};
 
@@ -51,7 +53,7 @@ pub(crate) fn log_in(alloc: Global, table: &Table) -> Result<Option<Log>, Fault>
 }
 
 /// The log that a value says: a table, or a path alone.
-#[tactic(auto, unfolding(crate::specs::Config::log_at))]
+#[tactic(auto, unfolding(crate::specs::Service::log_at))]
 fn log_of_value(alloc: Global, value: &Value) -> Result<Log, Fault>
     ensures { Answers log_entry result (log_at (view value.now)) }
 {
@@ -61,7 +63,7 @@ fn log_of_value(alloc: Global, value: &Value) -> Result<Log, Fault>
     }
 }
 
-#[tactic(auto, unfolding(crate::specs::Config::log_alone))]
+#[tactic(auto, unfolding(crate::specs::Service::log_alone))]
 fn log_alone(alloc: Global, value: &Value) -> Result<Log, Fault>
     ensures { Answers log_entry result (log_alone (view value.now)) }
 {
@@ -69,7 +71,7 @@ fn log_alone(alloc: Global, value: &Value) -> Result<Log, Fault>
     log_at_path(alloc, file, Format::Text)
 }
 
-#[tactic(auto, unfolding(crate::specs::Config::log_in))]
+#[tactic(auto, unfolding(crate::specs::Service::log_in))]
 fn log_of(alloc: Global, table: &Table) -> Result<Log, Fault>
     ensures { Answers log_entry result (log_in (table_view table.now)) }
 {

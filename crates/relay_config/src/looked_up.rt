@@ -2,7 +2,7 @@
 
 use crate::fault::{Key, Place, Spot};
 use crate::table::value_at;
-use crate::{admin, config, log, rule, target};
+use crate::{admin, config, health, log, proxy, rule, target};
 use std::alloc::{AllocError, Global};
 use strsim::levenshtein;
 use toml::{Table, Value};
@@ -20,11 +20,19 @@ pub(crate) fn table_at(table: &Table, place: Place) -> Option<&Table> {
         Place::Admin => value_at(table, Key::Admin)?.as_table(),
         Place::Log => value_at(table, Key::Log)?.as_table(),
         Place::Rule(rule) => item_at(table, Key::Rule, rule)?.as_table(),
+        Place::Proxy(rule) => table_of_rule(table, rule, Key::ProxyProtocol),
+        Place::Health(rule) => table_of_rule(table, rule, Key::Health),
         Place::Target(rule, target) => {
             let rule = item_at(table, Key::Rule, rule)?.as_table()?;
             item_at(rule, Key::Target, target)?.as_table()
         }
     }
+}
+
+/// The table at a key of a rule.
+fn table_of_rule(table: &Table, rule: usize, key: Key) -> Option<&Table> {
+    let rule = item_at(table, Key::Rule, rule)?.as_table()?;
+    value_at(rule, key)?.as_table()
 }
 
 /// The item of this number in the list at a key.
@@ -61,6 +69,8 @@ pub(crate) fn keys_of(place: Place) -> &'static [Key] {
         Place::Admin => admin::KEYS,
         Place::Log => log::KEYS,
         Place::Rule(_) => rule::KEYS,
+        Place::Proxy(_) => proxy::KEYS,
+        Place::Health(_) => health::KEYS,
         Place::Target(_, _) => target::KEYS,
     }
 }

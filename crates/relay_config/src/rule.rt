@@ -2,26 +2,35 @@
 
 ghost use Rattle.std.specs.Prelude.{◌≡◌, [], map};
 ghost use Rattle.toml.specs.View.{items_view, table_view, view};
-ghost use Rattle.relay_config.specs.Config.{has_name, head_entry, head_in, rule_behind, rule_entry};
-ghost use Rattle.relay_config.specs.Config.{name_in, new_name, rule_in};
+ghost use Rattle.relay_config.specs.Entries.{head_entry, rule_entry};
+ghost use Rattle.relay_config.specs.Rule.{has_name, head_in, name_in, new_name, resolve_in};
+ghost use Rattle.relay_config.specs.Rule.{rule_behind, rule_in};
 ghost use Rattle.relay_config.specs.Fault.{Answers, Reads};
 ghost use Rattle.relay_config.specs.Reading.{each_in};
 
+use crate::access::{Access, access_of};
+use crate::clients::{Clients, clients_of};
 use crate::fault::{Fault, Key, Place, Spot, Wrong};
+use crate::health::{Checks, health_in};
+use crate::items::members_of;
 use crate::listen::listeners_of;
+use crate::proxy::{Proxy, proxy_in};
+use crate::rule_name::{MAX_NAME_BYTES, name_of_value};
+use crate::sockets::{Sockets, sockets_of};
+use crate::spelled::{balance_in, time_in};
 use crate::table::known_alone;
 use crate::target::{Target, targets_of};
-use crate::values::{balance_in, members_of, name_of_value, needed, time_in};
+use crate::values::needed;
 use arrayvec::ArrayString;
 use config_values::Addr;
 use std::alloc::Global;
 use target_pick::Balance;
 use toml::{Table, Value};
 
-/// The most bytes of a rule's name.
-pub const MAX_NAME_BYTES: usize = 16;
+/// After how many milliseconds names are looked up again where the text doesn't say it.
+pub const DEFAULT_RESOLVE_MS: u64 = 30_000;
 
-/// A rule, but for its listeners and targets.
+/// A rule, but for its lists.
 #[derive(Clone, Copy, Debug, PartialEq, Eq, Drop)]
 pub struct Head {
     /// A letter and then letters, digits and hyphens, all small, at most 16 in all.
@@ -29,12 +38,21 @@ pub struct Head {
     /// A connection that was idle for so many milliseconds is closed; with `None` it never is.
     pub idle_ms: Option<u64>,
     pub balance: Balance,
+    /// The names of its targets are looked up again after so many milliseconds; with `None` never.
+    pub resolve_ms: Option<u64>,
+    pub clients: Clients,
+    pub sockets: Sockets,
+    /// How its targets are checked; with `None` they aren't.
+    pub health: Option<Checks>,
 }
 
 /// A rule of the relay.
 #[derive(Drop)]
 pub struct Rule {
     pub head: Head,
+    pub access: Access,
+    /// Headers of the PROXY protocol; with `None` none are read or written.
+    pub proxy: Option<Proxy>,
     /// Where it listens: 1 to 16 addresses, none of them a name.
     pub listen: Vec<Addr>,
     /// 1 to 64 targets.
@@ -42,7 +60,25 @@ pub struct Rule {
 }
 
 /// The keys of a rule.
-pub(crate) const KEYS: &[Key] = &[Key::Name, Key::Listen, Key::Target, Key::Balance, Key::Idle];
+pub(crate) const KEYS: &[Key] = &[
+    Key::Name,
+    Key::Listen,
+    Key::Target,
+    Key::Balance,
+    Key::Idle,
+    Key::Connections,
+    Key::ConnectionsPerSource,
+    Key::AcceptsPerSource,
+    Key::Keepalive,
+    Key::UserTimeout,
+    Key::Allow,
+    Key::Deny,
+    Key::ProxyProtocol,
+    Key::Health,
+    Key::Resolve,
+    Key::Backlog,
+    Key::Source,
+];
 
 /// The rules that items say.
 pub(crate) fn rules_in(alloc: Global, items: &[Value]) -> Result<Vec<Rule>, Fault>
@@ -60,7 +96,7 @@ pub(crate) fn rules_in(alloc: Global, items: &[Value]) -> Result<Vec<Rule>, Faul
 }
 
 /// The rule behind these.
-#[tactic(auto, unfolding(crate::specs::Config::rule_behind))]
+#[tactic(auto, unfolding(crate::specs::Rule::rule_behind))]
 fn rule_behind(alloc: Global, found: &[Rule], value: &Value) -> Result<Rule, Fault>
     ensures { Answers rule_entry result (rule_behind (map rule_entry found.now) (view value.now)) }
 {
@@ -69,22 +105,26 @@ fn rule_behind(alloc: Global, found: &[Rule], value: &Value) -> Result<Rule, Fau
 }
 
 /// The rule that a table says, behind these.
-#[tactic(auto, unfolding(crate::specs::Config::rule_in))]
+#[tactic(auto, unfolding(crate::specs::Rule::rule_in))]
 fn rule_of(alloc: Global, before: &[Rule], table: &Table) -> Result<Rule, Fault>
     ensures { Answers rule_entry result
         (rule_in (map rule_entry before.now) (table_view table.now)) }
 {
     let head = head_of(before, table)?;
+    let access = access_of(alloc, Place::Rule(before.len()), table)?;
+    let proxy = proxy_in(alloc, before.len(), table)?;
     let listen = listeners_of(alloc, before, table)?;
     let targets = targets_of(alloc, before.len(), table)?;
     Ok(Rule {
         head,
+        access,
+        proxy,
         listen,
         targets,
     })
 }
 
-#[tactic(auto, unfolding(crate::specs::Config::head_in))]
+#[tactic(auto, unfolding(crate::specs::Rule::head_in))]
 fn head_of(before: &[Rule], table: &Table) -> Result<Head, Fault>
     ensures { Reads head_entry result
         (head_in (map rule_entry before.now) (table_view table.now)) }
@@ -93,15 +133,32 @@ fn head_of(before: &[Rule], table: &Table) -> Result<Head, Fault>
     let place = Place::Rule(before.len());
     let idle = time_in(table, place, Key::Idle)?;
     let balance = balance_in(table, place, Key::Balance)?;
+    let resolve = resolve_of(place, table)?;
+    let clients = clients_of(place, table)?;
+    let sockets = sockets_of(place, table)?;
+    let health = health_in(before.len(), table)?;
     Ok(Head {
         name,
         idle_ms: idle.unwrap_or(None),
         balance: balance.unwrap_or(Balance::RoundRobin),
+        resolve_ms: resolve,
+        clients,
+        sockets,
+        health,
     })
 }
 
+/// How often the rule at a place has names looked up.
+#[tactic(auto, unfolding(crate::specs::Rule::resolve_in))]
+fn resolve_of(place: Place, table: &Table) -> Result<Option<u64>, Fault>
+    ensures { result ≡ resolve_in place (table_view table.now) }
+{
+    let time = time_in(table, place, Key::Resolve)?;
+    Ok(time.unwrap_or(Some(DEFAULT_RESOLVE_MS)))
+}
+
 /// The rule's name, which no rule before it has.
-#[tactic(auto, unfolding(crate::specs::Config::name_in))]
+#[tactic(auto, unfolding(crate::specs::Rule::name_in))]
 fn name_of(before: &[Rule], table: &Table) -> Result<ArrayString<MAX_NAME_BYTES>, Fault>
     ensures { Reads (λ name. name.bytes) result
         (name_in (map rule_entry before.now) (table_view table.now)) }
@@ -113,7 +170,7 @@ fn name_of(before: &[Rule], table: &Table) -> Result<ArrayString<MAX_NAME_BYTES>
 }
 
 /// The name that a value spells, which no rule before this one has.
-#[tactic(auto, unfolding(crate::specs::Config::new_name))]
+#[tactic(auto, unfolding(crate::specs::Rule::new_name))]
 fn new_name(before: &[Rule], value: &Value) -> Result<ArrayString<MAX_NAME_BYTES>, Fault>
     ensures { Reads (λ name. name.bytes) result
         (new_name (map rule_entry before.now) (view value.now)) }

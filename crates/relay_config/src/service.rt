@@ -2,12 +2,14 @@
 //! it serves admin sessions.
 
 ghost use Rattle.toml.specs.View.{table_view};
-ghost use Rattle.relay_config.specs.Config.{service_entry, service_in};
+ghost use Rattle.relay_config.specs.Entries.{service_entry};
 ghost use Rattle.relay_config.specs.Fault.{Reads};
+ghost use Rattle.relay_config.specs.Service.{service_in};
 
 use crate::admin::{Admin, admin_in};
 use crate::fault::{Fault, Key, Place};
-use crate::values::{flag_in, listener_in, number_in};
+use crate::spelled::listener_in;
+use crate::values::{flag_in, number_in};
 use config_values::Addr;
 use toml::Table;
 
@@ -28,7 +30,7 @@ pub struct Service {
 }
 
 /// How a relay runs, as a table says.
-#[tactic(auto, unfolding(crate::specs::Config::service_in))]
+#[tactic(auto, unfolding(crate::specs::Service::service_in))]
 pub(crate) fn service_of(table: &Table) -> Result<Service, Fault>
     ensures { Reads service_entry result (service_in (table_view table.now)) }
 {

@@ -2,13 +2,16 @@
 
 ghost use Rattle.std.specs.Prelude.{◌≡◌, [], map};
 ghost use Rattle.toml.specs.View.{items_view, table_view, view};
-ghost use Rattle.relay_config.specs.Config.{target_behind, target_entry, target_in, targets_of};
+ghost use Rattle.relay_config.specs.Entries.{target_entry};
+ghost use Rattle.relay_config.specs.Rule.{target_behind, target_in, targets_of};
 ghost use Rattle.relay_config.specs.Fault.{Answers, Reads};
 ghost use Rattle.relay_config.specs.Reading.{each_in};
 
 use crate::fault::{Fault, Key, Place, Spot};
+use crate::items::{members_of, some_items};
+use crate::spelled::address_of_value;
 use crate::table::known_alone;
-use crate::values::{address_of_value, flag_in, members_of, needed, number_in, some_items};
+use crate::values::{flag_in, needed, number_in};
 use config_values::Addr;
 use std::alloc::Global;
 use toml::{Table, Value};
@@ -30,7 +33,7 @@ pub struct Target {
 pub(crate) const KEYS: &[Key] = &[Key::At, Key::Weight, Key::Backup];
 
 /// The targets of a rule, one at least.
-#[tactic(auto, unfolding(crate::specs::Config::targets_of))]
+#[tactic(auto, unfolding(crate::specs::Rule::targets_of))]
 pub(crate) fn targets_of(alloc: Global, rule: usize, table: &Table) -> Result<Vec<Target>, Fault>
     ensures { Answers (λ found. map target_entry found.items) result
         (targets_of rule (table_view table.now)) }
@@ -55,7 +58,7 @@ fn targets_in(alloc: Global, rule: usize, items: &[Value]) -> Result<Vec<Target>
 }
 
 /// The target behind these of a rule.
-#[tactic(auto, unfolding(crate::specs::Config::target_behind))]
+#[tactic(auto, unfolding(crate::specs::Rule::target_behind))]
 fn target_behind(rule: usize, found: &[Target], value: &Value) -> Result<Target, Fault>
     ensures { Reads target_entry result
         (target_behind rule (map target_entry found.now) (view value.now)) }
@@ -66,7 +69,7 @@ fn target_behind(rule: usize, found: &[Target], value: &Value) -> Result<Target,
 }
 
 /// The target that a table says.
-#[tactic(auto, unfolding(crate::specs::Config::target_in))]
+#[tactic(auto, unfolding(crate::specs::Rule::target_in))]
 fn target_of(place: Place, table: &Table) -> Result<Target, Fault>
     ensures { Reads target_entry result (target_in place (table_view table.now)) }
 {

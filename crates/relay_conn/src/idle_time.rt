@@ -1,10 +1,8 @@
 //! The idle time of a rule, and the moments that come of it.
 
-ghost use Rattle.std.specs.Prelude.{◌≡◌, ◌+◌, ◌*◌, ◌-◌, ◌^◌, ℕ, min, Some, None, IfSome, IfNone};
-ghost use Rattle.deadline_core.specs.declared.deadline.Deadline.{Deadline};
+ghost use Rattle.std.specs.Prelude.{◌≡◌};
 ghost use Rattle.relay_conn.specs.Deadlines.{IsIdleEnd};
 
-use deadline_core::Deadline;
 use relay_core::idle_deadline;
 use relay_facts::clock::Moments;
 
@@ -33,16 +31,5 @@ impl<C: Moments> IdleTime<C> {
     {
         let idle_ms = self.idle_ms?;
         Some(idle_deadline(self.clock.now(), idle_ms))
-    }
-
-    /// The moment now, and the deadline of a call that begins now; none without an idle time.
-    pub fn next_deadline(&self) -> Option<(u64, Deadline)>
-        ensures none { IfNone result (self.now.idle_ms ≡ None) }
-        ensures idle { IfSome result (λ r. (ms : ℕ) × (self.now.idle_ms ≡ Some ms)
-            × (r.1 ≡ Deadline.At (min (r.0 + ms * 1000000) (2 ^ 64 - 1)))) }
-    {
-        let idle_ms = self.idle_ms?;
-        let now = self.clock.now();
-        Some((now, Deadline::At(idle_deadline(now, idle_ms))))
     }
 }

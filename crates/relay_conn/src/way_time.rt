@@ -1,7 +1,7 @@
 //! When the calls of a way give up: plain values of the way's own, by its rule's idle time, or as a
 //! session said.
 
-ghost use Rattle.std.specs.Prelude.{◌≡◌, ◌↔◌, List, ◌∷◌, [], true, IfErr};
+ghost use Rattle.std.specs.Prelude.{◌≡◌, ◌↔◌, List, ◌∷◌, [], true, None, IsSome, IfErr};
 ghost use Rattle.deadline_core.specs.CallHistory.{CallEvent, Answered, HasHistory};
 ghost use Rattle.relay_conn.specs.Deadlines.{limit_moment, HasCome, BeginsCall, TellsCalls};
 ghost use Rattle.rwloops.specs.declared.fault.Fault.{Fault};
@@ -38,6 +38,8 @@ impl<C: Moments> WayTime<C> {
         ensures idle { self.new.idle ≡ self.old.idle }
         ensures begun { BeginsCall self.old.idle.idle_ms self.old.deadlines self.new.deadlines dir }
         ensures refused { IfErr result (λ fault. fault ≡ Fault.DeadlineExceeded) }
+        ensures untimed { IfErr result (λ _. self.old.idle.idle_ms ≡ None) }
+        ensures limited { IfErr result (λ _. IsSome (limit_moment self.new.deadlines dir)) }
     {
         let own = self.idle.next_moment();
         self.deadlines.begin(dir, own);
@@ -48,7 +50,9 @@ impl<C: Moments> WayTime<C> {
     }
 
     // Whether the calls of this direction give up by now. Without a deadline no clock is asked.
-    fn is_late(&self, dir: Dir) -> bool {
+    fn is_late(&self, dir: Dir) -> bool
+        ensures { result ≡ true → IsSome (limit_moment self.now.deadlines dir) }
+    {
         self.moment(dir).is_some() && self.has_passed(dir, self.idle.now())
     }
 

@@ -1,6 +1,9 @@
 pub mod Books
-pub mod BoundPath
+pub mod Clock
+pub mod Config
 pub mod Counts
 pub mod HowEnded
+pub mod LogLines
+pub mod RulesFile
 pub mod Safeguards
 pub mod Shown

@@ -1,5 +1,7 @@
 //! Moments of a clock that starts with the relay.
 
+ghost use Rattle.std.specs.Prelude.{◌≡◌};
+
 pub use relay_core::Moments;
 use std::time::{Clock, Instant};
 
@@ -12,7 +14,12 @@ pub struct RelayClock<R: Clock + Copy> {
 }
 
 impl<R: Clock + Copy> RelayClock<R> {
-    pub fn new(rt: R, start: Instant) -> RelayClock<R> {
+    ghost use Rattle.relay_facts.specs.Clock.{start_of};
+
+    /// One that tells the nanoseconds since this start.
+    pub fn new(rt: R, start: Instant) -> RelayClock<R>
+        ensures { start_of result ≡ start }
+    {
         RelayClock { rt, start }
     }
 }

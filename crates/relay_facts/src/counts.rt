@@ -232,7 +232,9 @@ impl RuleCounts {
     }
 
     /// Those of each loop, by its place.
-    pub(crate) fn loops(&self) -> &[LoopCounts] {
+    pub(crate) fn loops(&self) -> &[LoopCounts]
+        ensures { result.now ≡ self.now.by_loop.items }
+    {
         self.by_loop.as_slice()
     }
 

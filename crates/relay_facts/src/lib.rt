@@ -4,7 +4,6 @@
 #![tactic(auto)]
 
 pub mod books;
-pub mod bound_path;
 pub mod clock;
 pub mod config;
 pub mod connection_facts;
@@ -15,5 +14,6 @@ pub mod rule_figures;
 pub mod rules_file;
 pub mod safeguards;
 pub mod served_rule;
+pub mod settings;
 pub mod shown;
 pub mod totals;

@@ -1,6 +1,8 @@
 //! The lines that a connection's end and a refused client bring to the log.
 
-ghost use Rattle.std.specs.Prelude.{◌≡◌, Option, Some, None, option_map};
+ghost use Rattle.std.specs.Prelude.{◌≡◌, ◌/◌, Option, Some, None, IfOk, OnErr, option_map};
+ghost use Rattle.std.specs.Duration.{as_nanos};
+ghost use Rattle.relay_facts.specs.LogLines.{IsMsOfDay};
 ghost use Rattle.relay_admin.specs.rules.Addr.{address_of, address_text};
 ghost use Rattle.relay_admin.specs.admin.Shown.{peer_of, peer_text};
 
@@ -12,12 +14,16 @@ use relay_admin::{MAX_ADDR_BYTES, peer_name};
 use relay_log::ended::{Ended, Reason};
 use relay_log::line::LogLine;
 use relay_log::moment::Moment;
+use std::io;
 use std::sync::Wait;
-use std::time::Clock;
+use std::time::{Clock, Duration};
 
-// The moment by the calendar; where that can't be told, the first of all.
-fn moment_now<R: Clock>(rt: &R) -> Moment {
-    match rt.since_1970() {
+// The moment by a calendar that has told what passed since 1970; where it couldn't, the first of all.
+fn moment_of(told: io::Result<Duration>) -> Moment
+    ensures told { IfOk told (λ passed. IsMsOfDay (as_nanos passed / 1000000) result.ms_of_day) }
+    ensures untold { OnErr told (result.ms_of_day ≡ 0) }
+{
+    match told {
         Ok(passed) => Moment::from_millis(u64::try_from(passed.as_millis()).unwrap_or(u64::MAX)),
         Err(_) => Moment::from_millis(0),
     }
@@ -122,7 +128,7 @@ impl Parties {
 fn tell<R: Wait + Clock>(rt: &R, log: &Log, acceptance: &Acceptance, now: u64, outcome: &Outcome) {
     let parties = Parties::of(acceptance);
     let line = outcome.line(
-        moment_now(rt),
+        moment_of(rt.since_1970()),
         acceptance.rule.name.as_str(),
         parties.client.as_str(),
         parties.target.as_str(),
@@ -160,7 +166,7 @@ pub fn tell_accept_fault<R: Wait + Clock>(rt: &R, log: &Log, served: &ServedRule
     let rule = served.rule(rt);
     let (listen, target) = (served.listen.text(), rule.target.text());
     let line = Outcome::refused(Ended::Accept(why)).line(
-        moment_now(rt),
+        moment_of(rt.since_1970()),
         rule.name.as_str(),
         listen.as_str(),
         target.as_str(),

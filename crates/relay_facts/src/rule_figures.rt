@@ -1,6 +1,6 @@
 //! What the metrics tell of a rule: the sums of what all loops count.
 
-ghost use Rattle.std.specs.Prelude.{◌≡◌};
+ghost use Rattle.std.specs.Prelude.{◌≡◌, ◌+◌, ◌-◌, ◌^◌, min};
 
 use crate::counts::{Counter, RuleCounts};
 use crate::served_rule::ServedRule;
@@ -8,14 +8,17 @@ use relay_log::ended::{CAUSES, ENDS};
 use relay_metrics::{CarriedBytes, Refusals, RuleFigures};
 use std::sync::Wait;
 
-fn add(sum: &mut u64, counter: &Counter) {
-    *sum = sum.saturating_add(counter.get());
+// A sum past the greatest `u64` stays that.
+fn add(sum: &mut u64, count: u64)
+    ensures { sum.new ≡ min (sum.old + count) (2 ^ 64 - 1) }
+{
+    *sum = sum.saturating_add(count);
 }
 
 // Adds to sums those counts, place by place.
 fn add_each(sums: &mut [u64], counters: &[Counter]) {
     for (sum, counter) in sums.iter_mut().zip(counters) {
-        add(sum, counter);
+        add(sum, counter.get());
     }
 }
 
@@ -35,16 +38,16 @@ fn sums(counts: &RuleCounts) -> (u64, CarriedBytes, Refusals) {
     let mut connections = 0u64;
     let mut bytes = CarriedBytes::default();
     let mut refused = Refusals::default();
-    add(&mut refused.full, &counts.full);
-    add(&mut refused.rule_full, &counts.rule_full);
-    add(&mut refused.no_memory, &counts.no_memory);
+    add(&mut refused.full, counts.full.get());
+    add(&mut refused.rule_full, counts.rule_full.get());
+    add(&mut refused.no_memory, counts.no_memory.get());
     for counted in counts.loops() {
-        connections = connections.saturating_add(counted.standing());
-        add(&mut bytes.up, &counted.up);
-        add(&mut bytes.down, &counted.down);
-        add(&mut refused.no_target, &counted.no_target);
-        add(&mut refused.no_memory, &counted.no_memory);
-        add(&mut refused.descriptors, &counted.no_descriptors);
+        add(&mut connections, counted.standing());
+        add(&mut bytes.up, counted.up.get());
+        add(&mut bytes.down, counted.down.get());
+        add(&mut refused.no_target, counted.no_target.get());
+        add(&mut refused.no_memory, counted.no_memory.get());
+        add(&mut refused.descriptors, counted.no_descriptors.get());
     }
     (connections, bytes, refused)
 }

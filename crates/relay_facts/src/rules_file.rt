@@ -1,9 +1,11 @@
 //! Reading a rules file.
 
-ghost use Rattle.std.specs.Prelude.{◌≡◌, ◌<◌, ◌≤◌, ◌+◌, length, IfOk, IfErr};
+ghost use Rattle.std.specs.Prelude.{◌≡◌, ◌<◌, ◌≤◌, ◌+◌, length, IfOk, IfErr, OnErr};
 ghost use Rattle.std.specs.Io.KnownBytes.{Consumes, IsAtEnd};
 ghost use Rattle.relay_admin.specs.declared.rules.file.TheConstants.{MAX_BYTES};
 ghost use Rattle.relay_admin.specs.ServeFault.{IsReadFault};
+ghost use Rattle.relay_admin.specs.rules.Fault.{SaysRules};
+ghost use Rattle.relay_facts.specs.RulesFile.{HasFault};
 
 use relay_admin::{MAX_BYTES, Rules, ServeFault};
 use std::alloc::Global;
@@ -59,10 +61,12 @@ pub fn text_of<R: Files>(rt: &R, alloc: Global, path: &str) -> Result<Vec<u8>, S
     text_on(alloc, &mut ReaderSource::new(&mut file))
 }
 
-/// The rules in a file.
-pub(crate) fn rules_in<R: Files>(rt: &R, alloc: Global, path: &str) -> Result<Rules, ServeFault> {
-    let text = text_of(rt, alloc, path)?;
-    match Rules::parse(text.as_slice()) {
+/// The rules that a text says; or that it says none, by the fault of a start.
+pub(crate) fn rules_of(text: &[u8]) -> Result<Rules, ServeFault>
+    ensures rules { IfOk result (λ rules. SaysRules text.now rules) }
+    ensures bad { OnErr result (HasFault text.now) }
+{
+    match Rules::parse(text) {
         Ok(rules) => Ok(rules),
         Err(fault) => Err(ServeFault::of_rules(fault)),
     }

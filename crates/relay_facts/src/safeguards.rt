@@ -5,6 +5,14 @@ ghost use Rattle.relay_facts.specs.Safeguards.{IsAtRuleLimit};
 
 use relay_core::PairLimit;
 
+/// How many milliseconds a target has to be connected where nobody asks for another time. This
+/// project's own rule. The clauses that stand on it have the figures themselves, so that others are
+/// refused.
+pub const DEFAULT_CONNECT_MS: u32 = 5_000;
+
+/// The most that may be asked for: a day.
+pub const MAX_CONNECT_MS: u64 = 86_400_000;
+
 /// How long targets may keep connections waiting, how many of these a rule may have, and what
 /// becomes of sockets that were left at Unix paths.
 #[derive(Clone, Copy, Debug, PartialEq, Eq, Drop)]

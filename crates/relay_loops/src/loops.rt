@@ -11,7 +11,7 @@ ghost use Rattle.relay_loops.specs.Turns as spec;
 ghost use Rattle.relay_loops.specs.Turns.{IsTurnOf, StayArmed, IsPollerFault};
 ghost use Rattle.relay_shared.specs.Index.{gone_id};
 
-use crate::taken::{Next, Taken};
+use crate::taken::Taken;
 use fd_descriptor::PollCell;
 use readiness::{EventLoop, Host, Side, Turn, Why};
 use relay_admin::ServeFault;
@@ -162,20 +162,14 @@ impl<U: Ledger, D: Ledger, R: Wait + Net + Clock + Copy> LoopHost<U, D, R> {
     {
         let mut taken = self.take_inbox();
         loop {
-            taken = match taken.next() {
-                Next::Request(request, rest) => {
-                    self.serve(tasks, request);
-                    rest
-                }
-                Next::Socket(delivered, rest) => {
-                    self.set_up(tasks, delivered);
-                    rest
-                }
-                Next::Nothing(inbox) => {
-                    self.spare = inbox;
-                    return;
-                }
-            };
+            if let Some(request) = taken.next_request() {
+                self.serve(tasks, request);
+            } else if let Some(delivered) = taken.next_socket() {
+                self.set_up(tasks, delivered);
+            } else {
+                self.spare = taken.emptied();
+                return;
+            }
         }
     }
 

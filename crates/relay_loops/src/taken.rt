@@ -1,14 +1,16 @@
 //! What a loop has taken out of its inbox, of which nothing can be let go.
 
-ghost use Rattle.std.specs.Prelude.{◌≡◌};
-ghost use Rattle.relay_loops.specs.Taken.{accepted_of, IsTakenNext};
+ghost use Rattle.std.specs.Prelude.{◌≡◌, ◌∷◌, [], IfSome, IfNone};
+ghost use Rattle.relay_loops.specs.Taken.{accepted_of, NothingWaits};
+ghost use Rattle.relay_shared.specs.Inbox.{IsTaken, requests_in, sockets_in};
 
 use crate::arrival::Arrival;
 use readiness::Sock;
 use relay_shared::inbox::{Accepted, Counted, Inbox};
 use relay_shared::requests::Request;
 
-/// What waited in an inbox. It can't be dropped: what comes next is taken out until nothing is left.
+/// What waited in an inbox. It can't be dropped: what waits is taken out where it lies, until nothing
+/// is left.
 pub(crate) struct Taken {
     inbox: Inbox,
 }
@@ -18,16 +20,6 @@ pub(crate) struct Delivered {
     pub(crate) sock: Sock,
     pub(crate) arrival: Arrival,
     pub(crate) counted: Counted,
-}
-
-/// What comes next of it, and the rest.
-pub(crate) enum Next {
-    /// The first request, which is to be answered.
-    Request(Request, Taken),
-    /// The first socket, where there is no request.
-    Socket(Delivered, Taken),
-    /// Nothing is left: the empty inbox.
-    Nothing(Inbox),
 }
 
 impl Delivered {
@@ -55,18 +47,37 @@ impl Taken {
         Taken { inbox }
     }
 
-    /// Takes out what comes next.
-    pub(crate) fn next(self) -> Next
-        ensures { IsTakenNext self result }
+    /// Takes out the first request, which is to be answered.
+    pub(crate) fn next_request(&mut self) -> Option<Request>
+        ensures first { IfSome result (λ request.
+            IsTaken request (requests_in self.old.inbox) (requests_in self.new.inbox)) }
+        ensures none { IfNone result (requests_in self.old.inbox ≡ []) }
+        ensures kept { IfNone result (requests_in self.new.inbox ≡ []) }
+        ensures sockets { sockets_in self.new.inbox ≡ sockets_in self.old.inbox }
+    {
+        self.inbox.next_request()
+    }
+
+    /// Takes out the first socket.
+    pub(crate) fn next_socket(&mut self) -> Option<Delivered>
+        ensures first { IfSome result (λ delivered. sockets_in self.old.inbox
+            ≡ accepted_of delivered ∷ sockets_in self.new.inbox) }
+        ensures none { IfNone result (sockets_in self.old.inbox ≡ []) }
+        ensures kept { IfNone result (sockets_in self.new.inbox ≡ []) }
+        ensures requests { requests_in self.new.inbox ≡ requests_in self.old.inbox }
+    {
+        match self.inbox.next_socket() {
+            Some(accepted) => Some(Delivered::of(accepted)),
+            None => None,
+        }
+    }
+
+    /// The inbox, once nothing waits there.
+    pub(crate) fn emptied(self) -> Inbox
+        requires { NothingWaits self.inbox }
+        ensures { result ≡ self.inbox }
     {
         let Taken { inbox } = self;
-        let mut inbox = inbox;
-        if let Some(request) = inbox.next_request() {
-            return Next::Request(request, Taken { inbox });
-        }
-        match inbox.next_socket() {
-            Some(accepted) => Next::Socket(Delivered::of(accepted), Taken { inbox }),
-            None => Next::Nothing(inbox),
-        }
+        inbox
     }
 }

@@ -1,5 +1,5 @@
 -- What stands through a bind, and through its undoing.
-use Rattle.std.proofs.Common.{◌≡◌, ◌≢◌, ◌+◌, ◌*◌, ◌∙◌, sym, ap, refl, subst, ℕ, true, List, [], ◌∷◌, Option, Some, None, arith, rules}
+use Rattle.std.proofs.Common.{◌≡◌, ◌≢◌, ◌∙◌, sym, ap, refl, subst, ℕ, true, List, [], ◌∷◌, Option, Some, None, arith, rules}
 use Rattle.std.specs.Prelude.{All}
 use Rattle.std.proofs.lemmas.List.Elements.{All-append}
 use Rattle.std.specs.Arc.{arc_value}

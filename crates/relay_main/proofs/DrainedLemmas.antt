@@ -1,5 +1,5 @@
 -- What a drain did that a handle was made for.
-use Rattle.std.proofs.Common.{◌≡◌, ◌∙◌, ℕ, Result, Ok, Err, arith}
+use Rattle.std.proofs.Common.{◌≡◌, ◌∙◌, Result, Ok, Err, arith}
 use Rattle.std.specs.Prelude.{OnOk}
 use Rattle.rwloops.specs.declared.fault.Fault.{Fault}
 use Rattle.fd_descriptor.specs.declared.descriptor.Fd.{Fd}

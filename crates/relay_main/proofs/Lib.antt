@@ -1,4 +1,5 @@
 pub mod BindingLemmas
+pub mod ClosingLemmas
 pub mod DrainedLemmas
 pub mod EndingLemmas
 pub mod ListeningLemmas

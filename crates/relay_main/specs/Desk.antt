@@ -1,5 +1,5 @@
 -- What an admin session is answered.
-use Rattle.std.specs.Prelude.{Option, Some, None, Result, Ok, Err}
+use Rattle.std.specs.Prelude.{◌≡◌, ◌⊎◌, Option, Some, None, Result, Ok, Err}
 use Rattle.rwloops.specs.declared.fault.Fault.{Fault}
 use Rattle.rwloops.specs.declared.fault.Fault.TheVariants as fault
 use Rattle.relay_admin.specs.declared.admin.answers.CloseAnswer.{CloseAnswer}
@@ -37,3 +37,8 @@ late_answer (answer.Close (Some gone)) = late.Close closing.Fine
 late_answer (answer.Close None) = late.Close closing.Unknown
 late_answer (answer.Drain done) = late.Drain (steered_answer done)
 late_answer (answer.Deadline done) = late.Deadline (steered_answer done)
+
+-- the answer to a drain or a deadline of which no loop was asked: no connection has the id, or memory
+-- was refused
+abbrev pub IsNotSteered : SteerAnswer → Type 0
+IsNotSteered answer = (answer ≡ steering.Unknown) ⊎ (answer ≡ steering.NoMemory)

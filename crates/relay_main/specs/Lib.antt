@@ -1,13 +1,17 @@
 pub mod Accepting
 pub mod Accounts
 pub mod Binding
+pub mod Closing
 pub mod Deadlines
 pub mod Desk
 pub mod Ending
 pub mod Finishing
 pub mod Listening
+pub mod Opening
 pub mod Pauses
 pub mod Plan
 pub mod Reload
+pub mod RuleListeners
+pub mod RuleTask
 pub mod Session
 pub mod Sessions

@@ -1,5 +1,5 @@
 -- The listeners that a relay was started with.
-use Rattle.std.specs.Prelude.{Bool, List, Option, find, remove, ⊤}
+use Rattle.std.specs.Prelude.{◌≡◌, Bool, List, Option, find, remove}
 use Rattle.std.specs.Option.{option_map}
 use Rattle.std.specs.List.{position_or_len}
 use Rattle.readiness.specs.declared.sock.Listen.{Listen}
@@ -8,6 +8,7 @@ use Rattle.relay_admin.specs.rules.Addr.{address_of, same_address}
 use Rattle.relay_main.specs.declared.listening.GivenListener.{GivenListener}
 use Rattle.relay_main.specs.declared.listening.Opened.{Opened}
 use Rattle.relay_main.specs.declared.listening.Opened.TheVariants.{Given, Bound}
+use Rattle.relay_shared.specs.BoundPath.{bound_addr}
 
 -- a listener is given at this address
 abbrev pub is_at : Addr → GivenListener → Bool
@@ -21,7 +22,7 @@ given_at addr all = option_map (λ given. given.listener) (find (is_at addr) all
 abbrev pub left_by : Addr → List GivenListener → List GivenListener
 left_by addr all = remove all (position_or_len (is_at addr) all)
 
--- a listener was bound just now
-abbrev pub IsBound : Opened → Type 0
-IsBound (Given listener) = ⊥
-IsBound (Bound listener) = ⊤
+-- a listener was bound just now at this address, and its path is ours
+abbrev pub IsBoundAt : Addr → Opened → Type 0
+IsBoundAt addr (Given listener) = ⊥
+IsBoundAt addr (Bound listener path) = bound_addr path ≡ addr

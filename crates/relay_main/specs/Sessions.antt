@@ -44,3 +44,11 @@ is_held_at None = false
 -- the reply of one of them does
 abbrev pub are_held : List (Option (Box Seated)) → Bool
 are_held places = list_any is_held_at places
+
+-- the session at this place waits for no answer
+abbrev pub IsFreeAt : List (Option (Box Seated)) → ℕ → Type 0
+IsFreeAt places place = (session : Box Seated) × MayLeave places place session
+
+-- no session is at this place
+abbrev pub IsNobodyAt : List (Option (Box Seated)) → ℕ → Type 0
+IsNobodyAt places place = (session : Box Seated) → slice_get places place ≡ Some (Some session) → ⊥

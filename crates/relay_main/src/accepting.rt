@@ -1,8 +1,11 @@
 //! Accepting, by tasks of the main thread's loop: each goes on when its listener may be ready. A
 //! rule's delivers to the loops, and that of the admin socket to the main thread.
 
-ghost use Rattle.std.specs.Prelude.{◌≡◌, ◌↔◌, true};
+ghost use Rattle.std.specs.Prelude.{◌≡◌, ◌≢◌, ◌↔◌, ◌++◌, ◌∷◌, [], true, false, IsSome, OnOk};
+ghost use Rattle.fd_descriptor.specs.TaskHalf.{descriptor_of_half};
+ghost use Rattle.readiness.specs.declared.tasks.Turn.{Turn};
 ghost use Rattle.relay_main.specs.Accepting.{turn_of};
+ghost use Rattle.relay_main.specs.Closing.{WasClosed};
 
 use crate::admin::{AdminDoor, AdminTask, Caller};
 use crate::main_host::MainHost;
@@ -48,7 +51,11 @@ fn begins_row(pause_ms: u64) -> bool
 impl<R: Wait + Clock + Copy, C: Moments> MainHost<R, C> {
     /// Has a rule's task go on. One that has ended is closed, also where it was drained: else its
     /// clients would wait in the system's queue, and nobody would come for them.
-    pub(crate) fn resume_rule(&mut self, task: &mut RuleTask<R>) -> Turn {
+    pub(crate) fn resume_rule(&mut self, task: &mut RuleTask<R>) -> Turn
+        ensures served { task.new.served ≡ task.old.served }
+        ensures place { task.new.place ≡ task.old.place }
+        ensures paused { IsSome task.new.paused_until → result ≡ Turn.Waits }
+    {
         if self.is_paused(task.place, &mut task.paused_until) {
             return Turn::Waits;
         }
@@ -81,13 +88,19 @@ impl<R: Wait + Clock + Copy, C: Moments> MainHost<R, C> {
     // wait in the system's queue, and nobody would come for them.
     fn begin_anew(&mut self, task: &mut RuleTask<R>)
         ensures anew { task.new.accepting ≡ 0 }
+        ensures served { task.new.served ≡ task.old.served }
+        ensures place { task.new.place ≡ task.old.place }
     {
         self.pause(task.place, &mut task.paused_until, RESTART_MS);
         task.accepting = Accepting::new();
     }
 
     // Takes over one that came, if there is memory.
-    fn take_caller(&mut self, caller: Caller) -> bool {
+    fn take_caller(&mut self, caller: Caller) -> bool
+        ensures taken { result ≡ true
+            → self.new.callers.items ≡ self.old.callers.items ++ caller ∷ [] }
+        ensures dropped { result ≡ false → self.new.callers.items ≡ self.old.callers.items }
+    {
         match self.callers.push(caller) {
             Ok(()) => true,
             Err(_) => false,
@@ -95,7 +108,11 @@ impl<R: Wait + Clock + Copy, C: Moments> MainHost<R, C> {
     }
 
     // Takes over who came. One for whom there is no memory is dropped, and counted.
-    fn take_callers(&mut self, door: &mut AdminDoor) {
+    fn take_callers(&mut self, door: &mut AdminDoor)
+        ensures taken { door.new.callers.items ≡ [] }
+        ensures told { door.new.dropped ≡ 0 }
+        ensures listener { door.new.listener ≡ door.old.listener }
+    {
         for caller in door.callers.drain(..) {
             self.shared.sessions.add(1);
             if !self.take_caller(caller) {
@@ -107,7 +124,11 @@ impl<R: Wait + Clock + Copy, C: Moments> MainHost<R, C> {
     }
 
     /// Accepts sessions. However many faults come in a row, it goes on.
-    pub(crate) fn accept_sessions(&mut self, task: &mut AdminTask) -> Turn {
+    pub(crate) fn accept_sessions(&mut self, task: &mut AdminTask) -> Turn
+        ensures goes_on { result ≢ Turn.Over }
+        ensures place { task.new.place ≡ task.old.place }
+        ensures paused { IsSome task.new.paused_until → result ≡ Turn.Waits }
+    {
         if self.is_paused(task.place, &mut task.paused_until) {
             return Turn::Waits;
         }
@@ -143,7 +164,9 @@ impl<R: Wait + Clock + Copy, C: Moments> MainHost<R, C> {
 
     /// Ends a rule's task, and closes its listener: first nobody finds it any more, and the accept
     /// under way ends, for which the close would wait.
-    pub(crate) fn close_rule(&self, task: RuleTask<R>) -> Result<(), Fault> {
+    pub(crate) fn close_rule(&self, task: RuleTask<R>) -> Result<(), Fault>
+        ensures { OnOk result (WasClosed (descriptor_of_half task.listener.half)) }
+    {
         let RuleTask {
             served,
             place,

@@ -2,7 +2,8 @@
 //! counted of it. An account is by the rule's listening address. It outlives the rule's listener, and
 //! its place in the file as long as connections of it stand.
 
-ghost use Rattle.std.specs.Prelude.{◌≡◌, true, IfSome, IfNone, IfOk, option_copied};
+ghost use Rattle.std.specs.Prelude.{◌≡◌, true, IfSome, IfNone, IfOk, IfErr, option_copied};
+ghost use Rattle.relay_admin.specs.declared.serve_fault.ServeFault.{ServeFault};
 ghost use Rattle.std.specs.Arc.{arc_value};
 ghost use Rattle.std.specs.List.{position_or_len};
 ghost use Rattle.relay_facts.specs.Counts.{loops_of};
@@ -56,6 +57,7 @@ pub(crate) fn account_of(
         (IfOk result (λ served. (arc_value served).listen ≡ rule.now.listen)) }
     ensures loops { IfNone (spec.account_at rule.now.listen accounts.now)
         (IfOk result (λ served. loops_of (arc_value served).counts ≡ loops)) }
+    ensures faults { IfErr result (λ fault. fault ≡ ServeFault.Memory) }
 {
     match account_at(accounts, &rule.listen) {
         Some(account) => Ok(Arc::try_clone(account)?),
@@ -70,7 +72,8 @@ pub(crate) fn accounts_of(
     rules: &[Rule],
     loops: usize,
 ) -> Result<Vec<Arc<ServedRule>>, ServeFault>
-    ensures { IfOk result (λ all. spec.AreAccountsOf rules.now all.items) }
+    ensures accounts { IfOk result (λ all. spec.AreAccountsOf rules.now all.items) }
+    ensures faults { IfErr result (λ fault. fault ≡ ServeFault.Memory) }
 {
     let mut all = Vec::new(alloc);
     for rule in rules {
@@ -88,8 +91,8 @@ pub(crate) fn without_rules(accounts: Vec<Arc<ServedRule>>, rules: &[Rule]) -> V
     accounts
 }
 
-// Whether a rule of these listens at this address.
-fn is_listened_at(rules: &[Rule], listen: &Addr) -> bool
+/// Whether a rule of these listens at this address.
+pub(crate) fn is_listened_at(rules: &[Rule], listen: &Addr) -> bool
     ensures { result ≡ spec.is_listened_at listen.now rules.now }
 {
     rules.iter().any(|rule| is_same_addr(&rule.listen, listen))

@@ -1,16 +1,23 @@
 //! The binds of a reload: all rules that are to be bound are listened for, or none.
 
-ghost use Rattle.std.specs.Prelude.{◌≡◌, ◌≢◌, ℕ, None, All, IfOk, OnOk};
+ghost use Rattle.std.specs.Prelude.{◌≡◌, ◌≢◌, ℕ, Ok, None, All, IfOk, IfErr, OnOk, IfSome};
+ghost use Rattle.std.specs.Prelude.{IsSome, IsNone};
 ghost use Rattle.std.specs.Arc.{arc_value};
 ghost use Rattle.readiness.specs.EventLoop.{tasks_of};
 ghost use Rattle.readiness.specs.LoopToken.{place_in};
 ghost use Rattle.readiness.specs.Tasks.{task_in};
-ghost use Rattle.relay_main.specs.Binding.{HasCome, IsListenedFor, StillStand};
+ghost use Rattle.relay_admin.specs.ServeFault.{IsRunFault};
+ghost use Rattle.relay_main.specs.Binding.{HasCome, IsBindFault, IsListenFault, IsListenedFor};
+ghost use Rattle.relay_main.specs.Binding.{IsNoted, KeepsPath, StillStand};
+ghost use Rattle.relay_main.specs.Listening.{given_at, left_by};
+ghost use Rattle.relay_shared.specs.BoundPath.{paths_in};
 
 use crate::accounts::account_of;
 use crate::ending::LastClients;
+use crate::listening::Opened;
 use crate::main_loop::MainLoop;
-use crate::opening::listen_by;
+use crate::opening::hold_shared;
+use readiness::Listen;
 use relay_admin::{Rule, ServeFault};
 use relay_facts::served_rule::ServedRule;
 use std::fs::Files;
@@ -51,6 +58,7 @@ impl<R: Wait + Net + Files + Clock + Copy> MainLoop<R> {
         ensures stand { StillStand (tasks_of self.old.tasks) (tasks_of self.new.tasks) }
         ensures bound { OnOk result
             (All (λ rule. IsListenedFor rule (tasks_of self.new.tasks)) rules.now) }
+        ensures faults { IfErr result IsBindFault }
     {
         let Some((rule, rest)) = rules.split_first() else {
             return Ok(AllBound { by_last: () });
@@ -63,24 +71,25 @@ impl<R: Wait + Net + Files + Clock + Copy> MainLoop<R> {
                 Ok(bound)
             }
             Err(fault) => {
-                self.let_go(rt, &*served, begun);
+                self.let_go(rt, rule, begun);
                 Err(fault)
             }
         }
     }
 
     // Ends a listener that was bound just now, and removes its path.
-    fn let_go(&mut self, rt: &R, served: &ServedRule, begun: Begun)
+    fn let_go(&mut self, rt: &R, rule: &Rule, begun: Begun)
         ensures gone { task_in (tasks_of self.new.tasks) begun.token ≡ None }
         ensures others { (other : ℕ) → place_in other ≢ place_in begun.token →
             task_in (tasks_of self.new.tasks) other ≡ task_in (tasks_of self.old.tasks) other }
     {
         let Begun { token } = begun;
         self.end_rule(token, LastClients::AreReset);
-        served.remove_path(rt);
+        self.paths.remove_at(rt, &rule.listen);
     }
 
-    // Listens for a rule that has no listener. The path that one before it left goes first.
+    // Listens for a rule that has no listener. The path that one before it left goes first, and
+    // after a fault there is none of this one.
     fn bind(
         &mut self,
         rt: &R,
@@ -91,25 +100,71 @@ impl<R: Wait + Net + Files + Clock + Copy> MainLoop<R> {
         ensures stand { StillStand (tasks_of self.old.tasks) (tasks_of self.new.tasks) }
         ensures come { IfOk result (λ begun. HasCome (arc_value served.now)
             (tasks_of self.old.tasks) (tasks_of self.new.tasks) begun.token) }
+        ensures faults { IfErr result (IsListenFault rule.now.name) }
     {
-        served.remove_path(rt);
+        self.paths.remove_at(rt, &rule.listen);
+        let socket = self.open(rt, rule)?;
+        match self.begin(rt, socket, served, now) {
+            Ok(token) => Ok(Begun { token }),
+            Err(fault) => {
+                self.paths.remove_at(rt, &rule.listen);
+                Err(fault)
+            }
+        }
+    }
+
+    // Listens at a rule's address. The path of one that isn't given is kept, for its removal.
+    fn open(&mut self, rt: &R, rule: &Rule) -> Result<Listen, ServeFault>
+        ensures given { IfSome (given_at rule.now.listen self.old.listeners.given.items)
+            (λ listener. result ≡ Ok listener) }
+        ensures no_path { IsSome (given_at rule.now.listen self.old.listeners.given.items)
+            → paths_in self.new.paths ≡ paths_in self.old.paths }
+        ensures path { IsNone (given_at rule.now.listen self.old.listeners.given.items)
+            → OnOk result (KeepsPath rule.now.listen self.old.paths self.new.paths) }
+        ensures left { self.new.listeners.given.items
+            ≡ left_by rule.now.listen self.old.listeners.given.items }
+        ensures tasks { self.new.tasks ≡ self.old.tasks }
+        ensures faults { IfErr result (IsListenFault rule.now.name) }
+    {
+        match self.listeners.open(rt, &rule.listen) {
+            Ok(Opened::Given(socket)) => Ok(socket),
+            Ok(Opened::Bound(socket, path)) => {
+                self.paths.keep(rt, path)?;
+                Ok(socket)
+            }
+            Err(_) => Err(ServeFault::Listen(rule.name)),
+        }
+    }
+
+    // Has a task accept from this socket, by this account, and notes its listener.
+    fn begin(
+        &mut self,
+        rt: &R,
+        socket: Listen,
+        served: &Arc<ServedRule>,
+        now: u64,
+    ) -> Result<u64, ServeFault>
+        ensures stand { StillStand (tasks_of self.old.tasks) (tasks_of self.new.tasks) }
+        ensures come { IfOk result (λ token. HasCome (arc_value served.now)
+            (tasks_of self.old.tasks) (tasks_of self.new.tasks) token) }
+        ensures noted { IfOk result (λ token. IsNoted (arc_value served.now).listen token
+            self.old.listening.items self.new.listening.items) }
+        ensures faults { IfErr result IsRunFault }
+    {
         let MainLoop {
             alloc,
             tasks,
             host,
-            listeners,
             ..
         } = self;
-        let token = listen_by(
-            rt,
-            *alloc,
-            tasks,
-            &host.shared.index,
-            rule,
-            served,
-            listeners,
-            now,
-        )?;
-        Ok(Begun { token })
+        let one = hold_shared(rt, *alloc, tasks, &host.shared.index, socket, served, now)?;
+        let token = one.token;
+        match self.listening.push(one) {
+            Ok(()) => Ok(token),
+            Err(_) => {
+                self.end_rule(token, LastClients::AreReset);
+                Err(ServeFault::Memory)
+            }
+        }
     }
 }

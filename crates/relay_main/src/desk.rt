@@ -1,22 +1,30 @@
 //! What an admin session asks, over the relay's index and books.
 
-ghost use Rattle.std.specs.Prelude.{◌≡◌, None, IfSome};
+ghost use Rattle.std.specs.Prelude.{◌≡◌, ◌<◌, AllPairs, None, IfOk, IfSome, option_and_then, option_copied};
+ghost use Rattle.readiness.specs.EventLoop.{tasks_of};
+ghost use Rattle.readiness.specs.Tasks.{task_in};
 ghost use Rattle.relay_admin.specs.declared.admin.answers.CloseAnswer.{CloseAnswer};
 ghost use Rattle.relay_admin.specs.declared.admin.answers.SteerAnswer.{SteerAnswer};
 ghost use Rattle.relay_main.specs.Deadlines.{asked_deadline};
-ghost use Rattle.relay_main.specs.Desk.{closed_answer, late_answer, steered_answer};
+ghost use Rattle.relay_main.specs.Desk.{IsNotSteered, closed_answer, late_answer, steered_answer};
+ghost use Rattle.relay_main.specs.RuleListeners.{token_with};
+ghost use Rattle.relay_main.specs.RuleTask.{rule_task_in};
 ghost use Rattle.relay_main.specs.declared.desk.NotAsked.{NotAsked};
 
 use crate::main_loop::MainLoop;
+use crate::main_task::MainTask;
+use crate::rule_task::RuleTask;
 use deadline_core::Deadline;
 use relay_admin::{
     CloseAnswer, LateAnswer, ReloadAnswer, SessionDesk, Shown, SteerAnswer, TotalBytes,
 };
 use relay_core::idle_deadline;
 use relay_facts::clock::Moments;
+use relay_facts::shown::shown_listener;
+use relay_shared::inbox::Woken;
 use relay_shared::loop_handle::totals_of;
 use relay_shared::requests::{Answer, Asks, Question};
-use relay_shared::standing::{Whereabouts, find_side, shown};
+use relay_shared::standing::{Whereabouts, find_side, shown_of_side};
 use rwloops::Fault;
 use std::alloc::{AllocError, Global};
 use std::fs::Files;
@@ -121,9 +129,24 @@ impl<'a, R: Wait + Clock + Copy> RelayDesk<'a, R> {
         RelayDesk { main, place }
     }
 
-    fn all_ids(&self, alloc: Global) -> Result<Vec<u64>, AllocError> {
+    // All ids that stand, each once.
+    fn all_ids(&self, alloc: Global) -> Result<Vec<u64>, AllocError>
+        ensures rising { IfOk result (λ ids. AllPairs (λ id later. id < later) ids.items) }
+    {
         let rt = self.main.host.rt;
         self.main.host.shared.index.lock(&rt).ids(alloc)
+    }
+
+    // The rule's task whose listener has this id.
+    fn rule_task(&self, id: u64) -> Option<&RuleTask<R>>
+        ensures { option_copied result ≡ rule_task_in (option_and_then
+            (task_in (tasks_of self.now.main.now.tasks))
+            (token_with id self.now.main.now.listening.items)) }
+    {
+        match self.main.tasks.task(self.main.listener_token(id)?) {
+            Some(MainTask::Rule(task)) => Some(task),
+            _ => None,
+        }
     }
 
     fn seen(&self, id: u64) -> Option<Shown>
@@ -131,8 +154,11 @@ impl<'a, R: Wait + Clock + Copy> RelayDesk<'a, R> {
     {
         let rt = self.main.host.rt;
         let now = self.main.host.clock.now();
+        if let Some(task) = self.rule_task(id) {
+            return Some(shown_listener(&rt, &*task.served, id, task.listener.times, now));
+        }
         let index = self.main.host.shared.index.lock(&rt);
-        shown(&*index, &rt, id, now)
+        shown_of_side(&*index, id, now)
     }
 
     fn whereabouts(&self, id: u64) -> Option<Whereabouts> {
@@ -142,22 +168,24 @@ impl<'a, R: Wait + Clock + Copy> RelayDesk<'a, R> {
     }
 
     // Asks the loop of the connection with this id: the session waits for its answer from then on.
-    fn ask(&self, id: u64, asks: Asks) -> Result<(), NotAsked> {
+    fn ask(&self, id: u64, asks: Asks) -> Result<Woken, NotAsked> {
         let Some(Whereabouts { loop_place, token }) = self.whereabouts(id) else {
             return Err(NotAsked::Unknown);
         };
         let question = Question { id, token, asks };
         let host = &self.main.host;
         match host.shared.ask(&host.rt, self.place, loop_place, question) {
-            Ok(()) => Ok(()),
+            Ok(woken) => Ok(woken),
             Err(_) => Err(NotAsked::NoMemory),
         }
     }
 
     // The same of a drain or a deadline: the answer where there is none to wait for.
-    fn steer(&self, id: u64, asks: Asks) -> Option<SteerAnswer> {
+    fn steer(&self, id: u64, asks: Asks) -> Option<SteerAnswer>
+        ensures { IfSome result IsNotSteered }
+    {
         match self.ask(id, asks) {
-            Ok(()) => None,
+            Ok(_) => None,
             Err(refused) => Some(refused.to_steer()),
         }
     }
@@ -180,29 +208,26 @@ where
 
     // What is asked of a listener the main thread does by itself, whose task it has; so also below.
     fn close(&mut self, id: u64) -> Option<CloseAnswer> {
-        let rt = self.main.host.rt;
-        match self.main.listener_token(&rt, id) {
+        match self.main.listener_token(id) {
             Some(token) => Some(closed_answer(self.main.close_listener(token))),
             None => match self.ask(id, Asks::Close) {
-                Ok(()) => None,
+                Ok(_) => None,
                 Err(refused) => Some(refused.to_close()),
             },
         }
     }
 
     fn drain(&mut self, id: u64) -> Option<SteerAnswer> {
-        let rt = self.main.host.rt;
-        match self.main.listener_token(&rt, id) {
+        match self.main.listener_token(id) {
             Some(token) => Some(steered_answer(self.main.drain_listener(token))),
             None => self.steer(id, Asks::Drain),
         }
     }
 
     fn deadline(&mut self, _alloc: Global, id: u64, after_ms: Option<u32>) -> Option<SteerAnswer> {
-        let rt = self.main.host.rt;
         let now = self.main.host.clock.now();
         let deadline = asked_deadline(now, after_ms);
-        match self.main.listener_token(&rt, id) {
+        match self.main.listener_token(id) {
             Some(token) => {
                 let done = self.main.set_listener_deadline(token, deadline, now);
                 Some(steered_answer(done))

@@ -9,6 +9,7 @@ ghost use Rattle.relay_main.specs.Ending.{AreEnded};
 use crate::main_host::MainHost;
 use crate::main_loop::MainLoop;
 use crate::main_task::MainTask;
+use crate::rule_listeners::Listening;
 use readiness::EventLoop;
 use relay_facts::clock::Moments;
 use std::sync::Wait;
@@ -41,12 +42,14 @@ pub(crate) fn end_tasks<R: Wait + Clock + Copy, C: Moments>(
 }
 
 impl<R: Wait + Clock + Copy> MainLoop<R> {
-    /// Ends the rules' tasks that have these tokens, and closes their listeners.
-    pub(crate) fn end_rules(&mut self, tokens: &[u64], last: LastClients)
-        ensures { AreEnded tokens.now (tasks_of self.old.tasks) (tasks_of self.new.tasks) }
+    /// Ends the rules' tasks that have these listeners, and closes these.
+    pub(crate) fn end_rules(&mut self, listening: &[Listening], last: LastClients)
+        ensures ended { AreEnded listening.now (tasks_of self.old.tasks) (tasks_of self.new.tasks) }
+        ensures kept { self.new.listening ≡ self.old.listening }
+        ensures paths { self.new.paths ≡ self.old.paths }
     {
-        for token in tokens {
-            self.end_rule(*token, last);
+        for one in listening {
+            self.end_rule(one.token, last);
         }
     }
 
@@ -55,6 +58,8 @@ impl<R: Wait + Clock + Copy> MainLoop<R> {
         ensures gone { task_in (tasks_of self.new.tasks) token ≡ None }
         ensures others { (other : ℕ) → place_in other ≢ place_in token →
             task_in (tasks_of self.new.tasks) other ≡ task_in (tasks_of self.old.tasks) other }
+        ensures kept { self.new.listening ≡ self.old.listening }
+        ensures paths { self.new.paths ≡ self.old.paths }
     {
         let Some(MainTask::Rule(task)) = self.tasks.take(token) else {
             return;

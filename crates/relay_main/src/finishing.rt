@@ -1,14 +1,18 @@
 //! A relay that finishes: it takes nobody more, lets its connections go on to their own ends, and
 //! ends once none stands and no session waits for the answer of a loop, or a moment has come.
 
-ghost use Rattle.std.specs.Prelude.{◌≡◌, ◌↔◌, true, IsSome};
+ghost use Rattle.std.specs.Prelude.{◌≡◌, ◌↔◌, true, [], IsSome};
+ghost use Rattle.readiness.specs.EventLoop.{tasks_of};
+ghost use Rattle.relay_main.specs.Ending.{AreEnded};
 ghost use Rattle.relay_main.specs.Finishing.{HasFinished, IsOver};
+ghost use Rattle.relay_shared.specs.BoundPath.{paths_in};
 
 use crate::ending::LastClients;
 use crate::main_loop::MainLoop;
 use relay_core::{has_come, pause_end};
 use relay_facts::clock::Moments;
 use std::fs::Files;
+use std::mem;
 use std::net::Net;
 use std::sync::Wait;
 use std::sync::atomic::Ordering;
@@ -58,13 +62,16 @@ impl<R: Wait + Net + Files + Clock + Copy> MainLoop<R> {
         self.host.shared.main.wake();
     }
 
-    // Lets the last clients of all rules in, and closes their listeners.
-    fn listen_no_more(&mut self) {
+    // Removes the paths of all rules, lets their last clients in, and closes their listeners.
+    fn listen_no_more(&mut self)
+        ensures ended { AreEnded self.old.listening.items
+            (tasks_of self.old.tasks) (tasks_of self.new.tasks) }
+        ensures none { self.new.listening.items ≡ [] }
+        ensures paths { paths_in self.new.paths ≡ [] }
+    {
         let rt = self.host.rt;
-        for served in self.host.shared.rules.lock(&rt).iter() {
-            served.remove_path(&rt);
-        }
-        let tokens = self.rule_tokens();
-        self.end_rules(tokens.as_slice(), LastClients::AreLetIn);
+        self.paths.remove_all(&rt);
+        let listening = mem::replace(&mut self.listening, Vec::new(self.alloc));
+        self.end_rules(listening.as_slice(), LastClients::AreLetIn);
     }
 }

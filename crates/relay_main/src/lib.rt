@@ -16,6 +16,7 @@ mod main_task;
 mod opening;
 mod plan;
 mod reload;
+mod rule_listeners;
 mod rule_task;
 mod session;
 mod session_state;

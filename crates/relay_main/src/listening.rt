@@ -3,13 +3,13 @@
 
 ghost use Rattle.std.specs.Prelude.{◌≡◌, IfSome, IfNone, IfOk, Ok};
 ghost use Rattle.std.specs.List.{position_or_len};
-ghost use Rattle.relay_main.specs.Listening.{IsBound, given_at, is_at, left_by};
+ghost use Rattle.relay_main.specs.Listening.{IsBoundAt, given_at, is_at, left_by};
 ghost use Rattle.relay_main.specs.declared.listening.Opened.{Opened};
 
-use readiness::{Listen, listen};
+use readiness::Listen;
 use relay_admin::{Addr, is_same_addr};
-use relay_shared::address::socket_address;
-use relay_shared::stale_path::remove_stale;
+use relay_shared::bound_path::{BoundPath, bind};
+use relay_shared::stale_path::StalePath;
 use rwloops::DevKind;
 use std::fs::Files;
 use std::net::Net;
@@ -22,12 +22,11 @@ pub struct GivenListener {
 }
 
 /// A listener, and whose its path is.
-#[derive(Drop)]
 pub(crate) enum Opened {
     /// It was given, and its path stays.
     Given(Listen),
     /// It was bound just now, and its path is the relay's to remove.
-    Bound(Listen),
+    Bound(Listen, BoundPath),
 }
 
 /// The listeners that were given and that nobody has taken, and whether a Unix socket at which
@@ -50,6 +49,13 @@ fn place_at(given: &[GivenListener], addr: &Addr) -> usize
     given.len()
 }
 
+// Removes what gives way at an address.
+fn remove_stale<R: Net + Files>(rt: &R, addr: &Addr) {
+    if let Some(stale) = StalePath::at(rt, addr) {
+        stale.remove(rt);
+    }
+}
+
 impl Listeners {
     // Takes the one that is given at this address.
     fn take(&mut self, addr: &Addr) -> Option<Listen>
@@ -69,17 +75,18 @@ impl Listeners {
     pub(crate) fn open<R: Net + Files>(&mut self, rt: &R, addr: &Addr) -> Result<Opened, DevKind>
         ensures given { IfSome (given_at addr.now self.old.given.items)
             (λ listener. result ≡ Ok (Opened.Given listener)) }
-        ensures bound { IfNone (given_at addr.now self.old.given.items) (IfOk result IsBound) }
+        ensures bound { IfNone (given_at addr.now self.old.given.items)
+            (IfOk result (IsBoundAt addr.now)) }
         ensures left { self.new.given.items ≡ left_by addr.now self.old.given.items }
     {
         if let Some(listener) = self.take(addr) {
             return Ok(Opened::Given(listener));
         }
         if self.replaces_stale {
-            let _ = remove_stale(rt, addr);
+            remove_stale(rt, addr);
         }
-        match listen(rt, &socket_address(addr)) {
-            Ok(listener) => Ok(Opened::Bound(listener)),
+        match bind(rt, addr) {
+            Ok((listener, path)) => Ok(Opened::Bound(listener, path)),
             Err(kind) => Err(kind),
         }
     }

@@ -1,10 +1,13 @@
 //! The main thread's loop: it accepts by all rules, and serves the admin sessions, until the relay
 //! stops or has finished.
 
-ghost use Rattle.std.specs.Prelude.{◌≡◌, ◌↔◌, ℕ, true, false, Some, [], IfErr};
+ghost use Rattle.std.specs.Prelude.{◌≡◌, ◌↔◌, ℕ, true, false, Some, None, [], IfOk, IfErr, OnOk};
+ghost use Rattle.std.specs.Prelude.{length};
 ghost use Rattle.std.specs.Arc.{arc_value};
 ghost use Rattle.readiness.specs.EventLoop.{tasks_of};
-ghost use Rattle.readiness.specs.Tasks.{ComesNext, SameTasks, StillCome, gave_way_in};
+ghost use Rattle.readiness.specs.Tasks.{ComesNext, SameTasks, StillCome, gave_way_in, task_in};
+ghost use Rattle.relay_main.specs.Binding.{IsBindFault, StillStand};
+ghost use Rattle.relay_main.specs.Opening.{IsAdmin, IsAdminFault};
 ghost use Rattle.relay_admin.specs.ServeFault.{IsRunFault};
 ghost use Rattle.relay_admin.specs.declared.serve_fault.ServeFault.{ServeFault};
 ghost use Rattle.relay_main.specs.Finishing.{IsOver};
@@ -14,14 +17,14 @@ use crate::finishing::is_over;
 use crate::listening::Listeners;
 use crate::main_host::MainHost;
 use crate::main_task::MainTask;
-use crate::opening::{listen_by, open_admin};
+use crate::opening::open_admin;
+use crate::rule_listeners::Listening;
 use crate::sessions::Sessions;
-use arrayvec::ArrayVec;
 use readiness::{EventLoop, LoopDriver};
-use relay_admin::{MAX_RULES, ServeFault};
-use relay_facts::bound_path::BoundPath;
+use relay_admin::{Rule, ServeFault};
 use relay_facts::clock::{Moments, RelayClock};
 use relay_facts::served_rule::ServedRule;
+use relay_shared::bound_path::BoundPaths;
 use relay_shared::fault::of_poller;
 use relay_shared::shared::Shared;
 use std::alloc::Global;
@@ -30,13 +33,16 @@ use std::net::Net;
 use std::sync::{Arc, Wait};
 use std::time::Clock;
 
-/// The loop that accepts, and what its tasks go on with.
-#[derive(Drop)]
+/// The loop that accepts, and what its tasks go on with. It isn't `Drop`: `end` alone lets it go, so
+/// that no path is left.
 pub struct MainLoop<R: Wait + Clock + Copy> {
     pub alloc: Global,
     pub(crate) tasks: EventLoop<MainTask<R>>,
     pub host: MainHost<R, RelayClock<R>>,
     pub listeners: Listeners,
+    /// The rules' listeners, and the paths that their binds made.
+    pub(crate) listening: Vec<Listening>,
+    pub(crate) paths: BoundPaths,
     /// The accounts of rules that a reload left out, and of which connections stood then.
     pub(crate) gone: Vec<Arc<ServedRule>>,
     /// The token of the admin socket's task; 0 before there is one.
@@ -58,6 +64,8 @@ impl<R: Wait + Clock + Copy> MainLoop<R> {
         ensures given { result.listeners.given.items ≡ [] }
         ensures shared { result.host.shared ≡ shared }
         ensures stale { result.listeners.replaces_stale ≡ (arc_value shared).safeguards.replaces_stale }
+        ensures none { (token : ℕ) → task_in (tasks_of result.tasks) token ≡ None }
+        ensures goes_on { result.finish_at ≡ None }
     {
         let replaces_stale = shared.safeguards.replaces_stale;
         MainLoop {
@@ -68,19 +76,26 @@ impl<R: Wait + Clock + Copy> MainLoop<R> {
                 given: Vec::new(alloc),
                 replaces_stale,
             },
+            listening: Vec::new(alloc),
+            paths: BoundPaths::none(alloc),
             gone: Vec::new(alloc),
             admin: 0,
             finish_at: None,
         }
     }
 
-    /// Ends the accepts that are under way, closes their listeners, and gives what the threads share.
-    pub fn end(self) -> (R, Arc<Shared>, AcceptsEnded) {
+    /// Ends the accepts that are under way, closes their listeners, and gives what the threads share,
+    /// and the paths that are to be removed.
+    pub fn end(self) -> (R, Arc<Shared>, AcceptsEnded, BoundPaths)
+        ensures { result.3 ≡ self.paths }
+    {
         let MainLoop {
             alloc: _,
             tasks,
             host,
             listeners,
+            listening: _,
+            paths,
             gone: _,
             admin: _,
             finish_at: _,
@@ -89,44 +104,53 @@ impl<R: Wait + Clock + Copy> MainLoop<R> {
         let (mut tasks, mut host) = (tasks, host);
         let ended = end_tasks(&mut tasks, &mut host);
         let MainHost { rt, shared, .. } = host;
-        (rt, shared, ended)
+        (rt, shared, ended, paths)
+    }
+}
+
+// Has the tasks of these listeners go on.
+fn all_again<T>(tasks: &mut EventLoop<T>, listening: &[Listening])
+    ensures kept { SameTasks (tasks_of tasks.old) (tasks_of tasks.new) }
+    ensures others { StillCome (tasks_of tasks.old) (tasks_of tasks.new) }
+{
+    for one in listening {
+        tasks.again(one.token);
     }
 }
 
 impl<R: Wait + Net + Files + Clock + Copy> MainLoop<R> {
-    /// Listens for all rules, in their order.
-    pub fn listen(&mut self) -> Result<(), ServeFault> {
-        let MainLoop {
-            alloc,
-            tasks,
-            host,
-            listeners,
-            ..
-        } = self;
-        let shared = &host.shared;
-        for served in shared.rules.lock(&host.rt).iter() {
-            let rule = served.rule(&host.rt);
-            listen_by(
-                &host.rt,
-                *alloc,
-                tasks,
-                &shared.index,
-                &rule,
-                served,
-                listeners,
-                0,
-            )?;
-        }
+    /// Listens for all rules, in their order; or for none, after a fault: the first rule's that can't
+    /// be listened for, or `Device` or `Memory`.
+    pub fn listen(&mut self) -> Result<(), ServeFault>
+        ensures stand { StillStand (tasks_of self.old.tasks) (tasks_of self.new.tasks) }
+        ensures faults { IfErr result IsBindFault }
+    {
+        let rt = self.host.rt;
+        let accounts = self.accounts(&rt)?;
+        let rules = self.said(&rt, accounts.as_slice())?;
+        let _bound = self.bind_all(&rt, accounts.as_slice(), rules.as_slice(), 0)?;
         Ok(())
     }
 
-    /// Opens the admin socket at this path, and accepts there from the next turn on; `bound` says
-    /// whether it has bound the path.
-    pub fn open_admin(
-        &mut self,
-        path: &str,
-        bound: &mut Option<BoundPath>,
-    ) -> Result<(), ServeFault> {
+    // What the rules of these accounts say now.
+    fn said(&self, rt: &R, accounts: &[Arc<ServedRule>]) -> Result<Vec<Rule>, ServeFault>
+        ensures each { IfOk result (λ rules. length rules.items ≡ length accounts.now) }
+        ensures faults { IfErr result (λ fault. fault ≡ ServeFault.Memory) }
+    {
+        let mut rules = Vec::new(self.alloc);
+        for served in accounts {
+            rules.push(served.rule(rt))?;
+        }
+        Ok(rules)
+    }
+
+    /// Opens the admin socket at this path, and accepts there from the next turn on. Its path is kept
+    /// in `paths`, where it isn't given. The faults are `Admin`, `Device` and `Memory`.
+    pub fn open_admin(&mut self, path: &str, paths: &mut BoundPaths) -> Result<(), ServeFault>
+        ensures stand { StillStand (tasks_of self.old.tasks) (tasks_of self.new.tasks) }
+        ensures come { OnOk result (IsAdmin (task_in (tasks_of self.new.tasks) self.new.admin)) }
+        ensures faults { IfErr result IsAdminFault }
+    {
         let MainLoop {
             alloc,
             tasks,
@@ -135,17 +159,8 @@ impl<R: Wait + Net + Files + Clock + Copy> MainLoop<R> {
             admin,
             ..
         } = self;
-        *admin = open_admin(&host.rt, *alloc, tasks, path, listeners, bound)?;
+        *admin = open_admin(&host.rt, *alloc, tasks, path, listeners, paths)?;
         Ok(())
-    }
-
-    /// The tokens of the tasks that accept by the rules in force.
-    pub(crate) fn rule_tokens(&self) -> ArrayVec<u64, MAX_RULES> {
-        let mut tokens = ArrayVec::new();
-        for served in self.host.shared.rules.lock(&self.host.rt).iter() {
-            let _ = tokens.try_push(served.token());
-        }
-        tokens
     }
 
     // Has all accept tasks go on.
@@ -156,10 +171,7 @@ impl<R: Wait + Net + Files + Clock + Copy> MainLoop<R> {
         ensures others { StillCome (tasks_of self.old.tasks) (tasks_of self.new.tasks) }
     {
         self.tasks.again(self.admin);
-        let tokens = self.rule_tokens();
-        for token in tokens.as_slice() {
-            self.tasks.again(*token);
-        }
+        all_again(&mut self.tasks, self.listening.as_slice());
     }
 
     /// Turns until an admin session says stop, until the relay has finished, or the poller fails.

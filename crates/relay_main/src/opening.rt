@@ -1,24 +1,27 @@
-//! Opening: the listeners in the rules' order, and the admin socket.
+//! Opening: a task for a listener of a rule, and the admin socket with its own.
 
-ghost use Rattle.std.specs.Prelude.{◌≡◌, IfSome, IfOk, IfErr, Ok};
+ghost use Rattle.std.specs.Prelude.{◌≡◌, IfSome, IfNone, IfOk, IfErr};
 ghost use Rattle.std.specs.Arc.{arc_value};
+ghost use Rattle.fd_descriptor.specs.FdHandle.{IsFirst};
+ghost use Rattle.fd_descriptor.specs.TaskHalf.{IsHalfOf};
 ghost use Rattle.readiness.specs.EventLoop.{tasks_of};
+ghost use Rattle.readiness.specs.Tasks.{ComesNext, task_in};
 ghost use Rattle.relay_admin.specs.ServeFault.{IsRunFault};
-ghost use Rattle.relay_admin.specs.declared.serve_fault.ServeFault.{ServeFault};
 ghost use Rattle.relay_main.specs.Binding.{HasCome, StillStand};
-ghost use Rattle.relay_main.specs.Listening.{given_at, left_by};
+ghost use Rattle.relay_main.specs.Opening.{IsAdmin, IsAdminFault, IsEntered};
 
-use crate::admin::{AdminDoor, AdminTask};
+use crate::admin::AdminTask;
 use crate::listening::{Listeners, Opened};
 use crate::main_task::MainTask;
+use crate::rule_listeners::Listening;
 use crate::rule_task::{RuleListener, RuleTask};
 use arrayvec::ArrayString;
 use fd_descriptor::{FdHandle, TaskReader};
 use readiness::{EventLoop, HoldFault, Listen, ListenRes, Poller};
-use relay_admin::{Addr, Rule, ServeFault};
-use relay_core::Accepting;
-use relay_facts::bound_path::BoundPath;
+use relay_admin::{Addr, ServeFault};
 use relay_facts::served_rule::ServedRule;
+use relay_facts::shown::ListenerTimes;
+use relay_shared::bound_path::BoundPaths;
 use relay_shared::index::Standing;
 use relay_shared::standing::RelayIndex;
 use std::alloc::Global;
@@ -26,35 +29,16 @@ use std::fs::Files;
 use std::net::Net;
 use std::sync::{Arc, Mutex, Wait};
 
-// Listens at a rule's address, by its account.
-fn bind<R: Wait + Net + Files>(
-    rt: &R,
-    rule: &Rule,
-    served: &ServedRule,
-    listeners: &mut Listeners,
-) -> Result<Listen, ServeFault>
-    ensures given { IfSome (given_at rule.now.listen listeners.old.given.items)
-        (λ listener. result ≡ Ok listener) }
-    ensures left { listeners.new.given.items ≡ left_by rule.now.listen listeners.old.given.items }
-    ensures faults { IfErr result (λ fault. fault ≡ ServeFault.Listen rule.now.name) }
-{
-    match listeners.open(rt, &rule.listen) {
-        Ok(Opened::Given(socket)) => Ok(socket),
-        Ok(Opened::Bound(socket)) => {
-            served.note_bound(rt);
-            Ok(socket)
-        }
-        Err(_) => Err(ServeFault::Listen(rule.name)),
-    }
-}
-
 // A descriptor of a listener, of which the poller tells under this token.
 fn opened(
     poller: &Poller,
     alloc: Global,
     socket: Listen,
     token: u64,
-) -> Result<FdHandle<ListenRes>, ServeFault> {
+) -> Result<FdHandle<ListenRes>, ServeFault>
+    ensures first { IfOk result (IsFirst token) }
+    ensures faults { IfErr result IsRunFault }
+{
     match poller.open_listener(alloc, socket, token) {
         Ok(handle) => Ok(handle),
         Err(HoldFault::Device(_)) => Err(ServeFault::Device),
@@ -62,13 +46,22 @@ fn opened(
     }
 }
 
-// A descriptor of a rule's listener, which stands in the index.
+// A descriptor of a rule's listener, which stands in the index from this moment on; or nothing of it
+// does, where memory is refused.
 fn listener_in<R: Wait + Copy>(
     rt: R,
     index: &mut RelayIndex,
     handle: FdHandle<ListenRes>,
     served: &Arc<ServedRule>,
-) -> Option<RuleListener<R>> {
+    now: u64,
+) -> Option<RuleListener<R>>
+    ensures entered { IfSome result (λ listener.
+        IsEntered (arc_value served.now) listener.id index.old index.new) }
+    ensures kept { IfNone result (index.new ≡ index.old) }
+    ensures own { IfSome result (λ listener. IsHalfOf handle listener.half) }
+    ensures since { IfSome result (λ listener. listener.times.since ≡ now) }
+    ensures last { IfSome result (λ listener. listener.times.last ≡ now) }
+{
     let cell = handle.cell().ok()?;
     let known = Arc::try_clone(served).ok()?;
     let entered = index.enter(Standing::Listener(known)).ok()?;
@@ -76,12 +69,16 @@ fn listener_in<R: Wait + Copy>(
         id: entered.keep(),
         cell,
         half: TaskReader::new(rt, handle),
+        times: ListenerTimes {
+            since: now,
+            last: now,
+        },
     })
 }
 
-// Has a task accept from this socket from the next turn on, and gives its token; its listener stands
-// in the index under the next id. After a fault nothing of it is left.
-fn hold_rule<R: Wait + Copy>(
+/// Has a task accept from this socket from the next turn on, by this account; its listener stands in
+/// the index under the next id. After a fault nothing of it is left.
+pub(crate) fn hold_rule<R: Wait + Copy>(
     rt: R,
     alloc: Global,
     tasks: &mut EventLoop<MainTask<R>>,
@@ -89,30 +86,29 @@ fn hold_rule<R: Wait + Copy>(
     socket: Listen,
     served: &Arc<ServedRule>,
     now: u64,
-) -> Result<u64, ServeFault>
+) -> Result<Listening, ServeFault>
     ensures stand { StillStand (tasks_of tasks.old) (tasks_of tasks.new) }
-    ensures come { IfOk result (λ token.
-        HasCome (arc_value served.now) (tasks_of tasks.old) (tasks_of tasks.new) token) }
+    ensures come { IfOk result (λ one.
+        HasCome (arc_value served.now) (tasks_of tasks.old) (tasks_of tasks.new) one.token) }
+    ensures listen { IfOk result (λ one. one.listen ≡ (arc_value served.now).listen) }
+    ensures faults { IfErr result IsRunFault }
 {
     let Ok(place) = tasks.vacant() else {
         return Err(ServeFault::Memory);
     };
     let handle = opened(tasks.poller(), alloc, socket, place.first)?;
     let task_served = Arc::try_clone(served)?;
-    let listener = listener_in(rt, index, handle, served).ok_or(ServeFault::Memory)?;
+    let listener = listener_in(rt, index, handle, served, now).ok_or(ServeFault::Memory)?;
     let id = listener.id;
-    let task = RuleTask {
-        served: task_served,
-        place,
-        listener,
-        accepting: Accepting::new(),
-        paused_until: None,
-    };
-    match tasks.put(MainTask::Rule(task)) {
+    match tasks.put(MainTask::Rule(RuleTask::new(task_served, place, listener))) {
         Ok(_) => {
-            served.note_listener(id, place.first, now);
+            served.note_listening(true);
             tasks.again(place.first);
-            Ok(place.first)
+            Ok(Listening {
+                listen: served.listen,
+                id,
+                token: place.first,
+            })
         }
         Err(_) => {
             let _ = index.leave(id);
@@ -121,35 +117,34 @@ fn hold_rule<R: Wait + Copy>(
     }
 }
 
-/// Listens at a rule's address, and has a task accept there from the next turn on, by the rule's
-/// account, whose token it gives. After a fault nothing of it is left.
-pub(crate) fn listen_by<R: Wait + Net + Files + Copy>(
+/// The same over the index that the relay's threads share.
+pub(crate) fn hold_shared<R: Wait + Copy>(
     rt: &R,
     alloc: Global,
     tasks: &mut EventLoop<MainTask<R>>,
     index: &Mutex<RelayIndex>,
-    rule: &Rule,
+    socket: Listen,
     served: &Arc<ServedRule>,
-    listeners: &mut Listeners,
     now: u64,
-) -> Result<u64, ServeFault>
+) -> Result<Listening, ServeFault>
     ensures stand { StillStand (tasks_of tasks.old) (tasks_of tasks.new) }
-    ensures come { IfOk result (λ token.
-        HasCome (arc_value served.now) (tasks_of tasks.old) (tasks_of tasks.new) token) }
+    ensures come { IfOk result (λ one.
+        HasCome (arc_value served.now) (tasks_of tasks.old) (tasks_of tasks.new) one.token) }
+    ensures listen { IfOk result (λ one. one.listen ≡ (arc_value served.now).listen) }
+    ensures faults { IfErr result IsRunFault }
 {
-    let socket = bind(rt, rule, &**served, listeners)?;
     hold_rule(*rt, alloc, tasks, &mut *index.lock(rt), socket, served, now)
 }
 
-// Listens at the admin path; `bound` says whether it has bound it. A path of no byte, or of more
-// than an address holds, can't be listened on.
+// Listens at the admin path, and keeps it for its removal, where it isn't given. A path of no byte, or
+// of more than an address holds, can't be listened on.
 fn listen_at_admin<R: Net + Files>(
     rt: &R,
     path: &str,
     listeners: &mut Listeners,
-    bound: &mut Option<BoundPath>,
+    paths: &mut BoundPaths,
 ) -> Result<Listen, ServeFault>
-    ensures faults { IfErr result (λ fault. fault ≡ ServeFault.Admin) }
+    ensures faults { IfErr result IsAdminFault }
 {
     if path.is_empty() {
         return Err(ServeFault::Admin);
@@ -160,8 +155,8 @@ fn listen_at_admin<R: Net + Files>(
     let addr = Addr::Unix(path);
     match listeners.open(rt, &addr) {
         Ok(Opened::Given(listener)) => Ok(listener),
-        Ok(Opened::Bound(listener)) => {
-            *bound = Some(BoundPath::of(&addr));
+        Ok(Opened::Bound(listener, bound)) => {
+            paths.keep(rt, bound)?;
             Ok(listener)
         }
         Err(_) => Err(ServeFault::Admin),
@@ -169,16 +164,21 @@ fn listen_at_admin<R: Net + Files>(
 }
 
 /// Opens the admin socket at this path, and has a task accept there from the next turn on, whose
-/// token it gives; `bound` says whether it has bound the path.
+/// token it gives. The path is kept for its removal, where it isn't given.
 pub(crate) fn open_admin<R: Wait + Net + Files + Copy>(
     rt: &R,
     alloc: Global,
     tasks: &mut EventLoop<MainTask<R>>,
     path: &str,
     listeners: &mut Listeners,
-    bound: &mut Option<BoundPath>,
-) -> Result<u64, ServeFault> {
-    let mut listener = listen_at_admin(rt, path, listeners, bound)?;
+    paths: &mut BoundPaths,
+) -> Result<u64, ServeFault>
+    ensures stand { StillStand (tasks_of tasks.old) (tasks_of tasks.new) }
+    ensures come { IfOk result (λ token. IsAdmin (task_in (tasks_of tasks.new) token)) }
+    ensures next { IfOk result (ComesNext (tasks_of tasks.new)) }
+    ensures faults { IfErr result IsAdminFault }
+{
+    let mut listener = listen_at_admin(rt, path, listeners, paths)?;
     let Ok(place) = tasks.vacant() else {
         return Err(ServeFault::Memory);
     };
@@ -189,17 +189,7 @@ pub(crate) fn open_admin<R: Wait + Net + Files + Copy>(
     {
         return Err(ServeFault::Device);
     }
-    let task = AdminTask {
-        place,
-        door: AdminDoor {
-            listener,
-            callers: Vec::new(alloc),
-            dropped: 0,
-        },
-        accepting: Accepting::new(),
-        paused_until: None,
-    };
-    match tasks.put(MainTask::Admin(task)) {
+    match tasks.put(MainTask::Admin(AdminTask::new(alloc, place, listener))) {
         Ok(_) => {
             tasks.again(place.first);
             Ok(place.first)

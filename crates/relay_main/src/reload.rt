@@ -2,23 +2,27 @@
 //! the plan to them: it binds, or is refused and has changed nothing; then it has all rules say what
 //! is new, and ends the listeners of those that have gone.
 
-ghost use Rattle.std.specs.Prelude.{◌≡◌, ◌≢◌, ℕ, None, IfSome, OnErr};
+ghost use Rattle.std.specs.Prelude.{◌≡◌, ◌≢◌, ℕ, None, IfSome, IfOk, IfErr, OnErr};
 ghost use Rattle.readiness.specs.EventLoop.{tasks_of};
 ghost use Rattle.readiness.specs.Tasks.{task_in};
 ghost use Rattle.relay_main.specs.Binding.{StillStand};
 ghost use Rattle.relay_admin.specs.declared.admin.answers.ReloadAnswer.{ReloadAnswer};
+ghost use Rattle.relay_admin.specs.declared.serve_fault.ServeFault.{ServeFault};
+ghost use Rattle.relay_main.specs.Ending.{AreEnded};
+ghost use Rattle.relay_main.specs.Plan.{IsPlanned};
 ghost use Rattle.relay_main.specs.Reload.{answer_of_fault};
+ghost use Rattle.relay_main.specs.RuleListeners.{standing_in};
 
 use crate::accounts::account_at;
 use crate::binding::AllBound;
 use crate::ending::LastClients;
 use crate::main_loop::MainLoop;
-use crate::main_task::MainTask;
 use crate::plan::{Plan, plan_of};
-use relay_admin::{Addr, ReloadAnswer, Rule, Rules, ServeFault, Verdict};
+use crate::rule_listeners::Listening;
+use relay_admin::{ReloadAnswer, Rule, Rules, ServeFault, Verdict};
 use relay_facts::rules_file::text_of;
 use relay_facts::served_rule::ServedRule;
-use rwloops::Fault;
+use relay_shared::bound_path::BoundPaths;
 use std::fs::Files;
 use std::net::Net;
 use std::sync::{Arc, Wait};
@@ -45,9 +49,18 @@ fn change<R: Wait>(rt: &R, accounts: &[Arc<ServedRule>], rules: &[Rule], _bound:
     }
 }
 
+// Removes the paths of these accounts' listeners.
+fn remove_paths_of<R: Files>(rt: &R, paths: &mut BoundPaths, accounts: &[Arc<ServedRule>]) {
+    for served in accounts {
+        paths.remove_at(rt, &served.listen);
+    }
+}
+
 impl<R: Wait + Net + Files + Clock + Copy> MainLoop<R> {
-    // All accounts: of the rules in force, and of those that have gone and had connections still.
-    fn accounts(&self, rt: &R) -> Result<Vec<Arc<ServedRule>>, ServeFault> {
+    /// All accounts: of the rules in force, and of those that have gone and had connections still.
+    pub(crate) fn accounts(&self, rt: &R) -> Result<Vec<Arc<ServedRule>>, ServeFault>
+        ensures { IfErr result (λ fault. fault ≡ ServeFault.Memory) }
+    {
         let mut all = Vec::new(self.alloc);
         for served in self.host.shared.rules.lock(rt).iter() {
             all.push(Arc::try_clone(served)?)?;
@@ -58,21 +71,28 @@ impl<R: Wait + Net + Files + Clock + Copy> MainLoop<R> {
         Ok(all)
     }
 
-    // The addresses of these accounts at which their listeners stand.
-    fn standing(&self, rt: &R, accounts: &[Arc<ServedRule>]) -> Result<Vec<Addr>, ServeFault> {
+    // The listeners that stand.
+    fn standing(&self) -> Result<Vec<Listening>, ServeFault>
+        ensures standing { IfOk result (λ standing.
+            standing.items ≡ standing_in (tasks_of self.now.tasks) self.now.listening.items) }
+        ensures faults { IfErr result (λ fault. fault ≡ ServeFault.Memory) }
+    {
         let mut standing = Vec::new(self.alloc);
-        for served in accounts {
-            if self.host.shared.index.lock(rt).find(served.id()).is_some() {
-                standing.push(served.listen)?;
+        for one in self.listening.iter() {
+            if self.tasks.task(one.token).is_some() {
+                standing.push(*one)?;
             }
         }
         Ok(standing)
     }
 
     // The plan to these rules.
-    fn planned(&self, rt: &R, rules: &[Rule]) -> Result<Plan, ServeFault> {
+    fn planned(&self, rt: &R, rules: &[Rule]) -> Result<Plan, ServeFault>
+        ensures plan { IfOk result (IsPlanned rules.now
+            (standing_in (tasks_of self.now.tasks) self.now.listening.items)) }
+    {
         let accounts = self.accounts(rt)?;
-        let standing = self.standing(rt, accounts.as_slice())?;
+        let standing = self.standing()?;
         plan_of(
             self.alloc,
             accounts,
@@ -80,27 +100,6 @@ impl<R: Wait + Net + Files + Clock + Copy> MainLoop<R> {
             rules,
             self.host.shared.loops.len(),
         )
-    }
-
-    /// Closes the listener whose task has this token, and ends the task; none where there is no such
-    /// task.
-    pub(crate) fn close_listener(&mut self, token: u64) -> Option<Result<(), Fault>>
-        ensures gone { task_in (tasks_of self.new.tasks) token ≡ None }
-    {
-        match self.tasks.take(token)? {
-            MainTask::Rule(task) => Some(self.host.close_rule(task)),
-            _ => None,
-        }
-    }
-
-    /// The token of the task whose listener stands under this id.
-    pub(crate) fn listener_token(&self, rt: &R, id: u64) -> Option<u64> {
-        for served in self.host.shared.rules.lock(rt).iter() {
-            if served.id() == id {
-                return Some(served.token());
-            }
-        }
-        None
     }
 
     // Serves these rules from now on; or, after a fault, those of before.
@@ -115,24 +114,38 @@ impl<R: Wait + Net + Files + Clock + Copy> MainLoop<R> {
     }
 
     // Goes over to a plan of which all is bound.
-    fn go_over(&mut self, rt: &R, plan: Plan, bound: AllBound) {
+    fn go_over(&mut self, rt: &R, plan: Plan, bound: AllBound)
+        ensures closed { AreEnded plan.close.items (tasks_of self.old.tasks) (tasks_of self.new.tasks) }
+        ensures left { self.new.listening.items
+            ≡ standing_in (tasks_of self.new.tasks) self.old.listening.items }
+    {
         let Plan {
             serve,
             bind,
             keep,
             end,
+            close,
         } = plan;
         change(rt, serve.as_slice(), bind.as_slice(), &bound);
         change(rt, serve.as_slice(), keep.as_slice(), &bound);
         *self.host.shared.rules.lock(rt) = serve;
-        for served in end.iter() {
-            self.end_rule(served.token(), LastClients::AreReset);
-            served.remove_path(rt);
-        }
+        self.end_rules(close.as_slice(), LastClients::AreReset);
+        self.forget_closed();
+        remove_paths_of(rt, &mut self.paths, end.as_slice());
         let mut gone = end;
         gone.retain(|served| served.standing() > 0);
         self.gone = gone;
         self.host.shared.reloads.add(1);
+    }
+
+    // Forgets the listeners that were closed.
+    fn forget_closed(&mut self)
+        ensures left { self.new.listening.items
+            ≡ standing_in (tasks_of self.old.tasks) self.old.listening.items }
+        ensures tasks { self.new.tasks ≡ self.old.tasks }
+    {
+        let tasks = &self.tasks;
+        self.listening.retain(|one| tasks.task(one.token).is_some());
     }
 
     /// Reads the rules file again, and serves its rules from now on. Where it can't be read, is bad,

@@ -1,13 +1,20 @@
 //! A rule's task of the main thread's loop: it accepts from the rule's listener, and delivers to the
 //! loops.
 
-ghost use Rattle.std.specs.Prelude.{◌≡◌, ⊤, IfSome, OnOk};
+ghost use Rattle.std.specs.Prelude.{◌≡◌, ◌↔◌, ⊤, None, Err, IfSome, IsNone, OnOk};
+ghost use Rattle.readiness.specs.EventLoop.{tasks_of};
+ghost use Rattle.readiness.specs.Tasks.{task_in};
+ghost use Rattle.relay_main.specs.Closing.{WasClosed};
+ghost use Rattle.relay_main.specs.RuleListeners.{token_with};
+ghost use Rattle.relay_main.specs.RuleTask.{listener_in};
+ghost use Rattle.rwloops.specs.declared.fault.Fault.{Fault};
 ghost use Rattle.fd_descriptor.specs.TaskHalf.{KeepsHalf, descriptor_of_half};
 ghost use Rattle.relay_shared.specs.Drained.{WasDrained};
 ghost use Rattle.std.specs.Arc.{arc_value};
 
 use crate::main_loop::MainLoop;
 use crate::main_task::MainTask;
+use crate::rule_listeners::token_with;
 use deadline_core::Deadline;
 use fd_descriptor::{Alarms, PollCell, TaskReader};
 use readiness::{ListenRes, Place, Sock};
@@ -15,6 +22,7 @@ use relay_core::{AcceptStep, Accepting, PollAcceptGate};
 use relay_facts::clock::Moments;
 use relay_facts::connection_facts::Acceptance;
 use relay_facts::served_rule::ServedRule;
+use relay_facts::shown::ListenerTimes;
 use relay_shared::address::rule_address;
 use relay_shared::shared::Shared;
 use rwloops::Fault;
@@ -27,6 +35,7 @@ pub struct RuleListener<R: Wait + Copy> {
     pub(crate) id: u64,
     pub(crate) cell: Arc<PollCell>,
     pub(crate) half: TaskReader<ListenRes, R>,
+    pub(crate) times: ListenerTimes,
 }
 
 impl<R: Wait + Copy> RuleListener<R> {
@@ -65,6 +74,28 @@ pub struct RuleTask<R: Wait + Copy> {
     pub(crate) accepting: Accepting,
     /// The end of its pause, where it pauses.
     pub(crate) paused_until: Option<u64>,
+}
+
+impl<R: Wait + Copy> RuleTask<R> {
+    /// One at this place that accepts by this account from this listener. No accept failed yet.
+    pub(crate) fn new(
+        served: Arc<ServedRule>,
+        place: Place,
+        listener: RuleListener<R>,
+    ) -> RuleTask<R>
+        ensures served { result.served ≡ served }
+        ensures place { result.place ≡ place }
+        ensures listener { result.listener ≡ listener }
+        ensures goes_on { result.paused_until ≡ None }
+    {
+        RuleTask {
+            served,
+            place,
+            listener,
+            accepting: Accepting::new(),
+            paused_until: None,
+        }
+    }
 }
 
 // Accepts from a rule's listener, and delivers to the loops.
@@ -124,6 +155,7 @@ where
 
     fn deliver(&mut self, taken: Sock) {
         if let Some(acceptance) = self.acceptance(peer_of(&taken)) {
+            self.listener.times.last = acceptance.at;
             self.shared.deliver(&self.rt, taken, acceptance);
         }
     }
@@ -143,29 +175,52 @@ pub(crate) fn accept_on<'a, R: Wait + Clock + Copy, C: Moments>(
     clock: &'a C,
     shared: &'a Shared,
     task: &'a mut RuleTask<R>,
-) -> (AcceptStep, Option<Fault>) {
-    let RuleTask {
-        served,
-        listener,
-        accepting,
-        ..
-    } = task;
+) -> (AcceptStep, Option<Fault>)
+    ensures served { task.new.served ≡ task.old.served }
+    ensures place { task.new.place ≡ task.old.place }
+    ensures paused { task.new.paused_until ≡ task.old.paused_until }
+{
     let mut gate = RuleGate {
         rt,
         clock,
-        served,
-        listener,
+        served: &task.served,
+        listener: &mut task.listener,
         shared,
         fault: None,
     };
-    let step = accepting.resume(&mut gate);
+    let step = task.accepting.resume(&mut gate);
     (step, gate.fault)
 }
 
 impl<R: Wait + Clock + Copy> MainLoop<R> {
+    /// The token of the task whose listener stands under this id.
+    pub(crate) fn listener_token(&self, id: u64) -> Option<u64>
+        ensures { result ≡ token_with id self.now.listening.items }
+    {
+        token_with(self.listening.as_slice(), id)
+    }
+
+    /// Closes the listener whose task has this token, and ends the task; none where there is no such
+    /// task.
+    pub(crate) fn close_listener(&mut self, token: u64) -> Option<Result<(), Fault>>
+        ensures gone { task_in (tasks_of self.new.tasks) token ≡ None }
+        ensures none { IsNone result → IsNone (listener_in (task_in (tasks_of self.old.tasks) token)) }
+        ensures closed { IfSome (listener_in (task_in (tasks_of self.old.tasks) token))
+            (λ listener. IfSome result (λ done.
+            OnOk done (WasClosed (descriptor_of_half listener.half)))) }
+    {
+        match self.tasks.take(token)? {
+            MainTask::Rule(task) => Some(self.host.close_rule(task)),
+            _ => None,
+        }
+    }
+
     /// Drains the listener of the rule's task that this token names; none where there is no such
     /// task.
-    pub(crate) fn drain_listener(&mut self, token: u64) -> Option<Result<(), Fault>> {
+    pub(crate) fn drain_listener(&mut self, token: u64) -> Option<Result<(), Fault>>
+        ensures { IsNone result
+            ↔ IsNone (listener_in (task_in (tasks_of self.old.tasks) token)) }
+    {
         match self.tasks.task_mut(token) {
             Some(MainTask::Rule(task)) => Some(task.listener.drain(&self.host.rt)),
             _ => None,
@@ -178,7 +233,12 @@ impl<R: Wait + Clock + Copy> MainLoop<R> {
         token: u64,
         deadline: Deadline,
         now: u64,
-    ) -> Option<Result<(), Fault>> {
+    ) -> Option<Result<(), Fault>>
+        ensures none { IsNone result
+            → IsNone (listener_in (task_in (tasks_of self.old.tasks) token)) }
+        ensures unknown { IsNone (listener_in (task_in (tasks_of self.old.tasks) token))
+            → IfSome result (λ done. done ≡ Err Fault.OutOfMemory) }
+    {
         let Some(alarms) = self.host.alarms() else {
             return Some(Err(Fault::OutOfMemory));
         };

@@ -2,7 +2,7 @@
 //! reply before is written; a listing is a line of it at a time. Where an answer comes later, nothing
 //! is read and nothing answered until then. No call of it waits.
 
-ghost use Rattle.std.specs.Prelude.{◌≡◌, ◌≤◌, ◌↔◌, ◌⊎◌, IfSome, IsSome, false, true};
+ghost use Rattle.std.specs.Prelude.{◌≡◌, ◌≢◌, ◌≤◌, ◌↔◌, ◌⊎◌, IfSome, IsSome, false, true};
 ghost use Rattle.relay_admin.specs.admin.Answers.{of_late};
 ghost use Rattle.relay_admin.specs.admin.Later.{TakesNoAnswer};
 ghost use Rattle.relay_admin.specs.admin.Reply.{reply_text};
@@ -152,6 +152,8 @@ impl Session {
     // Has the desk answer the next line, if one is whole, or the last; or reads.
     fn go_on<D: SessionDesk>(&mut self, alloc: Global, desk: &mut D) -> SessionStep
         requires { spec.is_held self.old.state ≡ false }
+        ensures held { spec.is_held self.new.state ≡ true → result ≡ SessionStep.Waits }
+        ensures no_stop { result ≢ SessionStep.Stops }
     {
         let next = match self.lines.next_reply(alloc, alloc, desk) {
             NextLine::Unended if self.is_at_end => self.lines.last_reply(alloc, alloc, desk),
@@ -173,7 +175,8 @@ impl Session {
 
     // Reads once, where no line is whole.
     fn hear(&mut self) -> SessionStep
-        ensures { self.new.state ≡ self.old.state }
+        ensures state { self.new.state ≡ self.old.state }
+        ensures no_stop { result ≢ SessionStep.Stops }
     {
         let mut chunk = [0u8; CHUNK_BYTES];
         match told_of_read(read_now(&mut self.input, &mut chunk)) {

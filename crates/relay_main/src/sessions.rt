@@ -2,9 +2,17 @@
 //! command may do what only that thread does, and no session waits for another: each has a few lines
 //! answered in a turn.
 
-ghost use Rattle.std.specs.Prelude.{◌≡◌, ◌<◌, ◌↔◌, true, Some, None, length, slice_get};
+ghost use Rattle.std.specs.Prelude.{◌≡◌, ◌≢◌, ◌<◌, ◌↔◌, ℕ, true, false, Some, None, length};
+ghost use Rattle.std.specs.Prelude.{slice_get, slice_set};
 ghost use Rattle.std.specs.Prelude.{IfErr, IfSome, IfNone};
-ghost use Rattle.relay_main.specs.Sessions.{IsQuietest, NoneMayLeave, are_held, is_held_at, patience};
+ghost use Rattle.std.specs.Box.{box_value};
+ghost use Rattle.readiness.specs.EventLoop.{tasks_of};
+ghost use Rattle.readiness.specs.LoopToken.{place_in};
+ghost use Rattle.readiness.specs.Tasks.{task_in};
+ghost use Rattle.relay_main.specs.Binding.{StillStand};
+ghost use Rattle.relay_main.specs.Sessions.{IsFreeAt, IsNobodyAt, IsQuietest, NoneMayLeave, are_held};
+ghost use Rattle.relay_main.specs.Sessions.{is_held_at, patience};
+ghost use Rattle.relay_main.specs.declared.main_task.MainTask.{MainTask};
 ghost use Rattle.relay_admin.specs.declared.serve_fault.ServeFault.{ServeFault};
 
 use crate::desk::{RelayDesk, late_answer};
@@ -152,6 +160,10 @@ impl Sessions {
     fn make_room<R>(&mut self, main: &mut MainLoop<R>) -> Option<usize>
     where
         R: Wait + Net + Files + Clock + Copy,
+        ensures free { IfSome result (λ place. slice_get self.new.places.items place ≡ Some None) }
+        ensures none { IfNone result (NoneMayLeave self.old.places.items
+            (length self.old.places.items)) }
+        ensures kept { IfNone result (self.new.places.items ≡ self.old.places.items) }
     {
         if let Some(place) = self.vacant() {
             return Some(place);
@@ -193,6 +205,8 @@ impl Sessions {
     fn may_go_on<R>(&mut self, main: &MainLoop<R>, place: usize, is_named: bool) -> bool
     where
         R: Wait + Net + Files + Clock + Copy,
+        ensures named { IsFreeAt self.old.places.items place → result ≡ is_named }
+        ensures nobody { IsNobodyAt self.old.places.items place → result ≡ false }
     {
         let Some(Some(seated)) = self.places.get_mut(place) else {
             return false;
@@ -235,9 +249,14 @@ impl Sessions {
         }
     }
 
+    // Ends the session at this place, whose task has this token: nothing waits for it any more.
     fn end<R>(&mut self, main: &mut MainLoop<R>, place: usize, token: u64)
     where
         R: Wait + Net + Files + Clock + Copy,
+        ensures seat { self.new.places.items ≡ slice_set self.old.places.items place None }
+        ensures task { task_in (tasks_of main.new.tasks) token ≡ None }
+        ensures others { (other : ℕ) → place_in other ≢ place_in token →
+            task_in (tasks_of main.new.tasks) other ≡ task_in (tasks_of main.old.tasks) other }
     {
         drop(main.tasks.take(token));
         main.host.disarm(token);
@@ -265,7 +284,11 @@ impl Sessions {
 impl<R: Wait + Net + Files + Clock + Copy> MainLoop<R> {
     // A session over this socket, with a task and an alarm of its own; none where that is refused,
     // and the socket is dropped.
-    fn seat(&mut self, sock: Sock, place: usize) -> Option<Box<Seated>> {
+    fn seat(&mut self, sock: Sock, place: usize) -> Option<Box<Seated>>
+        ensures named { IfSome result (λ seated.
+            task_in (tasks_of self.new.tasks) (box_value seated).token ≡ Some (MainTask.Session place)) }
+        ensures stand { StillStand (tasks_of self.old.tasks) (tasks_of self.new.tasks) }
+    {
         let token = self.tasks.vacant().ok()?.first;
         let mut sock = sock;
         self.tasks.poller().register(&mut sock, token).ok()?;

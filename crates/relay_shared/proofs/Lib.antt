@@ -1,3 +1,4 @@
+pub mod FirstPlace
 pub mod IndexIds
 pub mod IndexLemmas
 pub mod IndexLists

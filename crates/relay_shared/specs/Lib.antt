@@ -1,4 +1,5 @@
 pub mod Addr
+pub mod BoundPath
 pub mod Drained
 pub mod Drop
 pub mod Fault
@@ -6,6 +7,7 @@ pub mod Inbox
 pub mod Index
 pub mod IndexLaws
 pub mod Laws
+pub mod Placing
 pub mod Requests
 pub mod StalePath
 pub mod Standing

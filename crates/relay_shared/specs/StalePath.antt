@@ -1,9 +1,15 @@
 -- A Unix path that gives way to a listener.
-use Rattle.std.specs.Prelude.{◌≡◌, Bool, true, Result, Err}
+use Rattle.std.specs.Prelude.{◌≡◌, Result, Err}
+use Rattle.arrayvec.specs.declared.array_string.ArrayString.{ArrayString}
 use Rattle.readiness.specs.declared.sock.Sock.{Sock}
 use Rattle.rwloops.specs.declared.outcome.DevKind.{DevKind}
 use Rattle.rwloops.specs.declared.outcome.DevKind.TheVariants.{Refused}
+use Rattle.relay_shared.specs.declared.stale_path.StalePath.{StalePath}
 
--- what is at a path gives way to a listener: it is a socket, and a connect to it is refused
-abbrev pub GivesWay : (is_socket : Bool) → Result Sock DevKind → Type 0
-GivesWay is_socket connected = (is_socket ≡ true) × (connected ≡ Err Refused)
+-- a connect was refused: nobody listens there
+abbrev pub RefusesConnect : Result Sock DevKind → Type 0
+RefusesConnect connected = connected ≡ Err Refused
+
+-- the path that gives way
+abbrev pub stale_path : StalePath → ArrayString 100
+stale_path stale = stale.path

@@ -3,6 +3,7 @@ use Rattle.std.specs.Prelude.{◌≡◌, ◌⊎◌, ℕ}
 use Rattle.std.specs.Arc.{arc_value}
 use Rattle.std.specs.declared.alloc.Global.{Global}
 use Rattle.std.specs.declared.sync.Arc.{Arc}
+use Rattle.arrayvec.specs.declared.array_string.ArrayString.{ArrayString}
 use Rattle.readiness.specs.declared.loop_token.Place.{Place}
 use Rattle.relay_admin.specs.declared.admin.shown.ShownSide.{ShownSide}
 use Rattle.relay_admin.specs.declared.admin.shown.ShownSide.TheVariants.{Target}
@@ -24,6 +25,12 @@ IsWhere index id at = (side : ShownSide) × (connected : Connected)
     × IsNamed index id side (Connection connected)
     × (at.loop_place ≡ (arc_value connected.facts).loop_place)
     × (at.token ≡ token_on side connected.place)
+
+-- the id names this side of a connection by a rule of this name
+abbrev pub IsShownSide : Register Connected (Arc ServedRule Global) → ℕ → ShownSide → ArrayString 16 → Type 0
+IsShownSide index id side rule = (connected : Connected)
+    × IsNamed index id side (Connection connected)
+    × ((arc_value connected.facts).acceptance.rule.name ≡ rule)
 
 -- the id names nothing, or a listener
 abbrev pub NamesNoSide : Register Connected (Arc ServedRule Global) → ℕ → Type 0

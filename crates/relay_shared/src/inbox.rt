@@ -1,6 +1,6 @@
 //! The inbox of a loop: what others leave for it, and what it takes out between two of its turns.
 
-ghost use Rattle.std.specs.Prelude.{◌≡◌, ◌++◌, ◌∷◌, [], IfSome, IfNone, OnOk, OnErr, IfErr, OnSome};
+ghost use Rattle.std.specs.Prelude.{◌≡◌, ◌++◌, ◌∷◌, [], IfSome, IfNone, IfOk, OnOk, OnErr, IfErr, OnSome};
 ghost use Rattle.std.specs.Arc.{arc_value};
 ghost use Rattle.relay_shared.specs.Inbox.{IsLeft, IsTaken, sockets_in, requests_in};
 
@@ -63,11 +63,18 @@ pub struct OwedWake {
     by_inbox: (),
 }
 
+/// That something was left in an inbox, and its loop was woken for it: the wake alone makes one.
+#[derive(Drop)]
+pub struct Woken {
+    by_wake: (),
+}
+
 impl OwedWake {
     /// Ends the loop's wait, or its next one.
-    pub fn pay(self, remote: &LoopRemote) {
+    pub fn pay(self, remote: &LoopRemote) -> Woken {
         let OwedWake { by_inbox: () } = self;
         remote.wake();
+        Woken { by_wake: () }
     }
 }
 
@@ -93,7 +100,10 @@ impl Inbox {
 
     /// An empty one with room for a request of each session, so that no session is refused for want
     /// of memory.
-    pub fn new(alloc: Global) -> Result<Inbox, AllocError> {
+    pub fn new(alloc: Global) -> Result<Inbox, AllocError>
+        ensures sockets { IfOk result (λ inbox. sockets_in inbox ≡ []) }
+        ensures requests { IfOk result (λ inbox. requests_in inbox ≡ []) }
+    {
         let mut inbox = Inbox::empty(alloc);
         inbox.requests.reserve(MAX_SESSIONS)?;
         Ok(inbox)

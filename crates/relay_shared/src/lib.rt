@@ -3,6 +3,7 @@
 #![tactic(auto)]
 
 pub mod address;
+pub mod bound_path;
 pub mod fault;
 pub mod inbox;
 pub mod index;

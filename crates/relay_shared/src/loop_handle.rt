@@ -1,8 +1,8 @@
 //! What others reach a loop by: its remote, and its inbox; and what they know of it.
 
-ghost use Rattle.std.specs.Prelude.{◌≡◌, IfErr};
+ghost use Rattle.std.specs.Prelude.{◌≡◌, IfErr, IfOk};
 
-use crate::inbox::{Accepted, Counted, Inbox};
+use crate::inbox::{Accepted, Counted, Inbox, Woken};
 use crate::requests::Request;
 use readiness::{LoopDriver, LoopRemote, Sock};
 use relay_facts::connection_facts::Acceptance;
@@ -27,7 +27,10 @@ pub struct LoopHandle {
 }
 
 impl LoopHandle {
-    pub fn new(alloc: Global, remote: Arc<LoopRemote>) -> Result<LoopHandle, AllocError> {
+    /// That of a loop without connections, which has made no turn.
+    pub fn new(alloc: Global, remote: Arc<LoopRemote>) -> Result<LoopHandle, AllocError>
+        ensures remote { IfOk result (λ handle. handle.remote ≡ remote) }
+    {
         let connections = Arc::new(alloc, AtomicU64::new(0))?;
         let published = PublishedTotals::new(alloc)?;
         Ok(LoopHandle {
@@ -44,12 +47,10 @@ impl LoopHandle {
         self.connections.load(Ordering::SeqCst)
     }
 
-    /// Delivers an accepted socket, and wakes the loop; or says that there is no memory for it,
-    /// which is dropped.
-    pub fn deliver<R: Wait>(&self, rt: &R, sock: Sock, acceptance: Acceptance) -> bool {
-        let Some(counted) = Counted::new(&self.connections, &acceptance.served) else {
-            return false;
-        };
+    /// Delivers an accepted socket, and wakes the loop. Where there is no memory for it, it is
+    /// dropped.
+    pub fn deliver<R: Wait>(&self, rt: &R, sock: Sock, acceptance: Acceptance) -> Option<Woken> {
+        let counted = Counted::new(&self.connections, &acceptance.served)?;
         let accepted = Accepted {
             sock,
             acceptance,
@@ -57,24 +58,18 @@ impl LoopHandle {
         };
         let left = self.inbox.lock(rt).leave_socket(accepted);
         match left {
-            Some(owed) => {
-                owed.pay(&self.remote);
-                true
-            }
-            None => false,
+            Some(owed) => Some(owed.pay(&self.remote)),
+            None => None,
         }
     }
 
     /// Leaves a request, and wakes the loop; or gives it back, where there is no memory.
-    pub fn ask<R: Wait>(&self, rt: &R, request: Request) -> Result<(), Request>
+    pub fn ask<R: Wait>(&self, rt: &R, request: Request) -> Result<Woken, Request>
         ensures returned { IfErr result (λ other. other ≡ request) }
     {
         let left = self.inbox.lock(rt).leave_request(request);
         match left {
-            Ok(owed) => {
-                owed.pay(&self.remote);
-                Ok(())
-            }
+            Ok(owed) => Ok(owed.pay(&self.remote)),
             Err(request) => Err(request),
         }
     }

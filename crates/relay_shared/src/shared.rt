@@ -3,11 +3,14 @@
 //! Locks are held for a few steps, and taken in this order: the rules', the index's, a rule's or a
 //! cell's, a remote's. Those of the inboxes and of the slots are held alone.
 
-ghost use Rattle.std.specs.Prelude.{◌≡◌, IfErr, IfOk};
+ghost use Rattle.std.specs.Prelude.{◌≡◌, ◌⊎◌, ◌<◌, ◌≤◌, min, length};
+ghost use Rattle.std.specs.Prelude.{IfErr, IfOk, OnOk, IfSome, IfNone, OnSome};
 ghost use Rattle.std.specs.Arc.{arc_value};
 ghost use Rattle.relay_admin.specs.declared.serve_fault.ServeFault.{ServeFault};
 ghost use Rattle.relay_shared.specs.Drop.{IsDrop};
+ghost use Rattle.relay_shared.specs.Placing.{IsFewest, LacksLoops, sum_of};
 
+use crate::inbox::Woken;
 use crate::index::Index;
 use crate::loop_handle::LoopHandle;
 use crate::requests::{Answer, Question, Request, Slots, Ticket};
@@ -98,24 +101,48 @@ pub fn shared_of(
     Ok(Arc::new(alloc, shared)?)
 }
 
+// The sum of what the loops have; past the greatest `u64` it stays that.
+fn sum_of(counts: &[u64]) -> u64
+    ensures { result ≡ sum_of counts.now }
+{
+    let mut sum = 0u64;
+    for count in counts {
+        sum = sum.saturating_add(*count);
+    }
+    sum
+}
+
 impl Shared {
-    // The loop with the fewest connections; none where as many stand as may.
-    fn place(&self) -> Option<&LoopHandle> {
-        let mut counts = ArrayVec::<u64, MAX_LOOPS>::new();
-        let mut all = 0u64;
+    // How many connections each loop has, by its place, those in its inbox among them.
+    fn counts(&self) -> ArrayVec<u64, MAX_LOOPS>
+        ensures { length result.items ≡ min (length self.now.loops.items) MAX_LOOPS }
+    {
+        let mut counts = ArrayVec::new();
         for handle in self.loops.iter() {
-            let count = handle.connections();
-            all = all.saturating_add(count);
-            let _ = counts.try_push(count);
+            let _ = counts.try_push(handle.connections());
         }
-        self.loops.get(place_of_pair(counts.as_slice(), all as usize, self.limit)?)
+        counts
+    }
+
+    // The first loop with the fewest connections, where each has so many; none where as many stand
+    // as may.
+    fn fewest(&self, counts: &[u64]) -> Option<&LoopHandle>
+        ensures fewest { IfSome result (λ handle.
+            IsFewest self.now.loops.items counts.now handle.now) }
+        ensures room { OnSome result (sum_of counts.now < self.now.limit.count) }
+        ensures full { IfNone result
+            ((self.now.limit.count ≤ sum_of counts.now)
+            ⊎ LacksLoops self.now.loops.items counts.now) }
+    {
+        let place = place_of_pair(counts, sum_of(counts) as usize, self.limit)?;
+        self.loops.get(place)
     }
 
     /// Delivers a socket that was accepted just now to the loop with the fewest connections. One
     /// beyond the most pairs, of its rule or of all, or for which memory is refused, is dropped. The
     /// main thread alone delivers.
     pub fn deliver<R: Wait + Clock>(&self, rt: &R, sock: Sock, acceptance: Acceptance) {
-        acceptance.served.note_accept(acceptance.at);
+        acceptance.served.note_accept();
         let Some(told) = acceptance.try_clone() else {
             return;
         };
@@ -126,19 +153,24 @@ impl Shared {
     }
 
     // The same, or why the socket is dropped.
-    fn try_deliver<R: Wait>(&self, rt: &R, sock: Sock, acceptance: Acceptance) -> Result<(), Ended>
+    fn try_deliver<R: Wait>(
+        &self,
+        rt: &R,
+        sock: Sock,
+        acceptance: Acceptance,
+    ) -> Result<Woken, Ended>
         ensures why { IfErr result IsDrop }
     {
         if self.safeguards.is_at_limit(acceptance.served.standing()) {
             return Err(Ended::RuleFull);
         }
-        let Some(handle) = self.place() else {
+        let counts = self.counts();
+        let Some(handle) = self.fewest(counts.as_slice()) else {
             return Err(Ended::Full);
         };
-        if handle.deliver(rt, sock, acceptance) {
-            Ok(())
-        } else {
-            Err(Ended::NoMemory)
+        match handle.deliver(rt, sock, acceptance) {
+            Some(woken) => Ok(woken),
+            None => Err(Ended::NoMemory),
         }
     }
 
@@ -157,11 +189,7 @@ impl Shared {
 
     /// How many connections stand, those among them that are being set up.
     pub fn standing(&self) -> u64 {
-        let mut all = 0u64;
-        for handle in self.loops.iter() {
-            all = all.saturating_add(handle.connections());
-        }
-        all
+        sum_of(self.counts().as_slice())
     }
 
     /// Asks the loop at a place, for the session at this one, which waits for the answer from then
@@ -172,7 +200,9 @@ impl Shared {
         session: usize,
         loop_place: usize,
         question: Question,
-    ) -> Result<(), OutOfMemory> {
+    ) -> Result<Woken, OutOfMemory>
+        ensures there { OnOk result (loop_place < length self.now.loops.items) }
+    {
         let Some(handle) = self.loops.get(loop_place) else {
             return Err(OutOfMemory);
         };
@@ -180,7 +210,7 @@ impl Shared {
             return Err(OutOfMemory);
         };
         match handle.ask(rt, Request { ticket, question }) {
-            Ok(()) => Ok(()),
+            Ok(woken) => Ok(woken),
             Err(request) => {
                 self.slots.lock(rt).take_back(request);
                 Err(OutOfMemory)

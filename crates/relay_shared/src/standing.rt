@@ -2,15 +2,15 @@
 //! the main thread.
 
 ghost use Rattle.std.specs.Prelude.{◌≡◌, IfSome, IfNone};
-ghost use Rattle.relay_shared.specs.Standing.{IsWhere, NamesNoSide, token_on};
+ghost use Rattle.relay_shared.specs.Standing.{IsShownSide, IsWhere, NamesNoSide, token_on};
 
 use crate::index::{Index, Standing};
 use readiness::Place;
 use relay_admin::{Shown, ShownSide};
 use relay_facts::connection_facts::ConnectionFacts;
 use relay_facts::served_rule::ServedRule;
-use relay_facts::shown::{shown_listener, shown_side};
-use std::sync::{Arc, Wait};
+use relay_facts::shown::shown_side;
+use std::sync::Arc;
 
 /// A connection as others know it.
 #[derive(Drop)]
@@ -57,14 +57,17 @@ pub fn find_side(index: &RelayIndex, id: u64) -> Option<Whereabouts>
     }
 }
 
-/// What is shown at this moment of what has this id.
-pub fn shown<R: Wait>(index: &RelayIndex, rt: &R, id: u64, now: u64) -> Option<Shown>
+/// What is shown at this moment of the side of a connection that has this id; none of a listener.
+pub fn shown_of_side(index: &RelayIndex, id: u64, now: u64) -> Option<Shown>
     ensures own { IfSome result (λ seen. seen.id ≡ id) }
+    ensures side { IfSome result (λ seen. IsShownSide index.now id seen.side seen.rule) }
+    ensures none { IfNone result (NamesNoSide index.now id) }
 {
-    match index.find(id)? {
-        (side, Standing::Connection(connected)) => {
+    match index.find(id) {
+        Some((side, Standing::Connection(connected))) => {
             Some(shown_side(&connected.facts, id, side, now))
         }
-        (_, Standing::Listener(served)) => Some(shown_listener(rt, served, id, now)),
+        Some((_, Standing::Listener(_))) => None,
+        None => None,
     }
 }

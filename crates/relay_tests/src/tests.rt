@@ -22,9 +22,11 @@ macro_rules! started {
     };
     ($rt:expr, $place:expr, $loops:expr, $outlets:expr) => {{
         let (rt, outlets) = ($rt, $outlets);
-        let capacity = $crate::tests::sized_by_default($loops).expect(&rt, "a size");
         let (rules, admin, socket) = $place.parts();
-        let run = move || $crate::tests::served(rt, &rules, &socket, capacity, outlets);
+        let $crate::tests::Outlets { log, metrics } = outlets;
+        let asked = $crate::tests::settings(rt.alloc(), rules, socket, $loops, &log, metrics);
+        let settings = asked.expect(&rt, "settings");
+        let run = move || $crate::tests::served(rt, &settings, log);
         let thread = std::thread::spawn(&rt, run).expect(&rt, "thread");
         $crate::tests::Running { thread, admin }
     }};
@@ -42,8 +44,10 @@ mod standing;
 mod streams;
 mod watch;
 
-use relay::{Capacity, Loops, PairLimit, Safeguards, ServeFault};
-use relay_serve::{Given, Outlets, serve};
+use relay_admin::Addr;
+use relay_core::Loops;
+use relay_server::{Given, Safeguards, ServeFault, Settings, serve};
+use std::alloc::Global;
 use std::fs::{File, Files};
 use std::io::Write;
 use std::net::{Net, Shutdown, TcpListener, TcpStream};
@@ -75,19 +79,19 @@ impl Said {
     }
 }
 
-/// What a relay has that tells nothing beside its lines and its admin socket.
-fn no_outlets() -> Outlets<File> {
+/// Where a relay tells of itself, beside its lines and its admin socket: a log that is open already,
+/// and an address for figures.
+#[derive(Drop)]
+struct Outlets {
+    log: Option<File>,
+    metrics: Option<Addr>,
+}
+
+fn no_outlets() -> Outlets {
     Outlets {
         log: None,
         metrics: None,
     }
-}
-
-/// So many loops, and the default of connections.
-fn sized_by_default(loops: u64) -> Option<Capacity> {
-    let loops = Loops::of(loops)?;
-    let pairs = PairLimit::by_default();
-    Some(Capacity { loops, pairs })
 }
 
 /// Targets have as long as the system takes, a rule as many connections as all, and no path gives
@@ -98,14 +102,34 @@ const NO_SAFEGUARDS: Safeguards = Safeguards {
     replaces_stale: false,
 };
 
-/// A relay from its start to its end, of this size, with this log and these metrics.
-fn served<R>(
-    rt: R,
-    rules: &String,
-    admin: &String,
-    capacity: Capacity,
-    outlets: Outlets<File>,
-) -> Said
+/// What a relay is asked to be: by these files, of so many loops, with this log and figures at this
+/// address.
+fn settings(
+    alloc: Global,
+    rules: String,
+    admin: String,
+    loops: u64,
+    log: &Option<File>,
+    metrics: Option<Addr>,
+) -> Option<Settings> {
+    let path = match log {
+        // (no file has that path: the log is open)
+        Some(_) => Some(String::from_str(alloc, "log").ok()?),
+        None => None,
+    };
+    Some(Settings {
+        rules,
+        admin,
+        loops: Loops::of(loops),
+        pairs: None,
+        safeguards: NO_SAFEGUARDS,
+        log: path,
+        metrics,
+    })
+}
+
+/// A relay from its start to its end, by these settings, with this log.
+fn served<R>(rt: R, settings: &Settings, log: Option<File>) -> Said
 where
     R: Wait
         + Threads
@@ -121,16 +145,7 @@ where
         + 'static,
 {
     let mut text = Vec::new(rt.alloc());
-    let done = serve(
-        rt,
-        rules,
-        admin,
-        capacity,
-        NO_SAFEGUARDS,
-        Given::none(rt.alloc()),
-        outlets,
-        &mut text,
-    );
+    let done = serve(rt, settings, Given::none(rt.alloc()), log, &mut text);
     Said { done, text }
 }
 

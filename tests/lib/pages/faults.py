@@ -14,7 +14,7 @@ BAD_LINE = "crates/lockword_script/src/printed_line.rt"
 HEADS = re.compile(r"(?:bad (?:rules|command|line)|cannot \w+|relay fault|trace fault)\b")
 MAIN = "crates/pollrelay/src/main.rt"
 # What `serve` checks, in the guide's words, and the call of the code that checks it.
-SERVING = "crates/relay_serve/src/serving.rt"
+SERVING = "crates/relay_server/src/serving.rt"
 CHECKS = {
     "rules file": "Config::read(", "poller": "Server::new(", "admin socket": "server.open(", "log": ".start_log(", "address for metrics": ".serve_metrics(",
 }

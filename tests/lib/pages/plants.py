@@ -1,7 +1,8 @@
-"""The table of plants in docs/testing.md: each plant, with the check that sees it."""
+"""The table of plants in docs/testing.md: each plant, with the check that sees it. Each applies to the sources as they stand."""
 
 import re
 
+from lib.edits import apply
 from lib.planted import plants
 
 PAGE = "docs/testing.md"
@@ -24,3 +25,6 @@ def check(tree, told):
     found = TABLE.search(text)
     if told.reads(found, PAGE, __file__):
         told.holds(found[0] == table(), PAGE, "its plants aren't those of `tests/plants`: `python3 tests/gate/plants.py --write`")
+    for it in plants():
+        _, why = apply(it.edit, tree.text)
+        told.holds(not why, f"tests/plants/{it.name}.edit", why)

@@ -2,6 +2,7 @@
 
 use relay_command::{Job, job_of};
 use relay_core::PairLimit;
+use relay_facts::safeguards::Safeguards;
 use std::alloc::{AllocError, Global};
 use std::prelude::HostRuntime;
 use std::test::Fail;
@@ -27,19 +28,19 @@ fn job_with(alloc: Global, words: &[&str]) -> Result<Option<Job>, AllocError> {
 /// What a job asks for.
 fn asked_of(job: &Option<Job>) -> Asked {
     match job {
-        Some(
-            Job::Serve {
+        Some(Job::Serve(settings)) => {
+            let Safeguards {
                 connect_ms,
                 per_rule,
                 replaces_stale,
-                ..
-            },
-        ) => Some((*connect_ms, count_of(per_rule), *replaces_stale)),
+            } = settings.safeguards;
+            Some((connect_ms, count_of(per_rule), replaces_stale))
+        }
         _ => None,
     }
 }
 
-fn count_of(limit: &Option<PairLimit>) -> Option<u64> {
+fn count_of(limit: Option<PairLimit>) -> Option<u64> {
     match limit {
         Some(limit) => Some(limit.count as u64),
         None => None,

@@ -3,9 +3,18 @@
 use relay_admin::{Addr, addr_of};
 use relay_command::{Job, job_of};
 use relay_core::{Loops, PairLimit};
+use relay_facts::safeguards::Safeguards;
+use relay_facts::settings::Settings;
 use std::alloc::{AllocError, Global};
 use std::prelude::HostRuntime;
 use std::test::Fail;
+
+/// What `serve` is asked for without an option.
+const BY_DEFAULT: Safeguards = Safeguards {
+    connect_ms: Some(5_000),
+    per_rule: None,
+    replaces_stale: false,
+};
 
 /// Whether these words ask for this job, or for none.
 fn is_job(alloc: Global, words: &[&str], job: &Option<Job>) -> bool {
@@ -29,17 +38,15 @@ fn served(
 ) -> Option<Job> {
     let rules = String::from_str(alloc, rules).ok()?;
     let admin = String::from_str(alloc, admin).ok()?;
-    Some(Job::Serve {
+    Some(Job::Serve(Settings {
         rules,
         admin,
         loops,
         pairs,
+        safeguards: BY_DEFAULT,
         log: None,
         metrics: None,
-        connect_ms: Some(5_000),
-        per_rule: None,
-        replaces_stale: false,
-    })
+    }))
 }
 
 /// The job of `serve --rules F --admin A` with these two options.
@@ -48,17 +55,15 @@ fn served_with(alloc: Global, log: Option<&str>, metrics: Option<Addr>) -> Optio
         Some(path) => Some(String::from_str(alloc, path).ok()?),
         None => None,
     };
-    Some(Job::Serve {
+    Some(Job::Serve(Settings {
         rules: String::from_str(alloc, "F").ok()?,
         admin: String::from_str(alloc, "A").ok()?,
         loops: None,
         pairs: None,
+        safeguards: BY_DEFAULT,
         log,
         metrics,
-        connect_ms: Some(5_000),
-        per_rule: None,
-        replaces_stale: false,
-    })
+    }))
 }
 
 const SERVE: [&str; 5] = ["serve", "--rules", "F", "--admin", "A"];

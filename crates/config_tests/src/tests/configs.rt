@@ -611,6 +611,20 @@ const LISTS: &[(&str, &str, usize, Place, Key)] = &[
         Place::Rule(0),
         Key::Target,
     ),
+    (
+        "[[rule]]\nname = \"web\"\nallow = [",
+        "\"::1\", ",
+        256,
+        Place::Rule(0),
+        Key::Allow,
+    ),
+    (
+        "[[rule]]\nname = \"web\"\nproxy_protocol.from_client = [",
+        "\"::1\", ",
+        256,
+        Place::Proxy(0),
+        Key::FromClient,
+    ),
 ];
 
 /// Whether a list of so many items is told as one of too many, or memory was refused.

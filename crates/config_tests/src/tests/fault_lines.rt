@@ -83,6 +83,72 @@ const ROWS: &[(&str, &str)] = &[
         "bad config: rule \"web\": idle: \"30x\" is no time (as 500ms, 30s, 5m, 2h, at most a day; or never)",
     ),
     (
+        "[[rule]]\nname = \"web\"\nconnections_per_source = 50001\n",
+        "bad config: rule \"web\": connections_per_source: 50001 is not from 1 to 50000",
+    ),
+    (
+        "[[rule]]\nname = \"web\"\naccepts_per_source = \"100/m\"\n",
+        "bad config: rule \"web\": accepts_per_source: \"100/m\" is no rate (as 100/s, from 1/s to 1000000/s)",
+    ),
+    (
+        "[[rule]]\nname = \"web\"\naccepts_per_source = 100\n",
+        "bad config: rule \"web\": accepts_per_source: 100 is not a text in quotes",
+    ),
+    (
+        "[[rule]]\nname = \"web\"\nkeepalive = \"500ms\"\n",
+        "bad config: rule \"web\": keepalive: \"500ms\" is no time of whole seconds (as 30s, 5m, at most 32767s; or \
+        never)",
+    ),
+    (
+        "[[rule]]\nname = \"web\"\nuser_timeout = \"30\"\n",
+        "bad config: rule \"web\": user_timeout: \"30\" is no time (as 500ms, 30s, 5m, 2h, at most a day; or never)",
+    ),
+    (
+        "[[rule]]\nname = \"web\"\nallow = [\"10.0.0.0/8\", \"10.0.0.0/33\"]\n",
+        "bad config: rule \"web\": allow 2: \"10.0.0.0/33\" is no network (as 10.0.0.0/8, 2001:db8::/32, 10.0.0.1)",
+    ),
+    (
+        "[[rule]]\nname = \"web\"\ndeny = []\n",
+        "bad config: rule \"web\": deny: the list is empty",
+    ),
+    (
+        "[[rule]]\nname = \"web\"\ndeny = \"10.0.0.0/8\"\n",
+        "bad config: rule \"web\": deny: \"10.0.0.0/8\" is not a list of texts",
+    ),
+    (
+        "[[rule]]\nname = \"web\"\nsource = \"localhost\"\n",
+        "bad config: rule \"web\": source: \"localhost\" is no IP address (as 10.0.0.1, 2001:db8::1)",
+    ),
+    (
+        "[[rule]]\nname = \"web\"\nbacklog = 0\n",
+        "bad config: rule \"web\": backlog: 0 is not from 1 to 65535",
+    ),
+    (
+        "[[rule]]\nname = \"web\"\nhealth = \"2s\"\n",
+        "bad config: rule \"web\": health: \"2s\" is not a table ({ every = .., timeout = .., fall = .., rise = .. })",
+    ),
+    (
+        "[[rule]]\nname = \"web\"\nhealth = { every = \"never\" }\n",
+        "bad config: rule \"web\": health: every: \"never\" is no time (as 500ms, 30s, 5m, 2h, at most a day)",
+    ),
+    (
+        "[[rule]]\nname = \"web\"\nhealth = { rise = 101 }\n",
+        "bad config: rule \"web\": health: rise: 101 is not from 1 to 100",
+    ),
+    (
+        "[[rule]]\nname = \"web\"\nhealth = { evry = \"2s\" }\n",
+        "bad config: rule \"web\": health: unknown key \"evry\"; \"every\" is meant?",
+    ),
+    (
+        "[[rule]]\nname = \"web\"\nproxy_protocol = { from_client = [\"10.0.0.1\", \"a\"] }\n",
+        "bad config: rule \"web\": proxy_protocol: from_client 2: \"a\" is no network (as 10.0.0.0/8, \
+        2001:db8::/32, 10.0.0.1)",
+    ),
+    (
+        "[[rule]]\nname = \"web\"\nproxy_protocol = { to_target = \"v3\" }\n",
+        "bad config: rule \"web\": proxy_protocol: to_target: \"v3\" is none of \"v1\", \"v2\"",
+    ),
+    (
         "[[rule]]\nname = \"web\"\nidel = \"30s\"\n",
         "bad config: rule \"web\": unknown key \"idel\"; \"idle\" is meant?",
     ),

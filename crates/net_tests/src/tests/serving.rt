@@ -9,7 +9,7 @@ use std::io::{ErrorKind, Read, Write};
 use std::net::Net as Sockets;
 use std::process::Abort;
 use std::thread::Threads;
-use std::time::Instant;
+use std::time::{Duration, Instant};
 use std::{io, thread};
 
 /// What is done while the client waits for the end.
@@ -21,6 +21,8 @@ enum Ends {
     Words,
     Stop,
     StopOfNet,
+    /// A shutdown that gives the tasks so many milliseconds.
+    Shutdown(u64),
     /// It says that it writes no more.
     CloseWrite,
 }
@@ -78,6 +80,27 @@ const ROWS: &[(&str, Does, bool, Ends, u64)] = &[
         0,
     ),
     (
+        "a shutdown ends a task that is idle",
+        Does::Echoes(600_000),
+        true,
+        Ends::Shutdown(600_000),
+        0,
+    ),
+    (
+        "a shutdown ends a task that goes on when its time is over",
+        Does::Echoes(0),
+        true,
+        Ends::Shutdown(40),
+        40,
+    ),
+    (
+        "a task that asks for the end answers before",
+        Does::Closes,
+        true,
+        Ends::Itself,
+        0,
+    ),
+    (
         "a stop of the net ends tasks that wait",
         Does::LooksEach(600_000),
         false,
@@ -116,6 +139,11 @@ fn end_by<R: Runs + Threads>(
         }
         Ends::Stop => *served = None,
         Ends::StopOfNet => *net = None,
+        Ends::Shutdown(ms) => {
+            if let Some(service) = served.take() {
+                service.shutdown(Duration::from_millis(ms));
+            }
+        }
         Ends::CloseWrite => {
             let _ = conn.close_write();
         }

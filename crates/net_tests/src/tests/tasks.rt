@@ -1,6 +1,6 @@
 //! The tasks of the servers that are tested.
 
-use net::{Cause, Conn, Next, Runs, Task};
+use net::{Cause, Conn, Next, Runs, Task, Waits};
 use std::alloc::Global;
 use std::io;
 use std::io::ErrorKind;
@@ -18,10 +18,18 @@ pub enum Does {
     LooksEach(u64),
     /// It is over with the first bytes that come.
     Fails,
+    /// It gives each lump that comes back after so many milliseconds, and is over once an end is asked
+    /// for and nothing is under way.
+    Late(u64),
+    /// It gives back what comes first, asks for the end of its service, and is over.
+    Closes,
     /// None is begun: the loops have one, which begins none.
     BeginsNone,
     IsRefused,
 }
+
+/// Longer than any test, in milliseconds.
+pub const LONG_MS: u64 = 600_000;
 
 /// A task, and what it read and hasn't given back: from here to there in the buffer.
 #[derive(Drop)]
@@ -86,12 +94,12 @@ impl Worker {
         }
     }
 
-    fn echoes<R: Runs>(&mut self, conn: &mut Conn<R>, time: Option<Duration>) -> Next {
+    fn echoes<R: Runs>(&mut self, conn: &mut Conn<R>, waits: Waits) -> Next {
         for _ in 0..8u8 {
             match self.goes_on(conn) {
                 Came::Bytes => {}
-                Came::WaitsToWrite => return Next::Write(time),
-                Came::WaitsToRead => return Next::Read(time),
+                Came::WaitsToWrite => return Next::Write(waits),
+                Came::WaitsToRead => return Next::Read(waits),
                 Came::Over => return Next::Over,
             }
         }
@@ -99,10 +107,38 @@ impl Worker {
     }
 
     fn looks<R: Runs>(&mut self, conn: &mut Conn<R>, each: Duration) -> Next {
-        match self.echoes(conn, None) {
+        match self.echoes(conn, Waits::Forever) {
             Next::Over => Next::Over,
             _ => Next::After(each),
         }
+    }
+
+    fn late<R: Runs>(&mut self, conn: &mut Conn<R>, cause: Cause, ms: u64) -> Next {
+        if self.from < self.to {
+            return match self.gives(conn) {
+                Came::Bytes => Next::Again,
+                _ => Next::Over,
+            };
+        }
+        match self.takes(conn) {
+            Came::Bytes => Next::After(Duration::from_millis(ms)),
+            Came::WaitsToRead => Next::Read(cause.idle(Duration::from_millis(LONG_MS))),
+            _ => Next::Over,
+        }
+    }
+
+    // The end is asked for before the answer goes out.
+    fn closes<R: Runs>(&mut self, conn: &mut Conn<R>) -> Next {
+        match self.takes(conn) {
+            Came::WaitsToRead => return Next::Read(Waits::Forever),
+            Came::Bytes => {}
+            _ => return Next::Over,
+        }
+        if let Some(closer) = conn.closer() {
+            closer.shutdown(Duration::from_millis(LONG_MS));
+        }
+        self.gives(conn);
+        Next::Over
     }
 
     // The deadline is set once.
@@ -111,7 +147,7 @@ impl Worker {
             return Next::Over;
         }
         self.does = Does::HasDeadline(0);
-        self.echoes(conn, None)
+        self.echoes(conn, Waits::Forever)
     }
 }
 
@@ -124,17 +160,18 @@ impl<R: Runs> Task<R> for Worker {
         }
     }
 
-    fn step(&mut self, conn: &mut Conn<R>, cause: Cause) -> Next {
+    fn step(&mut self, _rt: &R, conn: &mut Conn<R>, cause: Cause) -> Next {
         match self.does {
-            Does::Echoes(_) if cause == Cause::TimeOver => Next::Over,
-            Does::Echoes(0) => self.echoes(conn, None),
-            Does::Echoes(ms) => self.echoes(conn, Some(Duration::from_millis(ms))),
+            Does::Echoes(0) => self.echoes(conn, Waits::Forever),
+            Does::Echoes(ms) => self.echoes(conn, cause.idle(Duration::from_millis(ms))),
             Does::HasDeadline(ms) => self.waits(conn, ms),
             Does::LooksEach(ms) => self.looks(conn, Duration::from_millis(ms)),
             Does::Fails => match self.takes(conn) {
-                Came::WaitsToRead => Next::ReadOrWrite(None),
+                Came::WaitsToRead => Next::ReadOrWrite(Waits::Forever),
                 _ => Next::Over,
             },
+            Does::Late(ms) => self.late(conn, cause, ms),
+            Does::Closes => self.closes(conn),
             Does::BeginsNone | Does::IsRefused => Next::Over,
         }
     }

@@ -21,19 +21,18 @@ struct Seen<R: Runs> {
 /// A task that leaves a clone of its connection, and counts its steps, of which one comes by itself.
 #[derive(Drop)]
 struct Sleeper<R: Runs> {
-    rt: R,
     seen: Arc<Seen<R>>,
 }
 
 impl<R: Runs> Task<R> for Sleeper<R> {
     fn begin(&self, _alloc: Global) -> io::Result<Sleeper<R>> {
         let seen = Arc::try_clone(&self.seen)?;
-        Ok(Sleeper { rt: self.rt, seen })
+        Ok(Sleeper { seen })
     }
 
-    fn step(&mut self, conn: &mut Conn<R>, _cause: Cause) -> Next {
+    fn step(&mut self, rt: &R, conn: &mut Conn<R>, _cause: Cause) -> Next {
         let other = conn.try_clone().ok();
-        *self.seen.other.lock(&self.rt) = other;
+        *self.seen.other.lock(rt) = other;
         self.seen.steps.fetch_add(1, Ordering::SeqCst);
         Next::After(Duration::from_secs(600))
     }
@@ -67,7 +66,7 @@ fn a_task_is_woken_by_a_clone(rt: HostRuntime) {
     };
     let seen = Arc::new(rt.alloc(), seen).expect(&rt, "memory");
     let theirs = Arc::try_clone(&seen).expect(&rt, "another owner");
-    let sleeper = Sleeper { rt, seen: theirs };
+    let sleeper = Sleeper { seen: theirs };
     let service = net.serve(listener, 1, sleeper).expect(&rt, "served");
     let addr = service.local_addr().expect(&rt, "address");
     let conn = Conn::connect(&net, &addr, millis(60_000)).expect(&rt, "connected");

@@ -1,12 +1,11 @@
 //! The end of a relay that breaks as it starts: it comes at once, and no thread outlives it.
 
 use super::live_threads::live_threads;
-use super::places::{Place, place_to};
+use super::places::place_to;
+use super::settings;
 use super::watch::Watch;
-use super::{NO_SAFEGUARDS, no_outlets, sized_by_default};
-use relay::ServeFault;
-use relay_serve::{Given, serve};
-use std::fs::Files;
+use relay_server::{Given, ServeFault, Settings, serve};
+use std::fs::{File, Files};
 use std::io;
 use std::io::{ErrorKind, Write};
 use std::net::{Net, TcpListener, TcpStream};
@@ -36,8 +35,8 @@ impl Write for Broken {
     }
 }
 
-/// A relay of one loop whose first line can't be written, from its start to its end.
-fn breaks<R>(rt: R, place: &Place) -> Result<(), ServeFault>
+/// A relay whose first line can't be written, from its start to its end.
+fn breaks<R>(rt: R, settings: &Settings) -> Result<(), ServeFault>
 where
     R: Wait
         + Threads
@@ -52,30 +51,22 @@ where
         + Sync
         + 'static,
 {
-    let capacity = sized_by_default(1).expect(&rt, "a size");
-    let (rules, admin) = (&place.rules, &place.admin);
-    let outlets = no_outlets();
-    serve(
-        rt,
-        rules,
-        admin,
-        capacity,
-        NO_SAFEGUARDS,
-        Given::none(rt.alloc()),
-        outlets,
-        &mut Broken,
-    )
+    let log: Option<File> = None;
+    serve(rt, settings, Given::none(rt.alloc()), log, &mut Broken)
 }
 
 #[test]
 fn a_relay_that_breaks_as_it_starts_ends_all_its_threads_at_once(rt: HostRuntime) {
     let watch = Watch::start(rt, rt.alloc());
     let (place, _port) = place_to(&rt, 9, "never").expect(&rt, "a place");
+    let (rules, _, admin) = place.parts();
+    let asked = settings(rt.alloc(), rules, admin, 1, &None, None);
+    let settings = asked.expect(&rt, "settings");
     let before = live_threads(&rt);
     holds!(rt; before.is_some());
     let began = Instant::now(&rt).expect(&rt, "clock");
     for _ in 0..RELAYS {
-        holds!(rt; breaks(rt, &place) == Err(ServeFault::Device));
+        holds!(rt; breaks(rt, &settings) == Err(ServeFault::Device));
         holds!(rt; live_threads(&rt) == before, "a thread goes on");
     }
     let took = began.elapsed(&rt).expect(&rt, "clock");

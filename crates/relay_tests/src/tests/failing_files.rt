@@ -5,7 +5,7 @@
 use super::places::{is_there, place_to};
 use super::watch::Watch;
 use super::{TURNS, pause};
-use relay::ServeFault;
+use relay_server::ServeFault;
 use std::time::{CpuClock, Duration, Instant};
 use std::{fs, thread};
 

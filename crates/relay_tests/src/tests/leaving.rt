@@ -1,11 +1,11 @@
 //! What a relay leaves at its end that had a log and figures: no thread, no open file and no path.
 
+use super::Outlets;
 use super::live_threads::live_threads;
 use super::places::{is_there, own_path, place_to};
 use super::streams::{accepted, heard, hears, reach, reach_unix, says, target};
 use super::watch::Watch;
 use relay_admin::addr_of;
-use relay_serve::Outlets;
 use std::fs::File;
 use std::io::Write;
 use std::net::{TcpListener, TcpStream};
@@ -38,7 +38,7 @@ fn talking(rt: &HostRuntime, listener: &TcpListener, port: u16) -> Option<(TcpSt
 }
 
 /// A log, and figures at this path.
-fn metered_at(rt: &HostRuntime, path: &String) -> Option<Outlets<File>> {
+fn metered_at(rt: &HostRuntime, path: &String) -> Option<Outlets> {
     let addr = format!(in rt.alloc(); "unix:{path}").ok()?;
     let metrics = addr_of(addr.as_bytes());
     let log = own_log(rt);

@@ -1,6 +1,6 @@
 use Rattle.std.proofs.Common.{◌≡◌, drop, map}
 use Rattle.config_values.specs.Addr.{address_of}
-use Rattle.relay_config.specs.Config.{has_address}
+use Rattle.relay_config.specs.Rule.{has_address}
 use Rattle.relay_config.proofs.listen.has_address.Given as goal
 
 abbrev pub invariant-loop-other : goal.invariant-loop-other

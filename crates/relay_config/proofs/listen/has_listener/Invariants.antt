@@ -1,6 +1,7 @@
 use Rattle.std.proofs.Common.{◌≡◌, drop, map}
 use Rattle.config_values.specs.Addr.{address_of}
-use Rattle.relay_config.specs.Config.{has_listener, rule_entry}
+use Rattle.relay_config.specs.Entries.{rule_entry}
+use Rattle.relay_config.specs.Rule.{has_listener}
 use Rattle.relay_config.proofs.listen.has_listener.Given as goal
 
 abbrev pub invariant-loop-rule : goal.invariant-loop-rule

@@ -1,7 +1,8 @@
 use Rattle.std.proofs.Common.{◌≡◌, [], drop, map}
 use Rattle.config_values.specs.Addr.{address_of}
 use Rattle.toml.specs.View.{items_view}
-use Rattle.relay_config.specs.Config.{listener_behind, rule_entry}
+use Rattle.relay_config.specs.Entries.{rule_entry}
+use Rattle.relay_config.specs.Rule.{listener_behind}
 use Rattle.relay_config.specs.Reading.{each_in}
 use Rattle.relay_config.proofs.listen.listeners_in.Given as goal
 

@@ -1,6 +1,7 @@
 use Rattle.std.proofs.Common.{◌≡◌, [], drop, map}
 use Rattle.toml.specs.View.{items_view}
-use Rattle.relay_config.specs.Config.{rule_behind, rule_entry}
+use Rattle.relay_config.specs.Entries.{rule_entry}
+use Rattle.relay_config.specs.Rule.{rule_behind}
 use Rattle.relay_config.specs.Reading.{each_in}
 use Rattle.relay_config.proofs.rule.rules_in.Given as goal
 

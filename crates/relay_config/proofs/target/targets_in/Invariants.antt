@@ -1,6 +1,7 @@
 use Rattle.std.proofs.Common.{◌≡◌, [], drop, map}
 use Rattle.toml.specs.View.{items_view}
-use Rattle.relay_config.specs.Config.{target_behind, target_entry}
+use Rattle.relay_config.specs.Entries.{target_entry}
+use Rattle.relay_config.specs.Rule.{target_behind}
 use Rattle.relay_config.specs.Reading.{each_in}
 use Rattle.relay_config.proofs.target.targets_in.Given as goal
 

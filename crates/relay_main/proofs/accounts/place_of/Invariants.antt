@@ -1,4 +1,4 @@
-use Rattle.std.proofs.Common.{◌≡◌, ◌<◌, ℕ, Bool, false}
+use Rattle.std.proofs.Common.{◌≡◌, ◌<◌, ℕ, false}
 use Rattle.std.specs.Prelude.{slice_index_or}
 use Rattle.std.specs.declared.alloc.Global.{Global}
 use Rattle.std.specs.declared.sync.Arc.{Arc}

@@ -1,4 +1,4 @@
-use Rattle.std.proofs.Common.{◌≡◌, ◌<◌, ℕ, Bool, false}
+use Rattle.std.proofs.Common.{◌≡◌, ◌<◌, ℕ, false}
 use Rattle.std.specs.Prelude.{slice_index_or}
 use Rattle.relay_main.specs.Listening.{is_at}
 use Rattle.relay_main.specs.declared.listening.GivenListener.{GivenListener}

@@ -1,4 +1,4 @@
-use Rattle.std.proofs.Common.{◌≡◌, ◌∙◌, sym, ap, refl, rules}
+use Rattle.std.proofs.Common.{◌≡◌, ◌∙◌, sym, ap, rules}
 use Rattle.std.specs.Prelude.{Some}
 use Rattle.std.specs.Arc.{arc_value}
 use Rattle.readiness.specs.EventLoop.{tasks_of}
@@ -17,6 +17,6 @@ returns-clause-come g c = elim c.match-put.branch [
       rw (w.result-is, w.tasks-is) (has_come (tasks_of c.args.tasks.now) (tasks_of c.vacant.new.self)
       (tasks_of c.put.new.self) (tasks_of w.again.new.self) c.in-Ok.place.first _
       c.in_ok-task_served.task_served (arc_value c.args.served.now) c.in-Ok.ensures.kept c.in-Ok.ensures.unused
-      put refl w.again.ensures.kept same)
+      put (ap Some c.new.ensures.served) w.again.ensures.kept same)
   | in-Err w ↦ rw w.result-is tt
 ]

@@ -1,10 +1,8 @@
-use Rattle.std.proofs.Common.{◌∙◌}
 use Rattle.relay_main.proofs.main_loop.MainLoop.accept_again.Goals as goal
 
-pub loop-token-preserved : goal.loop-token-preserved
-loop-token-preserved g c = record {
-  kept = λ token. c.again-in-loop-token.ensures.kept token ∙ c.loop-token.invariant.kept token;
-  admin = λ stays. c.again-in-loop-token.ensures.others _ (c.loop-token.invariant.admin stays);
-  others = λ token comes. c.again-in-loop-token.ensures.others token
-      (c.loop-token.invariant.others token comes);
-}
+pub returns-clause-admin : goal.returns-clause-admin
+returns-clause-admin g c = λ stays. c.all_again.ensures.others _ (c.again.ensures.comes stays)
+
+pub returns-clause-others : goal.returns-clause-others
+returns-clause-others g c = λ token comes.
+    c.all_again.ensures.others token (c.again.ensures.others token comes)

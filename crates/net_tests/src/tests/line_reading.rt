@@ -1,0 +1,75 @@
+//! Lines up to a limit, of bytes in memory and of a connection.
+
+use super::pair;
+use net::{Heard, Lines, Net, tcp};
+use std::io::Write;
+
+/// The bytes that come, and what is heard of them in turn, with the line that stands then.
+const ROWS: &[(&str, &[u8], &[(Heard, &[u8])])] = &[
+    (
+        "lines, and the rest at the end",
+        b"one\n\nfour\nx",
+        &[
+            (Heard::Line, b"one"),
+            (Heard::Line, b""),
+            (Heard::Line, b"four"),
+            (Heard::End, b"x"),
+        ],
+    ),
+    (
+        "a byte too many",
+        b"four\nfive5\n",
+        &[
+            (Heard::Line, b"four"),
+            (Heard::TooLong, b"five"),
+            (Heard::TooLong, b"five"),
+        ],
+    ),
+    (
+        "as many bytes as the limit without an end",
+        b"four",
+        &[(Heard::End, b"four"), (Heard::End, b"four")],
+    ),
+    (
+        "a carriage return is of its line",
+        b"abc\r\n",
+        &[(Heard::Line, b"abc\r"), (Heard::End, b"")],
+    ),
+];
+
+fn hears_row(bytes: &[u8], heard: &[(Heard, &[u8])]) -> bool {
+    let mut lines = Lines::<4>::new();
+    let mut reader = bytes;
+    for (what, line) in heard {
+        if lines.read(&mut reader).ok() != Some(*what) || lines.line() != *line {
+            return false;
+        }
+    }
+    true
+}
+
+#[test]
+fn lines_are_heard_as_a_row_says(rt: HostRuntime) {
+    for (name, bytes, heard) in ROWS {
+        holds!(rt; hears_row(bytes, heard), name);
+    }
+}
+
+#[test]
+fn a_line_of_a_connection_comes_in_parts_and_what_is_behind_is_kept(rt: HostRuntime) {
+    let net = Net::start(rt, rt.alloc()).expect(&rt, "net");
+    let (mut near, mut far) = pair(&rt, &net, &tcp(0));
+    let mut lines = Lines::<8>::new();
+    holds!(rt; lines.poll(&mut far).is_none(), "nothing is there yet");
+    holds!(rt; near.write_all(b"fi").is_ok(), "said");
+    holds!(rt; lines.poll(&mut far).is_none(), "a part isn't told");
+    holds!(rt; lines.line() == b"fi".as_slice(), "it is kept");
+    holds!(rt; near.write_all(b"rst\nsecond\n").is_ok(), "said");
+    holds!(rt; lines.read(&mut far).ok() == Some(Heard::Line), "a line");
+    holds!(rt; lines.line() == b"first".as_slice(), "all of it");
+    let second = lines.poll(&mut far);
+    holds!(rt; matches!(second, Some(Ok(Heard::Line))), "another, which was read ahead");
+    holds!(rt; lines.line() == b"second".as_slice(), "all of it");
+    drop(near);
+    holds!(rt; lines.read(&mut far).ok() == Some(Heard::End), "the end");
+}

@@ -1,0 +1,4 @@
+pub mod Fault
+pub mod Output
+pub mod Server
+pub mod Threads
