@@ -9,6 +9,8 @@ from lib.talk import both_ways, seconds_until_end
 from lib.waiting import processor_seconds, wait_until
 
 WAIT_SECONDS = 5
+# Of so many pairs the processor time of a stop is compared with theirs, and not with seconds, which hang on the machine.
+MANY = 500
 
 
 class Served:
@@ -62,26 +64,29 @@ def ended_seconds():
     return used.ru_utime + used.ru_stime
 
 
-def so_many_pairs(checks, name, count, *options, descriptors=DESCRIPTORS, stop_within=2):
+def so_many_pairs(checks, name, count, *options, descriptors=DESCRIPTORS):
     """So many pairs stand at once and carry a byte each way; one more is dropped, until one of them ends."""
     with Served("never", "never", options=options, descriptors=descriptors) as served:
         relay = served.relay
         held = [served.open(at % 2) for at in range(count)]
         all_ids = 2 + 2 * count
-        checks.holds(f"{name}: ids", wait_until(lambda: len(relay.ids()) == all_ids, 2), f"{len(relay.ids())} of {all_ids}")
+        checks.holds(f"{name}: ids", wait_until(lambda: len(relay.ids()) == all_ids, 10), f"{len(relay.ids())} of {all_ids}")
         # (the first that doesn't is enough, since who waits for it waits long)
         first = next((at for at, pair in enumerate(held) if not both_ways(*pair)), None)
         checks.expect(f"{name}: each passes a byte both ways", None, first)
         one_more = connect(served.listens[0])
-        checks.holds(f"{name}: one more is dropped", seconds_until_end(one_more, 3) is not None, "it stays open")
+        checks.holds(f"{name}: one more is dropped", seconds_until_end(one_more, 10) is not None, "it stays open")
         checks.holds(f"{name}: a full relay goes on", both_ways(*held[-1]), "no byte came back")
         for sock in held[0]:
             sock.close()
-        wait_until(lambda: len(relay.ids()) < all_ids, 2)
+        wait_until(lambda: len(relay.ids()) < all_ids, 10)
         time.sleep(0.1)
         checks.holds(f"{name}: room again", opens(served, 0), "no byte came back")
+        held_seconds = processor_seconds(relay.process.pid)
         status, totals, seconds = stop_seconds(relay)
         checks.expect(f"{name}: status and totals", (0, (count + 2, count + 2)), (status, totals))
-        checks.holds(f"{name}: stopped within {stop_within} s of a processor", seconds <= stop_within, f"{seconds:.2f} s")
+        if count >= MANY:
+            took = f"{seconds:.2f} s, they {held_seconds:.2f} s"
+            checks.holds(f"{name}: the stop takes less of a processor than they did", seconds < held_seconds, took)
         for sock in [sock for pair in held for sock in pair]:
             sock.close()

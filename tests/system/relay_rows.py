@@ -382,7 +382,7 @@ def most_pairs(checks, _):
     """As many pairs stand as 20,000 descriptors let, or those that this machine allows."""
     allow_descriptors(MOST_DESCRIPTORS)
     count = (resource.getrlimit(resource.RLIMIT_NOFILE)[0] - OTHER_DESCRIPTORS) // 2
-    so_many_pairs(checks, f"{count} pairs", count, f"--connections={count}", descriptors=MOST_DESCRIPTORS, stop_within=5)
+    so_many_pairs(checks, f"{count} pairs", count, f"--connections={count}", descriptors=MOST_DESCRIPTORS)
     allow_descriptors()
 
 
