@@ -31,9 +31,10 @@ class Opened:
         before = set(session.ask("list").split())
         self.ask, self.ends = session.ask, served.open()
         self.ids = wait_until(lambda: sorted(int(word) for word in set(session.ask("list").split()) - before), LATE)
+        # (a way's idle time begins anew as the relay reads, which may be long before the byte is seen here)
+        self.began = time.monotonic()
         if not both_ways(*self.ends):
             raise RuntimeError("no byte came back")
-        self.began = time.monotonic()
 
     def deadline(self, side, when):
         reply = self.ask(f"deadline {self.ids[side]} {when}")
