@@ -73,9 +73,11 @@ def dead_target(checks, folder):
     ) as relay:
         stands = connect(f"tcp:127.0.0.1:{port}")
         stands_target, _ = accepts.accept()
-        took = seconds_until_end(connect(f"tcp:127.0.0.1:{dead_port}"), 10)
-        least = TIMEOUT_MS / 1000
-        checks.holds("dead: its client sees the end", took is not None and least - 0.05 <= took < least + 3, f"after {took} s")
+        # (the target's time may begin before the client's connect returns)
+        began, least = time.monotonic(), TIMEOUT_MS / 1000
+        is_over = seconds_until_end(connect(f"tcp:127.0.0.1:{dead_port}"), 10) is not None
+        took = time.monotonic() - began
+        checks.holds("dead: its client sees the end, not before its time", is_over and least - 0.005 <= took, f"after {took} s")
         clients, served = [], 0
         for turn in range(60):
             clients.append(connect(f"tcp:127.0.0.1:{dead_port}"))
