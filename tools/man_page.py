@@ -28,7 +28,7 @@ WHOLE = "\\%"
 UNBROKEN, KEPT = "\x1f", "\\~"
 # Where the Debian package has what the guide names beside itself.
 DOCS = "/usr/share/doc/pollrelay"
-INLINE = re.compile(r"`([^`]+)`|\*\*([^*]+)\*\*")
+INLINE = re.compile(r"`([^`]+)`|\*\*([^*]+)\*\*|\*([^*\s]+)\*")
 
 
 def escaped(text):
@@ -41,10 +41,10 @@ def whole(text):
 
 
 def inline(text):
-    """Words set off, in bold."""
+    """Words set off, in bold, or in italics between single stars."""
     parts, at = [], 0
     for found in INLINE.finditer(text):
-        parts += [text[at : found.start()].replace("\\", "\\e"), f"\\fB{whole(escaped(found[1] or found[2]))}\\fP"]
+        parts += [text[at : found.start()].replace("\\", "\\e"), f"\\fI{escaped(found[3])}\\fP" if found[3] else f"\\fB{whole(escaped(found[1] or found[2]))}\\fP"]
         at = found.end()
     made = "".join(parts) + text[at:].replace("\\", "\\e")
     # (amid a word the sign would be a place for a hyphen: it goes ahead of a bracket)

@@ -4,6 +4,7 @@ import pathlib
 import sys
 import tempfile
 import unittest
+from unittest import mock
 
 sys.path.insert(1, f"{sys.path[0]}/..")
 from lib.pages import claims, quotes
@@ -114,6 +115,16 @@ class Claims(unittest.TestCase):
 
     def test_a_call_of_a_program_that_is_said_to_be_none_is_told(self):
         self.assertEqual(self.not_as_said("`next` `least`", "it arms (library calls: `next`)"), [(5, "next")])
+
+    def test_a_namesake_of_what_a_program_calls_is_told(self):
+        with mock.patch.object(claims, "NAMESAKES", {("timing", "next")}):
+            self.assertEqual(self.not_as_said("`next` `least`"), [(5, "next")])
+            self.assertEqual(self.not_as_said("`next` `least`", "it arms (library call: `next`)"), [])
+
+    def test_a_row_outside_a_table_is_told(self):
+        table = "| Promise | Clause |\n|---|---|\n| it arms | `arm` |\n"
+        self.assertEqual(claims.rows_outside(f"{table}\ntext\n\n{table}"), [])
+        self.assertEqual(claims.rows_outside(f"{table}\n| it waits | `next` |\n"), [5])
 
     def test_a_definition_that_is_not_there_is_told(self):
         self.assertEqual(self.missing("`next` `least` (`IsLeast`, `field`)"), ["IsLeast", "field"])

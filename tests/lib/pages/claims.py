@@ -8,7 +8,8 @@ clause that this function has, or another function; a definition isn't taken for
 
 What is promised is said of what runs: each function that a row names is one that a program's `main` comes to by calls, or
 one of a module `laws`; any other is named in the row as one of its `library calls: ..`. A row without a function says in its
-last cell that it is tested. Calls are found by name, so that a name which two functions share counts for both.
+last cell that it is tested. Calls are found by name, so that a name which two functions share counts for both, but for the
+functions of `NAMESAKES`.
 """
 
 import os
@@ -21,6 +22,13 @@ PAGES = ("README.md", "docs/guarantees.md")
 PROGRAMS = ("pollrelay", "echo_server", "page_server", "loop_echo_server")
 # What crates of the kit call: a service's `call`, by `http_server`.
 BY_KIT = {"call"}
+# What no program calls, though each calls something of the same name: the symbols of the programs that `tools/unproved.py` builds
+# have no such function.
+NAMESAKES = {
+    ("lockword_core", "run"), ("deadline_core", "is_under_way"), ("deadline_core", "stored"), ("fd_descriptor", "read"),
+    ("fd_descriptor", "write"), ("readiness", "hold"), ("readiness", "hold_listener"), ("handle_io", "read"), ("handle_io", "write"),
+    ("net", "local_addr"), ("net", "wake"), ("net", "closer"), ("net", "find"), ("net", "find_in"), ("net", "line"), ("conntable", "ids"),
+}
 LIBRARY = re.compile(r"library calls?: ((?:`\w+`(?:, | and )?)+)")
 WORD = re.compile(r"[A-Za-z_]\w*")
 ITEM = re.compile(r"^\s*(?:pub(?:\([a-z]+\))? )?(?:struct|enum|trait|const|type|mod) (\w+)", re.M)
@@ -75,6 +83,13 @@ def rows_of(text):
                 yield number, named, cells
 
 
+def rows_outside(text):
+    """The lines of rows that belong to no table: an empty line cuts a table off, and what comes behind it is shown as text."""
+    lines = ["", *text.splitlines(), ""]
+    firsts = (it for it in range(1, len(lines) - 1) if lines[it].startswith("|") and not lines[it - 1].startswith("|"))
+    return [it for it in firsts if not re.match(r"\|[-|: ]+\|$", lines[it + 1])]
+
+
 def below(tree, name):
     """A crate with all crates below it, by crates.txt."""
     lines = dict(re.findall(r"^(\w+)[^:\n#]*:(.*)$", tree.text("crates.txt"), re.M))
@@ -96,7 +111,7 @@ def called_by(tree, crates, program):
         fresh = {it for it in ahead.pop() if it in known} - found
         found |= fresh
         ahead += [known[it] for it in fresh]
-    return {(crate.name, name) for crate in own for name in crate.calls if name in found}
+    return {(crate.name, name) for crate in own for name in crate.calls if name in found} - NAMESAKES
 
 
 class Row:
@@ -246,6 +261,8 @@ def check(tree, told):
         tell(told, page, missing, seen)
         for number, it in unused:
             told.holds(False, page, f"whether a program calls `{it}` isn't as the row says: see `library calls:`", number)
+        for number in rows_outside(tree.text(page)):
+            told.holds(False, page, "a row stands in no table", number)
     quoted_promises(tree, told)
     page = "models/README.md"
     tell(told, page, *models(tree.text(page), steps_of(tree), tree.text))
