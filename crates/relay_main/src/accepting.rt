@@ -13,7 +13,7 @@ use crate::rule_task::{RuleListener, RuleTask, accept_on};
 use deadline_core::Dirs;
 use fd_descriptor::Alarms;
 use readiness::Turn;
-use relay_core::{AcceptEnded, AcceptStep, Accepting, next_pause_ms};
+use relay_core::{AcceptEnded, AcceptStep, Accepting, RESTART_MS, next_pause_ms};
 use relay_facts::clock::Moments;
 use relay_facts::how_ended::reason_of_fault;
 use relay_facts::log_lines::tell_accept_fault;
@@ -21,9 +21,6 @@ use relay_facts::served_rule::ServedRule;
 use rwloops::Fault;
 use std::sync::Wait;
 use std::time::Clock;
-
-/// How long a task pauses that begins anew after too many faults in a row, in milliseconds.
-const RESTART_MS: u64 = 1_000;
 
 /// How often a listener that is to be closed is accepted from, 64 clients each time: as many as its
 /// queue may have.
