@@ -29,7 +29,7 @@ FILES = {
     "MOST_CLIENTS": "crates/metrics_server/src/lib.rt",
     "LIMIT_NS": "crates/metrics_server/src/lib.rt",
     "PATIENCE_SECONDS": "crates/pollrelay/src/main.rt",
-    "MAX_SILENCE_MS": "crates/relay_core/src/idle.rt",
+    "MAX_SILENCE_MS": "crates/relay_core/src/silence.rt",
     "MAX_SESSIONS": "crates/relay_shared/src/requests.rt",
     "MAX_FAULTS_IN_A_ROW": "crates/relay_core/src/accepting.rt",
     "MAX_INTERRUPTIONS": "crates/stream_base/src/attempt.rt",
