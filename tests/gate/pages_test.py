@@ -73,7 +73,7 @@ ROWS = (
     ("limits", HELP, r"1 to 50000", "1 to 3000", "50,000, as `MAX_PAIRS` is"),
     ("limits", f"{ADMIN}/rules/file.rt", r"MAX_RULES: usize = 64", "MAX_RULES: usize = 65", "its limit of rules isn't 65"),
     ("limits", FORMAT, END, "\nA line of more than 80 bytes ends it.\n", "64, as `MAX_LINE_BYTES` is"),
-    ("limits", f"{COMMAND_LINE}/descriptors.rt", r"SESSIONS: u64 = 32", "SESSIONS: u64 = 31", "`SESSIONS` isn't 32"),
+    ("limits", f"{COMMAND_LINE}/descriptors.rt", r"CLIENTS: u64 = 64", "CLIENTS: u64 = 63", "`METRICS_CLIENTS` isn't 64"),
     ("limits", GUIDE, r"loops \+ 64\) \+ 112", "loops + 64) + 96", "doesn't say that a relay needs 2 × (connections + loops + 64) + 112"),
     ("limits", GUIDE, r"\| 512 \| 1 to 50,000 \|", "| 512 | 1 to 4,000 |", "the Range of --connections CONNECTIONS isn't 50,000"),
     ("limits", GUIDE, r"1,280 with", "1,216 with", "8 loops need 1280 descriptors"),
