@@ -38,7 +38,7 @@ FILES = {
     "MAX_REFERENCES": "crates/lockword_core/src/word.rt",
     "MAX_WAITERS": "crates/lockword_core/src/word.rt",
     "MAX_SIGNALS": "crates/lockword_core/src/signals.rt",
-    "TURNS_IN_A_ROW": "crates/relay_core/src/resuming.rt",
+    "TURNS_IN_A_ROW": "crates/relay_core/src/copying.rt",
     "ACCEPTS_IN_A_ROW": "crates/relay_core/src/accept_task.rt",
     "OWN_ROOM_BYTES": "crates/relay_core/src/kept.rt",
     "BUFFER_BYTES": "crates/relay_workers/src/buffers.rt",
