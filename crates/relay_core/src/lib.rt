@@ -15,6 +15,7 @@ pub mod laws;
 mod lent;
 mod loops;
 mod moments;
+mod pair_close;
 mod pair_limit;
 mod pair_tasks;
 mod passing;
