@@ -39,7 +39,7 @@ ROWS = (
     ("trace", "crates/lockword_script/src/printed_line.rt", r'"woken"', '"awake"', "says nothing of `awake`"),
     ("limits", "crates/lockword_core/src/word.rt", r"REFERENCES_WIDTH: u32 = 24", "REFERENCES_WIDTH: u32 = 22", "4,194,303, as `MAX_REFERENCES` is"),
     ("faults", UNIT, r"(RestartPreventExitStatus)=.*", r"\1=1", "RestartPreventExitStatus isn't"),
-    ("metrics", "crates/relay_metrics/src/family.rt", r"pollrelay_loops", "pollrelay_event_loops", "the figure `pollrelay_event_loops`"),
+    ("metrics", "crates/relay_metrics/src/figures.rt", r"pollrelay_loops", "pollrelay_event_loops", "the figure `pollrelay_event_loops`"),
     ("metrics", "crates/relay_log/src/ended.rt", r'b"drained",', 'b"emptied",', "`pollrelay_rule_ends_total` has the labels"),
     ("metrics", "crates/relay_log/src/ended.rt", r'\n *b"no_target",', "", "`pollrelay_rule_ends_total` has the labels"),
     ("metrics", "crates/relay_log/src/ended.rt", r'b"unreachable", ', "", "`pollrelay_rule_no_target_total` has the labels"),
