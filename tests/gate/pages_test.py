@@ -152,7 +152,7 @@ ROWS = (
     ("figures", "docs/GATE.md", END, "\nIt tries 1,234 wrong bodies of 77 crates.\n", "1,234 wrong bodies: there are"),
     ("figures", "docs/GATE.md", END, "\nIt tries 1,234 wrong bodies of 77 crates.\n", "77 crates: there are"),
     ("plants", "docs/testing.md", r"\| finish takes no last clients \|", "| finish takes clients |", "aren't those of `tests/plants`"),
-    ("plants", "crates/relay_main/src/ending.rt", r"self\.end_rule\(one\.token, last\);", "self.end_rule(one.token, last_clients);", "0 times, and not once"),
+    ("plants", "crates/relay_main/src/listeners_end.rt", r"self\.end_rule\(one\.token, last\);", "self.end_rule(one.token, last_clients);", "0 times, and not once"),
     ("figures", "examples/first_connection.sh", END, "# Proving takes three quarters of an hour.\n", "proving takes three quarters of an hour here"),
 )
 

@@ -5,7 +5,7 @@ ghost use Rattle.std.specs.Arc.{arc_value};
 ghost use Rattle.readiness.specs.EventLoop.{remote_of};
 ghost use Rattle.relay_main.specs.Pauses.{StaysOrIsNoted, earliest};
 
-use crate::admin::Caller;
+use crate::admin_socket::Caller;
 use crate::main_task::MainTask;
 use deadline_core::Dirs;
 use fd_descriptor::{Alarms, PollCell};

@@ -12,8 +12,8 @@ ghost use Rattle.relay_admin.specs.ServeFault.{IsRunFault};
 ghost use Rattle.relay_admin.specs.declared.serve_fault.ServeFault.{ServeFault};
 ghost use Rattle.relay_main.specs.Finishing.{IsOver};
 
-use crate::ending::{AcceptsEnded, end_tasks};
 use crate::finishing::is_over;
+use crate::listeners_end::{AcceptsEnded, end_tasks};
 use crate::listening::Listeners;
 use crate::main_host::MainHost;
 use crate::main_task::MainTask;

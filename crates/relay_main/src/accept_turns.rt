@@ -4,10 +4,10 @@
 ghost use Rattle.std.specs.Prelude.{◌≡◌, ◌≢◌, ◌↔◌, ◌++◌, ◌∷◌, [], true, false, IsSome, OnOk};
 ghost use Rattle.fd_descriptor.specs.TaskHalf.{descriptor_of_half};
 ghost use Rattle.readiness.specs.declared.tasks.Turn.{Turn};
-ghost use Rattle.relay_main.specs.Accepting.{turn_of};
+ghost use Rattle.relay_main.specs.AcceptTurns.{turn_of};
 ghost use Rattle.relay_main.specs.Closing.{WasClosed};
 
-use crate::admin::{AdminDoor, AdminTask, Caller};
+use crate::admin_socket::{AdminDoor, AdminTask, Caller};
 use crate::main_host::MainHost;
 use crate::rule_task::{RuleListener, RuleTask, accept_on};
 use deadline_core::Dirs;
