@@ -3,9 +3,9 @@
 //! about pairs. What they copy and accept through are traits.
 #![tactic(auto)]
 
+mod accept_ended;
 mod accept_pauses;
 mod accept_task;
-mod accepting;
 mod buffers;
 mod capacity;
 mod copying;
@@ -27,9 +27,9 @@ mod silence;
 mod source_state;
 mod ways;
 
+pub use accept_ended::{AcceptEnded, MAX_FAULTS_IN_A_ROW};
 pub use accept_pauses::{RESTART_MS, next_pause_ms};
 pub use accept_task::{ACCEPTS_IN_A_ROW, AcceptStep, Accepting};
-pub use accepting::{AcceptEnded, MAX_FAULTS_IN_A_ROW};
 pub use buffers::LOOP_BUFFER_BYTES;
 pub use capacity::Capacity;
 pub use copying::{Copying, Ended, TURNS_IN_A_ROW};

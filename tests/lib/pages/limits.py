@@ -31,7 +31,7 @@ FILES = {
     "PATIENCE_SECONDS": "crates/pollrelay/src/main.rt",
     "MAX_SILENCE_MS": "crates/relay_core/src/silence.rt",
     "MAX_SESSIONS": "crates/relay_core/src/session_limit.rt",
-    "MAX_FAULTS_IN_A_ROW": "crates/relay_core/src/accepting.rt",
+    "MAX_FAULTS_IN_A_ROW": "crates/relay_core/src/accept_ended.rt",
     "MAX_INTERRUPTIONS": "crates/stream_base/src/attempt.rt",
     "lockword_script::MAX_LINE_BYTES": "crates/lockword_script/src/script.rt",
     "HOLDERS": "crates/lockword_script/src/script.rt",
