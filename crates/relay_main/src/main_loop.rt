@@ -25,7 +25,7 @@ use relay_admin::{Rule, ServeFault};
 use relay_facts::clock::{Moments, RelayClock};
 use relay_facts::served_rule::ServedRule;
 use relay_shared::bound_path::BoundPaths;
-use relay_shared::fault::of_poller;
+use relay_shared::poller_fault::of_poller;
 use relay_shared::shared::Shared;
 use std::alloc::Global;
 use std::fs::Files;
