@@ -1,3 +1,4 @@
+pub mod Acceptance
 pub mod Books
 pub mod Clock
 pub mod Config
@@ -7,3 +8,4 @@ pub mod LogLines
 pub mod RulesFile
 pub mod Safeguards
 pub mod Shown
+pub mod Targets

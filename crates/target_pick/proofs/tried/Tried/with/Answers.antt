@@ -1,7 +1,6 @@
 use Rattle.std.proofs.Common.{ap, nat_eq, w64}
 use Rattle.std.proofs.lemmas.Nat.Bits.{bit_at_set_other, bit_at_set_same}
 use Rattle.target_pick.proofs.TriedLemmas.{fewer}
-use Rattle.target_pick.specs.declared.tried.Tried.{Tried}
 use Rattle.target_pick.proofs.tried.Tried.with.Goals as goal
 
 pub returns-clause-own : goal.returns-clause-own
