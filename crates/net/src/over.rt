@@ -1,6 +1,6 @@
 //! What a service that is over leaves, which only the ends of its loops give.
 
-ghost use Rattle.std.specs.Prelude.{◌≡◌, ◌<◌, ◌+◌, ◌-◌, ◌^◌, ℕ, Option, None};
+ghost use Rattle.std.specs.Prelude.{◌≡◌, ◌<◌, ◌+◌, ◌-◌, ◌^◌, ℕ, Option, Some, None};
 ghost use Rattle.readiness.specs.EventLoop.{tasks_of};
 ghost use Rattle.readiness.specs.Tasks.{task_in};
 ghost use Rattle.net.specs.Over.{over_loops, over_listener, over_asked, cut_of};
@@ -56,7 +56,7 @@ impl LoopsEnded {
 }
 
 /// That a service is over: each of its loops has ended, so that no connection is left, and its
-/// listener is out of the net. Who waited for the end has this, and nothing else gives one.
+/// listener is out of the net. A wait for the service gives this, and nothing else does.
 #[derive(Drop)]
 pub struct Ended {
     loops: LoopsEnded,
