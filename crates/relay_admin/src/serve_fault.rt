@@ -1,6 +1,8 @@
 //! Why a relay doesn't run, or can't go on, as its program says it.
 
 ghost use Rattle.std.specs.Prelude.{◌≡◌};
+ghost use Rattle.relay_admin.specs.ServeFault.{SaysVerdict};
+ghost use Rattle.relay_admin.specs.declared.rules.verdict.Verdict.{Verdict};
 ghost use Rattle.relay_admin.specs.declared.serve_fault.ServeFault.TheVariants.{Memory};
 
 use crate::rules::file::RulesFault;
@@ -41,10 +43,10 @@ pub enum ServeFault {
 
 impl ServeFault {
     /// The fault of bad rules, with the line of their verdict but for its line feed.
-    pub fn of_rules(fault: RulesFault) -> ServeFault {
-        let mut text = Verdict::Bad(fault).line();
-        let _ = text.pop();
-        ServeFault::BadRules(text)
+    pub fn of_rules(fault: RulesFault) -> ServeFault
+        ensures { SaysVerdict (Verdict.Bad fault) result }
+    {
+        ServeFault::BadRules(Verdict::Bad(fault).text())
     }
 }
 

@@ -36,7 +36,11 @@ abbrev pub number_text : Option ℕ → List ℕ
 number_text (Some number) = decimal number
 number_text None = []
 
--- the line that says a verdict, with its line feed
+-- the text that says a verdict
+abbrev pub verdict_text : Verdict → List ℕ
+verdict_text verdict = verdict_words verdict ++ number_text (verdict_number verdict)
+
+-- the same as a line, with its line feed
 abbrev pub verdict_line : Verdict → List ℕ
 verdict_line verdict = verdict_words verdict ++ number_text (verdict_number verdict) ++ 10 ∷ []
 

@@ -11,7 +11,7 @@ ghost use Rattle.stream_base.specs.Fronts.{AppendsFront};
 ghost use Rattle.std.specs.Io.KnownBytes.{Appends};
 ghost use Rattle.relay_admin.specs.declared.rules.verdict.Verdict.{Verdict};
 ghost use Rattle.relay_admin.specs.rules.Verdict.{IsVerdict, verdict_words, verdict_number};
-ghost use Rattle.relay_admin.specs.rules.Verdict.{verdict_line, verdict_status};
+ghost use Rattle.relay_admin.specs.rules.Verdict.{verdict_line, verdict_status, verdict_text};
 
 use crate::rules::file::{Rules, RulesFault};
 use arrayvec::ArrayString;
@@ -54,14 +54,23 @@ impl Verdict {
     pub fn line(self) -> ArrayString<64>
         ensures { result.bytes ≡ verdict_line self }
     {
-        let mut line = ArrayString::new();
-        line.push_str(self.words());
-        if let Some(number) = self.number() {
-            let mut digits = Buffer::new();
-            line.push_str(digits.format(number));
-        }
+        let mut line = self.text();
         line.push_str("\n");
         line
+    }
+
+    /// The same without its line feed.
+    pub(crate) fn text(self) -> ArrayString<64>
+        ensures text { result.bytes ≡ verdict_text self }
+        ensures short { length result.bytes ≤ 49 }
+    {
+        let mut text = ArrayString::new();
+        text.push_str(self.words());
+        if let Some(number) = self.number() {
+            let mut digits = Buffer::new();
+            text.push_str(digits.format(number));
+        }
+        text
     }
 
     // The words before the number.
