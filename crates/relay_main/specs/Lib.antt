@@ -7,6 +7,7 @@ pub mod Desk
 pub mod Ending
 pub mod Finishing
 pub mod Listening
+pub mod MainListeners
 pub mod Opening
 pub mod Pauses
 pub mod Plan
