@@ -1,2 +1,3 @@
 pub mod FileFaults
 pub mod TargetsLemmas
+pub mod SumLemmas

@@ -1,7 +1,7 @@
 -- Which count is of what. A proof knows no value of an atomic number, so all counts are alike to
 -- it, and one is told by its address: a block of memory, and a byte of it. Counts of an array lie
 -- one behind the other, fields of a struct in the order in which the struct names them.
-use Rattle.std.specs.Prelude.{ℕ, ◌+◌, ◌*◌, Option, length, slice_get}
+use Rattle.std.specs.Prelude.{◌≡◌, ◌-◌, ◌^◌, ℕ, ◌+◌, ◌*◌, List, Option, length, min, slice_get, sum}
 use Rattle.relay_log.specs.declared.ended.Cause.{Cause}
 use Rattle.relay_log.specs.declared.ended.Ended.{Ended}
 use Rattle.relay_log.specs.declared.ended.Ended.TheVariants as how
@@ -42,3 +42,9 @@ loops_of counts = length counts.by_loop.items
 -- what the loop at this place counts; all loops' are alike, so it says whether there is such a loop
 abbrev pub counts_of_loop : ℕ → RuleCounts → Option LoopCounts
 counts_of_loop place counts = slice_get counts.by_loop.items place
+
+-- this is the sum of so many counts, each of which was read once; past the greatest number of 64 bits
+-- it is that. What each was no clause can say
+abbrev pub IsSumOf : ℕ → ℕ → Type 0
+IsSumOf places total =
+    (read : List ℕ) × (length read ≡ places) × (total ≡ min (sum read) (2 ^ 64 - 1))

@@ -27,6 +27,7 @@ impl Counter {
         self.count.fetch_add(more, Ordering::SeqCst);
     }
 
+    /// What it was at a moment of this call. (what an atomic number holds no clause can say)
     pub fn get(&self) -> u64 {
         self.count.load(Ordering::SeqCst)
     }
@@ -41,12 +42,6 @@ pub struct EndCounts {
 impl EndCounts {
     ghost use Rattle.relay_facts.specs.Counts as spec;
 
-    fn new() -> EndCounts {
-        EndCounts {
-            counts: from_fn(|_| Counter::new()),
-        }
-    }
-
     // The count of this way to end. To a proof all counts are alike, so the clause says where in
     // memory this one lies.
     fn of(&self, how: Ended) -> &Counter
@@ -55,7 +50,10 @@ impl EndCounts {
         &self.counts[how.place()]
     }
 
-    fn sum(&self) -> u64 {
+    // How many have ended.
+    fn sum(&self) -> u64
+        ensures { spec.IsSumOf ENDS result }
+    {
         let mut sum = 0u64;
         for count in &self.counts {
             sum = sum.saturating_add(count.get());
@@ -72,12 +70,6 @@ pub struct CauseCounts {
 
 impl CauseCounts {
     ghost use Rattle.relay_facts.specs.Counts as spec;
-
-    fn new() -> CauseCounts {
-        CauseCounts {
-            counts: from_fn(|_| Counter::new()),
-        }
-    }
 
     // The count of this cause, told as in `EndCounts::of`.
     fn of(&self, cause: Cause) -> &Counter
@@ -120,6 +112,7 @@ pub struct LoopCounts {
 impl LoopCounts {
     ghost use Rattle.relay_facts.specs.Counts as spec;
 
+    // Nothing is counted yet: what each holds no clause can say.
     fn new() -> LoopCounts {
         LoopCounts {
             begun: Counter::new(),
@@ -128,8 +121,12 @@ impl LoopCounts {
             no_target: Counter::new(),
             no_memory: Counter::new(),
             no_descriptors: Counter::new(),
-            ends: EndCounts::new(),
-            causes: CauseCounts::new(),
+            ends: EndCounts {
+                counts: from_fn(|_| Counter::new()),
+            },
+            causes: CauseCounts {
+                counts: from_fn(|_| Counter::new()),
+            },
         }
     }
 
@@ -162,7 +159,7 @@ impl LoopCounts {
     }
 
     /// How many connections stand. The ends are read first, so that none is counted that never
-    /// began.
+    /// began. (both are numbers that others change, so `standing_of` alone has a clause)
     pub(crate) fn standing(&self) -> u64 {
         let ended = self.ends.sum();
         standing_of(self.begun.get(), ended)
@@ -222,7 +219,10 @@ impl RuleCounts {
     }
 
     /// The bytes that all connections of the rule have passed up and down.
-    pub(crate) fn bytes(&self) -> (u64, u64) {
+    pub(crate) fn bytes(&self) -> (u64, u64)
+        ensures up { spec.IsSumOf (spec.loops_of self.now) result.0 }
+        ensures down { spec.IsSumOf (spec.loops_of self.now) result.1 }
+    {
         let (mut up, mut down) = (0u64, 0u64);
         for counts in self.by_loop.iter() {
             up = up.saturating_add(counts.up.get());

@@ -1,6 +1,7 @@
 //! What the metrics tell of a rule: the sums of what all loops count.
 
 ghost use Rattle.std.specs.Prelude.{◌≡◌, ◌+◌, ◌-◌, ◌^◌, min};
+ghost use Rattle.relay_facts.specs.Counts.{IsSumOf, loops_of};
 
 use crate::counts::{Counter, RuleCounts};
 use crate::served_rule::ServedRule;
@@ -33,8 +34,16 @@ fn ends_and_causes(counts: &RuleCounts) -> ([u64; ENDS], [u64; CAUSES]) {
     (ends, causes)
 }
 
-// The sums of all loops, and what the main thread counts.
-fn sums(counts: &RuleCounts) -> (u64, CarriedBytes, Refusals) {
+// The sums of all loops, and what the main thread counts: of clients for which memory was refused both
+// count some.
+fn sums(counts: &RuleCounts) -> (u64, CarriedBytes, Refusals)
+    ensures connections { IsSumOf (loops_of counts.now) result.0 }
+    ensures up { IsSumOf (loops_of counts.now) result.1.up }
+    ensures down { IsSumOf (loops_of counts.now) result.1.down }
+    ensures no_target { IsSumOf (loops_of counts.now) result.2.no_target }
+    ensures no_memory { IsSumOf (loops_of counts.now + 1) result.2.no_memory }
+    ensures descriptors { IsSumOf (loops_of counts.now) result.2.descriptors }
+{
     let mut connections = 0u64;
     let mut bytes = CarriedBytes::default();
     let mut refused = Refusals::default();

@@ -102,6 +102,7 @@ pub struct Published<W> {
 }
 
 impl<W> Published<W> {
+    // (what an atomic number holds no clause can say; its way is that of the type)
     fn get(&self) -> Total<W> {
         Total {
             bytes: self.bytes.load(Ordering::SeqCst),

@@ -197,7 +197,7 @@ impl<U: Ledger, D: Ledger, R: Wait + Net + Clock + Copy> LoopHost<U, D, R> {
                 return Err(of_poller(fault));
             }
             self.context.note_turn();
-            if self.context.shared.is_stopped() {
+            if self.context.shared.stop.is_set() {
                 return Ok(());
             }
             self.dial_seekers(tasks);

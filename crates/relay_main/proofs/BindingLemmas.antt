@@ -47,13 +47,14 @@ module _ {T A : Type 0} where
   stand_undone old mid new token fresh still others other task is =
       others other (λ e. absurd (let none = fresh other e in cc)) ∙ still other task is
 
-module _ {R A : Type 0} (mid new : Tasks (MainTask R) A) (token : ℕ) (held : Arc ServedRule Global) where
-  -- a task that accepts by an account still does
-  accepts_on : (found : Option (MainTask R)) → task_in mid token ≡ found → account_in found ≡ Some held
-      → StillStand mid new → account_in (task_in new token) ≡ Some held
-  accepts_on None is e still = absurd (cc)
-  accepts_on (Some task) is e still = ap account_in (still token task is) ∙ e
+-- a task that accepts by an account still does, where each task stands
+accepts_still : {R A : Type 0} (old new : Tasks (MainTask R) A) (token : ℕ) (held : Arc ServedRule Global)
+    (found : Option (MainTask R)) → task_in old token ≡ found → account_in found ≡ Some held
+    → StillStand old new → account_in (task_in new token) ≡ Some held
+accepts_still old new token held None is e still = absurd (cc)
+accepts_still old new token held (Some task) is e still = ap account_in (still token task is) ∙ e
 
+module _ {R A : Type 0} (mid new : Tasks (MainTask R) A) (token : ℕ) (held : Arc ServedRule Global) where
   -- a rule whose listener came is listened for from then on
   pub listened_on : (rule : Rule) (account : Arc ServedRule Global)
       → account_in (task_in mid token) ≡ Some held → arc_value held ≡ arc_value account
@@ -61,9 +62,24 @@ module _ {R A : Type 0} (mid new : Tasks (MainTask R) A) (token : ℕ) (held : A
   listened_on rule account accepts same own still = (
     token,
     held,
-    accepts_on (task_in mid token) refl accepts still,
+    accepts_still mid new token held (task_in mid token) refl accepts still,
     ap (λ (served : ServedRule). same_address (address_of served.listen) (address_of rule.listen)) same ∙ own,
   )
+
+-- a rule that is listened for still is, where each task stands
+pub listens_on : {R A : Type 0} (old new : Tasks (MainTask R) A) (rule : Rule) → StillStand old new
+    → IsListenedFor rule old → IsListenedFor rule new
+listens_on old new rule still listened = (
+  listened.0,
+  listened.1,
+  accepts_still old new listened.0 listened.1 (task_in old listened.0) refl listened.2 still,
+  listened.3,
+)
+
+-- and so are all
+pub all_listen_on : {R A : Type 0} (old new : Tasks (MainTask R) A) (rules : List Rule) → StillStand old new
+    → All (λ rule. IsListenedFor rule old) rules → All (λ rule. IsListenedFor rule new) rules
+all_listen_on old new rules still listened = λ k d within. listens_on old new _ still (listened k d within)
 
 -- a task that was put at a place that named nothing has come there
 pub has_come : {R A : Type 0} (old mid placed new : Tasks (MainTask R) A) (first : ℕ) (found : Option (MainTask R))

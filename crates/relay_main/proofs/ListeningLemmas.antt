@@ -4,7 +4,6 @@ use Rattle.std.specs.Prelude.{Option, Some, None, find, slice_get}
 use Rattle.std.specs.Option.{option_map}
 use Rattle.std.specs.List.{position_or_len}
 use Rattle.std.proofs.lemmas.List.Folds.{find_at}
-use Rattle.std.proofs.lemmas.List.Sums.{position_or_len_is}
 use Rattle.std.proofs.lemmas.Option.{slice_get_past, slice_get_read}
 
 -- behind the last none passes
@@ -17,20 +16,6 @@ pub first_is : {X Y : Type 0} (p : X → Bool) (f : X → Y) (xs : List X) (i : 
     → i < length xs → x ≡ get_or xs i x → option_map f (find p xs) ≡ Some (f x)
 first_is p f xs i x e within is =
     ap (option_map f) (find_at p xs ∙ ap (slice_get xs) (sym e) ∙ slice_get_read xs (length xs) i x refl within is)
-
--- where none passes, the place is behind the last
-pub none_passes : {X : Type 0} (p : X → Bool) (xs : List X)
-    → ((k : ℕ) (d : X) → k < length xs → p (get_or xs k d) ≡ false) → position_or_len p xs ≡ length xs
-none_passes p [] h = refl
-none_passes p (x ∷ xs) h =
-    position_or_len_is p (x ∷ xs) (length (x ∷ xs)) x (omega arith) (λ k lt. h k x lt) (λ lt. absurd (omega arith))
-
--- where none before passes and this one does, the place is its own
-pub first_passes : {X : Type 0} (p : X → Bool) (xs : List X) (i : ℕ) (x : X) → i < length xs
-    → ((k : ℕ) (d : X) → k < i → p (get_or xs k d) ≡ false) → p (get_or xs i x) ≡ true
-    → position_or_len p xs ≡ i
-first_passes p xs i x within before passes =
-    position_or_len_is p xs i x (omega arith) (λ k lt. before k x lt) (λ lt. passes)
 
 found_first : {X : Type 0} (p : X → Bool) (y x : X) (rest : Option X) (b : Bool) → p y ≡ b
     → (rest ≡ Some x → p x ≡ true) → cond b (Some y) rest ≡ Some x → p x ≡ true

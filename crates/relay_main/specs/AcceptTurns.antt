@@ -1,4 +1,5 @@
 -- What becomes of an accept task.
+use Rattle.std.specs.Prelude.{⊤}
 use Rattle.readiness.specs.declared.tasks.Turn.{Turn}
 use Rattle.readiness.specs.declared.tasks.Turn.TheVariants as turn
 use Rattle.relay_core.specs.declared.accept_ended.AcceptEnded.TheVariants.{TooManyFaults}
@@ -13,3 +14,9 @@ turn_of step.Again = turn.Again
 turn_of (step.Pauses ms) = turn.Waits
 turn_of (step.Ended (TooManyFaults fault)) = turn.Waits
 turn_of (step.Ended other) = turn.Over
+
+-- after this step it pauses: a fault may pass, or too many came in a row
+abbrev pub IsFollowedByPause : AcceptStep → Type 0
+IsFollowedByPause (step.Pauses ms) = ⊤
+IsFollowedByPause (step.Ended (TooManyFaults fault)) = ⊤
+IsFollowedByPause other = ⊥

@@ -1,5 +1,6 @@
 -- What a bind adds to the tasks of the main thread's loop.
 use Rattle.std.specs.Prelude.{◌≡◌, ◌⊎◌, ◌++◌, ◌∷◌, [], ℕ, List, true, Option, Some, None, ⊤}
+use Rattle.std.specs.Prelude.{All, length}
 use Rattle.arrayvec.specs.declared.array_string.ArrayString.{ArrayString}
 use Rattle.std.specs.Arc.{arc_value}
 use Rattle.std.specs.declared.alloc.Global.{Global}
@@ -36,6 +37,11 @@ module _ {R A : Type 0} where
   abbrev pub IsListenedFor : Rule → Tasks (MainTask R) A → Type 0
   IsListenedFor rule tasks = (token : ℕ) × (account : Arc ServedRule Global)
       × (account_in (task_in tasks token) ≡ Some account) × (is_account_of rule.listen account ≡ true)
+
+  -- of so many rules each is listened for
+  abbrev pub AreListenedFor : Tasks (MainTask R) A → ℕ → Type 0
+  AreListenedFor tasks count =
+      (rules : List Rule) × (length rules ≡ count) × All (λ rule. IsListenedFor rule tasks) rules
 
   -- the task with this token accepts by this account, and nothing stood at its place before
   pub record HasCome (account : ServedRule) (old new : Tasks (MainTask R) A) (token : ℕ) : Type 0

@@ -6,6 +6,7 @@ pub mod Deadlines
 pub mod Finishing
 pub mod ListenersEnd
 pub mod Listening
+pub mod MainListeners
 pub mod Opening
 pub mod Pauses
 pub mod Plan

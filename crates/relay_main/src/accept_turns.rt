@@ -1,13 +1,13 @@
 //! Accepting, by tasks of the main thread's loop: each goes on when its listener may be ready. A
 //! rule's delivers to the loops, and that of the admin socket to the main thread.
 
-ghost use Rattle.std.specs.Prelude.{◌≡◌, ◌≢◌, ◌↔◌, ◌++◌, ◌∷◌, [], true, false, IsSome, OnOk};
+ghost use Rattle.std.specs.Prelude.{◌≡◌, ◌≢◌, ◌↔◌, ◌++◌, ◌∷◌, [], true, false, None, IsSome, OnOk};
 ghost use Rattle.fd_descriptor.specs.TaskHalf.{descriptor_of_half};
 ghost use Rattle.readiness.specs.declared.tasks.Turn.{Turn};
-ghost use Rattle.relay_main.specs.AcceptTurns.{turn_of};
+ghost use Rattle.relay_main.specs.AcceptTurns.{IsFollowedByPause, turn_of};
 ghost use Rattle.relay_main.specs.Closing.{WasClosed};
 
-use crate::admin_socket::{AdminDoor, AdminTask, Caller};
+use crate::admin_socket::{AdminGate, AdminTask, AdminClient};
 use crate::main_host::MainHost;
 use crate::rule_task::{RuleListener, RuleTask, accept_on};
 use deadline_core::Dirs;
@@ -57,6 +57,24 @@ impl<R: Wait + Clock + Copy, C: Moments> MainHost<R, C> {
             return Turn::Waits;
         }
         let (step, fault) = accept_on(self.rt, &self.clock, &*self.shared, task);
+        self.after_step(task, step, fault)
+    }
+
+    // What follows a step of a rule's task: after a fault that may pass it pauses, and so it does after
+    // too many in a row, before it begins anew.
+    fn after_step(
+        &mut self,
+        task: &mut RuleTask<R>,
+        step: AcceptStep,
+        fault: Option<Fault>,
+    ) -> Turn
+        ensures turn { result ≡ turn_of step }
+        ensures pauses { IsFollowedByPause step → IsSome task.new.paused_until }
+        ensures goes_on { task.old.paused_until ≡ None → IsSome task.new.paused_until
+            → result ≡ Turn.Waits }
+        ensures served { task.new.served ≡ task.old.served }
+        ensures place { task.new.place ≡ task.old.place }
+    {
         match step {
             AcceptStep::Pauses(ms) => {
                 self.note_fault(&task.served, fault, begins_row(ms));
@@ -85,6 +103,7 @@ impl<R: Wait + Clock + Copy, C: Moments> MainHost<R, C> {
     // wait in the system's queue, and nobody would come for them.
     fn begin_anew(&mut self, task: &mut RuleTask<R>)
         ensures anew { task.new.accepting ≡ 0 }
+        ensures pauses { IsSome task.new.paused_until }
         ensures served { task.new.served ≡ task.old.served }
         ensures place { task.new.place ≡ task.old.place }
     {
@@ -93,31 +112,31 @@ impl<R: Wait + Clock + Copy, C: Moments> MainHost<R, C> {
     }
 
     // Takes over one that came, if there is memory.
-    fn take_caller(&mut self, caller: Caller) -> bool
+    fn take_client(&mut self, client: AdminClient) -> bool
         ensures taken { result ≡ true
-            → self.new.callers.items ≡ self.old.callers.items ++ caller ∷ [] }
-        ensures dropped { result ≡ false → self.new.callers.items ≡ self.old.callers.items }
+            → self.new.admin_clients.items ≡ self.old.admin_clients.items ++ client ∷ [] }
+        ensures dropped { result ≡ false → self.new.admin_clients.items ≡ self.old.admin_clients.items }
     {
-        match self.callers.push(caller) {
+        match self.admin_clients.push(client) {
             Ok(()) => true,
             Err(_) => false,
         }
     }
 
     // Takes over who came. One for whom there is no memory is dropped, and counted.
-    fn take_callers(&mut self, door: &mut AdminDoor)
-        ensures taken { door.new.callers.items ≡ [] }
-        ensures told { door.new.dropped ≡ 0 }
-        ensures listener { door.new.listener ≡ door.old.listener }
+    fn take_clients(&mut self, gate: &mut AdminGate)
+        ensures taken { gate.new.clients.items ≡ [] }
+        ensures told { gate.new.dropped ≡ 0 }
+        ensures listener { gate.new.listener ≡ gate.old.listener }
     {
-        for caller in door.callers.drain(..) {
+        for client in gate.clients.drain(..) {
             self.shared.sessions.add(1);
-            if !self.take_caller(caller) {
+            if !self.take_client(client) {
                 self.shared.dropped_sessions.add(1);
             }
         }
-        self.shared.dropped_sessions.add(door.dropped);
-        door.dropped = 0;
+        self.shared.dropped_sessions.add(gate.dropped);
+        gate.dropped = 0;
     }
 
     /// Accepts sessions. However many faults come in a row, it goes on.
@@ -129,8 +148,8 @@ impl<R: Wait + Clock + Copy, C: Moments> MainHost<R, C> {
         if self.is_paused(task.place, &mut task.paused_until) {
             return Turn::Waits;
         }
-        let step = task.accepting.resume(&mut task.door);
-        self.take_callers(&mut task.door);
+        let step = task.accepting.resume(&mut task.gate);
+        self.take_clients(&mut task.gate);
         match step {
             AcceptStep::Pauses(ms) => self.pause(task.place, &mut task.paused_until, ms),
             AcceptStep::Ended(_) => {
@@ -147,7 +166,7 @@ impl<R: Wait + Clock + Copy, C: Moments> MainHost<R, C> {
 
     /// Lets a rule's last clients in: nobody finds its listener any more, those who wait are
     /// accepted, and then it is closed. (a close resets who waits in the system's queue)
-    pub(crate) fn let_last_in(&self, task: RuleTask<R>) {
+    pub(crate) fn accept_last(&self, task: RuleTask<R>) {
         let mut task = task;
         let _ = self.shared.index.lock(&self.rt).leave(task.listener.id);
         for _ in 0..LAST_ROUNDS {

@@ -13,7 +13,7 @@ use std::alloc::Global;
 #[derive(Drop)]
 pub struct AdminTask {
     pub(crate) place: Place,
-    pub(crate) door: AdminDoor,
+    pub(crate) gate: AdminGate,
     pub(crate) accepting: Accepting,
     /// The end of its pause, where it pauses.
     pub(crate) paused_until: Option<u64>,
@@ -21,15 +21,15 @@ pub struct AdminTask {
 
 /// A socket that was accepted for a session.
 #[derive(Drop)]
-pub struct Caller {
+pub struct AdminClient {
     pub(crate) sock: Sock,
 }
 
 /// Where sessions are accepted, and what was accepted since anybody looked.
 #[derive(Drop)]
-pub struct AdminDoor {
+pub struct AdminGate {
     pub(crate) listener: Listen,
-    pub(crate) callers: Vec<Caller>,
+    pub(crate) clients: Vec<AdminClient>,
     /// How many sockets were dropped, since memory was refused for them.
     pub(crate) dropped: u64,
 }
@@ -38,15 +38,15 @@ impl AdminTask {
     /// One that accepts from this socket, at this place. Nobody came yet, and no accept failed.
     pub(crate) fn new(alloc: Global, place: Place, listener: Listen) -> AdminTask
         ensures place { result.place ≡ place }
-        ensures listener { result.door.listener ≡ listener }
-        ensures nobody { result.door.callers.items ≡ [] }
+        ensures listener { result.gate.listener ≡ listener }
+        ensures nobody { result.gate.clients.items ≡ [] }
         ensures goes_on { result.paused_until ≡ None }
     {
         AdminTask {
             place,
-            door: AdminDoor {
+            gate: AdminGate {
                 listener,
-                callers: Vec::new(alloc),
+                clients: Vec::new(alloc),
                 dropped: 0,
             },
             accepting: Accepting::new(),
@@ -55,22 +55,22 @@ impl AdminTask {
     }
 }
 
-impl AdminDoor {
+impl AdminGate {
     // Keeps one that came; none says that it was dropped, since memory was refused.
-    fn keep(&mut self, caller: Caller) -> Option<()>
+    fn keep(&mut self, client: AdminClient) -> Option<()>
         ensures kept { OnSome result
-            (self.new.callers.items ≡ self.old.callers.items ++ caller ∷ []) }
-        ensures dropped { IfNone result (self.new.callers.items ≡ self.old.callers.items) }
-        ensures others { self.new ≡ record self.old { callers = self.new.callers } }
+            (self.new.clients.items ≡ self.old.clients.items ++ client ∷ []) }
+        ensures dropped { IfNone result (self.new.clients.items ≡ self.old.clients.items) }
+        ensures others { self.new ≡ record self.old { clients = self.new.clients } }
     {
-        match self.callers.push(caller) {
+        match self.clients.push(client) {
             Ok(()) => Some(()),
             Err(_) => None,
         }
     }
 }
 
-impl PollAcceptGate for AdminDoor {
+impl PollAcceptGate for AdminGate {
     type T = Sock;
 
     // What a listener gave can't be told.
@@ -83,7 +83,7 @@ impl PollAcceptGate for AdminDoor {
     }
 
     fn deliver(&mut self, taken: Sock) {
-        if self.keep(Caller { sock: taken }).is_none() {
+        if self.keep(AdminClient { sock: taken }).is_none() {
             self.dropped = self.dropped.saturating_add(1);
         }
     }

@@ -7,10 +7,11 @@ ghost use Rattle.readiness.specs.EventLoop.{tasks_of};
 ghost use Rattle.readiness.specs.LoopToken.{place_in};
 ghost use Rattle.readiness.specs.Tasks.{task_in};
 ghost use Rattle.relay_admin.specs.ServeFault.{IsRunFault};
+ghost use Rattle.relay_main.specs.Accounts.{AreAccountsOf};
 ghost use Rattle.relay_main.specs.Binding.{HasCome, IsBindFault, IsListenFault, IsListenedFor};
 ghost use Rattle.relay_main.specs.Binding.{IsNoted, KeepsPath, StillStand};
 ghost use Rattle.relay_main.specs.Listening.{given_at, left_by};
-ghost use Rattle.relay_shared.specs.BoundPath.{paths_in};
+ghost use Rattle.relay_shared.specs.BoundPath.{paths_in, paths_without};
 
 use crate::accounts::account_of;
 use crate::listeners_end::LastClients;
@@ -22,14 +23,47 @@ use relay_admin::{Rule, ServeFault};
 use relay_facts::served_rule::ServedRule;
 use std::fs::Files;
 use std::net::Net;
-use std::sync::{Arc, Wait};
+use std::sync::{Arc, Mutex, Wait};
 use std::time::Clock;
 
-/// That each rule which was to be bound is: the last bind alone makes one. Who changes a rule asks
-/// for one, so a reload that is refused has changed none.
-#[derive(Drop)]
+/// That each rule which was to be bound is: the last bind alone makes one, so a reload that is refused
+/// has changed no rule. It can't be dropped: all rules say by it what is new.
 pub(crate) struct AllBound {
     by_last: (),
+}
+
+/// Accounts that say what the rules of the file say: `AllBound::say` alone makes one. It can't be
+/// dropped: they are served from then on.
+pub(crate) struct Said {
+    accounts: Vec<Arc<ServedRule>>,
+}
+
+impl AllBound {
+    /// Has the accounts of these rules say what the rules say, each by its place: those that are bound
+    /// anew, and those that keep their listeners.
+    pub(crate) fn say<R: Wait>(
+        self,
+        rt: &R,
+        accounts: Vec<Arc<ServedRule>>,
+        rules: &[Rule],
+    ) -> Said
+        requires { AreAccountsOf rules.now accounts.items }
+        ensures { result.accounts ≡ accounts }
+    {
+        let AllBound { by_last: () } = self;
+        for place in 0..rules.len() {
+            accounts[place].change(rt, &rules[place]);
+        }
+        Said { accounts }
+    }
+}
+
+impl Said {
+    /// Their rules are served from now on. (what a lock holds no clause can say)
+    pub(crate) fn serve<R: Wait>(self, rt: &R, served: &Mutex<Vec<Arc<ServedRule>>>) {
+        let Said { accounts } = self;
+        *served.lock(rt) = accounts;
+    }
 }
 
 /// That a rule is listened for, by the task with this token. It can't be dropped: it stays where all
@@ -82,6 +116,8 @@ impl<R: Wait + Net + Files + Clock + Copy> MainLoop<R> {
         ensures gone { task_in (tasks_of self.new.tasks) begun.token ≡ None }
         ensures others { (other : ℕ) → place_in other ≢ place_in begun.token →
             task_in (tasks_of self.new.tasks) other ≡ task_in (tasks_of self.old.tasks) other }
+        ensures paths { paths_in self.new.paths
+            ≡ paths_without rule.now.listen (paths_in self.old.paths) }
     {
         let Begun { token } = begun;
         self.end_rule(token, LastClients::AreReset);

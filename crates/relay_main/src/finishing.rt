@@ -1,11 +1,9 @@
 //! A relay that finishes: it takes nobody more, lets its connections go on to their own ends, and
 //! ends once none stands and no session waits for the answer of a loop, or a moment has come.
 
-ghost use Rattle.std.specs.Prelude.{◌≡◌, ◌↔◌, true, [], IsSome};
-ghost use Rattle.readiness.specs.EventLoop.{tasks_of};
+ghost use Rattle.std.specs.Prelude.{◌≡◌, ◌↔◌, ◌+◌, ◌*◌, ◌-◌, ◌^◌, min, ℕ, true, IsSome, None, Some};
 ghost use Rattle.relay_main.specs.Finishing.{HasFinished, IsOver};
-ghost use Rattle.relay_main.specs.ListenersEnd.{AreEnded};
-ghost use Rattle.relay_shared.specs.BoundPath.{paths_in};
+ghost use Rattle.relay_main.specs.MainListeners.{TakesAsBefore, TakesNobody};
 
 use crate::listeners_end::LastClients;
 use crate::main_loop::MainLoop;
@@ -49,9 +47,13 @@ impl<R: Wait + Net + Files + Clock + Copy> MainLoop<R> {
     /// Has the relay take nobody more from now on, and end in so many milliseconds at the latest. A
     /// later call changes the moment.
     pub(crate) fn finish(&mut self, after_ms: u64)
-        ensures finishes { IsSome self.new.finish_at }
+        ensures finishes { (now : ℕ) × (self.new.finish_at
+            ≡ Some (min (now + after_ms * 1000000) (2 ^ 64 - 1))) }
+        ensures first { self.old.finish_at ≡ None → TakesNobody self.old self.new }
+        ensures later { IsSome self.old.finish_at → TakesAsBefore self.old self.new }
     {
-        if !self.host.shared.is_finishing.swap(true, Ordering::SeqCst) {
+        self.host.shared.is_finishing.store(true, Ordering::SeqCst);
+        if self.finish_at.is_none() {
             self.listen_no_more();
         }
         let at = pause_end(self.host.clock.now(), after_ms);
@@ -64,14 +66,11 @@ impl<R: Wait + Net + Files + Clock + Copy> MainLoop<R> {
 
     // Removes the paths of all rules, lets their last clients in, and closes their listeners.
     fn listen_no_more(&mut self)
-        ensures ended { AreEnded self.old.listening.items
-            (tasks_of self.old.tasks) (tasks_of self.new.tasks) }
-        ensures none { self.new.listening.items ≡ [] }
-        ensures paths { paths_in self.new.paths ≡ [] }
+        ensures { TakesNobody self.old self.new }
     {
         let rt = self.host.rt;
         self.paths.remove_all(&rt);
         let listening = mem::replace(&mut self.listening, Vec::new(self.alloc));
-        self.end_rules(listening.as_slice(), LastClients::AreLetIn);
+        self.end_rules(listening.as_slice(), LastClients::AreAccepted);
     }
 }

@@ -19,7 +19,7 @@ use std::time::Clock;
 #[derive(Clone, Copy, Debug, PartialEq, Eq, Drop)]
 pub(crate) enum LastClients {
     /// They are accepted first.
-    AreLetIn,
+    AreAccepted,
     /// The close resets them.
     AreReset,
 }
@@ -65,7 +65,7 @@ impl<R: Wait + Clock + Copy> MainLoop<R> {
             return;
         };
         match last {
-            LastClients::AreLetIn => self.host.let_last_in(task),
+            LastClients::AreAccepted => self.host.accept_last(task),
             LastClients::AreReset => {
                 let _ = self.host.close_rule(task);
             }

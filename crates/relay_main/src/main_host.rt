@@ -5,7 +5,7 @@ ghost use Rattle.std.specs.Arc.{arc_value};
 ghost use Rattle.readiness.specs.EventLoop.{remote_of};
 ghost use Rattle.relay_main.specs.Pauses.{StaysOrIsNoted, earliest};
 
-use crate::admin_socket::Caller;
+use crate::admin_socket::AdminClient;
 use crate::main_task::MainTask;
 use deadline_core::Dirs;
 use fd_descriptor::{Alarms, PollCell};
@@ -37,7 +37,7 @@ pub struct MainHost<R: Wait + Copy, C: Moments> {
     /// all tasks are resumed, and those that pause still arm theirs anew.
     pub(crate) unarmed: Option<u64>,
     /// The sockets that were accepted for sessions, which are begun between two turns.
-    pub(crate) callers: Vec<Caller>,
+    pub(crate) admin_clients: Vec<AdminClient>,
     /// Which places have sessions that may go on between two turns.
     pub(crate) named: [bool; MAX_SESSIONS],
 }
@@ -53,7 +53,7 @@ impl<R: Wait + Copy, C: Moments> MainHost<R, C> {
             clock,
             shared,
             unarmed: None,
-            callers: Vec::new(alloc),
+            admin_clients: Vec::new(alloc),
             named: [false; MAX_SESSIONS],
         }
     }
@@ -68,7 +68,7 @@ impl<R: Wait + Copy, C: Moments> MainHost<R, C> {
     }
 
     /// Has the loop resume a task at this moment, by one of its tokens; or says that memory was
-    /// refused for it.
+    /// refused for it. (what the lock of the timers holds no clause can say)
     pub(crate) fn arm(&self, token: u64, at: u64) -> bool {
         match self.alarms() {
             Some(alarms) => alarms.arm(token, Dirs::Read, at).is_ok(),

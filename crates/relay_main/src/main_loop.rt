@@ -2,16 +2,18 @@
 //! stops or has finished.
 
 ghost use Rattle.std.specs.Prelude.{◌≡◌, ◌↔◌, ℕ, true, false, Some, None, [], IfOk, IfErr, OnOk};
-ghost use Rattle.std.specs.Prelude.{length};
+ghost use Rattle.std.specs.Prelude.{All, length};
 ghost use Rattle.std.specs.Arc.{arc_value};
 ghost use Rattle.readiness.specs.EventLoop.{tasks_of};
 ghost use Rattle.readiness.specs.Tasks.{ComesNext, SameTasks, StillCome, gave_way_in, task_in};
-ghost use Rattle.relay_main.specs.Binding.{IsBindFault, StillStand};
+ghost use Rattle.relay_main.specs.Binding.{IsBindFault, IsListenedFor, StillStand};
 ghost use Rattle.relay_main.specs.Opening.{IsAdmin, IsAdminFault};
 ghost use Rattle.relay_admin.specs.ServeFault.{IsRunFault};
 ghost use Rattle.relay_admin.specs.declared.serve_fault.ServeFault.{ServeFault};
 ghost use Rattle.relay_main.specs.Finishing.{IsOver};
+ghost use Rattle.relay_main.specs.MainListeners.{Listens};
 
+use crate::accounts::accounts_of;
 use crate::finishing::is_over;
 use crate::listeners_end::{AcceptsEnded, end_tasks};
 use crate::listening::Listeners;
@@ -119,17 +121,38 @@ fn all_again<T>(tasks: &mut EventLoop<T>, listening: &[Listening])
 }
 
 impl<R: Wait + Net + Files + Clock + Eprint + Copy> MainLoop<R> {
-    /// Listens for all rules, in their order; or for none, after a fault: the first rule's that can't
-    /// be listened for, or `Device` or `Memory`.
-    pub fn listen(&mut self) -> Result<(), ServeFault>
+    /// Listens for all rules, in their order, and says for how many; or for none, after a fault: the
+    /// first rule's that can't be listened for, or `Device` or `Memory`.
+    pub fn listen(&mut self) -> Result<u64, ServeFault>
         ensures stand { StillStand (tasks_of self.old.tasks) (tasks_of self.new.tasks) }
+        ensures listens { IfOk result (Listens self.new) }
         ensures faults { IfErr result IsBindFault }
     {
         let rt = self.host.rt;
         let accounts = self.accounts(&rt)?;
         let rules = self.said(&rt, accounts.as_slice())?;
-        let _bound = self.bind_all(&rt, accounts.as_slice(), rules.as_slice(), 0)?;
-        Ok(())
+        self.listen_for(&rt, accounts.as_slice(), rules.as_slice())
+    }
+
+    // The same for these rules, by their accounts among those.
+    fn listen_for(
+        &mut self,
+        rt: &R,
+        accounts: &[Arc<ServedRule>],
+        rules: &[Rule],
+    ) -> Result<u64, ServeFault>
+        ensures stand { StillStand (tasks_of self.old.tasks) (tasks_of self.new.tasks) }
+        ensures bound { OnOk result
+            (All (λ rule. IsListenedFor rule (tasks_of self.new.tasks)) rules.now) }
+        ensures count { IfOk result (λ count. count ≡ length rules.now) }
+        ensures faults { IfErr result IsBindFault }
+    {
+        let serve = accounts_of(self.alloc, accounts, rules, self.host.shared.loops.len())?;
+        let bound = self.bind_all(rt, accounts, rules, 0)?;
+        bound
+            .say(rt, serve, rules)
+            .serve(rt, &self.host.shared.rules);
+        Ok(rules.len() as u64)
     }
 
     // What the rules of these accounts say now.
@@ -148,6 +171,7 @@ impl<R: Wait + Net + Files + Clock + Eprint + Copy> MainLoop<R> {
     /// in `paths`, where it isn't given. The faults are `Admin`, `Device` and `Memory`.
     pub fn open_admin(&mut self, path: &str, paths: &mut BoundPaths) -> Result<(), ServeFault>
         ensures stand { StillStand (tasks_of self.old.tasks) (tasks_of self.new.tasks) }
+        ensures listens { (rules : ℕ) → Listens self.old rules → Listens self.new rules }
         ensures come { OnOk result (IsAdmin (task_in (tasks_of self.new.tasks) self.new.admin)) }
         ensures faults { IfErr result IsAdminFault }
     {
@@ -185,7 +209,7 @@ impl<R: Wait + Net + Files + Clock + Eprint + Copy> MainLoop<R> {
                 return Err(of_poller(fault));
             }
             sessions.serve(self);
-            if self.is_over(self.host.shared.is_stopped(), sessions.are_held()) {
+            if self.is_over(self.host.shared.stop.is_set(), sessions.are_held()) {
                 return Ok(());
             }
             if self.host.takes_unarmed() {

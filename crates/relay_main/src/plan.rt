@@ -13,15 +13,13 @@ use relay_facts::served_rule::ServedRule;
 use std::alloc::Global;
 use std::sync::Arc;
 
-/// What becomes of listeners. Each rule of the file is in one of `bind` and `keep`, in its order.
+/// What becomes of listeners. A rule of the file that isn't in `bind` keeps the one that it has.
 #[derive(Drop)]
 pub(crate) struct Plan {
     /// The accounts of the file's rules, in its order.
     pub(crate) serve: Vec<Arc<ServedRule>>,
     /// The rules at whose addresses no listener stands.
     pub(crate) bind: Vec<Rule>,
-    /// The rules whose listeners stay.
-    pub(crate) keep: Vec<Rule>,
     /// The accounts at whose addresses no rule of the file listens.
     pub(crate) end: Vec<Arc<ServedRule>>,
     /// The listeners at whose addresses none does.
@@ -63,18 +61,14 @@ pub(crate) fn plan_of(
     loops: usize,
 ) -> Result<Plan, ServeFault>
     ensures bind { IfOk result (λ plan. plan.bind.items ≡ spec.to_bind standing.now rules.now) }
-    ensures keep { IfOk result (λ plan. plan.keep.items ≡ spec.to_keep standing.now rules.now) }
     ensures end { IfOk result (λ plan. plan.end.items ≡ without_rules rules.now accounts.items) }
     ensures close { IfOk result (λ plan. plan.close.items ≡ to_close rules.now standing.now) }
     ensures serve { IfOk result (λ plan. AreAccountsOf rules.now plan.serve.items) }
 {
     let serve = accounts_of(alloc, accounts.as_slice(), rules, loops)?;
     let mut bind = Vec::new(alloc);
-    let mut keep = Vec::new(alloc);
     for rule in rules {
-        if stands_at(standing, &rule.listen) {
-            keep.push(*rule)?;
-        } else {
+        if !stands_at(standing, &rule.listen) {
             bind.push(*rule)?;
         }
     }
@@ -82,7 +76,6 @@ pub(crate) fn plan_of(
     Ok(Plan {
         serve,
         bind,
-        keep,
         end: without_rules(accounts, rules),
         close,
     })

@@ -9,11 +9,12 @@ ghost use Rattle.relay_main.specs.Binding.{StillStand};
 ghost use Rattle.relay_admin.specs.declared.admin.answers.ReloadAnswer.{ReloadAnswer};
 ghost use Rattle.relay_admin.specs.declared.serve_fault.ServeFault.{ServeFault};
 ghost use Rattle.relay_main.specs.ListenersEnd.{AreEnded};
+ghost use Rattle.relay_main.specs.Accounts.{AreAccountsOf};
 ghost use Rattle.relay_main.specs.Plan.{IsPlanned};
-ghost use Rattle.relay_main.specs.Reload.{answer_of_fault};
+ghost use Rattle.relay_main.specs.Reload.{answer_of_fault, paths_without_all};
+ghost use Rattle.relay_shared.specs.BoundPath.{paths_in};
 ghost use Rattle.relay_main.specs.RuleListeners.{standing_in};
 
-use crate::accounts::account_at;
 use crate::binding::AllBound;
 use crate::listeners_end::LastClients;
 use crate::main_loop::MainLoop;
@@ -43,17 +44,10 @@ fn answer_of_fault(fault: ServeFault) -> ReloadAnswer
     }
 }
 
-// Has the accounts of these rules, among those, say what the rules say.
-fn change<R: Wait>(rt: &R, accounts: &[Arc<ServedRule>], rules: &[Rule], _bound: &AllBound) {
-    for rule in rules {
-        if let Some(served) = account_at(accounts, &rule.listen) {
-            served.change(rt, rule);
-        }
-    }
-}
-
 // Removes the paths of these accounts' listeners.
-fn remove_paths_of<R: Files>(rt: &R, paths: &mut BoundPaths, accounts: &[Arc<ServedRule>]) {
+fn remove_paths_of<R: Files>(rt: &R, paths: &mut BoundPaths, accounts: &[Arc<ServedRule>])
+    ensures { paths_in paths.new ≡ paths_without_all accounts.now (paths_in paths.old) }
+{
     for served in accounts {
         paths.remove_at(rt, &served.listen);
     }
@@ -123,26 +117,28 @@ impl<R: Wait + Net + Files + Clock + Eprint + Copy> MainLoop<R> {
     {
         let plan = self.planned(rt, rules)?;
         let bound = self.bind_all(rt, plan.serve.as_slice(), plan.bind.as_slice(), now)?;
-        self.go_over(rt, plan, bound);
+        self.go_over(rt, plan, rules, bound);
         Ok(())
     }
 
-    // Goes over to a plan of which all is bound.
-    fn go_over(&mut self, rt: &R, plan: Plan, bound: AllBound)
+    // Goes over to a plan to these rules, of which all is bound.
+    fn go_over(&mut self, rt: &R, plan: Plan, rules: &[Rule], bound: AllBound)
+        requires { AreAccountsOf rules.now plan.serve.items }
         ensures closed { AreEnded plan.close.items (tasks_of self.old.tasks) (tasks_of self.new.tasks) }
         ensures left { self.new.listening.items
             ≡ standing_in (tasks_of self.new.tasks) self.old.listening.items }
+        ensures paths { paths_in self.new.paths
+            ≡ paths_without_all plan.end.items (paths_in self.old.paths) }
     {
         let Plan {
             serve,
-            bind,
-            keep,
+            bind: _,
             end,
             close,
         } = plan;
-        change(rt, serve.as_slice(), bind.as_slice(), &bound);
-        change(rt, serve.as_slice(), keep.as_slice(), &bound);
-        *self.host.shared.rules.lock(rt) = serve;
+        bound
+            .say(rt, serve, rules)
+            .serve(rt, &self.host.shared.rules);
         self.end_rules(close.as_slice(), LastClients::AreReset);
         self.forget_closed();
         remove_paths_of(rt, &mut self.paths, end.as_slice());
@@ -157,6 +153,7 @@ impl<R: Wait + Net + Files + Clock + Eprint + Copy> MainLoop<R> {
         ensures left { self.new.listening.items
             ≡ standing_in (tasks_of self.old.tasks) self.old.listening.items }
         ensures tasks { self.new.tasks ≡ self.old.tasks }
+        ensures paths { self.new.paths ≡ self.old.paths }
     {
         let tasks = &self.tasks;
         self.listening.retain(|one| tasks.task(one.token).is_some());

@@ -1,7 +1,7 @@
 //! A rule's task of the main thread's loop: it accepts from the rule's listener, and delivers to the
 //! loops.
 
-ghost use Rattle.std.specs.Prelude.{◌≡◌, ◌↔◌, ⊤, None, Err, IfSome, IsNone, OnOk};
+ghost use Rattle.std.specs.Prelude.{◌≡◌, ◌↔◌, ⊤, None, Err, IfOk, IfSome, IsNone, OnOk};
 ghost use Rattle.readiness.specs.EventLoop.{tasks_of};
 ghost use Rattle.readiness.specs.Tasks.{task_in};
 ghost use Rattle.relay_main.specs.Closing.{WasClosed};
@@ -24,6 +24,7 @@ use relay_facts::connection_facts::Acceptance;
 use relay_facts::served_rule::{Said, ServedRule};
 use relay_facts::shown::ListenerTimes;
 use relay_shared::address::rule_address;
+use relay_shared::dropped::Unkept;
 use relay_shared::shared::Shared;
 use rwloops::Fault;
 use std::sync::{Arc, Wait};
@@ -117,14 +118,18 @@ where
 {
     // What is known of a client that this listener gave just now: the listener's own rule serves
     // it.
-    fn acceptance(&self, client: Option<relay_admin::Addr>) -> Option<Acceptance>
-        ensures own { IfSome result (λ acceptance.
+    fn acceptance(&self, client: Option<relay_admin::Addr>) -> Result<Acceptance, Unkept>
+        ensures own { IfOk result (λ acceptance.
             arc_value acceptance.served ≡ arc_value self.now.served.now) }
-        ensures client { IfSome result (λ acceptance. acceptance.client ≡ client) }
+        ensures client { IfOk result (λ acceptance. acceptance.client ≡ client) }
     {
-        let served = Arc::try_clone(self.served).ok()?;
-        let Said { rule, targets } = served.said(&self.rt)?;
-        Some(Acceptance {
+        let Ok(served) = Arc::try_clone(self.served) else {
+            return Err(Unkept::new());
+        };
+        let Some(Said { rule, targets }) = served.said(&self.rt) else {
+            return Err(Unkept::new());
+        };
+        Ok(Acceptance {
             served,
             rule,
             targets,
@@ -155,9 +160,12 @@ where
     }
 
     fn deliver(&mut self, taken: Sock) {
-        if let Some(acceptance) = self.acceptance(peer_of(&taken)) {
-            self.listener.times.last = acceptance.at;
-            self.shared.deliver(&self.rt, taken, acceptance);
+        match self.acceptance(peer_of(&taken)) {
+            Ok(acceptance) => {
+                self.listener.times.last = acceptance.at;
+                self.shared.deliver(&self.rt, taken, acceptance);
+            }
+            Err(unkept) => unkept.count(self.served),
         }
     }
 }
@@ -219,8 +227,11 @@ impl<R: Wait + Clock + Copy> MainLoop<R> {
     /// Drains the listener of the rule's task that this token names; none where there is no such
     /// task.
     pub(crate) fn drain_listener(&mut self, token: u64) -> Option<Result<(), Fault>>
-        ensures { IsNone result
+        ensures none { IsNone result
             ↔ IsNone (listener_in (task_in (tasks_of self.old.tasks) token)) }
+        ensures drained { IfSome (listener_in (task_in (tasks_of self.old.tasks) token))
+            (λ listener. IfSome result (λ done.
+            OnOk done (WasDrained (descriptor_of_half listener.half)))) }
     {
         match self.tasks.task_mut(token) {
             Some(MainTask::Rule(task)) => Some(task.listener.drain(&self.host.rt)),

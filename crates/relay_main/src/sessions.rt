@@ -4,7 +4,7 @@
 
 ghost use Rattle.std.specs.Prelude.{◌≡◌, ◌≢◌, ◌<◌, ◌↔◌, ℕ, true, false, Some, None, length};
 ghost use Rattle.std.specs.Prelude.{slice_get, slice_set};
-ghost use Rattle.std.specs.Prelude.{IfErr, IfSome, IfNone};
+ghost use Rattle.std.specs.Prelude.{IfErr, IfSome, IfNone, []};
 ghost use Rattle.std.specs.Box.{box_value};
 ghost use Rattle.readiness.specs.EventLoop.{tasks_of};
 ghost use Rattle.readiness.specs.LoopToken.{place_in};
@@ -36,7 +36,7 @@ const LINES_A_TURN: u32 = 8;
 
 /// A session in its place.
 #[derive(Drop)]
-struct Seated {
+struct PlacedSession {
     session: Session,
     /// The token of its task, and the key of its alarm.
     token: u64,
@@ -47,14 +47,15 @@ struct Seated {
 /// The sessions, by their places.
 #[derive(Drop)]
 pub struct Sessions {
-    places: Vec<Option<Box<Seated>>>,
+    places: Vec<Option<Box<PlacedSession>>>,
 }
 
-impl Seated {
+impl PlacedSession {
     // Goes on for some lines. One that doesn't get on for too long has ended.
     fn go_on<R>(&mut self, main: &mut MainLoop<R>, place: usize) -> SessionStep
     where
         R: Wait + Net + Files + Clock + Eprint + Copy,
+        ensures token { self.new.token ≡ self.old.token }
     {
         let mut step = self.session.pay();
         for _ in 0..LINES_A_TURN {
@@ -80,6 +81,8 @@ impl Seated {
     fn ask<R>(&mut self, main: &mut MainLoop<R>, place: usize) -> SessionStep
     where
         R: Wait + Net + Files + Clock + Eprint + Copy,
+        ensures token { self.new.token ≡ self.old.token }
+        ensures until { self.new.until ≡ self.old.until }
     {
         let alloc = main.alloc;
         let mut desk = RelayDesk::of(main, place);
@@ -91,7 +94,7 @@ impl Seated {
 }
 
 // Whether a session has got nowhere for longer than one that was found, if one was.
-fn is_quieter(session: &Box<Seated>, found: Option<(usize, &Box<Seated>)>) -> bool
+fn is_quieter(session: &Box<PlacedSession>, found: Option<(usize, &Box<PlacedSession>)>) -> bool
     ensures some { IfSome found.entry (λ before. result ≡ true
         ↔ patience session.now < patience before.1.now) }
     ensures none { IfNone found.entry (result ≡ true) }
@@ -103,11 +106,11 @@ fn is_quieter(session: &Box<Seated>, found: Option<(usize, &Box<Seated>)>) -> bo
 }
 
 // Whether the session at a place waits for an answer.
-fn is_held(seat: &Option<Box<Seated>>) -> bool
-    ensures { result ≡ is_held_at seat.now }
+fn is_held(at: &Option<Box<PlacedSession>>) -> bool
+    ensures { result ≡ is_held_at at.now }
 {
-    match seat {
-        Some(seated) => seated.session.is_held(),
+    match at {
+        Some(placed) => placed.session.is_held(),
         None => false,
     }
 }
@@ -138,13 +141,13 @@ impl Sessions {
 
     // The session that has got nowhere for longest, with its place. One that waits for an answer
     // isn't asked.
-    fn quietest(&self) -> Option<(usize, &Box<Seated>)>
+    fn quietest(&self) -> Option<(usize, &Box<PlacedSession>)>
         ensures longest { IfSome result (λ found.
             IsQuietest self.now.places.items found.0 found.1.now) }
         ensures none { IfNone result
             (NoneMayLeave self.now.places.items (length self.now.places.items)) }
     {
-        let mut found: Option<(usize, &Box<Seated>)> = None;
+        let mut found: Option<(usize, &Box<PlacedSession>)> = None;
         for place in 0..self.places.len() {
             if let Some(session) = &self.places[place] {
                 if !session.session.is_held() && is_quieter(session, found) {
@@ -163,6 +166,7 @@ impl Sessions {
         ensures none { IfNone result (NoneMayLeave self.old.places.items
             (length self.old.places.items)) }
         ensures kept { IfNone result (self.new.places.items ≡ self.old.places.items) }
+        ensures places { length self.new.places.items ≡ length self.old.places.items }
     {
         if let Some(place) = self.vacant() {
             return Some(place);
@@ -178,10 +182,11 @@ impl Sessions {
     fn begin<R>(&mut self, main: &mut MainLoop<R>, sock: Sock) -> Option<()>
     where
         R: Wait + Net + Files + Clock + Eprint + Copy,
+        ensures places { length self.new.places.items ≡ length self.old.places.items }
     {
         let place = self.make_room(main)?;
-        let seated = main.seat(sock, place)?;
-        *self.places.get_mut(place)? = Some(seated);
+        let placed = main.place_session(sock, place)?;
+        *self.places.get_mut(place)? = Some(placed);
         Some(())
     }
 
@@ -189,14 +194,16 @@ impl Sessions {
     fn begin_all<R>(&mut self, main: &mut MainLoop<R>)
     where
         R: Wait + Net + Files + Clock + Eprint + Copy,
+        ensures places { length self.new.places.items ≡ length self.old.places.items }
+        ensures none { main.new.host.admin_clients.items ≡ [] }
     {
-        let mut came = mem::replace(&mut main.host.callers, Vec::new(main.alloc));
-        for caller in came.drain(..) {
-            if self.begin(main, caller.sock).is_none() {
+        let mut came = mem::replace(&mut main.host.admin_clients, Vec::new(main.alloc));
+        for client in came.drain(..) {
+            if self.begin(main, client.sock).is_none() {
                 main.host.shared.dropped_sessions.add(1);
             }
         }
-        main.host.callers = came;
+        main.host.admin_clients = came;
     }
 
     // Whether the session at this place may go on: one that waits for an answer, once it has that;
@@ -206,18 +213,19 @@ impl Sessions {
         R: Wait + Net + Files + Clock + Eprint + Copy,
         ensures named { IsFreeAt self.old.places.items place → result ≡ is_named }
         ensures nobody { IsNobodyAt self.old.places.items place → result ≡ false }
+        ensures places { length self.new.places.items ≡ length self.old.places.items }
     {
-        let Some(Some(seated)) = self.places.get_mut(place) else {
+        let Some(Some(placed)) = self.places.get_mut(place) else {
             return false;
         };
-        if !seated.session.is_held() {
+        if !placed.session.is_held() {
             return is_named;
         }
         let answer = main.host.shared.slots.lock(&main.host.rt).take(place);
         let Some(answer) = answer else {
             return false;
         };
-        seated.session.answer(main.alloc, late_answer(answer));
+        placed.session.answer(main.alloc, late_answer(answer));
         true
     }
 
@@ -225,19 +233,22 @@ impl Sessions {
     pub(crate) fn are_held(&self) -> bool
         ensures { result ≡ are_held self.now.places.items }
     {
-        self.places.iter().any(|seat| is_held(seat))
+        self.places.iter().any(|found| is_held(found))
     }
 
     // Has the session at this place go on, and ends it where it has ended.
     fn go_on<R>(&mut self, main: &mut MainLoop<R>, place: usize)
     where
         R: Wait + Net + Files + Clock + Eprint + Copy,
+        ensures places { length self.new.places.items ≡ length self.old.places.items }
+        ensures others { (other : ℕ) → other ≢ place →
+            slice_get self.new.places.items other ≡ slice_get self.old.places.items other }
     {
-        let Some(Some(seated)) = self.places.get_mut(place) else {
+        let Some(Some(placed)) = self.places.get_mut(place) else {
             return;
         };
-        let token = seated.token;
-        match seated.go_on(main, place) {
+        let token = placed.token;
+        match placed.go_on(main, place) {
             SessionStep::Waits => {}
             SessionStep::Again => main.tasks.again(token),
             SessionStep::Over => self.end(main, place, token),
@@ -252,7 +263,7 @@ impl Sessions {
     fn end<R>(&mut self, main: &mut MainLoop<R>, place: usize, token: u64)
     where
         R: Wait + Net + Files + Clock + Eprint + Copy,
-        ensures seat { self.new.places.items ≡ slice_set self.old.places.items place None }
+        ensures left { self.new.places.items ≡ slice_set self.old.places.items place None }
         ensures task { task_in (tasks_of main.new.tasks) token ≡ None }
         ensures others { (other : ℕ) → place_in other ≢ place_in token →
             task_in (tasks_of main.new.tasks) other ≡ task_in (tasks_of main.old.tasks) other }
@@ -260,8 +271,8 @@ impl Sessions {
         drop(main.tasks.take(token));
         main.host.disarm(token);
         main.host.shared.slots.lock(&main.host.rt).withdraw(place);
-        if let Some(seat) = self.places.get_mut(place) {
-            *seat = None;
+        if let Some(found) = self.places.get_mut(place) {
+            *found = None;
         }
     }
 
@@ -269,6 +280,7 @@ impl Sessions {
     pub(crate) fn serve<R>(&mut self, main: &mut MainLoop<R>)
     where
         R: Wait + Net + Files + Clock + Eprint + Copy,
+        ensures places { length self.new.places.items ≡ length self.old.places.items }
     {
         self.begin_all(main);
         let named = mem::replace(&mut main.host.named, [false; MAX_SESSIONS]);
@@ -283,26 +295,26 @@ impl Sessions {
 impl<R: Wait + Net + Files + Clock + Eprint + Copy> MainLoop<R> {
     // A session over this socket, with a task and an alarm of its own; none where that is refused,
     // and the socket is dropped.
-    fn seat(&mut self, sock: Sock, place: usize) -> Option<Box<Seated>>
-        ensures named { IfSome result (λ seated.
-            task_in (tasks_of self.new.tasks) (box_value seated).token ≡ Some (MainTask.Session place)) }
+    fn place_session(&mut self, sock: Sock, place: usize) -> Option<Box<PlacedSession>>
+        ensures named { IfSome result (λ placed.
+            task_in (tasks_of self.new.tasks) (box_value placed).token ≡ Some (MainTask.Session place)) }
         ensures stand { StillStand (tasks_of self.old.tasks) (tasks_of self.new.tasks) }
     {
         let token = self.tasks.vacant().ok()?.first;
         let mut sock = sock;
         self.tasks.poller().register(&mut sock, token).ok()?;
         let until = silence_end(self.host.clock.now());
-        let seated = Seated {
+        let placed = PlacedSession {
             session: Session::over(self.alloc, sock)?,
             token,
             until,
         };
-        let seated = Box::new(self.alloc, seated).ok()?;
+        let placed = Box::new(self.alloc, placed).ok()?;
         if !self.host.arm(token, until) {
             return None;
         }
         self.tasks.put(MainTask::Session(place)).ok()?;
         self.tasks.again(token);
-        Some(seated)
+        Some(placed)
     }
 }

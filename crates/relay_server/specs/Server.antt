@@ -1,7 +1,8 @@
 -- A relay, as its callers see it.
-use Rattle.std.specs.Prelude.{◌⊎◌, Bool, List}
+use Rattle.std.specs.Prelude.{◌⊎◌, ℕ, Bool, List}
 use Rattle.relay_admin.specs.declared.serve_fault.ServeFault.{ServeFault}
 use Rattle.relay_main.specs.Binding.{IsBindFault}
+use Rattle.relay_main.specs.MainListeners.{Listens as MainListens}
 use Rattle.relay_main.specs.Opening.{IsAdminFault}
 use Rattle.relay_main.specs.declared.listening.GivenListener.{GivenListener}
 use Rattle.relay_server.specs.declared.server.Server.{Server}
@@ -18,3 +19,7 @@ module _ {R : Type 0} where
   -- whether a Unix socket at which nobody listens any more gives way to a listener
   abbrev pub replaces_stale_in : Server R → Bool
   replaces_stale_in server = server.main.listeners.replaces_stale
+
+  -- of so many rules each is listened for
+  abbrev pub Listens : Server R → ℕ → Type 0
+  Listens server count = MainListens server.main count

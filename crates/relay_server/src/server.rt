@@ -1,7 +1,7 @@
 //! A relay, from its sockets to its end.
 
 ghost use Rattle.std.specs.Prelude.{◌≡◌, IfErr, IfOk};
-ghost use Rattle.relay_server.specs.Server.{IsSocketsFault, given_in, replaces_stale_in};
+ghost use Rattle.relay_server.specs.Server.{IsSocketsFault, Listens, given_in, replaces_stale_in};
 ghost use Rattle.relay_admin.specs.ServeFault.{IsRunFault};
 ghost use Rattle.relay_admin.specs.declared.serve_fault.ServeFault.{ServeFault};
 
@@ -96,13 +96,15 @@ where
     }
 
     /// Opens all sockets: the listeners in the order of the rules, then the admin socket at this
-    /// path. The faults are `Listen`, with the first rule that can't be listened for, `Admin`,
-    /// `Device` and `Memory`; what was opened before stands, for `end`.
-    pub(crate) fn open(&mut self, admin: &str) -> Result<(), ServeFault>
+    /// path; and says for how many rules it listens. The faults are `Listen`, with the first rule that
+    /// can't be listened for, `Admin`, `Device` and `Memory`; what was opened before stands, for `end`.
+    pub(crate) fn open(&mut self, admin: &str) -> Result<u64, ServeFault>
+        ensures listens { IfOk result (Listens self.new) }
         ensures faults { IfErr result IsSocketsFault }
     {
-        self.main.listen()?;
-        self.main.open_admin(admin, &mut self.admin)
+        let rules = self.main.listen()?;
+        self.main.open_admin(admin, &mut self.admin)?;
+        Ok(rules)
     }
 
     /// Starts the loops' threads. After a fault those that were started run on, for `end`.
@@ -119,11 +121,6 @@ where
         ensures faults { IfErr result (λ fault. IsRunFault fault) }
     {
         self.main.turn_until_stop(&mut self.sessions)
-    }
-
-    /// How many rules it has.
-    pub(crate) fn rules(&self) -> u64 {
-        self.main.host.shared.rules.lock(&self.main.host.rt).len() as u64
     }
 
     /// Whether a Unix socket at which nobody listens any more gives way to a listener.

@@ -50,12 +50,12 @@ where
     ensures unwritten { IfErr result (λ fault. IsRunFault fault
         ⊎ (W.contents writer.new ≡ W.contents writer.old)) }
 {
-    server.open(admin_of(settings))?;
+    let rules = server.open(admin_of(settings))?;
     tell_unused(errors, server.unused());
     started.start_log(server, &settings.log, logs)?;
     started.serve_metrics(server, &settings.metrics)?;
     server.start()?;
-    write_listening(writer, server.rules())?;
+    write_listening(writer, rules)?;
     server.run()
 }
 

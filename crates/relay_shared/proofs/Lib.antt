@@ -4,3 +4,4 @@ pub mod IndexLemmas
 pub mod IndexLists
 pub mod IndexLookups
 pub mod RequestsLemmas
+pub mod TotalsLemmas

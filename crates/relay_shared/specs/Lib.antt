@@ -6,6 +6,7 @@ pub mod Inbox
 pub mod Index
 pub mod IndexLaws
 pub mod Laws
+pub mod LoopTotals
 pub mod Placing
 pub mod PollerFault
 pub mod Requests

@@ -71,7 +71,7 @@ pub struct Woken {
 }
 
 impl OwedWake {
-    /// Ends the loop's wait, or its next one.
+    /// Ends the loop's wait, or its next one. (a wake is an effect that no clause can name)
     pub fn pay(self, remote: &LoopRemote) -> Woken {
         let OwedWake { by_inbox: () } = self;
         remote.wake();
@@ -110,15 +110,16 @@ impl Inbox {
         Ok(inbox)
     }
 
-    /// Leaves a socket; or drops it, where there is no memory.
-    pub fn leave_socket(&mut self, accepted: Accepted) -> Option<OwedWake>
-        ensures left { OnSome result (sockets_in self.new ≡ sockets_in self.old ++ accepted ∷ []) }
-        ensures kept { IfNone result (sockets_in self.new ≡ sockets_in self.old) }
+    /// Leaves a socket; or gives it back, where there is no memory.
+    pub fn leave_socket(&mut self, accepted: Accepted) -> Result<OwedWake, Accepted>
+        ensures left { OnOk result (sockets_in self.new ≡ sockets_in self.old ++ accepted ∷ []) }
+        ensures returned { IfErr result (λ other. other ≡ accepted) }
+        ensures kept { OnErr result (sockets_in self.new ≡ sockets_in self.old) }
         ensures requests { requests_in self.new ≡ requests_in self.old }
     {
         match self.sockets.push_back(accepted) {
-            Ok(()) => Some(OwedWake { by_inbox: () }),
-            Err(_) => None,
+            Ok(()) => Ok(OwedWake { by_inbox: () }),
+            Err(refused) => Err(refused.value),
         }
     }
 

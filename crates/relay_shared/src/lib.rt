@@ -4,6 +4,7 @@
 
 pub mod address;
 pub mod bound_path;
+pub mod dropped;
 pub mod inbox;
 pub mod index;
 pub mod laws;

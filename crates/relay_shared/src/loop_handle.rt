@@ -1,6 +1,7 @@
 //! What others reach a loop by: its remote, and its inbox; and what they know of it.
 
-ghost use Rattle.std.specs.Prelude.{◌≡◌, IfErr, IfOk};
+ghost use Rattle.std.specs.Prelude.{◌≡◌, IfErr, IfOk, length};
+ghost use Rattle.relay_shared.specs.LoopTotals.{AreSumsOf};
 
 use crate::inbox::{Accepted, Counted, Inbox, Woken};
 use crate::requests::Request;
@@ -42,15 +43,25 @@ impl LoopHandle {
         })
     }
 
-    /// How many connections it has, those in its inbox among them.
+    /// How many connections it has, those in its inbox among them. (what an atomic number holds no
+    /// clause can say)
     pub fn connections(&self) -> u64 {
         self.connections.load(Ordering::SeqCst)
     }
 
     /// Delivers an accepted socket, and wakes the loop. Where there is no memory for it, it is
-    /// dropped.
-    pub fn deliver<R: Wait>(&self, rt: &R, sock: Sock, acceptance: Acceptance) -> Option<Woken> {
-        let counted = Counted::new(&self.connections, &acceptance.served)?;
+    /// dropped, and what is known of its client comes back.
+    pub fn deliver<R: Wait>(
+        &self,
+        rt: &R,
+        sock: Sock,
+        acceptance: Acceptance,
+    ) -> Result<Woken, Acceptance>
+        ensures returned { IfErr result (λ back. back ≡ acceptance) }
+    {
+        let Some(counted) = Counted::new(&self.connections, &acceptance.served) else {
+            return Err(acceptance);
+        };
         let accepted = Accepted {
             sock,
             acceptance,
@@ -58,8 +69,8 @@ impl LoopHandle {
         };
         let left = self.inbox.lock(rt).leave_socket(accepted);
         match left {
-            Some(owed) => Some(owed.pay(&self.remote)),
-            None => None,
+            Ok(owed) => Ok(owed.pay(&self.remote)),
+            Err(accepted) => Err(accepted.acceptance),
         }
     }
 
@@ -74,7 +85,7 @@ impl LoopHandle {
         }
     }
 
-    /// Changes the inbox for this one, which is empty.
+    /// Changes the inbox for this one, which is empty. (what a lock holds no clause can say)
     pub fn give_all<R: Wait>(&self, rt: &R, taken: &mut Inbox) {
         mem::swap(&mut *self.inbox.lock(rt), taken);
     }
@@ -90,7 +101,9 @@ pub struct LoopParts {
 /// What the books of all loops were credited so far: a sum of numbers each of which is read at a
 /// moment of its own, so that it is at least what they came to as this began, and at most what they
 /// come to as it ends.
-pub fn totals_of(loops: &[LoopHandle]) -> Totals {
+pub fn totals_of(loops: &[LoopHandle]) -> Totals
+    ensures { AreSumsOf (length loops.now) result }
+{
     let mut all = Totals::none();
     for handle in loops {
         all = all.plus(handle.published.get());

@@ -8,8 +8,10 @@ ghost use Rattle.std.specs.Prelude.{IfErr, IfOk, OnOk, IfSome, IfNone, OnSome};
 ghost use Rattle.std.specs.Arc.{arc_value};
 ghost use Rattle.relay_admin.specs.declared.serve_fault.ServeFault.{ServeFault};
 ghost use Rattle.relay_shared.specs.Drop.{IsDrop};
+ghost use Rattle.relay_facts.specs.Counts.{IsSumOf};
 ghost use Rattle.relay_shared.specs.Placing.{IsFewest, LacksLoops, sum_of};
 
+use crate::dropped::Dropped;
 use crate::inbox::Woken;
 use crate::index::Index;
 use crate::loop_handle::LoopHandle;
@@ -140,16 +142,12 @@ impl Shared {
     }
 
     /// Delivers a socket that was accepted just now to the loop with the fewest connections. One
-    /// beyond the most pairs, of its rule or of all, or for which memory is refused, is dropped. The
-    /// main thread alone delivers.
+    /// beyond the most pairs, of its rule or of all, or for which memory is refused, is dropped, and
+    /// counted. The main thread alone delivers.
     pub fn deliver<R: Wait + Clock>(&self, rt: &R, sock: Sock, acceptance: Acceptance) {
         acceptance.served.note_accept();
-        let Some(told) = acceptance.try_clone() else {
-            return;
-        };
-        if let Err(how) = self.try_deliver(rt, sock, acceptance) {
-            told.served.counts.note_dropped(how);
-            self.tell_refused(rt, &told, told.at, how);
+        if let Err(dropped) = self.try_deliver(rt, sock, acceptance) {
+            dropped.count(rt, self);
         }
     }
 
@@ -159,19 +157,20 @@ impl Shared {
         rt: &R,
         sock: Sock,
         acceptance: Acceptance,
-    ) -> Result<Woken, Ended>
-        ensures why { IfErr result IsDrop }
+    ) -> Result<Woken, Dropped>
+        ensures why { IfErr result (λ dropped. IsDrop dropped.how) }
+        ensures own { IfErr result (λ dropped. dropped.acceptance ≡ acceptance) }
     {
         if self.safeguards.is_at_limit(acceptance.served.standing()) {
-            return Err(Ended::RuleFull);
+            return Err(Dropped::new(acceptance, Ended::RuleFull));
         }
         let counts = self.counts();
         let Some(handle) = self.fewest(counts.as_slice()) else {
-            return Err(Ended::Full);
+            return Err(Dropped::new(acceptance, Ended::Full));
         };
         match handle.deliver(rt, sock, acceptance) {
-            Some(woken) => Ok(woken),
-            None => Err(Ended::NoMemory),
+            Ok(woken) => Ok(woken),
+            Err(acceptance) => Err(Dropped::new(acceptance, Ended::NoMemory)),
         }
     }
 
@@ -188,8 +187,11 @@ impl Shared {
         }
     }
 
-    /// How many connections stand, those among them that are being set up.
-    pub fn standing(&self) -> u64 {
+    /// How many connections stand, those among them that are being set up: the sum of what the loops
+    /// have, one read after the other.
+    pub fn standing(&self) -> u64
+        ensures { IsSumOf (min (length self.now.loops.items) MAX_LOOPS) result }
+    {
         sum_of(self.counts().as_slice())
     }
 
@@ -236,12 +238,8 @@ impl Shared {
 
     /// Tells the main thread and all loops that no more turns are wanted.
     pub fn stop(&self) -> Stopped {
-        let stopped = self.stop.set();
-        stopped.wake_loops(&self.main, self.loops.as_slice());
-        stopped
-    }
-
-    pub fn is_stopped(&self) -> bool {
-        self.stop.is_set()
+        self.stop
+            .set()
+            .wake_loops(&self.main, self.loops.as_slice())
     }
 }

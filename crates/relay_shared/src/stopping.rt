@@ -11,14 +11,21 @@ pub struct StopFlag {
     is_set: AtomicBool,
 }
 
-/// That the flag is set: it alone makes one. Every wake of a stop takes it, so that none comes
-/// before the flag.
-#[derive(Clone, Copy)]
-pub struct Stopped {
+/// That the flag is set: it alone makes one. The wakes of a stop take it, so that none comes before the
+/// flag; it can't be dropped, so that no stop wakes nobody.
+pub(crate) struct FlagSet {
     by_flag: (),
 }
 
+/// That a relay was stopped: its flag is set, and then all loops were woken. The wakes alone make one.
+#[derive(Clone, Copy, Drop)]
+pub struct Stopped {
+    by_wakes: (),
+}
+
+// (whether an atomic flag is set no clause can say)
 impl StopFlag {
+    /// Nobody has stopped.
     pub fn new() -> StopFlag {
         StopFlag {
             is_set: AtomicBool::new(false),
@@ -26,22 +33,25 @@ impl StopFlag {
     }
 
     /// Whoever looks from now on sees that no more turns are wanted.
-    pub fn set(&self) -> Stopped {
+    pub(crate) fn set(&self) -> FlagSet {
         self.is_set.store(true, Ordering::SeqCst);
-        Stopped { by_flag: () }
+        FlagSet { by_flag: () }
     }
 
+    /// Whether anybody has stopped.
     pub fn is_set(&self) -> bool {
         self.is_set.load(Ordering::SeqCst)
     }
 }
 
-impl Stopped {
+impl FlagSet {
     /// Ends the wait of the main thread's loop and of each other, or its next one.
-    pub fn wake_loops(self, main: &LoopRemote, loops: &[LoopHandle]) {
+    pub(crate) fn wake_loops(self, main: &LoopRemote, loops: &[LoopHandle]) -> Stopped {
+        let FlagSet { by_flag: () } = self;
         main.wake();
         for handle in loops {
             handle.remote.wake();
         }
+        Stopped { by_wakes: () }
     }
 }

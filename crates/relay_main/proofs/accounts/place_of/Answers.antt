@@ -1,6 +1,6 @@
 use Rattle.std.proofs.Common.{sym, arith, rules}
 use Rattle.relay_main.specs.Accounts.{is_account_of}
-use Rattle.relay_main.proofs.ListeningLemmas.{first_passes, none_passes}
+use Rattle.relay_shared.proofs.FirstPlace.{first_passes, none_passes}
 use Rattle.relay_main.proofs.accounts.place_of.Goals as goal
 
 pub returns-then-is_same_addr : goal.returns-then-is_same_addr
