@@ -9,8 +9,6 @@ from lib.talk import both_ways, seconds_until_end
 from lib.waiting import processor_seconds, wait_until
 
 WAIT_SECONDS = 5
-# Of so many pairs the processor time of a stop is compared with theirs, and not with seconds, which hang on the machine.
-MANY = 500
 
 
 class Served:
@@ -85,8 +83,8 @@ def so_many_pairs(checks, name, count, *options, descriptors=DESCRIPTORS):
         held_seconds = processor_seconds(relay.process.pid)
         status, totals, seconds = stop_seconds(relay)
         checks.expect(f"{name}: status and totals", (0, (count + 2, count + 2)), (status, totals))
-        if count >= MANY:
-            took = f"{seconds:.2f} s, they {held_seconds:.2f} s"
-            checks.holds(f"{name}: the stop takes less of a processor than they did", seconds < held_seconds, took)
+        took = f"{seconds:.2f} s, they {held_seconds:.2f} s"
+        # (a bound in seconds alone hangs on the machine)
+        checks.holds(f"{name}: the stop takes at most a second more of a processor than they did", seconds < 1 + held_seconds, took)
         for sock in [sock for pair in held for sock in pair]:
             sock.close()
