@@ -70,18 +70,20 @@ class Relay:
     With an environment of its own its standard error is kept, for errors(). `before` are words ahead of the program's, as of a
     tracer, and `options` are added to those of `serve`. `wrapper` are words in place of the program's, as of packaging/pollrelay-run,
     which starts it. With sockets it is started with these, `handed` says so (`started_with`), and the environment is its alone.
+    With `form="config"` the text is a configuration, which names its own admin socket, `{folder}/admin.sock`, or `options` do.
     """
 
     def __init__(
-        self, rules, program=PROGRAM, descriptors=DESCRIPTORS, env=None, before=(), options=(), wrapper=(), sockets=(), handed=None
+        self, rules, program=PROGRAM, descriptors=DESCRIPTORS, env=None, before=(), options=(), wrapper=(), sockets=(), handed=None, form="rules"
     ):
         self.folder = tempfile.mkdtemp(prefix="relay-")
         self.admin = f"{self.folder}/admin.sock"
-        with open(f"{self.folder}/rules", "w", encoding="ascii") as file:
-            file.write(rules.replace("{folder}", self.folder))
+        self.form = form
+        self.write(rules)
         if wrapper:
             env = {**(env or {}), "POLLRELAY": program}
-        words = [*before, *(wrapper or (program, "serve")), "--rules", f"{self.folder}/rules", "--admin", self.admin, *options]
+        steered = ("--admin", self.admin) if form == "rules" else ()
+        words = [*before, *(wrapper or (program, "serve")), f"--{form}", f"{self.folder}/{form}", *steered, *options]
         self.kept_errors = None if env is None else open(f"{self.folder}/errors", "ab")
         given = {}
         if sockets:
@@ -99,6 +101,11 @@ class Relay:
             self.close()
             raise fault
         self.said = said
+
+    def write(self, text):
+        """Has its file say this, for its next start or reload."""
+        with open(f"{self.folder}/{self.form}", "w", encoding="utf-8") as file:
+            file.write(text.replace("{folder}", self.folder))
 
     def errors(self):
         """What it wrote to standard error so far, where that is kept, without what a tracer ahead of it says there."""

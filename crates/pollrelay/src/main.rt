@@ -10,7 +10,10 @@ use relay_command::{
     Fault, HELP, Job, NO_MEMORY, VERSION, descriptors_allowed, descriptors_needed, job_of,
     reply_status, trace_status,
 };
-use relay_server::{Given, GivenListener, LogFiles, Settings, serve, text_of};
+use relay_core::Capacity;
+use relay_facts::config::Start;
+use relay_server::{Config, Given, GivenListener, LogFiles, config_text_of, serve, text_of};
+use relay_settings::{Asked, SETTINGS, Source, check_config, wins_over_file};
 use relay_shared::address::rule_address;
 use std::alloc::Global;
 use std::env::VarError;
@@ -41,10 +44,30 @@ fn job_of_words(alloc: Global, words: &[String]) -> Result<Option<Job>, OutOfMem
 }
 
 /// Prints the verdict on a rules file.
-fn check_file<R: Files + Print + Eprint + AllocGlobal>(rt: &R, rules: &str) -> ExitCode {
-    match text_of(rt, rt.alloc(), rules) {
+fn check_rules<R: Files + Print + Eprint + AllocGlobal>(rt: &R, path: &str) -> ExitCode {
+    match text_of(rt, rt.alloc(), path) {
         Ok(text) => ExitCode::from(check_status(text.as_slice(), &mut io::writer(rt))),
         Err(fault) => told(rt, Fault::Relay(fault)),
+    }
+}
+
+/// Prints the verdict on a configuration.
+fn check_configuration<R: Files + Print + Eprint + AllocGlobal>(rt: &R, path: &str) -> ExitCode {
+    let text = match config_text_of(rt, rt.alloc(), path) {
+        Ok(text) => text,
+        Err(fault) => return told(rt, Fault::Relay(fault)),
+    };
+    match check_config(rt.alloc(), text.as_slice(), &mut io::writer(rt)) {
+        Ok(status) => ExitCode::from(status),
+        Err(_) => told(rt, NO_MEMORY),
+    }
+}
+
+/// Prints the verdict on a file.
+fn check_file<R: Files + Print + Eprint + AllocGlobal>(rt: &R, source: &Source) -> ExitCode {
+    match source {
+        Source::Rules(path) => check_rules(rt, path.as_str()),
+        Source::Config(path) => check_configuration(rt, path.as_str()),
     }
 }
 
@@ -57,17 +80,26 @@ fn run_trace(rt: &HostRuntime) -> ExitCode {
 
 /// Says on standard error where the process may have fewer descriptors than its relay may need. The
 /// relay starts all the same: it pauses once they run out.
-fn warn_of_descriptors<R: Files + Threads + Eprint + AllocGlobal>(rt: &R, settings: &Settings) {
+fn warn_of_descriptors<R: Files + Eprint + AllocGlobal>(rt: &R, capacity: &Capacity) {
     let Ok(limits) = fs::read_to_string(rt, "/proc/self/limits") else {
         return;
     };
-    let capacity = settings.capacity(rt);
     let needed = descriptors_needed(capacity.pairs, capacity.loops);
     match descriptors_allowed(limits.as_str()) {
         Some(allowed) if allowed < needed => {
             let _ = eprintln!(rt; "few descriptors: {allowed}, and {needed} may be needed");
         }
         _ => {}
+    }
+}
+
+/// Says on standard error which options win over keys of the file.
+fn tell_of_options<R: Eprint>(rt: &R, start: &Start) {
+    for setting in &SETTINGS {
+        if wins_over_file(&start.asked.words, &start.file, *setting) {
+            let (option, key) = (setting.option(), setting.key());
+            let _ = eprintln!(rt; "--{option} is in force, not {key} of the config");
+        }
     }
 }
 
@@ -127,7 +159,7 @@ fn given_listeners(rt: &HostRuntime) -> Result<Vec<GivenListener>, Fault> {
 
 /// Runs a relay until an admin session says stop.
 // (the bounds are those of `serve`, and of who prints)
-fn run_relay<R>(rt: R, settings: &Settings, listeners: Vec<GivenListener>) -> ExitCode
+fn run_relay<R>(rt: R, asked: Asked, listeners: Vec<GivenListener>) -> ExitCode
 where
     R: Wait
         + Threads
@@ -143,11 +175,16 @@ where
         + Sync
         + 'static,
 {
-    warn_of_descriptors(&rt, settings);
+    let config = match Config::read(&rt, rt.alloc(), asked) {
+        Ok(config) => config,
+        Err(fault) => return told(&rt, Fault::Relay(fault)),
+    };
+    tell_of_options(&rt, &config.start);
+    warn_of_descriptors(&rt, &config.capacity);
     let errors = open_log(&rt, "-").ok();
     let given = Given { listeners, errors };
     let mut output = io::writer(&rt);
-    match serve(rt, settings, given, LogFiles { rt }, &mut output) {
+    match serve(rt, config, given, LogFiles { rt }, &mut output) {
         Ok(()) => ExitCode::from(0),
         Err(fault) => told(&rt, Fault::Relay(fault)),
     }
@@ -216,9 +253,9 @@ fn job(rt: &HostRuntime) -> Result<Job, Fault> {
 fn main(rt: HostRuntime) -> ExitCode {
     match job(&rt) {
         Ok(Job::Trace) => run_trace(&rt),
-        Ok(Job::Check { rules }) => check_file(&rt, rules.as_str()),
-        Ok(Job::Serve(settings)) => match given_listeners(&rt) {
-            Ok(given) => run_relay(rt, &settings, given),
+        Ok(Job::Check(source)) => check_file(&rt, &source),
+        Ok(Job::Serve(asked)) => match given_listeners(&rt) {
+            Ok(given) => run_relay(rt, asked, given),
             Err(fault) => told(&rt, fault),
         },
         Ok(Job::Ctl { admin, line }) => control(&rt, admin.as_str(), line.as_str()),

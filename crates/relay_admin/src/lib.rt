@@ -27,5 +27,5 @@ pub use admin::stepwise::AdminSession;
 pub use rules::addr::{Addr, MAX_ADDR_BYTES, addr_of, is_same_addr};
 pub use rules::file::{MAX_BYTES, MAX_RULES, Rules, RulesFault};
 pub use rules::rule::Rule;
-pub use rules::verdict::{Verdict, check_status};
+pub use rules::verdict::{MAX_WHY_BYTES, Verdict, check_status};
 pub use serve_fault::ServeFault;

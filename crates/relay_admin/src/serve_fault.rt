@@ -3,7 +3,6 @@
 ghost use Rattle.std.specs.Prelude.{◌≡◌};
 ghost use Rattle.relay_admin.specs.declared.serve_fault.ServeFault.TheVariants.{Memory};
 
-use crate::rules::file::RulesFault;
 use crate::rules::verdict::Verdict;
 use arrayvec::ArrayString;
 use std::alloc::{AllocError, AllocFailed};
@@ -16,9 +15,12 @@ pub enum ServeFault {
     /// `Listen` its `CANNOT_LISTEN`: an attribute can cite no constant, and a test compares them.
     #[error("cannot read rules")]
     RulesFile,
-    /// The rules are bad; the text is the verdict on them.
+    /// The configuration can't be read.
+    #[error("cannot read config")]
+    ConfigFile,
+    /// The rules or the configuration are bad; the text is the verdict on them.
     #[error("{0}")]
-    BadRules(ArrayString<64>),
+    BadRules(Verdict),
     /// The rule of this name can't be listened for.
     #[error("cannot listen {0}")]
     Listen(ArrayString<16>),
@@ -37,15 +39,6 @@ pub enum ServeFault {
     /// Memory or a thread was refused.
     #[error("relay fault: memory")]
     Memory,
-}
-
-impl ServeFault {
-    /// The fault of bad rules, with the line of their verdict but for its line feed.
-    pub fn of_rules(fault: RulesFault) -> ServeFault {
-        let mut text = Verdict::Bad(fault).line();
-        let _ = text.pop();
-        ServeFault::BadRules(text)
-    }
 }
 
 impl From<AllocError> for ServeFault {

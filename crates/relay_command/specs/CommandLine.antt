@@ -17,29 +17,43 @@ use Rattle.relay_core.specs.PairLimit.{pair_count}
 use Rattle.relay_admin.specs.TextReading.{◌>>=◌}
 use Rattle.relay_admin.specs.rules.Addr.{Address, address_of}
 use Rattle.relay_admin.specs.rules.Reading.{address_at}
+use Rattle.relay_settings.specs.declared.asked.Source.{Source}
+use Rattle.relay_settings.specs.declared.asked.Source.TheVariants as source
 use Rattle.relay_command.specs.declared.job.Job.{Job}
 use Rattle.relay_command.specs.declared.job.Job.TheVariants as job
 
--- a job with its texts, how many loops and pairs a relay is asked for, where its metrics are, how
--- many milliseconds a target has, how many pairs a rule, and whether stale sockets give way
+-- the file that says the rules: a rules file or a configuration, by its path
+pub data Origin : Type 0 where
+  Rules : Text → Origin
+  Config : Text → Origin
+
+-- what a source of the program says
+abbrev pub origin_of : Source → Origin
+origin_of (source.Rules path) = Rules (string_bytes path)
+origin_of (source.Config path) = Config (string_bytes path)
+
+-- a job with its texts; of a relay, as far as words say it: where it is steered, how many loops and
+-- pairs it has, where its log and its metrics are, how many milliseconds a target has, how many pairs a
+-- rule, and whether stale sockets give way
 pub data Asked : Type 0 where
   Trace : Asked
-  Check : (rules : Text) → Asked
-  Serve : (rules admin : Text) → (loops pairs : Option ℕ) → (log : Option Text) →
-      (metrics : Option Address) → (connect_ms per_rule : Option ℕ) → (replaces_stale : Bool) → Asked
+  Check : Origin → Asked
+  Serve : Origin → (admin : Option Text) → (loops pairs : Option ℕ) → (log : Option Text) →
+      (metrics : Option Address) → (connect_ms : Option (Option ℕ)) → (per_rule : Option ℕ) →
+      (replaces_stale : Option Bool) → Asked
   Ctl : (admin line : Text) → Asked
   Help : Asked
   Version : Asked
 
 abbrev pub asked_of : Job → Asked
 asked_of job.Trace = Trace
-asked_of (job.Check rules) = Check (string_bytes rules)
-asked_of (job.Serve settings) =
-    Serve (string_bytes settings.rules) (string_bytes settings.admin)
-    (option_map (λ l. l.count) settings.loops) (option_map (λ p. p.count) settings.pairs)
-    (option_map string_bytes settings.log) (option_map address_of settings.metrics)
-    settings.safeguards.connect_ms (option_map (λ p. p.count) settings.safeguards.per_rule)
-    settings.safeguards.replaces_stale
+asked_of (job.Check file) = Check (origin_of file)
+asked_of (job.Serve asked) =
+    Serve (origin_of asked.source) (option_map string_bytes asked.words.admin)
+    (option_map (λ l. l.count) asked.words.loops) (option_map (λ p. p.count) asked.words.pairs)
+    (option_map string_bytes asked.words.log) (option_map address_of asked.words.metrics)
+    asked.words.connect_ms (option_map (λ p. p.count) asked.words.per_rule)
+    asked.words.replaces_stale
 asked_of (job.Ctl admin line) = Ctl (string_bytes admin) (string_bytes line)
 asked_of job.Help = Help
 asked_of job.Version = Version
@@ -58,13 +72,18 @@ abbrev pub flag_option : Text → Rule
 flag_option name = record (new_rule name) { long = Some name; action = Some SetTrue }
 
 abbrev pub check_app : App
-check_app = with_rule (new_app (codes "check")) (required_option (codes "rules"))
+check_app =
+    with_rule (with_rule (new_app (codes "check")) (optional_option (codes "rules")))
+    (optional_option (codes "config"))
 
--- `serve` with the options that have to be there
+-- `serve` with the options that say by which file, and where it is steered
 abbrev pub serve_needs : App
 serve_needs =
-    with_rule (with_rule (new_app (codes "serve")) (required_option (codes "rules")))
-    (required_option (codes "admin"))
+    with_rule
+    (with_rule
+    (with_rule (new_app (codes "serve")) (optional_option (codes "rules")))
+    (optional_option (codes "config")))
+    (optional_option (codes "admin"))
 
 -- the same with how large it is, and where it tells of itself
 abbrev pub serve_watched : App
@@ -153,10 +172,10 @@ connect_in text = do
   ms ← number_of text
   if nat_le ms 86400000 then Some (if nat_eq ms 0 then None else Some ms) else None
 
--- the same by an option, which may be left out: then it is 5,000
-abbrev pub connect_given : Option Text → Option (Option ℕ)
-connect_given None = Some (Some 5000)
-connect_given (Some text) = connect_in text
+-- the same by an option, which may be left out
+abbrev pub connect_given : Option Text → Option (Option (Option ℕ))
+connect_given None = Some None
+connect_given (Some text) = option_map Some (connect_in text)
 
 -- an option that stands alone is there
 abbrev pub is_set : Text → List Row → Bool
@@ -173,17 +192,47 @@ abbrev pub metrics_given : Option Text → Option (Option Address)
 metrics_given None = Some None
 metrics_given (Some text) = option_map Some (address_at text)
 
--- the job of `serve` with its options, or none
-abbrev pub served_job : List Row → Option Asked
-served_job rows = do
+-- the file that options ask for: one of both
+abbrev pub origin_given : Option Text → Option Text → Option Origin
+origin_given (Some rules) None = Some (Rules rules)
+origin_given None (Some config) = Some (Config config)
+origin_given _ _ = None
+
+-- the admin socket that an option asks for, which may be left out beside a configuration alone
+abbrev pub admin_given : Origin → Option Text → Option (Option Text)
+admin_given origin (Some path) = Some (Some path)
+admin_given (Config file) None = Some None
+admin_given (Rules file) None = None
+
+-- an option that stands alone says that it is so, or nothing
+abbrev pub true_if : Bool → Option Bool
+true_if true = Some true
+true_if false = None
+
+-- the job of `serve` by such a file, with its options, or none
+abbrev pub job_of_origin : Origin → List Row → Option Asked
+job_of_origin origin rows = do
+  admin ← admin_given origin (first_of (codes "admin") rows)
   loops ← loops_given (first_of (codes "loops") rows)
   pairs ← pairs_given (first_of (codes "connections") rows)
   log ← log_given (first_of (codes "log") rows)
   metrics ← metrics_given (first_of (codes "metrics") rows)
   connect_ms ← connect_given (first_of (codes "connect-timeout") rows)
   per_rule ← pairs_given (first_of (codes "connections-per-rule") rows)
-  Some (Serve (value_of (codes "rules") rows) (value_of (codes "admin") rows) loops pairs log metrics
-      connect_ms per_rule (is_set (codes "replace-stale") rows))
+  Some (Serve origin admin loops pairs log metrics connect_ms per_rule
+      (true_if (is_set (codes "replace-stale") rows)))
+
+-- the job of `serve` with its options, or none
+abbrev pub served_job : List Row → Option Asked
+served_job rows = do
+  origin ← origin_given (first_of (codes "rules") rows) (first_of (codes "config") rows)
+  job_of_origin origin rows
+
+-- the job of `check` with its options, or none
+abbrev pub checked_job : List Row → Option Asked
+checked_job rows = do
+  origin ← origin_given (first_of (codes "rules") rows) (first_of (codes "config") rows)
+  Some (Check origin)
 
 -- a word behind others, if there is one more
 abbrev pub spaced : Option Text → Text
@@ -199,7 +248,7 @@ line_in rows = value_of (codes "command") rows
 abbrev pub named_job : Text → List Row → Option Asked
 named_job name rows =
     if bytes_eq name (codes "trace") then Some Trace
-    else if bytes_eq name (codes "check") then Some (Check (value_of (codes "rules") rows))
+    else if bytes_eq name (codes "check") then checked_job rows
     else if bytes_eq name (codes "serve") then served_job rows
     else if bytes_eq name (codes "ctl") then Some (Ctl (value_of (codes "admin") rows) (line_in rows))
     else if bytes_eq name (codes "help") then Some Help

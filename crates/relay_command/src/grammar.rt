@@ -44,17 +44,20 @@ fn check<'a>(alloc: Global) -> Result<Command<'a>, OutOfMemory>
     ensures app { IfOk result (λ command. app_of command ≡ check_app) }
     ensures local { IfOk result (λ command. (out-Command command).has_globals ≡ false) }
 {
-    Command::new(alloc, "check").arg(option(alloc, "rules"))
+    Command::new(alloc, "check")
+        .arg(optional(alloc, "rules"))?
+        .arg(optional(alloc, "config"))
 }
 
-// `serve` with the options that have to be there.
+// `serve` with the options that say by which file, and where it is steered.
 fn serve_needs<'a>(alloc: Global) -> Result<Command<'a>, OutOfMemory>
     ensures app { IfOk result (λ command. app_of command ≡ serve_needs) }
     ensures local { IfOk result (λ command. (out-Command command).has_globals ≡ false) }
 {
     Command::new(alloc, "serve")
-        .arg(option(alloc, "rules"))?
-        .arg(option(alloc, "admin"))
+        .arg(optional(alloc, "rules"))?
+        .arg(optional(alloc, "config"))?
+        .arg(optional(alloc, "admin"))
 }
 
 // The same with how large it is, and where it tells of itself.

@@ -5,8 +5,9 @@ ghost use Rattle.std.specs.String.{string_bytes};
 ghost use Rattle.clap.specs.Walk.{first_of, rows_of};
 ghost use Rattle.clap.specs.Matches.{found_of};
 ghost use Rattle.clap.specs.Simple.{subcommand_rows_of};
-ghost use Rattle.relay_command.specs.CommandLine.{asked_of, found_job, is_set, job_asked, line_in};
-ghost use Rattle.relay_command.specs.CommandLine.{named_job, served_job, spaced, value_of};
+ghost use Rattle.relay_command.specs.CommandLine.{admin_given, asked_of, checked_job, found_job, is_set};
+ghost use Rattle.relay_command.specs.CommandLine.{job_asked, job_of_origin, line_in, named_job, origin_given};
+ghost use Rattle.relay_command.specs.CommandLine.{origin_of, served_job, spaced, true_if, value_of};
 ghost use Rattle.relay_command.specs.CommandLine as spec;
 
 use crate::grammar::command;
@@ -14,8 +15,7 @@ use crate::options::{connect_asked, log_asked, loops_asked, metrics_asked, pairs
 use base_types::OutOfMemory;
 use clap::ArgMatches;
 use clap::error::ErrorKind;
-use relay_facts::safeguards::Safeguards;
-use relay_facts::settings::Settings;
+use relay_settings::{Asked, Settings, Source};
 use std::alloc::Global;
 
 /// What the program is asked to do.
@@ -23,10 +23,10 @@ use std::alloc::Global;
 pub enum Job {
     /// Run a trace script on standard input and output.
     Trace,
-    /// Say whether the rules file at this path is good.
-    Check { rules: String },
-    /// Run the relay by these settings.
-    Serve(Settings),
+    /// Say whether this file is good.
+    Check(Source),
+    /// Run the relay that a start asks for so.
+    Serve(Asked),
     /// Ask the relay whose admin socket is at `admin` this line, which may be no admin command.
     Ctl { admin: String, line: String },
     /// Print what the program can be asked.
@@ -61,12 +61,52 @@ fn is_set(matches: &ArgMatches<'_>, id: &str) -> bool
     }
 }
 
-fn serve_job(alloc: Global, matches: &ArgMatches<'_>) -> Result<Option<Job>, OutOfMemory>
-    ensures { IfOk result (λ job. option_map asked_of job
-        ≡ served_job (rows_of (found_of matches.now))) }
+// The file that the options ask for: one of `--rules` and `--config`.
+fn source_asked(
+    alloc: Global,
+    rules: Option<&str>,
+    config: Option<&str>,
+) -> Result<Option<Source>, OutOfMemory>
+    ensures { IfOk result (λ source. option_map origin_of source
+        ≡ origin_given (option_map (λ text. text.now) rules.entry)
+        (option_map (λ text. text.now) config.entry)) }
 {
-    let rules = value(alloc, matches, "rules")?;
-    let admin = value(alloc, matches, "admin")?;
+    match (rules, config) {
+        (Some(path), None) => Ok(Some(Source::Rules(String::from_str(alloc, path)?))),
+        (None, Some(path)) => Ok(Some(Source::Config(String::from_str(alloc, path)?))),
+        _ => Ok(None),
+    }
+}
+
+// The path of the admin socket that an option asks for, if it is there; none where a rules file
+// stands alone, which can't name it.
+fn admin_asked(
+    alloc: Global,
+    source: &Source,
+    given: Option<&str>,
+) -> Result<Option<Option<String>>, OutOfMemory>
+    ensures { IfOk result (λ admin. option_map (option_map string_bytes) admin
+        ≡ admin_given (origin_of source.now) (option_map (λ text. text.now) given.entry)) }
+{
+    match (source, given) {
+        (_, Some(path)) => Ok(Some(Some(String::from_str(alloc, path)?))),
+        (Source::Config(_), None) => Ok(Some(None)),
+        (Source::Rules(_), None) => Ok(None),
+    }
+}
+
+// The job of `serve` by this file.
+fn serve_job_of(
+    alloc: Global,
+    source: Source,
+    matches: &ArgMatches<'_>,
+) -> Result<Option<Job>, OutOfMemory>
+    ensures { IfOk result (λ job. option_map asked_of job
+        ≡ job_of_origin (origin_of source) (rows_of (found_of matches.now))) }
+{
+    let Some(admin) = admin_asked(alloc, &source, given(matches, "admin"))? else {
+        return Ok(None);
+    };
     let Some(loops) = loops_asked(given(matches, "loops")) else {
         return Ok(None);
     };
@@ -85,20 +125,44 @@ fn serve_job(alloc: Global, matches: &ArgMatches<'_>) -> Result<Option<Job>, Out
     let Some(per_rule) = pairs_asked(given(matches, "connections-per-rule")) else {
         return Ok(None);
     };
-    let safeguards = Safeguards {
-        connect_ms,
-        per_rule,
-        replaces_stale: is_set(matches, "replace-stale"),
-    };
-    Ok(Some(Job::Serve(Settings {
-        rules,
+    let words = Settings {
         admin,
         loops,
         pairs,
-        safeguards,
+        per_rule,
+        connect_ms,
+        replaces_stale: true_if(is_set(matches, "replace-stale")),
         log,
         metrics,
-    })))
+    };
+    Ok(Some(Job::Serve(Asked { source, words })))
+}
+
+// What an option that stands alone says, where it is there.
+fn true_if(is_set: bool) -> Option<bool>
+    ensures { result ≡ true_if is_set }
+{
+    if is_set { Some(true) } else { None }
+}
+
+fn serve_job(alloc: Global, matches: &ArgMatches<'_>) -> Result<Option<Job>, OutOfMemory>
+    ensures { IfOk result (λ job. option_map asked_of job
+        ≡ served_job (rows_of (found_of matches.now))) }
+{
+    match source_asked(alloc, given(matches, "rules"), given(matches, "config"))? {
+        Some(source) => serve_job_of(alloc, source, matches),
+        None => Ok(None),
+    }
+}
+
+fn check_job(alloc: Global, matches: &ArgMatches<'_>) -> Result<Option<Job>, OutOfMemory>
+    ensures { IfOk result (λ job. option_map asked_of job
+        ≡ checked_job (rows_of (found_of matches.now))) }
+{
+    match source_asked(alloc, given(matches, "rules"), given(matches, "config"))? {
+        Some(source) => Ok(Some(Job::Check(source))),
+        None => Ok(None),
+    }
 }
 
 // A word behind those of a line, if there is one more.
@@ -133,10 +197,7 @@ fn job_named(
 {
     match name {
         "trace" => Ok(Some(Job::Trace)),
-        "check" => {
-            let rules = value(alloc, matches, "rules")?;
-            Ok(Some(Job::Check { rules }))
-        }
+        "check" => check_job(alloc, matches),
         "serve" => serve_job(alloc, matches),
         "ctl" => {
             let admin = value(alloc, matches, "admin")?;
@@ -171,9 +232,9 @@ fn options_of<'a>(words: &'a [&'a str]) -> &'a [&'a str]
 }
 
 /// The job that the words after the program's name ask for, and `None` where they ask for none.
-/// No word and the word `trace` ask for [`Job::Trace`]; `check` with `--rules` and `serve` with
-/// `--rules` and `--admin`, in any order, for the others. `serve` may have `--loops` too, with a
-/// number from 1 to 64 in digits without a zero ahead, `--connections`, with one from 1 to 50,000,
+/// No word and the word `trace` ask for [`Job::Trace`]; `check` with one of `--rules` and `--config`,
+/// and `serve` with one of them and `--admin`, in any order, for the others; with `--config`
+/// `--admin` may be left out. `serve` may have `--loops` too, with a number from 1 to 64 in digits without a zero ahead, `--connections`, with one from 1 to 50,000,
 /// `--log`, with the path of a file, `--metrics`, with an address as the rules file has it,
 /// `--connect-timeout`, with a number up to 86,400,000, `--connections-per-rule`, with one from 1 to
 /// 50,000, and `--replace-stale`, alone;

@@ -10,7 +10,7 @@ ghost use Rattle.relay_admin.specs.rules.Addr.{address_of};
 use base_types::OutOfMemory;
 use relay_admin::{Addr, addr_of};
 use relay_core::{Loops, PairLimit};
-use relay_facts::safeguards::{DEFAULT_CONNECT_MS, MAX_CONNECT_MS};
+use relay_settings::MAX_CONNECT_MS;
 use std::alloc::Global;
 use stream_base::decimal::parse_decimal;
 
@@ -75,12 +75,15 @@ fn connect_of(text: &str) -> Option<Option<u32>>
 }
 
 // How many milliseconds a target has by an option, if it is there; none where it asks for no time.
-pub(crate) fn connect_asked(given: Option<&str>) -> Option<Option<u32>>
+pub(crate) fn connect_asked(given: Option<&str>) -> Option<Option<Option<u32>>>
     ensures { result ≡ connect_given (option_map (λ text. text.now) given.entry) }
 {
     match given {
-        None => Some(Some(DEFAULT_CONNECT_MS)),
-        Some(text) => connect_of(text),
+        None => Some(None),
+        Some(text) => match connect_of(text) {
+            Some(time) => Some(Some(time)),
+            None => None,
+        },
     }
 }
 

@@ -1,12 +1,12 @@
 -- What the table of a configuration says, and what a text.
-use Rattle.std.specs.Prelude.{◌≡◌, ◌<◌, ◌≤◌, ℕ, List, [], ◌∷◌, length, Some, None, Result, Ok, Err, unwrap_or}
+use Rattle.std.specs.Prelude.{◌≡◌, ◌<◌, ◌≤◌, ℕ, List, [], ◌∷◌, length, Some, None, Result, Ok, Err}
 use Rattle.std.specs.Str.{IsUtf8}
 use Rattle.toml.specs.Data.{Members}
 use Rattle.toml.specs.Parse.{parse_document}
 use Rattle.relay_config.specs.Fault.{spot}
 use Rattle.relay_config.specs.Reading.{◌>>=◌, at_key, each_in, if_there, items_in, known_alone, number, spelled}
 use Rattle.relay_config.specs.Values.{time_or_never}
-use Rattle.relay_config.specs.declared.config.TheConstants.{DEFAULT_CONNECT_MS, DEFAULT_CONNECTIONS, MAX_BYTES, MAX_CONNECTIONS, MAX_RULES}
+use Rattle.relay_config.specs.declared.config.TheConstants.{MAX_BYTES, MAX_CONNECTIONS, MAX_RULES}
 use Rattle.relay_config.specs.declared.fault.Fault.{Fault}
 use Rattle.relay_config.specs.declared.fault.Fault.TheVariants as fault
 use Rattle.relay_config.specs.declared.fault.Key.{Key}
@@ -30,9 +30,9 @@ limits_in table = do
   each ← if_there (number 1 MAX_CONNECTIONS (spot place.Top key.ConnectionsPerRule)) (at_key key.ConnectionsPerRule table)
   timeout ← if_there (spelled time_or_never (spot place.Top key.ConnectTimeout)) (at_key key.ConnectTimeout table)
   Ok (record {
-    connections = unwrap_or connections DEFAULT_CONNECTIONS;
+    connections = connections;
     rule_connections = each;
-    connect_timeout = unwrap_or timeout (Some DEFAULT_CONNECT_MS);
+    connect_timeout = timeout;
   })
 
 -- the rules that a table says

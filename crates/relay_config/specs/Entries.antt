@@ -74,11 +74,11 @@ pub record RuleEntry : Type 0 where
   pub listen : List Address
   pub targets : List TargetEntry
 
--- the limits of a relay
+-- the limits of a relay, as far as the text says them
 pub record LimitsEntry : Type 0 where
-  pub connections : ℕ
+  pub connections : Option ℕ
   pub rule_connections : Option ℕ
-  pub connect_timeout : Option ℕ
+  pub connect_timeout : Option (Option ℕ)
 
 -- the socket of admin sessions
 pub record AdminEntry : Type 0 where
@@ -93,7 +93,7 @@ pub record LogEntry : Type 0 where
 -- how a relay runs
 pub record ServiceEntry : Type 0 where
   pub loops : Option ℕ
-  pub replaces_stale : Bool
+  pub replaces_stale : Option Bool
   pub metrics : Option Address
   pub admin : Option AdminEntry
 

@@ -1,5 +1,5 @@
 -- What the tables of admin sessions and of the log say, and how a relay runs.
-use Rattle.std.specs.Prelude.{false, List, [], ◌∷◌, None, Result, Ok, unwrap_or}
+use Rattle.std.specs.Prelude.{List, [], ◌∷◌, None, Result, Ok, unwrap_or}
 use Rattle.config_values.specs.Mode.{mode_at}
 use Rattle.toml.specs.Data.{Data, Members, as_table}
 use Rattle.relay_config.specs.Fault.{spot}
@@ -70,4 +70,4 @@ service_in table = do
   replaces ← if_there (flag (spot place.Top key.ReplaceStale)) (at_key key.ReplaceStale table)
   metrics ← if_there (spelled listener_at (spot place.Top key.Metrics)) (at_key key.Metrics table)
   admin ← if_there admin_at (at_key key.Admin table)
-  Ok (record { loops = loops; replaces_stale = unwrap_or replaces false; metrics = metrics; admin = admin })
+  Ok (record { loops = loops; replaces_stale = replaces; metrics = metrics; admin = admin })

@@ -28,21 +28,15 @@ pub const MAX_RULES: usize = 1_024;
 /// The most connections that may be asked for.
 pub const MAX_CONNECTIONS: u32 = 50_000;
 
-/// How many connections stand at once where the text doesn't say it.
-pub const DEFAULT_CONNECTIONS: u32 = 512;
-
-/// How long a connect may take where the text doesn't say it, in milliseconds.
-pub const DEFAULT_CONNECT_MS: u64 = 5_000;
-
-/// The limits of a relay.
+/// The limits of a relay, as far as the text says them: what is in force without it is its reader's.
 #[derive(Clone, Copy, Debug, PartialEq, Eq, Drop)]
 pub struct Limits {
     /// How many connections may stand at once: 1 to 50,000.
-    pub connections: u32,
-    /// How many of them may be those of one rule: 1 to 50,000; with `None` as many as there are.
+    pub connections: Option<u32>,
+    /// How many of them may be those of one rule: 1 to 50,000.
     pub rule_connections: Option<u32>,
-    /// How long a connect to a target may take, in milliseconds; with `None` for ever.
-    pub connect_ms: Option<u64>,
+    /// How long a connect to a target may take, in milliseconds; with `Some(None)` for ever.
+    pub connect_ms: Option<Option<u64>>,
 }
 
 /// A configuration.
@@ -155,9 +149,9 @@ fn limits_of(table: &Table) -> Result<Limits, Fault>
     )?;
     let connect = time_in(table, Place::Top, Key::ConnectTimeout)?;
     Ok(Limits {
-        connections: connections.unwrap_or(DEFAULT_CONNECTIONS),
+        connections,
         rule_connections: each,
-        connect_ms: connect.unwrap_or(Some(DEFAULT_CONNECT_MS)),
+        connect_ms: connect,
     })
 }
 

@@ -154,6 +154,8 @@ pub enum Wrong {
     TooMany,
     /// Another rule has its name, or a listener before it has its address.
     Twice,
+    /// The reader of the configuration doesn't carry it out. No text has this fault by itself.
+    Unserved,
 }
 
 /// The first fault of a text, or want of memory.

@@ -29,9 +29,7 @@ mod words;
 pub use access::Access;
 pub use admin::{Admin, MAX_ADMIN_BYTES};
 pub use clients::Clients;
-pub use config::{
-    Config, DEFAULT_CONNECT_MS, DEFAULT_CONNECTIONS, Limits, MAX_BYTES, MAX_CONNECTIONS, MAX_RULES,
-};
+pub use config::{Config, Limits, MAX_BYTES, MAX_CONNECTIONS, MAX_RULES};
 pub use fault::{Fault, Key, Place, Spot, Wrong};
 pub use health::{
     Checks, DEFAULT_EVERY_MS, DEFAULT_FALL, DEFAULT_RISE, DEFAULT_TIMEOUT_MS, MAX_IN_A_ROW,

@@ -56,9 +56,9 @@ fn unknown_line(
     match nearest(alloc, keys_of(place), word)? {
         Some(key) => {
             let key = key.word();
-            format!(in alloc; "bad config: {here}unknown key \"{shown}\"; \"{key}\" is meant?")
+            format!(in alloc; "bad config: {here}unknown key {shown:?}; \"{key}\" is meant?")
         }
-        None => format!(in alloc; "bad config: {here}unknown key \"{shown}\""),
+        None => format!(in alloc; "bad config: {here}unknown key {shown:?}"),
     }
 }
 
@@ -95,6 +95,7 @@ fn what_is_wrong(
         Wrong::Empty => String::from_str(alloc, "the list is empty"),
         Wrong::TooMany => too_many(alloc, spot.key),
         Wrong::Twice => twice(alloc, spot.key, value),
+        Wrong::Unserved => String::from_str(alloc, "this version doesn't serve it"),
     }
 }
 
@@ -147,7 +148,7 @@ fn rule_words(alloc: Global, table: &Table, rule: usize) -> Result<String, Alloc
     match name {
         Some(Value::String(name)) => {
             let name = cut(name.as_str());
-            format!(in alloc; "rule \"{name}\": ")
+            format!(in alloc; "rule {name:?}: ")
         }
         _ => {
             let number = rule.saturating_add(1);
@@ -170,12 +171,13 @@ fn spot_words(alloc: Global, table: &Table, spot: Spot) -> Result<String, AllocE
     }
 }
 
-/// A value as it is written, or what it is where that may be long.
+/// A value as it is written, or what it is where that may be long. A text is shown with escapes, as
+/// a line may have no line feed and no control character.
 fn shown(alloc: Global, value: Option<&Value>) -> Result<String, AllocError> {
     match value {
         Some(Value::String(text)) => {
             let text = cut(text.as_str());
-            format!(in alloc; "\"{text}\"")
+            format!(in alloc; "{text:?}")
         }
         Some(Value::Integer(number)) => format!(in alloc; "{number}"),
         Some(Value::Boolean(flag)) => format!(in alloc; "{flag}"),

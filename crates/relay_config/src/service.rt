@@ -21,8 +21,9 @@ pub const MAX_LOOPS: u32 = 64;
 pub struct Service {
     /// How many event loops copy: 1 to 64; with `None` by the processors of the machine.
     pub loops: Option<u32>,
-    /// A Unix socket at which no process listens is removed, and its path is bound anew.
-    pub replaces_stale: bool,
+    /// A Unix socket at which no process listens is removed, and its path is bound anew, if the text
+    /// says it.
+    pub replaces_stale: Option<bool>,
     /// Where requests for metrics are answered, which is no name; with `None` nowhere.
     pub metrics: Option<Addr>,
     /// Where admin sessions are served, if the text says it.
@@ -40,7 +41,7 @@ pub(crate) fn service_of(table: &Table) -> Result<Service, Fault>
     let admin = admin_in(table)?;
     Ok(Service {
         loops,
-        replaces_stale: replaces.unwrap_or(false),
+        replaces_stale: replaces,
         metrics,
         admin,
     })

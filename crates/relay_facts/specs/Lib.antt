@@ -7,3 +7,4 @@ pub mod LogLines
 pub mod RulesFile
 pub mod Safeguards
 pub mod Shown
+pub mod Source

@@ -1,28 +1,42 @@
 //! What a relay is asked to be.
 
-ghost use Rattle.std.specs.Prelude.{◌≡◌, ◌≤◌, IfSome, IfNone, IfOk, IfErr, is_some};
-ghost use Rattle.relay_facts.specs.Config.{AreServed};
+ghost use Rattle.std.specs.Prelude.{◌≡◌, IfOk, IfErr, is_some, true};
+ghost use Rattle.relay_admin.specs.ServeFault.{IsFileFault};
+ghost use Rattle.relay_facts.specs.Config.{AreServed, IsCapacity};
+ghost use Rattle.relay_facts.specs.Safeguards.{safeguards_of};
+ghost use Rattle.relay_facts.specs.Source.{SaysNoSettings};
+ghost use Rattle.relay_settings.specs.Settings.{AreInForce};
 ghost use Rattle.relay_admin.specs.declared.serve_fault.ServeFault.{ServeFault};
 
-use crate::rules_file::{rules_of, text_of};
 use crate::safeguards::Safeguards;
 use crate::served_rule::ServedRule;
-use crate::settings::Settings;
+use crate::source::said_by;
+use arrayvec::ArrayString;
 use log_writer::Log;
-use relay_admin::{Rule, ServeFault};
+use relay_admin::{Rule, ServeFault, Verdict};
 use relay_core::Capacity;
+use relay_settings::{Asked, Said, Settings, in_force};
 use std::alloc::Global;
 use std::fs::Files;
 use std::sync::Arc;
 use std::thread::Threads;
+
+/// How a relay was started, to which a reload compares what its file says then.
+#[derive(Drop)]
+pub struct Start {
+    pub asked: Asked,
+    /// The settings that its file said.
+    pub file: Settings,
+}
 
 /// What a relay is asked to be, in memory of its own.
 #[derive(Drop)]
 pub struct Config {
     /// None of them has a listener yet.
     pub rules: Vec<Arc<ServedRule>>,
-    /// Where their file is, which a reload reads again.
-    pub rules_path: String,
+    pub start: Start,
+    /// The settings in force.
+    pub settings: Settings,
     pub capacity: Capacity,
     pub safeguards: Safeguards,
     /// Where its lines go. Who wants them written starts the log's thread.
@@ -46,41 +60,90 @@ fn served_rules(
     Ok(all)
 }
 
+// The settings in force, which name an admin socket.
+#[tactic(auto, using(crate::proofs::FileFaults::of_memory, crate::proofs::FileFaults::of_bad))]
+fn settings_in_force(alloc: Global, asked: &Asked, file: &Settings) -> Result<Settings, ServeFault>
+    ensures in_force { IfOk result (AreInForce asked.now.words file.now) }
+    ensures admin { IfOk result (λ settings. is_some settings.admin ≡ true) }
+    ensures faults { IfErr result (λ fault. IsFileFault fault) }
+{
+    let Ok(settings) = in_force(alloc, &asked.words, file) else {
+        return Err(ServeFault::Memory);
+    };
+    if settings.admin.is_some() {
+        return Ok(settings);
+    }
+    Err(ServeFault::BadRules(no_admin()))
+}
+
+// The verdict on a configuration that names no admin socket, where no option does.
+fn no_admin() -> Verdict {
+    match ArrayString::from("admin is missing, and no --admin is given") {
+        Ok(why) => Verdict::BadConfig(why),
+        Err(_) => Verdict::BadConfig(ArrayString::new()),
+    }
+}
+
 impl Config {
-    /// By these settings, with the rules as their file says them now. The faults are `RulesFile`,
-    /// where the file can't be opened or read, `BadRules` and `Memory`.
+    /// As a start asks for, with what its file says now. The faults are `RulesFile` or `ConfigFile`,
+    /// where the file can't be opened or read, `BadRules`, also where nobody names an admin socket,
+    /// and `Memory`.
     pub fn read<R: Files + Threads>(
         rt: &R,
         alloc: Global,
-        settings: &Settings,
+        asked: Asked,
     ) -> Result<Config, ServeFault>
-        ensures loops { IfSome settings.now.loops (λ loops.
-            IfOk result (λ config. config.capacity.loops ≡ loops)) }
-        ensures pairs { IfSome settings.now.pairs (λ pairs.
-            IfOk result (λ config. config.capacity.pairs ≡ pairs)) }
-        ensures own_loops { IfNone settings.now.loops
-            (IfOk result (λ config. config.capacity.loops.count ≤ 8)) }
-        ensures own_pairs { IfNone settings.now.pairs
-            (IfOk result (λ config. config.capacity.pairs.count ≡ 512)) }
+        ensures asked { IfOk result (λ config. config.start.asked ≡ asked) }
+        ensures rules { IfOk result (λ config. SaysNoSettings asked.source config.start.file) }
+        ensures in_force { IfOk result (λ config.
+            AreInForce asked.words config.start.file config.settings) }
+        ensures admin { IfOk result (λ config. is_some config.settings.admin ≡ true) }
+        ensures capacity { IfOk result (λ config. IsCapacity config.settings config.capacity) }
         ensures safeguards { IfOk result (λ config.
-            config.safeguards ≡ settings.now.safeguards) }
-        ensures log { IfOk result (λ config. is_some config.log ≡ is_some settings.now.log) }
+            config.safeguards ≡ safeguards_of config.settings) }
+        ensures log { IfOk result (λ config. is_some config.log ≡ is_some config.settings.log) }
+        ensures faults { IfErr result (λ fault. IsFileFault fault) }
     {
-        let text = text_of(rt, alloc, settings.rules.as_str())?;
-        let rules = rules_of(text.as_slice())?;
-        let capacity = settings.capacity(rt);
-        let rules = served_rules(alloc, rules.as_slice(), capacity.loops.count)?;
-        let rules_path = String::from_str(alloc, settings.rules.as_str())?;
-        let log = match settings.log {
-            Some(_) => Some(Arc::new(alloc, Log::new(alloc))?),
-            None => None,
+        let Said { settings, rules } = said_by(rt, alloc, &asked.source)?;
+        let start = Start {
+            asked,
+            file: settings,
         };
-        Ok(Config {
-            rules,
-            rules_path,
-            capacity,
-            safeguards: settings.safeguards,
-            log,
-        })
+        config_of(rt, alloc, start, rules.as_slice())
     }
+}
+
+// That of a start whose file says these rules.
+#[tactic(auto, using(crate::proofs::FileFaults::of_memory))]
+fn config_of<R: Threads>(
+    rt: &R,
+    alloc: Global,
+    start: Start,
+    rules: &[Rule],
+) -> Result<Config, ServeFault>
+    ensures start { IfOk result (λ config. config.start ≡ start) }
+    ensures in_force { IfOk result (λ config.
+        AreInForce start.asked.words start.file config.settings) }
+    ensures admin { IfOk result (λ config. is_some config.settings.admin ≡ true) }
+    ensures capacity { IfOk result (λ config. IsCapacity config.settings config.capacity) }
+    ensures safeguards { IfOk result (λ config. config.safeguards ≡ safeguards_of config.settings) }
+    ensures log { IfOk result (λ config. is_some config.log ≡ is_some config.settings.log) }
+    ensures faults { IfErr result (λ fault. IsFileFault fault) }
+{
+    let settings = settings_in_force(alloc, &start.asked, &start.file)?;
+    let capacity = settings.capacity(rt);
+    let safeguards = Safeguards::of(&settings);
+    let rules = served_rules(alloc, rules, capacity.loops.count)?;
+    let log = match settings.log {
+        Some(_) => Some(Arc::new(alloc, Log::new(alloc))?),
+        None => None,
+    };
+    Ok(Config {
+        rules,
+        start,
+        settings,
+        capacity,
+        safeguards,
+        log,
+    })
 }

@@ -14,6 +14,6 @@ pub mod rule_figures;
 pub mod rules_file;
 pub mod safeguards;
 pub mod served_rule;
-pub mod settings;
 pub mod shown;
+pub mod source;
 pub mod totals;

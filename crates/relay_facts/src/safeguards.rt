@@ -1,17 +1,15 @@
 //! What keeps one target, one rule or a path that was left from harming the rest of a relay.
 
 ghost use Rattle.std.specs.Prelude.{◌≡◌, ◌↔◌, true};
-ghost use Rattle.relay_facts.specs.Safeguards.{IsAtRuleLimit};
+ghost use Rattle.relay_facts.specs.Safeguards.{IsAtRuleLimit, safeguards_of};
 
 use relay_core::PairLimit;
+use relay_settings::Settings;
 
 /// How many milliseconds a target has to be connected where nobody asks for another time. This
 /// project's own rule. The clauses that stand on it have the figures themselves, so that others are
 /// refused.
 pub const DEFAULT_CONNECT_MS: u32 = 5_000;
-
-/// The most that may be asked for: a day.
-pub const MAX_CONNECT_MS: u64 = 86_400_000;
 
 /// How long targets may keep connections waiting, how many of these a rule may have, and what
 /// becomes of sockets that were left at Unix paths.
@@ -26,6 +24,23 @@ pub struct Safeguards {
 }
 
 impl Safeguards {
+    /// Those of a relay with these settings.
+    pub fn of(settings: &Settings) -> Safeguards
+        ensures { result ≡ safeguards_of settings.now }
+    {
+        Safeguards {
+            connect_ms: match settings.connect_ms {
+                Some(connect_ms) => connect_ms,
+                None => Some(DEFAULT_CONNECT_MS),
+            },
+            per_rule: settings.per_rule,
+            replaces_stale: match settings.replaces_stale {
+                Some(replaces) => replaces,
+                None => false,
+            },
+        }
+    }
+
     /// Whether a rule of which so many connections stand has as many as it may.
     pub fn is_at_limit(&self, standing: u64) -> bool
         ensures { result ≡ true ↔ IsAtRuleLimit self.now.per_rule standing }

@@ -193,7 +193,7 @@ impl<'a, R: Wait + Clock + Copy> RelayDesk<'a, R> {
 
 impl<'a, R> SessionDesk for RelayDesk<'a, R>
 where
-    R: Wait + Net + Files + Clock + Copy,
+    R: Wait + Net + Files + Clock + Eprint + Copy,
 {
     // What other threads do to the index and the books in between isn't known.
     ghost exchanges = { λ _. None };

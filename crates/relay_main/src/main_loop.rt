@@ -118,7 +118,7 @@ fn all_again<T>(tasks: &mut EventLoop<T>, listening: &[Listening])
     }
 }
 
-impl<R: Wait + Net + Files + Clock + Copy> MainLoop<R> {
+impl<R: Wait + Net + Files + Clock + Eprint + Copy> MainLoop<R> {
     /// Listens for all rules, in their order; or for none, after a fault: the first rule's that can't
     /// be listened for, or `Device` or `Memory`.
     pub fn listen(&mut self) -> Result<(), ServeFault>

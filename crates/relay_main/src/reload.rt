@@ -19,9 +19,11 @@ use crate::ending::LastClients;
 use crate::main_loop::MainLoop;
 use crate::plan::{Plan, plan_of};
 use crate::rule_listeners::Listening;
-use relay_admin::{ReloadAnswer, Rule, Rules, ServeFault, Verdict};
-use relay_facts::rules_file::text_of;
+use relay_admin::{ReloadAnswer, Rule, ServeFault, Verdict};
+use relay_facts::config::Start;
 use relay_facts::served_rule::ServedRule;
+use relay_facts::source::said_by;
+use relay_settings::{SETTINGS, Settings, needs_restart, rule_count};
 use relay_shared::bound_path::BoundPaths;
 use std::fs::Files;
 use std::net::Net;
@@ -33,7 +35,8 @@ fn answer_of_fault(fault: ServeFault) -> ReloadAnswer
     ensures { result ≡ answer_of_fault fault }
 {
     match fault {
-        ServeFault::RulesFile => ReloadAnswer::CannotRead,
+        ServeFault::RulesFile | ServeFault::ConfigFile => ReloadAnswer::CannotRead,
+        ServeFault::BadRules(verdict) => ReloadAnswer::Verdict(verdict),
         ServeFault::Listen(name) => ReloadAnswer::CannotListen(name),
         ServeFault::Memory => ReloadAnswer::NoMemory,
         _ => ReloadAnswer::Device,
@@ -56,7 +59,18 @@ fn remove_paths_of<R: Files>(rt: &R, paths: &mut BoundPaths, accounts: &[Arc<Ser
     }
 }
 
-impl<R: Wait + Net + Files + Clock + Copy> MainLoop<R> {
+// Tells of the settings that the file says otherwise than at the start. Where that can't be written,
+// nobody is left to tell.
+fn tell_restarts<R: Eprint>(rt: &R, start: &Start, file: &Settings) {
+    for setting in &SETTINGS {
+        if needs_restart(&start.asked.words, &start.file, file, *setting) {
+            let key = setting.key();
+            let _ = eprintln!(rt; "reload: {key} has changed, and needs a restart");
+        }
+    }
+}
+
+impl<R: Wait + Net + Files + Clock + Eprint + Copy> MainLoop<R> {
     /// All accounts: of the rules in force, and of those that have gone and had connections still.
     pub(crate) fn accounts(&self, rt: &R) -> Result<Vec<Arc<ServedRule>>, ServeFault>
         ensures { IfErr result (λ fault. fault ≡ ServeFault.Memory) }
@@ -148,25 +162,24 @@ impl<R: Wait + Net + Files + Clock + Copy> MainLoop<R> {
         self.listening.retain(|one| tasks.task(one.token).is_some());
     }
 
-    /// Reads the rules file again, and serves its rules from now on. Where it can't be read, is bad,
-    /// or has a new address that can't be listened on, nothing changes; nor does it where the relay
-    /// finishes.
+    /// Reads the file again, and serves its rules from now on. Where it can't be read, is bad, or has
+    /// a new address that can't be listened on, nothing changes; nor does it where the relay finishes.
+    /// Settings stay as they are: standard error has a line for each that the file says otherwise.
     pub(crate) fn reload(&mut self, rt: &R, now: u64) -> ReloadAnswer
         ensures finishing { self.old.finish_at ≢ None → result ≡ ReloadAnswer.Finishing }
     {
         if self.finish_at.is_some() {
             return ReloadAnswer::Finishing;
         }
-        let text = match text_of(rt, self.alloc, self.host.shared.rules_path.as_str()) {
-            Ok(text) => text,
+        let said = match said_by(rt, self.alloc, &self.host.shared.start.asked.source) {
+            Ok(said) => said,
             Err(fault) => return answer_of_fault(fault),
         };
-        let rules = match Rules::parse(text.as_slice()) {
-            Ok(rules) => rules,
-            Err(fault) => return ReloadAnswer::Verdict(Verdict::Bad(fault)),
-        };
-        match self.serve_rules(rt, rules.as_slice(), now) {
-            Ok(()) => ReloadAnswer::Verdict(Verdict::Rules(rules.as_slice().len() as u32)),
+        match self.serve_rules(rt, said.rules.as_slice(), now) {
+            Ok(()) => {
+                tell_restarts(rt, &self.host.shared.start, &said.settings);
+                ReloadAnswer::Verdict(Verdict::Rules(rule_count(said.rules.as_slice())))
+            }
             Err(fault) => answer_of_fault(fault),
         }
     }

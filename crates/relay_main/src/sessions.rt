@@ -55,7 +55,7 @@ impl Seated {
     // Goes on for some lines. One that doesn't get on for too long has ended.
     fn go_on<R>(&mut self, main: &mut MainLoop<R>, place: usize) -> SessionStep
     where
-        R: Wait + Net + Files + Clock + Copy,
+        R: Wait + Net + Files + Clock + Eprint + Copy,
     {
         let mut step = self.session.pay();
         for _ in 0..LINES_A_TURN {
@@ -80,7 +80,7 @@ impl Seated {
     // Has the next line answered, and its reply written, unless its answer comes later.
     fn ask<R>(&mut self, main: &mut MainLoop<R>, place: usize) -> SessionStep
     where
-        R: Wait + Net + Files + Clock + Copy,
+        R: Wait + Net + Files + Clock + Eprint + Copy,
     {
         let alloc = main.alloc;
         let mut desk = RelayDesk::of(main, place);
@@ -159,7 +159,7 @@ impl Sessions {
     // A place for one session more: so those that say nothing keep nobody out.
     fn make_room<R>(&mut self, main: &mut MainLoop<R>) -> Option<usize>
     where
-        R: Wait + Net + Files + Clock + Copy,
+        R: Wait + Net + Files + Clock + Eprint + Copy,
         ensures free { IfSome result (λ place. slice_get self.new.places.items place ≡ Some None) }
         ensures none { IfNone result (NoneMayLeave self.old.places.items
             (length self.old.places.items)) }
@@ -178,7 +178,7 @@ impl Sessions {
     // Begins a session over a socket that was accepted, if there is a place, and memory.
     fn begin<R>(&mut self, main: &mut MainLoop<R>, sock: Sock) -> Option<()>
     where
-        R: Wait + Net + Files + Clock + Copy,
+        R: Wait + Net + Files + Clock + Eprint + Copy,
     {
         let place = self.make_room(main)?;
         let seated = main.seat(sock, place)?;
@@ -189,7 +189,7 @@ impl Sessions {
     // Begins what was accepted in the last turn. What finds no place is dropped, and counted.
     fn begin_all<R>(&mut self, main: &mut MainLoop<R>)
     where
-        R: Wait + Net + Files + Clock + Copy,
+        R: Wait + Net + Files + Clock + Eprint + Copy,
     {
         let mut came = mem::replace(&mut main.host.callers, Vec::new(main.alloc));
         for caller in came.drain(..) {
@@ -204,7 +204,7 @@ impl Sessions {
     // any other, where it was named.
     fn may_go_on<R>(&mut self, main: &MainLoop<R>, place: usize, is_named: bool) -> bool
     where
-        R: Wait + Net + Files + Clock + Copy,
+        R: Wait + Net + Files + Clock + Eprint + Copy,
         ensures named { IsFreeAt self.old.places.items place → result ≡ is_named }
         ensures nobody { IsNobodyAt self.old.places.items place → result ≡ false }
     {
@@ -232,7 +232,7 @@ impl Sessions {
     // Has the session at this place go on, and ends it where it has ended.
     fn go_on<R>(&mut self, main: &mut MainLoop<R>, place: usize)
     where
-        R: Wait + Net + Files + Clock + Copy,
+        R: Wait + Net + Files + Clock + Eprint + Copy,
     {
         let Some(Some(seated)) = self.places.get_mut(place) else {
             return;
@@ -252,7 +252,7 @@ impl Sessions {
     // Ends the session at this place, whose task has this token: nothing waits for it any more.
     fn end<R>(&mut self, main: &mut MainLoop<R>, place: usize, token: u64)
     where
-        R: Wait + Net + Files + Clock + Copy,
+        R: Wait + Net + Files + Clock + Eprint + Copy,
         ensures seat { self.new.places.items ≡ slice_set self.old.places.items place None }
         ensures task { task_in (tasks_of main.new.tasks) token ≡ None }
         ensures others { (other : ℕ) → place_in other ≢ place_in token →
@@ -269,7 +269,7 @@ impl Sessions {
     /// Begins the sessions that came, and has those go on that may.
     pub(crate) fn serve<R>(&mut self, main: &mut MainLoop<R>)
     where
-        R: Wait + Net + Files + Clock + Copy,
+        R: Wait + Net + Files + Clock + Eprint + Copy,
     {
         self.begin_all(main);
         let named = mem::replace(&mut main.host.named, [false; MAX_SESSIONS]);
@@ -281,7 +281,7 @@ impl Sessions {
     }
 }
 
-impl<R: Wait + Net + Files + Clock + Copy> MainLoop<R> {
+impl<R: Wait + Net + Files + Clock + Eprint + Copy> MainLoop<R> {
     // A session over this socket, with a task and an alarm of its own; none where that is refused,
     // and the socket is dropped.
     fn seat(&mut self, sock: Sock, place: usize) -> Option<Box<Seated>>

@@ -1,4 +1,4 @@
-//! The relay, from its rules file to its end, as a program has it: it accepts connections by rules,
+//! The relay, from its file to its end, as a program has it: it accepts connections by rules,
 //! connects each to its target, copies both ways, counts the bytes, and is steered through an admin
 //! socket.
 //!
@@ -30,8 +30,7 @@ mod threads;
 pub use given::Given;
 pub use log_source::{LogFiles, OpensLog};
 pub use relay_admin::ServeFault;
-pub use relay_facts::rules_file::text_of;
-pub use relay_facts::safeguards::Safeguards;
-pub use relay_facts::settings::Settings;
+pub use relay_facts::config::Config;
+pub use relay_facts::rules_file::{config_text_of, text_of};
 pub use relay_main::GivenListener;
 pub use serving::serve;

@@ -134,7 +134,7 @@ impl StartedOutlets {
     where
         L: Write + Drop + Send + 'static,
         O: OpensLog<Log = L> + Drop,
-        R: ServeRuntime + Files,
+        R: ServeRuntime + Files + Eprint,
         ensures faults { IfErr result IsLogFault }
     {
         if let (Some(path), Some(log)) = (path, server.log()?) {
@@ -147,7 +147,7 @@ impl StartedOutlets {
     }
 
     /// Serves a relay's metrics, where they are asked for.
-    pub(crate) fn serve_metrics<R: ServeRuntime + Files>(
+    pub(crate) fn serve_metrics<R: ServeRuntime + Files + Eprint>(
         &mut self,
         server: &Server<R>,
         metrics: &Option<Addr>,

@@ -47,6 +47,7 @@ where
         + Net<Listener = TcpListener, Stream = TcpStream>
         + Clock
         + Files
+        + Eprint
         + Copy
         + Send
         + Sync

@@ -1,4 +1,4 @@
-//! A relay from its rules file to its end.
+//! A relay from its sockets to its end.
 
 ghost use Rattle.std.specs.Prelude.{◌≡◌, ◌⊎◌, OnOk, IfErr};
 ghost use Rattle.relay_server.specs.Output.{SaysItListens, WritesBothLines};
@@ -12,14 +12,23 @@ use crate::output::{write_listening, write_totals};
 use crate::server::Server;
 use relay_admin::ServeFault;
 use relay_facts::config::Config;
-use relay_facts::settings::Settings;
+use relay_settings::Settings;
 use std::fs::Files;
 use std::io::Write;
+use std::mem;
 use std::net::{Net, TcpListener, TcpStream};
 use std::random::RandomSource;
 use std::sync::Wait;
 use std::thread::Threads;
 use std::time::Clock;
+
+// Where admin sessions are served. `Config::read` has refused settings that say it nowhere.
+fn admin_of(settings: &Settings) -> &str {
+    match &settings.admin {
+        Some(admin) => admin.as_str(),
+        None => "",
+    }
+}
 
 // Opens all, says that the relay listens, and turns until an admin session says stop, until it has
 // finished, or until something fails. The threads are started before, so that nothing which is
@@ -35,12 +44,12 @@ fn run<L, O, R, W: Write>(
 where
     L: Write + Drop + Send + 'static,
     O: OpensLog<Log = L> + Drop,
-    R: ServeRuntime + Files,
+    R: ServeRuntime + Files + Eprint,
     ensures said { OnOk result (SaysItListens (W.contents writer.old) (W.contents writer.new)) }
     ensures unwritten { IfErr result (λ fault. IsRunFault fault
         ⊎ (W.contents writer.new ≡ W.contents writer.old)) }
 {
-    server.open(settings.admin.as_str())?;
+    server.open(admin_of(settings))?;
     tell_unused(errors, server.unused());
     started.start_log(server, &settings.log, logs)?;
     started.serve_metrics(server, &settings.metrics)?;
@@ -49,18 +58,17 @@ where
     server.run()
 }
 
-/// Runs a relay by these settings until an admin session says stop, or finish and that is over. Its
+/// Runs such a relay until an admin session says stop, or finish and that is over. Its
 /// log, where it has one, is opened by `logs`. A rule, also one that a reload brings, and the admin
 /// socket take the listener that is given at their address, and leave its path. It writes
 /// `listening N` once all sockets are open, and at the end `up U down D`, the bytes copied to the
-/// targets and to the clients. A fault at the start is the first of: the rules file can't be read,
-/// its rules are bad, the poller, the listeners in the rules' order, the admin socket, the log, the
-/// metrics' address. Whatever comes, no thread, no socket and no path that it bound is left.
+/// targets and to the clients. A fault at the start is the first of: the
+/// poller, the listeners in the rules' order, the admin socket, the log, the metrics' address. Whatever comes, no thread, no socket and no path that it bound is left.
 // (its bounds are spelt out: a program that calls it over `ServeRuntime` isn't covered by the
 // prover)
 pub fn serve<L, O, R, W: Write>(
     rt: R,
-    settings: &Settings,
+    config: Config,
     given: Given<L>,
     logs: O,
     writer: &mut W,
@@ -73,6 +81,7 @@ where
         + Net<Listener = TcpListener, Stream = TcpStream>
         + Clock
         + Files
+        + Eprint
         + RandomSource
         + AllocGlobal
         + Copy
@@ -81,17 +90,18 @@ where
         + 'static,
     ensures written { OnOk result
         (WritesBothLines (W.contents writer.old) (W.contents writer.new)) }
-    // Where the rules or a socket are at fault, nothing was written.
+    // Where a socket is at fault, nothing was written.
     ensures unwritten { IfErr result (λ fault. IsRunFault fault
         ⊎ (W.contents writer.new ≡ W.contents writer.old)) }
 {
     let alloc = rt.alloc();
-    let config = Config::read(&rt, alloc, settings)?;
+    let mut config = config;
+    let settings = mem::replace(&mut config.settings, Settings::none());
     let server = Server::new(rt, alloc, config)?;
     let (mut server, mut started) = (server, StartedOutlets::none());
     let Given { listeners, errors } = given;
     server.give(listeners);
-    let ran = run(&mut server, &mut started, settings, errors, logs, writer);
+    let ran = run(&mut server, &mut started, &settings, errors, logs, writer);
     let ended = server.end();
     started.end(&rt);
     ran?;

@@ -22,7 +22,7 @@ use log_writer::Log;
 use readiness::{LoopRemote, Sock};
 use relay_admin::ServeFault;
 use relay_core::{MAX_LOOPS, PairLimit, place_of_pair};
-use relay_facts::config::Config;
+use relay_facts::config::{Config, Start};
 use relay_facts::connection_facts::Acceptance;
 use relay_facts::counts::Counter;
 use relay_facts::log_lines::tell_refused;
@@ -48,8 +48,8 @@ pub struct Shared {
     /// How many connections stand at once.
     pub limit: PairLimit,
     pub safeguards: Safeguards,
-    /// Where the rules file is.
-    pub rules_path: String,
+    /// How it was started, for a reload.
+    pub start: Start,
     /// The answers that sessions wait for.
     pub slots: Mutex<Slots>,
     /// Whether the main thread is to be told of each connection that ends, since it waits for the
@@ -72,12 +72,13 @@ pub fn shared_of(
 ) -> Result<Arc<Shared>, ServeFault>
     ensures safeguards { IfOk result (λ shared. (arc_value shared).safeguards ≡ config.safeguards) }
     ensures limit { IfOk result (λ shared. (arc_value shared).limit ≡ config.capacity.pairs) }
-    ensures rules_path { IfOk result (λ shared. (arc_value shared).rules_path ≡ config.rules_path) }
+    ensures start { IfOk result (λ shared. (arc_value shared).start ≡ config.start) }
     ensures faults { IfErr result (λ fault. fault ≡ ServeFault.Memory) }
 {
     let Config {
         rules,
-        rules_path,
+        start,
+        settings: _,
         capacity,
         safeguards,
         log,
@@ -85,7 +86,7 @@ pub fn shared_of(
     let shared = Shared {
         index: Mutex::new(Index::new(alloc)),
         rules: Mutex::new(rules),
-        rules_path,
+        start,
         slots: Mutex::new(Slots::none(alloc)?),
         is_finishing: AtomicBool::new(false),
         main,

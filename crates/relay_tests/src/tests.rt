@@ -26,7 +26,7 @@ macro_rules! started {
         let $crate::tests::Outlets { log, metrics } = outlets;
         let asked = $crate::tests::settings(rt.alloc(), rules, socket, $loops, &log, metrics);
         let settings = asked.expect(&rt, "settings");
-        let run = move || $crate::tests::served(rt, &settings, log);
+        let run = move || $crate::tests::served(rt, settings, log);
         let thread = std::thread::spawn(&rt, run).expect(&rt, "thread");
         $crate::tests::Running { thread, admin }
     }};
@@ -46,7 +46,8 @@ mod watch;
 
 use relay_admin::Addr;
 use relay_core::Loops;
-use relay_server::{Given, Safeguards, ServeFault, Settings, serve};
+use relay_server::{Config, Given, ServeFault, serve};
+use relay_settings::{Asked, Settings, Source};
 use std::alloc::Global;
 use std::fs::{File, Files};
 use std::io::Write;
@@ -94,14 +95,6 @@ fn no_outlets() -> Outlets {
     }
 }
 
-/// Targets have as long as the system takes, a rule as many connections as all, and no path gives
-/// way.
-const NO_SAFEGUARDS: Safeguards = Safeguards {
-    connect_ms: None,
-    per_rule: None,
-    replaces_stale: false,
-};
-
 /// What a relay is asked to be: by these files, of so many loops, with this log and figures at this
 /// address.
 fn settings(
@@ -111,31 +104,36 @@ fn settings(
     loops: u64,
     log: &Option<File>,
     metrics: Option<Addr>,
-) -> Option<Settings> {
+) -> Option<Asked> {
     let path = match log {
         // (no file has that path: the log is open)
         Some(_) => Some(String::from_str(alloc, "log").ok()?),
         None => None,
     };
-    Some(Settings {
-        rules,
-        admin,
+    let words = Settings {
+        admin: Some(admin),
         loops: Loops::of(loops),
         pairs: None,
-        safeguards: NO_SAFEGUARDS,
+        per_rule: None,
+        // (targets have as long as the system takes)
+        connect_ms: Some(None),
+        replaces_stale: None,
         log: path,
         metrics,
-    })
+    };
+    let source = Source::Rules(rules);
+    Some(Asked { source, words })
 }
 
 /// A relay from its start to its end, by these settings, with this log.
-fn served<R>(rt: R, settings: &Settings, log: Option<File>) -> Said
+fn served<R>(rt: R, asked: Asked, log: Option<File>) -> Said
 where
     R: Wait
         + Threads
         + Net<Listener = TcpListener, Stream = TcpStream>
         + Clock
         + Files
+        + Eprint
         + RandomSource
         + Abort
         + AllocGlobal
@@ -145,7 +143,10 @@ where
         + 'static,
 {
     let mut text = Vec::new(rt.alloc());
-    let done = serve(rt, settings, Given::none(rt.alloc()), log, &mut text);
+    let done = match Config::read(&rt, rt.alloc(), asked) {
+        Ok(config) => serve(rt, config, Given::none(rt.alloc()), log, &mut text),
+        Err(fault) => Err(fault),
+    };
     Said { done, text }
 }
 

@@ -16,7 +16,7 @@ MAIN = "crates/pollrelay/src/main.rt"
 # What `serve` checks, in the guide's words, and the call of the code that checks it.
 SERVING = "crates/relay_server/src/serving.rt"
 CHECKS = {
-    "rules file": "Config::read(", "poller": "Server::new(", "admin socket": "server.open(", "log": ".start_log(", "address for metrics": ".serve_metrics(",
+    "rules file or configuration": "Config::read(", "poller": "Server::new(", "admin socket": "server.open(", "log": ".start_log(", "address for metrics": ".serve_metrics(",
 }
 
 
@@ -67,9 +67,9 @@ def check(tree, told):
 def check_order(tree, told):
     """The guide says in which order `serve` checks what it is given, as the code does."""
     said = re.search(r"`serve` checks in this order: (.*?)\.", tree.text(GUIDE))
-    found = functions(tree.text(SERVING))
-    # (what `serve` does ahead of its call of `run`, and then what that does)
-    code = found.get("serve", "").split(" = run(")[0] + found.get("run", "")
+    found, main = functions(tree.text(SERVING)), functions(tree.text(MAIN))
+    # (what the program does ahead of its call of `serve`, what that does ahead of its call of `run`, and then what that does)
+    code = main.get("run_relay", "").split(" serve(")[0] + found.get("serve", "").split(" = run(")[0] + found.get("run", "")
     if told.reads(all(it in code for it in CHECKS.values()), SERVING, __file__):
         wanted = sorted(CHECKS, key=lambda it: code.index(CHECKS[it]))
         given = [it for it in said[1].split(", ") if it in CHECKS] if said else []

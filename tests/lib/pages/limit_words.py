@@ -19,7 +19,7 @@ SAID = (
     (rf"\b{N} event loops\b", "MAX_LOOPS"),
     (rf"processors, at most {N}\b", "MOST_BY_DEFAULT"),
     (rf"to a target, 0 for no end \({N}\)", "DEFAULT_CONNECT_MS"),
-    (rf"a time to connect above {N}", "MAX_CONNECT_MS"),
+    (rf"a time to connect above {N}", "config_values::DAY_MS"),
     (rf"of (?:a|each) rule at once, 1 to {N}", "MAX_PAIRS"),
     (rf"[Aa] read takes up to {N} bytes", "LOOP_BUFFER_BYTES"),
     (rf"read of the other side and not yet written, at most {N} bytes", "LOOP_BUFFER_BYTES"),

@@ -15,7 +15,7 @@ FILES = {
     "MAX_LOOPS": "crates/relay_core/src/loops.rt",
     "MOST_BY_DEFAULT": "crates/relay_core/src/loops.rt",
     "DEFAULT_CONNECT_MS": "crates/relay_facts/src/safeguards.rt",
-    "MAX_CONNECT_MS": "crates/relay_facts/src/safeguards.rt",
+    "config_values::DAY_MS": "crates/config_values/src/time.rt",
     "LOOP_BUFFER_BYTES": "crates/relay_core/src/buffers.rt",
     "MAX_RULES": "crates/relay_admin/src/rules/file.rt",
     "MAX_BYTES": "crates/relay_admin/src/rules/file.rt",
@@ -64,7 +64,7 @@ ROWS = (
 CELLS = {
     "--admin PATH": {"Range": ("MAX_PATH_BYTES",)}, "--loops LOOPS": {"Default": ("MOST_BY_DEFAULT",), "Range": ("MAX_LOOPS",)},
     "--connections CONNECTIONS": {"Default": ("DEFAULT_PAIRS",), "Range": ("MAX_PAIRS",)}, "--connections-per-rule N": {"Range": ("MAX_PAIRS",)},
-    "--connect-timeout MS": {"Default": ("DEFAULT_CONNECT_MS",), "Range": ("MAX_CONNECT_MS",)}, "NAME": {"Form": ("MAX_NAME_BYTES",)},
+    "--connect-timeout MS": {"Default": ("DEFAULT_CONNECT_MS",), "Range": ("config_values::DAY_MS",)}, "NAME": {"Form": ("MAX_NAME_BYTES",)},
     "LISTEN": {"Form": ("MAX_PATH_BYTES",)}, "IDLE": {"Form": ("DAY_MS",)},
 }
 NEEDED = "crates/relay_command/src/descriptors.rt"

@@ -2,14 +2,13 @@
 
 use relay_command::{Job, job_of};
 use relay_core::PairLimit;
-use relay_facts::safeguards::Safeguards;
 use std::alloc::{AllocError, Global};
 use std::prelude::HostRuntime;
 use std::test::Fail;
 
-/// What a row asks for: milliseconds of a target, connections of a rule, and whether stale sockets
-/// give way; or nothing, where it is refused.
-type Asked = Option<(Option<u32>, Option<u64>, bool)>;
+/// What a row says: milliseconds of a target, connections of a rule, and whether stale sockets give
+/// way; or nothing, where it is refused.
+type Asked = Option<(Option<Option<u32>>, Option<u64>, Option<bool>)>;
 
 const SERVE: [&str; 5] = ["serve", "--rules", "F", "--admin", "A"];
 
@@ -28,13 +27,13 @@ fn job_with(alloc: Global, words: &[&str]) -> Result<Option<Job>, AllocError> {
 /// What a job asks for.
 fn asked_of(job: &Option<Job>) -> Asked {
     match job {
-        Some(Job::Serve(settings)) => {
-            let Safeguards {
-                connect_ms,
-                per_rule,
-                replaces_stale,
-            } = settings.safeguards;
-            Some((connect_ms, count_of(per_rule), replaces_stale))
+        Some(Job::Serve(asked)) => {
+            let words = &asked.words;
+            Some((
+                words.connect_ms,
+                count_of(words.per_rule),
+                words.replaces_stale,
+            ))
         }
         _ => None,
     }
@@ -47,26 +46,29 @@ fn count_of(limit: Option<PairLimit>) -> Option<u64> {
     }
 }
 
-/// By default a target has five seconds, a rule has no limit, and no path gives way.
-const BY_DEFAULT: Asked = Some((Some(5_000), None, false));
+/// Without an option nothing is said.
+const BY_DEFAULT: Asked = Some((None, None, None));
 
 #[test]
 fn serve_takes_its_safeguards_and_no_others(rt: HostRuntime) -> Result<(), Fail> {
     let rows: [(&[&str], Asked); 18] = [
         (&[], BY_DEFAULT),
-        (&["--connect-timeout", "1"], Some((Some(1), None, false))),
-        (&["--connect-timeout=0"], Some((None, None, false))),
+        (
+            &["--connect-timeout", "1"],
+            Some((Some(Some(1)), None, None)),
+        ),
+        (&["--connect-timeout=0"], Some((Some(None), None, None))),
         (
             &["--connect-timeout=86400000"],
-            Some((Some(86_400_000), None, false)),
+            Some((Some(Some(86_400_000)), None, None)),
         ),
         (
             &["--connections-per-rule", "1"],
-            Some((Some(5_000), Some(1), false)),
+            Some((None, Some(1), None)),
         ),
         (
             &["--replace-stale", "--connections-per-rule=50000"],
-            Some((Some(5_000), Some(50_000), true)),
+            Some((None, Some(50_000), Some(true))),
         ),
         (&["--connect-timeout"], None),
         (&["--connect-timeout="], None),

@@ -3,18 +3,10 @@
 use relay_admin::{Addr, addr_of};
 use relay_command::{Job, job_of};
 use relay_core::{Loops, PairLimit};
-use relay_facts::safeguards::Safeguards;
-use relay_facts::settings::Settings;
+use relay_settings::{Asked, Settings, Source};
 use std::alloc::{AllocError, Global};
 use std::prelude::HostRuntime;
 use std::test::Fail;
-
-/// What `serve` is asked for without an option.
-const BY_DEFAULT: Safeguards = Safeguards {
-    connect_ms: Some(5_000),
-    per_rule: None,
-    replaces_stale: false,
-};
 
 /// Whether these words ask for this job, or for none.
 fn is_job(alloc: Global, words: &[&str], job: &Option<Job>) -> bool {
@@ -24,9 +16,23 @@ fn is_job(alloc: Global, words: &[&str], job: &Option<Job>) -> bool {
     }
 }
 
+fn rules_file(alloc: Global, path: &str) -> Option<Source> {
+    Some(Source::Rules(String::from_str(alloc, path).ok()?))
+}
+
+fn config_file(alloc: Global, path: &str) -> Option<Source> {
+    Some(Source::Config(String::from_str(alloc, path).ok()?))
+}
+
 fn checked(alloc: Global, rules: &str) -> Option<Job> {
-    let rules = String::from_str(alloc, rules).ok()?;
-    Some(Job::Check { rules })
+    Some(Job::Check(rules_file(alloc, rules)?))
+}
+
+/// What words say that say only where admin sessions are served.
+fn steered_at(admin: Option<String>) -> Settings {
+    let mut words = Settings::none();
+    words.admin = admin;
+    words
 }
 
 fn served(
@@ -36,34 +42,23 @@ fn served(
     loops: Option<Loops>,
     pairs: Option<PairLimit>,
 ) -> Option<Job> {
-    let rules = String::from_str(alloc, rules).ok()?;
-    let admin = String::from_str(alloc, admin).ok()?;
-    Some(Job::Serve(Settings {
-        rules,
-        admin,
-        loops,
-        pairs,
-        safeguards: BY_DEFAULT,
-        log: None,
-        metrics: None,
-    }))
+    let source = rules_file(alloc, rules)?;
+    let mut words = steered_at(Some(String::from_str(alloc, admin).ok()?));
+    words.loops = loops;
+    words.pairs = pairs;
+    Some(Job::Serve(Asked { source, words }))
 }
 
 /// The job of `serve --rules F --admin A` with these two options.
 fn served_with(alloc: Global, log: Option<&str>, metrics: Option<Addr>) -> Option<Job> {
-    let log = match log {
+    let source = rules_file(alloc, "F")?;
+    let mut words = steered_at(Some(String::from_str(alloc, "A").ok()?));
+    words.log = match log {
         Some(path) => Some(String::from_str(alloc, path).ok()?),
         None => None,
     };
-    Some(Job::Serve(Settings {
-        rules: String::from_str(alloc, "F").ok()?,
-        admin: String::from_str(alloc, "A").ok()?,
-        loops: None,
-        pairs: None,
-        safeguards: BY_DEFAULT,
-        log,
-        metrics,
-    }))
+    words.metrics = metrics;
+    Some(Job::Serve(Asked { source, words }))
 }
 
 const SERVE: [&str; 5] = ["serve", "--rules", "F", "--admin", "A"];
@@ -318,4 +313,66 @@ fn serve_takes_no_other_log_or_address(rt: HostRuntime) -> Result<(), Fail> {
         assert!(&rt; is_job(rt.alloc(), &words, &None), "{words:?}");
     }
     Ok(())
+}
+
+fn checked_config(alloc: Global, path: &str) -> Option<Job> {
+    Some(Job::Check(config_file(alloc, path)?))
+}
+
+/// The job of `serve --config F`, with an admin socket or without.
+fn served_by_config(alloc: Global, admin: Option<&str>, loops: Option<Loops>) -> Option<Job> {
+    let source = config_file(alloc, "F")?;
+    let admin = match admin {
+        Some(path) => Some(String::from_str(alloc, path).ok()?),
+        None => None,
+    };
+    let mut words = steered_at(admin);
+    words.loops = loops;
+    Some(Job::Serve(Asked { source, words }))
+}
+
+#[test]
+fn a_configuration_stands_in_place_of_a_rules_file(rt: HostRuntime) {
+    let alloc = rt.alloc();
+    let check = checked_config(alloc, "F");
+    let serve = served_by_config(alloc, None, None);
+    let steered = served_by_config(alloc, Some("/a b"), Loops::of(3));
+    let rows: [(&[&str], &Option<Job>); 6] = [
+        (&["check", "--config", "F"], &check),
+        (&["check", "--config=F", "--"], &check),
+        (&["serve", "--config", "F"], &serve),
+        (&["serve", "--config=F", "--"], &serve),
+        (
+            &["serve", "--config", "F", "--admin", "/a b", "--loops=3"],
+            &steered,
+        ),
+        (
+            &["serve", "--loops", "3", "--admin=/a b", "--config", "F"],
+            &steered,
+        ),
+    ];
+    for (words, job) in rows {
+        let is_taken = job.is_some() && is_job(alloc, words, job);
+        assert!(&rt; is_taken, "{words:?}");
+    }
+}
+
+#[test]
+fn of_a_rules_file_and_a_configuration_one_is_given(rt: HostRuntime) {
+    let refused: [&[&str]; 11] = [
+        &["serve"],
+        &["serve", "--admin", "A", "--loops", "3"],
+        &["serve", "--rules", "F", "--config", "F"],
+        &["serve", "--rules", "F", "--config", "F", "--admin", "A"],
+        &["serve", "--config", "F", "--config", "F"],
+        &["serve", "--config"],
+        &["serve", "--config", "F", "G"],
+        &["serve", "--config", "F", "--loops=0"],
+        &["check", "--rules", "F", "--config", "F"],
+        &["check", "--config", "F", "--admin", "A"],
+        &["check", "--config", "-F"],
+    ];
+    for words in refused {
+        assert!(&rt; is_job(rt.alloc(), words, &None), "{words:?}");
+    }
 }

@@ -96,9 +96,9 @@ fn has_limits(alloc: Global, text: &str, limits: &Limits, rules: usize) -> bool 
 fn a_configuration_is_read_as_it_says(rt: HostRuntime) {
     let alloc = rt.alloc();
     let limits = Limits {
-        connections: 4_000,
+        connections: Some(4_000),
         rule_connections: Some(500),
-        connect_ms: Some(2_000),
+        connect_ms: Some(Some(2_000)),
     };
     assert!(rt; has_limits(alloc, GOOD, &limits, 2));
     let rules = match Config::parse(alloc, GOOD.as_bytes()) {
@@ -109,18 +109,18 @@ fn a_configuration_is_read_as_it_says(rt: HostRuntime) {
 }
 
 #[test]
-fn what_isnt_said_is_as_without_a_configuration(rt: HostRuntime) {
+fn what_isnt_said_is_left_to_who_reads_it(rt: HostRuntime) {
     let limits = Limits {
-        connections: 512,
+        connections: None,
         rule_connections: None,
-        connect_ms: Some(5_000),
+        connect_ms: None,
     };
     assert!(rt; has_limits(rt.alloc(), "", &limits, 0));
     assert!(rt; has_limits(rt.alloc(), "rule = []\n", &limits, 0));
     let never = Limits {
-        connections: 50_000,
+        connections: Some(50_000),
         rule_connections: None,
-        connect_ms: None,
+        connect_ms: Some(None),
     };
     let text = "connections = 50000\nconnect_timeout = \"never\"\n";
     assert!(rt; has_limits(rt.alloc(), text, &never, 0));
@@ -128,7 +128,13 @@ fn what_isnt_said_is_as_without_a_configuration(rt: HostRuntime) {
 
 /// Whether a text's relay runs on so many loops, and has its old sockets removed and its metrics
 /// answered like this, or memory was refused.
-fn runs(alloc: Global, text: &str, loops: Option<u32>, removes: bool, metrics: &[u8]) -> bool {
+fn runs(
+    alloc: Global,
+    text: &str,
+    loops: Option<u32>,
+    removes: Option<bool>,
+    metrics: &[u8],
+) -> bool {
     let service = Service {
         loops,
         replaces_stale: removes,
@@ -144,10 +150,18 @@ fn runs(alloc: Global, text: &str, loops: Option<u32>, removes: bool, metrics: &
 #[test]
 fn a_relay_runs_as_its_configuration_says(rt: HostRuntime) {
     let alloc = rt.alloc();
-    assert!(rt; runs(alloc, GOOD, Some(2), true, b"tcp:127.0.0.1:9464"));
-    assert!(rt; runs(alloc, "", None, false, b""));
+    assert!(rt; runs(alloc, GOOD, Some(2), Some(true), b"tcp:127.0.0.1:9464"));
+    assert!(rt; runs(alloc, "", None, None, b""));
     let text = "loops = 64\nreplace_stale = false\nmetrics = \"unix:/run/metrics.sock\"\n";
-    assert!(rt; runs(alloc, text, Some(64), false, b"unix:/run/metrics.sock"));
+    assert!(rt;
+        runs(
+            alloc,
+            text,
+            Some(64),
+            Some(false),
+            b"unix:/run/metrics.sock"
+        )
+    );
 }
 
 /// Whether a relay serves admin sessions at this path, made with this mode.

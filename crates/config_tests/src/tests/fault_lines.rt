@@ -1,6 +1,6 @@
 //! What is said of texts that are no configurations.
 
-use relay_config::{Config, Fault, fault_line};
+use relay_config::{Config, Fault, Key, Place, Spot, Wrong, fault_line};
 use std::alloc::Global;
 
 const ROWS: &[(&str, &str)] = &[
@@ -200,6 +200,11 @@ const ROWS: &[(&str, &str)] = &[
         "[[rule]]\nname = \"web\"\nlisten = [\"unix:/a\"]\ntarget = [{ at = \"unix:/b\" }]\n[[rule]]\nname = \"web\"\n",
         "bad config: rule \"web\": name: \"web\" is the name of a rule before it",
     ),
+    (
+        "log = { file = \"-\", format = \"a\\nb\\u001b\\\"\" }\n",
+        "bad config: log: format: \"a\\nb\\u{1b}\\\"\" is none of \"text\", \"json\"",
+    ),
+    ("\"a\\nb\" = 1\n", "bad config: unknown key \"a\\nb\""),
 ];
 
 /// Whether a text's fault has this line, or memory was refused.
@@ -221,4 +226,14 @@ fn a_fault_names_the_rule_the_key_the_value_and_what_is_wanted(rt: HostRuntime) 
     for (text, want) in ROWS {
         assert!(rt; says(rt.alloc(), text, want), "{want}");
     }
+}
+
+#[test]
+fn a_key_that_the_reader_doesnt_carry_out_is_named_like_others(rt: HostRuntime) {
+    let text =
+        "[[rule]]\nname = \"web\"\nhealth = {}\nlisten = [\"unix:/a\"]\ntarget = [{ at = \"unix:/b\" }]\n";
+    let fault = Fault::At(Spot::of(Place::Rule(0), Key::Health), Wrong::Unserved);
+    let line = fault_line(rt.alloc(), text.as_bytes(), fault);
+    let want = "bad config: rule \"web\": health: this version doesn't serve it";
+    assert!(rt; matches!(line, Ok(line) if line.as_str() == want));
 }

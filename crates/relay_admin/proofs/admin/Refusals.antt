@@ -4,7 +4,7 @@ use Rattle.relay_admin.specs.admin.Refusal.{reply_refuses, refuses}
 use Rattle.relay_admin.specs.admin.Reply.{Answer, reply_text}
 use Rattle.relay_admin.specs.admin.Reply as answers
 use Rattle.relay_admin.specs.admin.Shown.{who_text}
-use Rattle.relay_admin.specs.declared.rules.verdict.Verdict.TheVariants.{Rules, Bad}
+use Rattle.relay_admin.specs.declared.rules.verdict.Verdict.TheVariants.{Rules, Bad, BadConfig}
 use Rattle.relay_admin.specs.declared.rules.file.RulesFault.TheVariants as faults
 
 pub replies_tell : (answer : Answer) → reply_refuses (reply_text answer) ≡ refuses answer
@@ -24,6 +24,7 @@ replies_tell (answers.verdict (Bad (faults.BadLine line))) = refl
 replies_tell (answers.verdict (Bad (faults.TooMany line))) = refl
 replies_tell (answers.verdict (Bad (faults.SameName line))) = refl
 replies_tell (answers.verdict (Bad (faults.SameListen line))) = refl
+replies_tell (answers.verdict (BadConfig why)) = refl
 replies_tell answers.cannot_read = refl
 replies_tell (answers.cannot_listen name) = refl
 replies_tell answers.device = refl

@@ -6,7 +6,7 @@ use Rattle.relay_admin.specs.declared.admin.command.Command.TheVariants as comma
 use Rattle.relay_admin.specs.declared.admin.reply_text.TheConstants.{OUT_OF_MEMORY, SHOWN_ALL}
 use Rattle.relay_admin.specs.admin.Reply.{Answer, bad_command, reply_text}
 use Rattle.relay_admin.specs.admin.Reply as answers
-use Rattle.relay_admin.specs.declared.rules.verdict.Verdict.TheVariants.{Rules, Bad}
+use Rattle.relay_admin.specs.declared.rules.verdict.Verdict.TheVariants.{Rules, Bad, BadConfig}
 
 abbrev pub begins_with : List ℕ → List ℕ → Bool
 begins_with word text = starts_with ◌==◌ text word
@@ -14,7 +14,8 @@ begins_with word text = starts_with ◌==◌ text word
 -- the reply begins with a word of those that refuse
 abbrev pub reply_refuses : List ℕ → Bool
 reply_refuses reply = begins_with (codes "error ") reply
-    || (begins_with (codes "bad rules") reply || begins_with (codes "cannot ") reply)
+    || (begins_with (codes "bad rules") reply
+    || (begins_with (codes "bad config") reply || begins_with (codes "cannot ") reply))
 
 abbrev pub ends_by : List ℕ → List ℕ → Bool
 ends_by line text = ends_with ◌==◌ text line
@@ -36,6 +37,7 @@ refuses answers.fine = false
 refuses (answers.shown particulars) = false
 refuses (answers.verdict (Rules count)) = false
 refuses (answers.verdict (Bad fault)) = true
+refuses (answers.verdict (BadConfig why)) = true
 refuses answers.unknown = true
 refuses answers.closed = true
 refuses answers.draining = true

@@ -8,12 +8,13 @@ use crate::admin::command::Command;
 use crate::admin::reply_text::{OUT_OF_MEMORY, SHOWN_ALL};
 
 /// Whether a reply is a refusal: it begins with `error `, or, as one to `reload` may, with
-/// `bad rules` or `cannot `.
+/// `bad rules`, `bad config` or `cannot `.
 pub fn reply_refuses(reply: &[u8]) -> bool
     ensures { result ≡ refusal.reply_refuses reply.now }
 {
     reply.starts_with(b"error ".as_slice())
         || reply.starts_with(b"bad rules".as_slice())
+        || reply.starts_with(b"bad config".as_slice())
         || reply.starts_with(b"cannot ".as_slice())
 }
 

@@ -86,7 +86,7 @@ pub(crate) fn reply_to<A: Allocator + Copy>(alloc: A, answer: &DeskAnswer) -> Re
         DeskAnswer::Busy => Reply::Fixed(BUSY),
         DeskAnswer::NoMemory => Reply::Fixed(OUT_OF_MEMORY),
         DeskAnswer::Shown(_) => made_or_refused(reply_in(alloc, answer)),
-        DeskAnswer::Verdict(verdict) => Reply::Held(verdict.line()),
+        DeskAnswer::Verdict(verdict) => Reply::Piece(verdict.line()),
         DeskAnswer::CannotRead => Reply::Fixed(CANNOT_READ),
         DeskAnswer::CannotListen(name) => Reply::Held(cannot_listen_line(name)),
         DeskAnswer::Device => Reply::Fixed(DEVICE),

@@ -4,7 +4,7 @@ use super::live_threads::live_threads;
 use super::places::place_to;
 use super::settings;
 use super::watch::Watch;
-use relay_server::{Given, ServeFault, Settings, serve};
+use relay_server::{Config, Given, ServeFault, serve};
 use std::fs::{File, Files};
 use std::io;
 use std::io::{ErrorKind, Write};
@@ -35,14 +35,16 @@ impl Write for Broken {
     }
 }
 
-/// A relay whose first line can't be written, from its start to its end.
-fn breaks<R>(rt: R, settings: &Settings) -> Result<(), ServeFault>
+/// A relay by these rules and with this admin socket, whose first line can't be written, from its
+/// start to its end.
+fn breaks<R>(rt: R, rules: &str, admin: &str) -> Result<(), ServeFault>
 where
     R: Wait
         + Threads
         + Net<Listener = TcpListener, Stream = TcpStream>
         + Clock
         + Files
+        + Eprint
         + RandomSource
         + Abort
         + AllocGlobal
@@ -51,8 +53,15 @@ where
         + Sync
         + 'static,
 {
+    let alloc = rt.alloc();
+    let rules = String::from_str(alloc, rules)?;
+    let admin = String::from_str(alloc, admin)?;
+    let Some(asked) = settings(alloc, rules, admin, 1, &None, None) else {
+        return Err(ServeFault::Memory);
+    };
+    let config = Config::read(&rt, alloc, asked)?;
     let log: Option<File> = None;
-    serve(rt, settings, Given::none(rt.alloc()), log, &mut Broken)
+    serve(rt, config, Given::none(alloc), log, &mut Broken)
 }
 
 #[test]
@@ -60,13 +69,11 @@ fn a_relay_that_breaks_as_it_starts_ends_all_its_threads_at_once(rt: HostRuntime
     let watch = Watch::start(rt, rt.alloc());
     let (place, _port) = place_to(&rt, 9, "never").expect(&rt, "a place");
     let (rules, _, admin) = place.parts();
-    let asked = settings(rt.alloc(), rules, admin, 1, &None, None);
-    let settings = asked.expect(&rt, "settings");
     let before = live_threads(&rt);
     holds!(rt; before.is_some());
     let began = Instant::now(&rt).expect(&rt, "clock");
     for _ in 0..RELAYS {
-        holds!(rt; breaks(rt, &settings) == Err(ServeFault::Device));
+        holds!(rt; breaks(rt, rules.as_str(), admin.as_str()) == Err(ServeFault::Device));
         holds!(rt; live_threads(&rt) == before, "a thread goes on");
     }
     let took = began.elapsed(&rt).expect(&rt, "clock");

@@ -1,0 +1,70 @@
+//! What the file of a relay says, whichever form it has.
+
+ghost use Rattle.std.specs.Prelude.{◌≡◌, IfOk, IfErr};
+ghost use Rattle.relay_admin.specs.ServeFault.{IsFileFault};
+ghost use Rattle.relay_facts.specs.Source.{SaysNoSettings};
+ghost use Rattle.relay_settings.specs.Settings.{SaysNothing};
+ghost use Rattle.relay_admin.specs.declared.serve_fault.ServeFault.{ServeFault};
+
+use crate::rules_file::{config_text_of, rules_of, text_of};
+use relay_admin::{Rule, Rules, ServeFault};
+use relay_settings::{Said, Settings, Source, bad_config, read_config};
+use std::alloc::Global;
+use std::fs::Files;
+
+// The rules in memory of their own.
+fn rules_in(alloc: Global, rules: &Rules) -> Result<Vec<Rule>, ServeFault>
+    ensures faults { IfErr result (λ fault. fault ≡ ServeFault.Memory) }
+{
+    match Vec::from_slice(alloc, rules.as_slice()) {
+        Ok(rules) => Ok(rules),
+        Err(_) => Err(ServeFault::Memory),
+    }
+}
+
+// What a rules file says: no settings.
+#[tactic(auto, using(crate::proofs::FileFaults::of_memory))]
+fn said_by_rules(alloc: Global, text: &[u8]) -> Result<Said, ServeFault>
+    ensures settings { IfOk result (λ said. SaysNothing said.settings) }
+    ensures faults { IfErr result (λ fault. IsFileFault fault) }
+{
+    let rules = rules_of(text)?;
+    let rules = rules_in(alloc, &rules)?;
+    Ok(Said {
+        settings: Settings::none(),
+        rules,
+    })
+}
+
+// What a configuration says.
+#[tactic(auto, using(crate::proofs::FileFaults::of_memory, crate::proofs::FileFaults::of_bad))]
+fn said_by_config(alloc: Global, text: &[u8]) -> Result<Said, ServeFault>
+    ensures faults { IfErr result (λ fault. IsFileFault fault) }
+{
+    match read_config(alloc, text) {
+        Ok(said) => Ok(said),
+        Err(fault) => match bad_config(alloc, text, fault) {
+            Ok(verdict) => Err(ServeFault::BadRules(verdict)),
+            Err(_) => Err(ServeFault::Memory),
+        },
+    }
+}
+
+/// What the file says now. The faults are `RulesFile` or `ConfigFile`, where it can't be opened or
+/// read, `BadRules` with the verdict on it, and `Memory`.
+#[tactic(auto, using(crate::proofs::FileFaults::of_read, crate::proofs::FileFaults::of_config_read))]
+pub fn said_by<R: Files>(rt: &R, alloc: Global, source: &Source) -> Result<Said, ServeFault>
+    ensures rules { IfOk result (λ said. SaysNoSettings source.now said.settings) }
+    ensures faults { IfErr result (λ fault. IsFileFault fault) }
+{
+    match source {
+        Source::Rules(path) => {
+            let text = text_of(rt, alloc, path.as_str())?;
+            said_by_rules(alloc, text.as_slice())
+        }
+        Source::Config(path) => {
+            let text = config_text_of(rt, alloc, path.as_str())?;
+            said_by_config(alloc, text.as_slice())
+        }
+    }
+}

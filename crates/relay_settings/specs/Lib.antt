@@ -1,0 +1,4 @@
+pub mod Meaning
+pub mod Settings
+pub mod Telling
+pub mod Verdict

@@ -1,0 +1,245 @@
+-- What a configuration means to a relay: its settings and its rules, or the first place that isn't
+-- carried out.
+use Rattle.std.specs.Prelude.{◌≡◌, ◌==◌, ◌<◌, ◌⊎◌, ℕ, Bool, true, false, ◌&&◌, List, [], ◌∷◌, ◌++◌, length, map}
+use Rattle.std.specs.Prelude.{nat_le, slice_index, Option, Some, None, is_none, option_map, Result, Ok, Err, if◌then◌else◌, not}
+use Rattle.std.specs.String.{string_bytes}
+use Rattle.config_values.specs.Addr as config
+use Rattle.relay_admin.specs.rules.Addr.{Address, address_of, tcp, unix}
+use Rattle.relay_admin.specs.rules.Grammar.{Entry, entries_of}
+use Rattle.relay_admin.specs.declared.rules.rule.TheConstants as admin
+use Rattle.relay_config.specs.Config.{SaysConfig, SaysFault}
+use Rattle.relay_config.specs.Entries.{AccessEntry, AdminEntry, ClientsEntry, ConfigEntry, HeadEntry, LimitsEntry, LogEntry}
+use Rattle.relay_config.specs.Entries.{RuleEntry, ServiceEntry, SocketsEntry, TargetEntry}
+use Rattle.relay_config.specs.Fault.{item_spot, spot}
+use Rattle.relay_config.specs.Reading.{◌>>=◌, or_fault}
+use Rattle.relay_config.specs.declared.fault.Fault.{Fault}
+use Rattle.relay_config.specs.declared.fault.Fault.TheVariants.{At}
+use Rattle.relay_config.specs.declared.fault.Key.{Key}
+use Rattle.relay_config.specs.declared.fault.Key.TheVariants as key
+use Rattle.relay_config.specs.declared.fault.Place.{Place}
+use Rattle.relay_config.specs.declared.fault.Place.TheVariants as place
+use Rattle.relay_config.specs.declared.fault.Spot.{Spot}
+use Rattle.relay_config.specs.declared.fault.Wrong.TheVariants as wrong
+use Rattle.relay_config.specs.declared.log.Format.{Format}
+use Rattle.relay_config.specs.declared.log.Format.TheVariants as format
+use Rattle.relay_config.specs.declared.rule.TheConstants.{DEFAULT_RESOLVE_MS}
+use Rattle.relay_core.specs.Loops.{loop_count}
+use Rattle.relay_core.specs.PairLimit.{pair_count}
+use Rattle.relay_settings.specs.declared.said.Said.{Said}
+use Rattle.relay_settings.specs.declared.settings.Settings.{Settings}
+
+-- ---- What isn't carried out
+
+-- the fault of what isn't carried out
+abbrev pub unserved : Spot → Fault
+unserved at = At at wrong.Unserved
+
+-- the value, where the relay can have it
+abbrev pub served : {A : Type 0} → Spot → Option A → Result A Fault
+served at value = or_fault (unserved at) value
+
+-- the place is carried out, or it isn't
+abbrev pub served_if : Spot → Bool → Result (Unit {0}) Fault
+served_if at true = Ok tt
+served_if at false = Err (unserved at)
+
+-- what is made of what is said, if anything is
+abbrev pub if_said : {A B : Type 0} → (A → Result B Fault) → Option A → Result (Option B) Fault
+if_said means None = Ok None
+if_said means (Some said) = means said >>= λ y. Ok (Some y)
+
+-- an address that a relay has: one of IPv4, or a path of at most 100 bytes
+abbrev pub relay_address : config.Address → Option Address
+relay_address (config.v4 ip port) =
+    Some (tcp (slice_index ip 0) (slice_index ip 1) (slice_index ip 2) (slice_index ip 3) port)
+relay_address (config.unix path) = if nat_le (length path) 100 then Some (unix path) else None
+relay_address other = None
+
+-- milliseconds from 1 to those of a day
+abbrev pub relay_time : ℕ → Option ℕ
+relay_time ms = if nat_le 1 ms && nat_le ms 86400000 then Some ms else None
+
+-- ---- The keys of the whole
+
+-- how a relay runs, as far as it is said
+pub record SettingsEntry : Type 0 where
+  pub admin : Option (List ℕ)
+  pub loops : Option ℕ
+  pub pairs : Option ℕ
+  pub per_rule : Option ℕ
+  pub connect : Option (Option ℕ)
+  pub replaces_stale : Option Bool
+  pub log : Option (List ℕ)
+  pub metrics : Option Address
+
+-- what settings of the program say
+abbrev pub settings_entry : Settings → SettingsEntry
+settings_entry settings = record {
+  admin = option_map string_bytes settings.admin;
+  loops = option_map (λ l. l.count) settings.loops;
+  pairs = option_map (λ p. p.count) settings.pairs;
+  per_rule = option_map (λ p. p.count) settings.per_rule;
+  connect = settings.connect_ms;
+  replaces_stale = settings.replaces_stale;
+  log = option_map string_bytes settings.log;
+  metrics = option_map address_of settings.metrics;
+}
+
+-- connections that may stand at once, at a key of the whole
+abbrev pub pairs_at : Key → ℕ → Result ℕ Fault
+pairs_at here count = served (spot place.Top here) (pair_count count)
+
+-- loops
+abbrev pub loops_at : ℕ → Result ℕ Fault
+loops_at count = served (spot place.Top key.Loops) (loop_count count)
+
+-- a time at a place, which never comes where none is said
+abbrev pub time_in : Spot → Option ℕ → Result (Option ℕ) Fault
+time_in at time = if_said (λ ms. served at (relay_time ms)) time
+
+-- where metrics are served
+abbrev pub metrics_at : config.Address → Result Address Fault
+metrics_at address = served (spot place.Top key.Metrics) (relay_address address)
+
+-- where admin sessions are served, at a socket with the rights that the umask leaves
+abbrev pub admin_at : AdminEntry → Result (List ℕ) Fault
+admin_at admin = served_if (spot place.Admin key.Mode) (is_none admin.mode) >>= λ it. Ok admin.path
+
+-- lines of text
+abbrev pub is_text : Format → Bool
+is_text format.Text = true
+is_text other = false
+
+-- where the log is, in lines of text
+abbrev pub log_at : LogEntry → Result (List ℕ) Fault
+log_at log = served_if (spot place.Log key.Format) (is_text log.format) >>= λ it. Ok log.file
+
+-- the settings that the keys of the whole say
+unfoldable pub settings_in : ConfigEntry → Result SettingsEntry Fault
+settings_in config = do
+  pairs ← if_said (pairs_at key.Connections) config.limits.connections
+  per_rule ← if_said (pairs_at key.ConnectionsPerRule) config.limits.rule_connections
+  connect ← if_said (time_in (spot place.Top key.ConnectTimeout)) config.limits.connect_timeout
+  loops ← if_said loops_at config.service.loops
+  metrics ← if_said metrics_at config.service.metrics
+  admin ← if_said admin_at config.service.admin
+  log ← if_said log_at config.log
+  Ok (record {
+    admin = admin;
+    loops = loops;
+    pairs = pairs;
+    per_rule = per_rule;
+    connect = connect;
+    replaces_stale = config.service.replaces_stale;
+    log = log;
+    metrics = metrics;
+  })
+
+-- ---- A rule
+
+-- names are looked up as often as without the key: no target has one
+abbrev pub is_default_resolve : Option ℕ → Bool
+is_default_resolve (Some ms) = ms == DEFAULT_RESOLVE_MS
+is_default_resolve None = false
+
+-- how many clients a rule serves: as many as any
+unfoldable pub clients_alone : Place → ClientsEntry → Result (Unit {0}) Fault
+clients_alone here clients = do
+  all ← served_if (spot here key.Connections) (is_none clients.connections)
+  each ← served_if (spot here key.ConnectionsPerSource) (is_none clients.source_connections)
+  served_if (spot here key.AcceptsPerSource) (is_none clients.source_accepts)
+
+-- how sockets are set up: as without a word of it
+unfoldable pub sockets_alone : Place → SocketsEntry → Result (Unit {0}) Fault
+sockets_alone here sockets = do
+  alive ← served_if (spot here key.Keepalive) (is_none sockets.keepalive)
+  lost ← served_if (spot here key.UserTimeout) (is_none sockets.user_timeout)
+  waiting ← served_if (spot here key.Backlog) (is_none sockets.backlog)
+  served_if (spot here key.Source) (is_none sockets.source)
+
+-- what a rule says beside its lists, its name and its idle time; how a target is picked is as it may
+unfoldable pub head_alone : Place → HeadEntry → Result (Unit {0}) Fault
+head_alone here head = do
+  names ← served_if (spot here key.Resolve) (is_default_resolve head.resolve)
+  clients ← clients_alone here head.clients
+  sockets ← sockets_alone here head.sockets
+  served_if (spot here key.Health) (is_none head.health)
+
+-- all clients are let in, and none says by a header who it is
+unfoldable pub access_alone : Place → RuleEntry → Result (Unit {0}) Fault
+access_alone here rule = do
+  allow ← served_if (spot here key.Allow) (length rule.access.allow == 0)
+  deny ← served_if (spot here key.Deny) (length rule.access.deny == 0)
+  served_if (spot here key.ProxyProtocol) (is_none rule.proxy)
+
+-- the one listener of a rule
+unfoldable pub listen_in : ℕ → List config.Address → Result Address Fault
+listen_in rule [] = Err (unserved (spot (place.Rule rule) key.Listen))
+listen_in rule (first ∷ others) = do
+  address ← served (item_spot (place.Rule rule) key.Listen 0) (relay_address first)
+  alone ← served_if (item_spot (place.Rule rule) key.Listen 1) (length others == 0)
+  Ok address
+
+-- a target that gets clients, as many as any other
+unfoldable pub target_in : Place → TargetEntry → Result Address Fault
+target_in here target = do
+  address ← served (spot here key.At) (relay_address target.at)
+  weight ← served_if (spot here key.Weight) (target.weight == 1)
+  backup ← served_if (spot here key.Backup) (not target.backup)
+  Ok address
+
+-- the one target of a rule
+unfoldable pub targets_in : ℕ → List TargetEntry → Result Address Fault
+targets_in rule [] = Err (unserved (spot (place.Rule rule) key.Target))
+targets_in rule (first ∷ others) = do
+  address ← target_in (place.Target rule 0) first
+  alone ← served_if (item_spot (place.Rule rule) key.Target 1) (length others == 0)
+  Ok address
+
+-- the rule with this number
+unfoldable pub rule_in : ℕ → RuleEntry → Result Entry Fault
+rule_in n rule = do
+  idle ← time_in (spot (place.Rule n) key.Idle) rule.head.idle
+  head ← head_alone (place.Rule n) rule.head
+  access ← access_alone (place.Rule n) rule
+  listen ← listen_in n rule.listen
+  target ← targets_in n rule.targets
+  Ok (record { name = rule.head.name; listen = listen; target = target; idle = idle })
+
+-- the rule behind these, of which there are at most 64 in all
+unfoldable pub rule_behind : List Entry → RuleEntry → Result Entry Fault
+rule_behind found rule = do
+  few ← served_if (item_spot place.Top key.Rule (length found)) (nat_le (length found) 63)
+  rule_in (length found) rule
+
+-- these, and those behind them
+abbrev pub rules_in : List Entry → List RuleEntry → Result (List Entry) Fault
+rules_in found [] = Ok found
+rules_in found (rule ∷ rules) = rule_behind found rule >>= λ entry. rules_in (found ++ entry ∷ []) rules
+
+-- ---- The whole
+
+-- what a configuration or a rules file says
+pub record SaidEntry : Type 0 where
+  pub settings : SettingsEntry
+  pub rules : List Entry
+
+-- what a value of the program says
+abbrev pub said_entry : Said → SaidEntry
+said_entry said = record { settings = settings_entry said.settings; rules = entries_of said.rules.items }
+
+-- what a configuration says, key by key
+unfoldable pub said_in : ConfigEntry → Result SaidEntry Fault
+said_in config = do
+  settings ← settings_in config
+  rules ← rules_in [] config.rules
+  Ok (record { settings = settings; rules = rules })
+
+-- the text is a configuration that is carried out, and says this
+abbrev pub SaysAll : List ℕ → SaidEntry → Type 0
+SaysAll text said = (config : ConfigEntry) × SaysConfig text config × (said_in config ≡ Ok said)
+
+-- the text's first fault: it is no configuration, or says what isn't carried out
+abbrev pub IsFirstFault : List ℕ → Fault → Type 0
+IsFirstFault text fault =
+    SaysFault text fault ⊎ ((config : ConfigEntry) × SaysConfig text config × (said_in config ≡ Err fault))

@@ -1,0 +1,42 @@
+-- Which settings an operator is told of.
+use Rattle.std.specs.Prelude.{◌≡◌, ◌==◌, Bool, true, false, ◌&&◌, ◌||◌, not, Option, Some, None, is_some, option_map, codes, ℕ, List}
+use Rattle.std.specs.Str.{bytes_eq}
+use Rattle.std.specs.String.{string_bytes}
+use Rattle.relay_admin.specs.rules.Addr.{Address, address_of, same_address}
+use Rattle.relay_settings.specs.declared.settings.Settings.{Settings}
+use Rattle.relay_settings.specs.declared.telling.Setting.{Setting}
+use Rattle.relay_settings.specs.declared.telling.Setting.TheVariants as setting
+
+-- the settings say this one
+abbrev pub says : Settings → Setting → Bool
+says settings setting.Admin = is_some settings.admin
+says settings setting.Loops = is_some settings.loops
+says settings setting.Connections = is_some settings.pairs
+says settings setting.ConnectionsPerRule = is_some settings.per_rule
+says settings setting.ConnectTimeout = is_some settings.connect_ms
+says settings setting.ReplaceStale = is_some settings.replaces_stale
+says settings setting.Log = is_some settings.log
+says settings setting.Metrics = is_some settings.metrics
+
+-- both are said and are one, or neither is said
+abbrev pub same_said : {A : Type 0} → (A → A → Bool) → Option A → Option A → Bool
+same_said same (Some one) (Some other) = same one other
+same_said same None None = true
+same_said same _ _ = false
+
+-- both are true, or neither is
+abbrev pub same_truth : Bool → Bool → Bool
+same_truth true other = other
+same_truth false other = not other
+
+-- both settings say the same here
+abbrev pub say_same : Setting → Settings → Settings → Bool
+say_same setting.Admin one other = same_said bytes_eq (option_map string_bytes one.admin) (option_map string_bytes other.admin)
+say_same setting.Loops one other = same_said (λ a b. a.count == b.count) one.loops other.loops
+say_same setting.Connections one other = same_said (λ a b. a.count == b.count) one.pairs other.pairs
+say_same setting.ConnectionsPerRule one other = same_said (λ a b. a.count == b.count) one.per_rule other.per_rule
+say_same setting.ConnectTimeout one other = same_said (same_said (λ a b. a == b)) one.connect_ms other.connect_ms
+say_same setting.ReplaceStale one other = same_said same_truth one.replaces_stale other.replaces_stale
+say_same setting.Log one other = same_said bytes_eq (option_map string_bytes one.log) (option_map string_bytes other.log)
+say_same setting.Metrics one other =
+    same_said same_address (option_map address_of one.metrics) (option_map address_of other.metrics)

@@ -1,0 +1,19 @@
+//! What a relay is asked to be: by the words of its command line, by a configuration, and by both.
+//! What a configuration says and this version doesn't carry out is a fault, in one written order.
+#![tactic(auto)]
+
+mod address;
+mod asked;
+mod check;
+mod keys;
+mod rules;
+mod said;
+mod served;
+mod settings;
+mod telling;
+
+pub use asked::{Asked, Source};
+pub use check::{bad_config, check_config, rule_count};
+pub use said::{MAX_CONFIG_BYTES, Said, read_config};
+pub use settings::{MAX_CONNECT_MS, Settings, in_force};
+pub use telling::{SETTINGS, Setting, needs_restart, wins_over_file};

@@ -1,0 +1,186 @@
+//! Which settings an operator is told of: those that are said twice, and those that a reload finds
+//! changed.
+
+ghost use Rattle.std.specs.Prelude.{◌≡◌, ◌==◌, ◌&&◌, not, option_map};
+ghost use Rattle.std.specs.Str.{bytes_eq};
+ghost use Rattle.std.specs.String.{string_bytes};
+ghost use Rattle.relay_admin.specs.rules.Addr.{address_of, same_address};
+ghost use Rattle.relay_settings.specs.Telling.{same_said, same_truth, say_same, says};
+
+use crate::settings::Settings;
+use relay_admin::{Addr, is_same_addr};
+use relay_config::Key;
+use relay_core::{Loops, PairLimit};
+
+/// A setting that has an option of the command line and a key of the configuration.
+#[derive(Clone, Copy, Debug, PartialEq, Eq, Drop)]
+pub enum Setting {
+    Admin,
+    Loops,
+    Connections,
+    ConnectionsPerRule,
+    ConnectTimeout,
+    ReplaceStale,
+    Log,
+    Metrics,
+}
+
+/// All of them, in the order in which they are told.
+pub const SETTINGS: [Setting; 8] = [
+    Setting::Connections,
+    Setting::ConnectionsPerRule,
+    Setting::ConnectTimeout,
+    Setting::Loops,
+    Setting::ReplaceStale,
+    Setting::Metrics,
+    Setting::Admin,
+    Setting::Log,
+];
+
+impl Setting {
+    /// The option of the command line, without its dashes.
+    pub fn option(self) -> &'static str {
+        match self {
+            Setting::Admin => "admin",
+            Setting::Loops => "loops",
+            Setting::Connections => "connections",
+            Setting::ConnectionsPerRule => "connections-per-rule",
+            Setting::ConnectTimeout => "connect-timeout",
+            Setting::ReplaceStale => "replace-stale",
+            Setting::Log => "log",
+            Setting::Metrics => "metrics",
+        }
+    }
+
+    /// The key of the configuration.
+    pub fn key(self) -> &'static str {
+        match self {
+            Setting::Admin => Key::Admin.word(),
+            Setting::Loops => Key::Loops.word(),
+            Setting::Connections => Key::Connections.word(),
+            Setting::ConnectionsPerRule => Key::ConnectionsPerRule.word(),
+            Setting::ConnectTimeout => Key::ConnectTimeout.word(),
+            Setting::ReplaceStale => Key::ReplaceStale.word(),
+            Setting::Log => Key::Log.word(),
+            Setting::Metrics => Key::Metrics.word(),
+        }
+    }
+}
+
+/// Whether settings say this one.
+fn says(settings: &Settings, setting: Setting) -> bool
+    ensures { result ≡ says settings.now setting }
+{
+    match setting {
+        Setting::Admin => settings.admin.is_some(),
+        Setting::Loops => settings.loops.is_some(),
+        Setting::Connections => settings.pairs.is_some(),
+        Setting::ConnectionsPerRule => settings.per_rule.is_some(),
+        Setting::ConnectTimeout => settings.connect_ms.is_some(),
+        Setting::ReplaceStale => settings.replaces_stale.is_some(),
+        Setting::Log => settings.log.is_some(),
+        Setting::Metrics => settings.metrics.is_some(),
+    }
+}
+
+/// Whether both the words of the command line and the file say this one: then the words win.
+pub fn wins_over_file(words: &Settings, file: &Settings, setting: Setting) -> bool
+    ensures { result ≡ (says words.now setting && says file.now setting) }
+{
+    says(words, setting) && says(file, setting)
+}
+
+/// Whether the file says otherwise than at the start of the relay, where the words of the command
+/// line don't say it: a running relay goes on as it was started.
+pub fn needs_restart(words: &Settings, before: &Settings, file: &Settings, setting: Setting) -> bool
+    ensures { result ≡ (not (says words.now setting) && not (say_same setting before.now file.now)) }
+{
+    !says(words, setting) && !say_same(setting, before, file)
+}
+
+fn same_text(one: &Option<String>, other: &Option<String>) -> bool
+    ensures { result ≡ same_said bytes_eq (option_map string_bytes one.now)
+        (option_map string_bytes other.now) }
+{
+    match (one, other) {
+        (Some(one), Some(other)) => one.as_str() == other.as_str(),
+        (None, None) => true,
+        _ => false,
+    }
+}
+
+fn same_addr(one: &Option<Addr>, other: &Option<Addr>) -> bool
+    ensures { result ≡ same_said same_address (option_map address_of one.now)
+        (option_map address_of other.now) }
+{
+    match (one, other) {
+        (Some(one), Some(other)) => is_same_addr(one, other),
+        (None, None) => true,
+        _ => false,
+    }
+}
+
+fn same_loops(one: Option<Loops>, other: Option<Loops>) -> bool
+    ensures { result ≡ same_said (λ a b. a.count == b.count) one other }
+{
+    match (one, other) {
+        (Some(one), Some(other)) => one.count == other.count,
+        (None, None) => true,
+        _ => false,
+    }
+}
+
+fn same_pairs(one: Option<PairLimit>, other: Option<PairLimit>) -> bool
+    ensures { result ≡ same_said (λ a b. a.count == b.count) one other }
+{
+    match (one, other) {
+        (Some(one), Some(other)) => one.count == other.count,
+        (None, None) => true,
+        _ => false,
+    }
+}
+
+fn same_ms(one: Option<u32>, other: Option<u32>) -> bool
+    ensures { result ≡ same_said (λ a b. a == b) one other }
+{
+    match (one, other) {
+        (Some(one), Some(other)) => one == other,
+        (None, None) => true,
+        _ => false,
+    }
+}
+
+fn same_time(one: Option<Option<u32>>, other: Option<Option<u32>>) -> bool
+    ensures { result ≡ same_said (same_said (λ a b. a == b)) one other }
+{
+    match (one, other) {
+        (Some(one), Some(other)) => same_ms(one, other),
+        (None, None) => true,
+        _ => false,
+    }
+}
+
+fn same_flag(one: Option<bool>, other: Option<bool>) -> bool
+    ensures { result ≡ same_said same_truth one other }
+{
+    match (one, other) {
+        (Some(one), Some(other)) => one == other,
+        (None, None) => true,
+        _ => false,
+    }
+}
+
+fn say_same(setting: Setting, one: &Settings, other: &Settings) -> bool
+    ensures { result ≡ say_same setting one.now other.now }
+{
+    match setting {
+        Setting::Admin => same_text(&one.admin, &other.admin),
+        Setting::Loops => same_loops(one.loops, other.loops),
+        Setting::Connections => same_pairs(one.pairs, other.pairs),
+        Setting::ConnectionsPerRule => same_pairs(one.per_rule, other.per_rule),
+        Setting::ConnectTimeout => same_time(one.connect_ms, other.connect_ms),
+        Setting::ReplaceStale => same_flag(one.replaces_stale, other.replaces_stale),
+        Setting::Log => same_text(&one.log, &other.log),
+        Setting::Metrics => same_addr(&one.metrics, &other.metrics),
+    }
+}
