@@ -22,7 +22,8 @@ use std::sync::Wait;
 use std::thread::Threads;
 use std::time::Clock;
 
-// Where admin sessions are served. `Config::read` has refused settings that say it nowhere.
+// Where admin sessions are served. `Config::read` refuses settings that say it nowhere (`admin`), and
+// no socket is opened at the path without a byte.
 fn admin_of(settings: &Settings) -> &str {
     match &settings.admin {
         Some(admin) => admin.as_str(),
@@ -58,12 +59,13 @@ where
     server.run()
 }
 
-/// Runs such a relay until an admin session says stop, or finish and that is over. Its
-/// log, where it has one, is opened by `logs`. A rule, also one that a reload brings, and the admin
-/// socket take the listener that is given at their address, and leave its path. It writes
-/// `listening N` once all sockets are open, and at the end `up U down D`, the bytes copied to the
-/// targets and to the clients. A fault at the start is the first of: the
-/// poller, the listeners in the rules' order, the admin socket, the log, the metrics' address. Whatever comes, no thread, no socket and no path that it bound is left.
+/// Runs such a relay until an admin session says stop, or finish and that is over. Its log, where it
+/// has one, is opened by `logs`. A rule, also one that a reload brings, and the admin socket take the
+/// listener that is given at their address, and leave its path. It writes `listening N` once all
+/// sockets are open, and at the end `up U down D`, the bytes copied to the targets and to the clients.
+/// A fault at the start is the first of: the poller, the listeners in the rules' order, the admin
+/// socket, the log, the metrics' address. Whatever comes, no thread, no socket and no path that it
+/// bound is left.
 // (its bounds are spelt out: a program that calls it over `ServeRuntime` isn't covered by the
 // prover)
 pub fn serve<L, O, R, W: Write>(
