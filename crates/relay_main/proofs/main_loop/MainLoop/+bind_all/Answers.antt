@@ -24,3 +24,9 @@ returns-clause-stand g t c =
     c.in_ok-begun.ensures.come.fresh
     (stand_on old (tasks_of c.bind.new.self.tasks) bound c.bind.ensures.stand c.bind_all.ensures.stand)
     c.let_go.ensures.others
+
+-- what stood stands through the first bind and those behind it
+pub returns-in-Ok-clause-stand : goal.returns-in-Ok-clause-stand
+returns-in-Ok-clause-stand g t c =
+    stand_on (tasks_of c.args.self.now.tasks) (tasks_of c.bind.new.self.tasks) (tasks_of c.bind_all.new.self.tasks)
+    c.bind.ensures.stand c.bind_all.ensures.stand
