@@ -1,3 +1,4 @@
+pub mod Conversion
 pub mod Meaning
 pub mod Settings
 pub mod Telling

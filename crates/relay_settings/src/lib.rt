@@ -5,6 +5,7 @@
 mod address;
 mod asked;
 mod check;
+mod conversion;
 mod keys;
 mod rules;
 mod said;
@@ -14,6 +15,7 @@ mod telling;
 
 pub use asked::{Asked, Source};
 pub use check::{bad_config, check_config, rule_count};
+pub use conversion::convert;
 pub use said::{MAX_CONFIG_BYTES, Said, read_config};
 pub use settings::{MAX_CONNECT_MS, Settings, in_force};
 pub use telling::{SETTINGS, Setting, needs_restart, wins_over_file};
