@@ -1,9 +1,9 @@
 pub mod Asked
+pub mod Cause
 pub mod Connection
 pub mod Deadlines
 pub mod Dialing
 pub mod Dialled
-pub mod Ending
 pub mod Flow
 pub mod GoneOn
 pub mod Heard

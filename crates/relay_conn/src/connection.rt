@@ -3,11 +3,11 @@
 
 ghost use Rattle.std.specs.Prelude.{◌≡◌, ◌<◌, ◌+◌, ◌^◌, is_some, true, unwrap_or};
 ghost use Rattle.fd_descriptor.specs.TaskHalf.{IsHandleOf};
-ghost use Rattle.relay_conn.specs.Ending.{how_connection_ended};
+ghost use Rattle.relay_conn.specs.Cause.{how_connection_ended};
 ghost use Rattle.relay_log.specs.declared.ended.Ended.{Ended as How};
 
+use crate::cause::how_ended;
 use crate::dialing::{DialStep, Dialing};
-use crate::ending::how_ended;
 use crate::relaying::Relaying;
 use crate::side::LeftSide;
 use log_writer::Log;

@@ -16,7 +16,7 @@ ghost use Rattle.relay_log.specs.declared.ended.Cause.{Cause};
 ghost use Rattle.relay_log.specs.declared.ended.Ended.{Ended as How};
 ghost use Rattle.relay_shared.specs.Drained.{WasDrained};
 
-use crate::ending::how_undialled;
+use crate::cause::how_undialled;
 use crate::flow::OwnShare;
 use crate::heard::{after_telling, stop_ahead_of};
 use crate::side::{OpenSide, drain_side, takes_deadline};

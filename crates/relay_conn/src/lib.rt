@@ -3,10 +3,10 @@
 #![tactic(auto)]
 
 mod asked;
+mod cause;
 pub mod connection;
 mod dialing;
 pub mod dialled;
-mod ending;
 mod flow;
 mod heard;
 pub mod idle_time;

@@ -11,7 +11,7 @@ use Rattle.relay_conn.specs.GoneOn.{ConnectionGoneOn}
 use Rattle.relay_conn.specs.declared.connection.Connection.{Connection}
 use Rattle.relay_core.specs.declared.pair_tasks.PairNext.{PairNext}
 use Rattle.relay_core.specs.declared.pair_tasks.PairNext.TheVariants as next
-use Rattle.relay_shared.specs.Fault.{poller_fault}
+use Rattle.relay_shared.specs.PollerFault.{poller_fault}
 use Rattle.rwloops.specs.declared.fault.Fault.{Fault}
 
 -- what follows for a loop of what follows for a connection

@@ -8,14 +8,14 @@ ghost use Rattle.readiness.specs.Tasks.{task_in};
 ghost use Rattle.relay_main.specs.Binding.{StillStand};
 ghost use Rattle.relay_admin.specs.declared.admin.answers.ReloadAnswer.{ReloadAnswer};
 ghost use Rattle.relay_admin.specs.declared.serve_fault.ServeFault.{ServeFault};
-ghost use Rattle.relay_main.specs.Ending.{AreEnded};
+ghost use Rattle.relay_main.specs.ListenersEnd.{AreEnded};
 ghost use Rattle.relay_main.specs.Plan.{IsPlanned};
 ghost use Rattle.relay_main.specs.Reload.{answer_of_fault};
 ghost use Rattle.relay_main.specs.RuleListeners.{standing_in};
 
 use crate::accounts::account_at;
 use crate::binding::AllBound;
-use crate::ending::LastClients;
+use crate::listeners_end::LastClients;
 use crate::main_loop::MainLoop;
 use crate::plan::{Plan, plan_of};
 use crate::rule_listeners::Listening;

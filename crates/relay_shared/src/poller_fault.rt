@@ -1,7 +1,7 @@
 //! What a fault of a call below is to the relay.
 
 ghost use Rattle.std.specs.Prelude.{◌≡◌};
-ghost use Rattle.relay_shared.specs.Fault.{poller_fault};
+ghost use Rattle.relay_shared.specs.PollerFault.{poller_fault};
 
 use relay_admin::ServeFault;
 use rwloops::Fault;

@@ -1,7 +1,7 @@
 use Rattle.std.proofs.Common.{◌≡◌, ◌∙◌, ◌<◌, length, sym, ap}
 use Rattle.relay_core.specs.Passing.{Bytes, rest_of, unwritten}
 use Rattle.relay_core.proofs.PassingLemmas.{left_of, writes_next, stop_after}
-use Rattle.relay_core.proofs.resuming.Copying.go_on.Goals as goal
+use Rattle.relay_core.proofs.copying.Copying.go_on.Goals as goal
 
 -- nothing more of what is kept was taken
 pub returns-in-Err-clause-stopped : goal.returns-in-Err-clause-stopped

@@ -1,6 +1,6 @@
 use Rattle.std.proofs.Common.{◌≡◌, ◌∙◌, ◌<◌, length, length-take, false, arith}
 use Rattle.relay_core.proofs.PassingLemmas.{not_at_end, writes_next, stop_after}
-use Rattle.relay_core.proofs.resuming.Copying.pass.Goals as goal
+use Rattle.relay_core.proofs.copying.Copying.pass.Goals as goal
 
 -- some bytes were taken, and the others are kept
 pub returns-in-Ok-clause-passing : goal.returns-in-Ok-clause-passing

@@ -4,16 +4,16 @@
 ghost use Rattle.std.specs.Prelude.{◌≡◌, ◌≢◌, ◌↔◌, ◌++◌, ◌∷◌, [], true, false, IsSome, OnOk};
 ghost use Rattle.fd_descriptor.specs.TaskHalf.{descriptor_of_half};
 ghost use Rattle.readiness.specs.declared.tasks.Turn.{Turn};
-ghost use Rattle.relay_main.specs.Accepting.{turn_of};
+ghost use Rattle.relay_main.specs.AcceptTurns.{turn_of};
 ghost use Rattle.relay_main.specs.Closing.{WasClosed};
 
-use crate::admin::{AdminDoor, AdminTask, Caller};
+use crate::admin_socket::{AdminDoor, AdminTask, Caller};
 use crate::main_host::MainHost;
 use crate::rule_task::{RuleListener, RuleTask, accept_on};
 use deadline_core::Dirs;
 use fd_descriptor::Alarms;
 use readiness::Turn;
-use relay_core::{AcceptEnded, AcceptStep, Accepting, next_pause_ms};
+use relay_core::{AcceptEnded, AcceptStep, Accepting, RESTART_MS, next_pause_ms};
 use relay_facts::clock::Moments;
 use relay_facts::how_ended::reason_of_fault;
 use relay_facts::log_lines::tell_accept_fault;
@@ -21,9 +21,6 @@ use relay_facts::served_rule::ServedRule;
 use rwloops::Fault;
 use std::sync::Wait;
 use std::time::Clock;
-
-/// How long a task pauses that begins anew after too many faults in a row, in milliseconds.
-const RESTART_MS: u64 = 1_000;
 
 /// How often a listener that is to be closed is accepted from, 64 clients each time: as many as its
 /// queue may have.

@@ -1,6 +1,6 @@
 use Rattle.std.proofs.Common.{refl, arith}
 use Rattle.relay_core.proofs.PassingLemmas.{within, then_passing, then_passed, stop_after, if_ok, if_err}
-use Rattle.relay_core.proofs.resuming.Copying.begin.Goals as goal
+use Rattle.relay_core.proofs.copying.Copying.begin.Goals as goal
 
 -- bytes were read, and written or kept
 pub returns-in-Ok-Some-clause-passing : goal.returns-in-Ok-Some-clause-passing

@@ -4,7 +4,7 @@ ghost use Rattle.std.specs.Prelude.{◌≡◌, ◌≢◌, ℕ, None};
 ghost use Rattle.readiness.specs.EventLoop.{tasks_of};
 ghost use Rattle.readiness.specs.LoopToken.{place_in};
 ghost use Rattle.readiness.specs.Tasks.{task_in};
-ghost use Rattle.relay_main.specs.Ending.{AreEnded};
+ghost use Rattle.relay_main.specs.ListenersEnd.{AreEnded};
 
 use crate::main_host::MainHost;
 use crate::main_loop::MainLoop;

@@ -6,10 +6,11 @@ ghost use Rattle.readiness.specs.Tasks.{task_in};
 ghost use Rattle.relay_admin.specs.declared.admin.answers.CloseAnswer.{CloseAnswer};
 ghost use Rattle.relay_admin.specs.declared.admin.answers.SteerAnswer.{SteerAnswer};
 ghost use Rattle.relay_main.specs.Deadlines.{asked_deadline};
-ghost use Rattle.relay_main.specs.Desk.{IsNotSteered, closed_answer, late_answer, steered_answer};
 ghost use Rattle.relay_main.specs.RuleListeners.{token_with};
 ghost use Rattle.relay_main.specs.RuleTask.{rule_task_in};
-ghost use Rattle.relay_main.specs.declared.desk.NotAsked.{NotAsked};
+ghost use Rattle.relay_main.specs.SessionDesk.{IsNotSteered, closed_answer, late_answer};
+ghost use Rattle.relay_main.specs.SessionDesk.{steered_answer};
+ghost use Rattle.relay_main.specs.declared.session_desk.NotAsked.{NotAsked};
 
 use crate::main_loop::MainLoop;
 use crate::main_task::MainTask;

@@ -1,7 +1,7 @@
 -- What becomes of an accept task.
 use Rattle.readiness.specs.declared.tasks.Turn.{Turn}
 use Rattle.readiness.specs.declared.tasks.Turn.TheVariants as turn
-use Rattle.relay_core.specs.declared.accepting.AcceptEnded.TheVariants.{TooManyFaults}
+use Rattle.relay_core.specs.declared.accept_ended.AcceptEnded.TheVariants.{TooManyFaults}
 use Rattle.relay_core.specs.declared.accept_task.AcceptStep.{AcceptStep}
 use Rattle.relay_core.specs.declared.accept_task.AcceptStep.TheVariants as step
 

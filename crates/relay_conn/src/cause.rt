@@ -2,7 +2,7 @@
 //! or with the relay.
 
 ghost use Rattle.std.specs.Prelude.{◌≡◌};
-ghost use Rattle.relay_conn.specs.Ending as spec;
+ghost use Rattle.relay_conn.specs.Cause as spec;
 
 use base_types::Dir;
 use relay_core::{Ended, FlowState, PairTasks, Step, Way};

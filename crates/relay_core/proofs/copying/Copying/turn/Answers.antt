@@ -1,7 +1,7 @@
 use Rattle.std.proofs.Common.{◌≡◌, ◌∙◌, sym, ap, refl, arith}
 use Rattle.relay_core.specs.Passing.{Close, rest_of}
 use Rattle.relay_core.proofs.PassingLemmas.{within, passed_within, stop_after, if_err}
-use Rattle.relay_core.proofs.resuming.Copying.turn.Goals as goal
+use Rattle.relay_core.proofs.copying.Copying.turn.Goals as goal
 
 -- the writer is told of the reader's end
 pub returns-then-self-clause-stopped : goal.returns-then-self-clause-stopped

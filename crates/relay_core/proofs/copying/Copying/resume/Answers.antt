@@ -2,7 +2,7 @@ use Rattle.std.proofs.Common.{refl, arith}
 use Rattle.relay_core.proofs.PassingLemmas.{no_call, within, passed_within, then_passing, then_passed}
 use Rattle.relay_core.proofs.PassingLemmas.{stop_after, no_pause, open_at_stop, ended_at_stop, blocked_at_stop}
 use Rattle.relay_core.proofs.PassingLemmas.{way_at_stop}
-use Rattle.relay_core.proofs.resuming.Copying.resume.Goals as goal
+use Rattle.relay_core.proofs.copying.Copying.resume.Goals as goal
 
 -- no turn so far
 pub loop-turn-init : goal.loop-turn-init
