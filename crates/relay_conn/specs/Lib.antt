@@ -7,7 +7,10 @@ pub mod Dialled
 pub mod Flow
 pub mod GoneOn
 pub mod Heard
+pub mod Others
 pub mod Refused
 pub mod Relaying
+pub mod Seeking
 pub mod SetUp
 pub mod Side
+pub mod Trial

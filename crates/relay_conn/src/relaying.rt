@@ -64,6 +64,7 @@ impl<U: Ledger, D: Ledger, R: Wait + Clock + Copy> Relaying<U, D, R> {
         let Dialing {
             mut client,
             mut target,
+            others: _,
             up,
             down,
             tasks,
