@@ -7,7 +7,8 @@ use Rattle.relay_admin.specs.declared.rules.addr.Addr.TheVariants as addr
 use Rattle.relay_admin.specs.declared.rules.rule.Rule.{Rule}
 use Rattle.relay_facts.specs.Targets.{IsPick, targets_of}
 use Rattle.relay_facts.specs.declared.connection_facts.Acceptance.{Acceptance}
-use Rattle.relay_facts.specs.declared.target_list.Target.{Target}
+use Rattle.relay_settings.specs.Targets.{own_target}
+use Rattle.relay_settings.specs.declared.targets.Target.{Target}
 use Rattle.relay_facts.specs.declared.target_list.Targets.{Targets}
 use Rattle.target_pick.specs.Source.{source_number}
 use Rattle.target_pick.specs.declared.tried.Tried.{Tried}
@@ -17,9 +18,6 @@ abbrev pub list_in : Acceptance → Option Targets
 list_in acceptance = option_map arc_value acceptance.targets
 
 -- a rule without a list has its own target alone
-abbrev pub own_target : Rule → Target
-own_target rule = record { at = rule.target; weight = 1; is_backup = false }
-
 abbrev pub targets_with : Option Targets → Rule → List Target
 targets_with None rule = own_target rule ∷ []
 targets_with (Some list) rule = targets_of list

@@ -3,7 +3,7 @@ use Rattle.std.specs.Prelude.{◌≡◌, ◌≢◌, ◌⊎◌, ◌<◌, ℕ, Boo
 use Rattle.std.specs.Prelude.{IsSomeAnd, slice_get}
 use Rattle.relay_facts.specs.declared.target_list.CountedTarget.{CountedTarget}
 use Rattle.relay_facts.specs.declared.target_list.Picked.{Picked}
-use Rattle.relay_facts.specs.declared.target_list.Target.{Target}
+use Rattle.relay_settings.specs.declared.targets.Target.{Target}
 use Rattle.relay_facts.specs.declared.target_list.Targets.{Targets}
 use Rattle.target_pick.specs.Pick.{HasTurn, IsLeastOf, MayTakeAt, MustBeBackup}
 use Rattle.target_pick.specs.Tried.{untried, was_tried}

@@ -1,24 +1,12 @@
-//! The targets of a rule as a value, in the order of its configuration.
+//! The targets of a rule as a value, in the order of its configuration, and what is counted of each.
 
 ghost use Rattle.std.specs.Prelude.{◌≤◌, ◌<◌, length};
 
 use relay_admin::Addr;
+use relay_settings::Target;
 use std::sync::Arc;
 use std::sync::atomic::AtomicU64;
 use target_pick::{Balance, Tried};
-
-/// The most targets of a rule.
-pub const MAX_TARGETS: usize = 64;
-
-/// A target of a rule.
-#[derive(Clone, Copy, Debug, PartialEq, Eq, Drop)]
-pub struct Target {
-    pub at: Addr,
-    /// How many turns it has, of all targets' together. With 0 it gets nobody.
-    pub weight: u16,
-    /// It gets clients only where no other target may take them.
-    pub is_backup: bool,
-}
 
 /// A target, and how many connections stand at it. A later list with the same address goes on with
 /// its count.

@@ -6,10 +6,11 @@ ghost use Rattle.relay_facts.specs.Targets.{AreSeen, IsNext, IsNoneLeft, IsPick,
 ghost use Rattle.relay_facts.specs.Targets.{targets_of};
 ghost use Rattle.target_pick.specs.Tried.{was_tried};
 
-use crate::target_list::{CountedTarget, MAX_TARGETS, Picked, Target, Targets};
+use crate::target_list::{CountedTarget, Picked, Targets};
 use arrayvec::ArrayVec;
 use base_types::OutOfMemory;
 use relay_admin::{Addr, is_same_addr};
+use relay_settings::{MAX_TARGETS, Target};
 use std::alloc::Global;
 use std::sync::Arc;
 use std::sync::atomic::{AtomicU64, Ordering};

@@ -1,4 +1,5 @@
 pub mod Meaning
 pub mod Settings
+pub mod Targets
 pub mod Telling
 pub mod Verdict

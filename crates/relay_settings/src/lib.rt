@@ -10,10 +10,12 @@ mod rules;
 mod said;
 mod served;
 mod settings;
+mod targets;
 mod telling;
 
 pub use asked::{Asked, Source};
 pub use check::{bad_config, check_config, rule_count};
 pub use said::{MAX_CONFIG_BYTES, Said, read_config};
 pub use settings::{MAX_CONNECT_MS, Settings, in_force};
+pub use targets::{MAX_TARGETS, SaidRule, Target};
 pub use telling::{SETTINGS, Setting, needs_restart, wins_over_file};
