@@ -75,6 +75,9 @@ FAULTS = (
     (HEAD + "idle = 30\n" + ENDS, 'rule "web": idle: 30 is not a text in quotes'),
     (HEAD + 'idle = "30x"\n' + ENDS, f'rule "web": idle: "30x" {TIME}'),
     (HEAD + 'idle = "3\\n0\\u0007"\n' + ENDS, f'rule "web": idle: "3\\n0\\u{{7}}" {TIME}'),
+    (RULE.replace('[{ at = "unix:/b" }]', "[]"), 'rule "web": target: the list is empty'),
+    (RULE.replace('"unix:/b"', '"unix:/b", weight = 65536'), 'rule "web": target 1: weight: 65536 is not from 0 to 65535'),
+    (RULE.replace('"unix:/b"', '"unix:/b", backup = "yes"'), 'rule "web": target 1: backup: "yes" is not true or false'),
     (HEAD + 'balance = "random"\n' + ENDS, 'rule "web": balance: "random" is none of "round-robin", "least-connections", "first", "source"'),
     ("#" * 1_048_577, "more than 1048576 bytes"),
 )
@@ -93,14 +96,20 @@ UNSERVED = (
     (RULE.replace("unix:/a", "unix:/" + 100 * "a"), 'rule "web": listen 1'),
     (RULE.replace("unix:/b", "tcp:[::1]:80"), 'rule "web": target 1: at'),
     (RULE.replace("unix:/b", "tcp:app.internal:80"), 'rule "web": target 1: at'),
-    (RULE.replace('"unix:/b"', '"unix:/b", weight = 2'), 'rule "web": target 1: weight'),
-    (RULE.replace('"unix:/b"', '"unix:/b", weight = 0'), 'rule "web": target 1: weight'),
-    (RULE.replace('"unix:/b"', '"unix:/b", backup = true'), 'rule "web": target 1: backup'),
-    (RULE.replace('{ at = "unix:/b" }', '{ at = "unix:/b" }, { at = "unix:/c" }'), 'rule "web": target 2'),
+    (RULE.replace("unix:/b", "unix:/" + 100 * "b"), 'rule "web": target 1: at'),
+    (RULE.replace('{ at = "unix:/b" }', '{ at = "unix:/b" }, { at = "tcp:[::1]:80" }'), 'rule "web": target 2: at'),
+    (RULE.replace('{ at = "unix:/b" }', 63 * '{ at = "unix:/b" }, ' + '{ at = "tcp:app.internal:80" }'), 'rule "web": target 64: at'),
     ("".join(RULE.replace("web", f"r{n}").replace("/a", f"/{n}") for n in range(65)), "rule 65"),
     # Of several the first: keys of the whole ahead of rules, and the text's own faults ahead of all.
     (HEAD + "health = {}\nbacklog = 5\n" + ENDS, 'rule "web": backlog'),
     ('log = { file = "-", format = "json" }\n' + HEAD + "health = {}\n" + ENDS, "log: format"),
+)
+# Rules of several targets.
+TARGETS = (
+    RULE.replace('{ at = "unix:/b" }', '{ at = "unix:/b", weight = 2 }, { at = "unix:/b" }, { at = "unix:/c", backup = true }'),
+    RULE.replace('"unix:/b"', '"unix:/b", weight = 0'), RULE.replace('"unix:/b"', '"unix:/b", backup = true'),
+    RULE.replace('{ at = "unix:/b" }', ", ".join(64 * ['{ at = "unix:/b", weight = 65535 }'])),
+    *(HEAD + f'balance = "{word}"\n' + ENDS for word in ("round-robin", "least-connections", "first", "source")),
 )
 # What means the same as without the key.
 WITHOUT_MEANING = (
@@ -137,7 +146,8 @@ def refused(checks, folder, text, why):
 def verdicts(checks, folder):
     for text, why in FAULTS:
         refused(checks, folder, text, why)
-    for text, count in (("", 0), (RULE, 1), (WITHOUT_MEANING, 1), (RULE + RULE.replace("web", "ssh").replace("/a", "/c"), 2)):
+    two = RULE + RULE.replace("web", "ssh").replace("/a", "/c")
+    for text, count in (("", 0), (RULE, 1), (WITHOUT_MEANING, 1), (two, 2), *((text, 1) for text in TARGETS)):
         checks.expect(f"check: {count} rules", (0, f"rules {count}\n", ""), run("check", "--config", written(folder, text)))
 
 
@@ -193,7 +203,7 @@ def served(checks, folder):
         checks.expect("its end", 0, relay.stop()[0])
         with open(f"{relay.folder}/log", encoding="utf-8") as file:
             checks.holds("its log has a line", " web " in file.read(), "it has none")
-    checks.expect("the sample", (0, "rules 2\n", ""), run("check", "--config", SAMPLE))
+    checks.expect("the sample", (0, "rules 3\n", ""), run("check", "--config", SAMPLE))
     target.close()
 
 

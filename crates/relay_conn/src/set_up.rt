@@ -8,8 +8,9 @@ ghost use Rattle.base_types.specs.declared.direction.Dir.{Dir};
 ghost use Rattle.relay_core.specs.declared.pair_tasks.FlowState.{FlowState};
 ghost use Rattle.relay_facts.specs.Books.{TakesBack};
 ghost use Rattle.relay_ledger.specs.Book.{OpensOne};
-ghost use Rattle.relay_conn.specs.Dialled.{dialled_to};
-ghost use Rattle.relay_conn.specs.SetUp.{IsSetUp};
+ghost use Rattle.relay_conn.specs.Connection.{IfDialing};
+ghost use Rattle.relay_conn.specs.SetUp.{IsBegunWith, IsSetUp};
+ghost use Rattle.relay_conn.specs.Trial.{IsSomeTrial};
 ghost use Rattle.relay_conn.specs.Side.{IsWhole, key_of_side};
 ghost use Rattle.relay_shared.specs.Index.{entered_id};
 
@@ -18,14 +19,17 @@ use crate::dialing::{Dialing, NewWay};
 use crate::dialled::Dialled;
 use crate::flow::OwnShare;
 use crate::idle_time::IdleTime;
+use crate::others::others_of;
 use crate::refused::Refused;
+use crate::seeking::NextTarget;
 use crate::side::{OpenSide, open_side};
+use crate::trial::Trial;
 use crate::way_time::WayTime;
 use base_types::Dir;
 use readiness::{Place, Poller, Sock};
 use relay_core::{Copying, PairTasks, Step, Way};
 use relay_facts::books::LoopBooks;
-use relay_facts::clock::RelayClock;
+use relay_facts::clock::{Moments, RelayClock};
 use relay_facts::connection_facts::ConnectionFacts;
 use relay_ledger::CarriedShare;
 use relay_shared::inbox::Counted;
@@ -47,12 +51,12 @@ pub struct SetUp<'a, R: Wait + Clock + Copy> {
     pub poller: &'a Poller,
 }
 
-/// What a connection begins with: both its sockets, what is known of it, and the moment by which
-/// its target is to be connected, if it has one.
+/// What a connection begins with: its client's socket, the target that was begun, what is known of
+/// it, and the moment by which a target is to be connected, if that has one.
 #[derive(Drop)]
 pub struct Begins {
     pub client: Sock,
-    pub target: Dialled,
+    pub target: Trial,
     pub facts: Arc<ConnectionFacts>,
     pub counted: Counted,
     pub connect_by: Option<u64>,
@@ -121,6 +125,7 @@ fn dialing_of<U: Ledger, D: Ledger, R: Wait + Clock + Copy>(
     down: CarriedShare<D>,
     connect_by: Option<u64>,
 ) -> Dialing<U, D, R>
+    ensures last { result.others ≡ None }
     ensures client { result.client ≡ sides.client }
     ensures target { result.target ≡ sides.target }
     ensures up_time { result.up.time ≡ ways.up.time }
@@ -135,6 +140,7 @@ fn dialing_of<U: Ledger, D: Ledger, R: Wait + Clock + Copy>(
     Dialing {
         client: sides.client,
         target: sides.target,
+        others: None,
         up: ways.up.with_share(up),
         down: ways.down.with_share(down),
         tasks: reading_tasks(),
@@ -246,9 +252,10 @@ impl<'a, R: Wait + Clock + Copy> SetUp<'a, R> {
         begins: Begins,
         place: Place,
     ) -> Result<Connection<U, D, R>, Refused>
-        requires target { dialled_to begins.target
-            ≡ (arc_value begins.facts).acceptance.rule.target }
+        requires target { IsSomeTrial (arc_value begins.facts).acceptance begins.target }
         ensures set_up { IfOk result (IsSetUp begins.facts place begins.connect_by) }
+        ensures others { IfOk result (λ connection. IfDialing connection.phase (λ dialing.
+            IsBegunWith begins.target place dialing)) }
         ensures counted { IfOk result (λ connection. connection.counted ≡ begins.counted) }
         ensures up_share { OnOk result (OpensOne books.old.up.book books.new.up.book) }
         ensures down_share { OnOk result (OpensOne books.old.down.book books.new.down.book) }
@@ -260,7 +267,8 @@ impl<'a, R: Wait + Clock + Copy> SetUp<'a, R> {
             counted,
             connect_by,
         } = begins;
-        let sides = self.sides(client, target, place)?;
+        let Trial { dialled, picked } = target;
+        let sides = self.sides(client, dialled, place)?;
         let ways = match self.both_prepared(facts.acceptance.rule.idle_ms) {
             Some(ways) => ways,
             None => return Err(Refused::Memory),
@@ -269,7 +277,26 @@ impl<'a, R: Wait + Clock + Copy> SetUp<'a, R> {
             return Err(Refused::Memory);
         };
         let Given { entered, up, down } = given;
-        let dialing = dialing_of(sides, ways, up, down, connect_by);
+        let mut dialing = dialing_of(sides, ways, up, down, connect_by);
+        let until = dialing.until();
+        dialing.others = others_of(&picked, place.second, self.clock.now(), until);
         Ok(Connection::new(entered.keep(), facts, counted, dialing))
+    }
+
+    /// A connection's next target, by its socket, under the token that the one before had; or what
+    /// refused it, and then its socket is dropped.
+    pub fn next_target(&self, trial: Trial, token: u64) -> Result<NextTarget<R>, Refused>
+        ensures key { IfOk result (λ next. key_of_side next.side ≡ token) }
+        ensures whole { IfOk result (λ next. IsWhole next.side) }
+        ensures picked { IfOk result (λ next. next.picked ≡ trial.picked) }
+        ensures token { IfOk result (λ next. next.token ≡ token) }
+    {
+        let Trial { dialled, picked } = trial;
+        let side = self.side(dialled.into_sock(), token)?;
+        Ok(NextTarget {
+            side,
+            picked,
+            token,
+        })
     }
 }

@@ -1,1 +1,2 @@
 pub mod FileFaults
+pub mod TargetsLemmas

@@ -2,34 +2,37 @@
 
 ghost use Rattle.std.specs.Prelude.{◌≡◌, IfOk, IfErr};
 ghost use Rattle.relay_admin.specs.ServeFault.{IsFileFault};
-ghost use Rattle.relay_facts.specs.Source.{SaysNoSettings};
+ghost use Rattle.relay_facts.specs.Source.{AreAlone, SaysNoSettings, SaysRulesAlone};
 ghost use Rattle.relay_settings.specs.Settings.{SaysNothing};
 ghost use Rattle.relay_admin.specs.declared.serve_fault.ServeFault.{ServeFault};
 
 use crate::rules_file::{config_text_of, rules_of, text_of};
-use relay_admin::{Rule, Rules, ServeFault};
-use relay_settings::{Said, Settings, Source, bad_config, read_config};
+use base_types::OutOfMemory;
+use relay_admin::{Rule, ServeFault};
+use relay_settings::{Said, SaidRule, Settings, Source, bad_config, read_config};
 use std::alloc::Global;
 use std::fs::Files;
 
-// The rules in memory of their own.
-fn rules_in(alloc: Global, rules: &Rules) -> Result<Vec<Rule>, ServeFault>
-    ensures faults { IfErr result (λ fault. fault ≡ ServeFault.Memory) }
+// These rules, each of which names its own target alone.
+fn each_alone(alloc: Global, rules: &[Rule]) -> Result<Vec<SaidRule>, OutOfMemory>
+    ensures { IfOk result (λ all. AreAlone rules.now all.items) }
 {
-    match Vec::from_slice(alloc, rules.as_slice()) {
-        Ok(rules) => Ok(rules),
-        Err(_) => Err(ServeFault::Memory),
+    let mut all = Vec::new(alloc);
+    for rule in rules {
+        all.push(SaidRule::alone(alloc, *rule)?)?;
     }
+    Ok(all)
 }
 
-// What a rules file says: no settings.
+// What a rules file says: no settings, and rules of one target each.
 #[tactic(auto, using(crate::proofs::FileFaults::of_memory))]
 fn said_by_rules(alloc: Global, text: &[u8]) -> Result<Said, ServeFault>
     ensures settings { IfOk result (λ said. SaysNothing said.settings) }
+    ensures rules { IfOk result (λ said. SaysRulesAlone text.now said.rules.items) }
     ensures faults { IfErr result (λ fault. IsFileFault fault) }
 {
     let rules = rules_of(text)?;
-    let rules = rules_in(alloc, &rules)?;
+    let rules = each_alone(alloc, rules.as_slice())?;
     Ok(Said {
         settings: Settings::none(),
         rules,

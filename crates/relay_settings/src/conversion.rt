@@ -7,18 +7,19 @@
 //! | 1 | the text is no rules file, and the verdict on it was printed |
 //! | 3 | it couldn't be written, or would not say the rules |
 
-ghost use Rattle.std.specs.Prelude.{◌≡◌, ◌≢◌, ◌⊎◌, List, ℕ, IfOk, IfErr, IfSome, IsTrue};
+ghost use Rattle.std.specs.Prelude.{◌≡◌, ◌≢◌, ◌⊎◌, List, ℕ, IfOk, IfErr, IfSome, IsTrue, map};
 ghost use Rattle.std.specs.Io.KnownBytes.{Appends};
 ghost use Rattle.std.specs.String.{string_bytes};
 ghost use Rattle.relay_admin.specs.declared.rules.verdict.Verdict.{Verdict};
 ghost use Rattle.relay_admin.specs.rules.Addr.{address_of};
 ghost use Rattle.relay_admin.specs.rules.Grammar.{entries_of, entry_of};
 ghost use Rattle.relay_admin.specs.rules.Verdict.{IsVerdict, verdict_line};
-ghost use Rattle.relay_settings.specs.Conversion.{MeansRules, nothing_said, rules_alone};
-ghost use Rattle.relay_settings.specs.Meaning.{SaysAll, said_entry, settings_entry};
+ghost use Rattle.relay_settings.specs.Conversion.{MeansRules, nothing_said, rule_alone, rules_alone};
+ghost use Rattle.relay_settings.specs.Meaning.{SaysAll, said_entry, said_rule_entry, settings_entry};
 
 use crate::said::{Said, read_config};
 use crate::settings::Settings;
+use crate::targets::SaidRule;
 use base_types::OutOfMemory;
 use relay_admin::{Rule, Rules, Verdict, is_same_addr};
 use relay_config::Fault;
@@ -26,6 +27,7 @@ use std::alloc::Global;
 use std::io::Write;
 use stream_base::sink::deliver_to;
 use stream_base::writer_sink::WriterSink;
+use target_pick::Balance;
 
 // The text of a time, in the largest unit of which it is so many.
 fn time_text(alloc: Global, ms: u32) -> Result<String, OutOfMemory> {
@@ -94,13 +96,19 @@ fn is_same_idle(one: Option<u32>, other: Option<u32>) -> bool
     }
 }
 
-fn are_same_rules(one: &[Rule], other: &[Rule]) -> bool
-    ensures { IsTrue result → entries_of one.now ≡ entries_of other.now }
+fn says_rule(said: &SaidRule, rule: &Rule) -> bool
+    ensures { IsTrue result → said_rule_entry said.now ≡ rule_alone (entry_of rule.now) }
 {
-    match (one, other) {
+    said.is_alone() && said.balance == Balance::RoundRobin && is_same_rule(&said.rule, rule)
+}
+
+fn say_rules(said: &[SaidRule], rules: &[Rule]) -> bool
+    ensures { IsTrue result → map said_rule_entry said.now ≡ map rule_alone (entries_of rules.now) }
+{
+    match (said, rules) {
         ([], []) => true,
-        ([first, one @ ..], [second, other @ ..]) => {
-            is_same_rule(first, second) && are_same_rules(one, other)
+        ([first, said @ ..], [rule, rules @ ..]) => {
+            says_rule(first, rule) && say_rules(said, rules)
         }
         _ => false,
     }
@@ -121,7 +129,7 @@ fn says_nothing(settings: &Settings) -> bool
 fn says_alone(said: &Said, rules: &[Rule]) -> bool
     ensures { IsTrue result → said_entry said.now ≡ rules_alone (entries_of rules.now) }
 {
-    says_nothing(&said.settings) && are_same_rules(said.rules.as_slice(), rules)
+    says_nothing(&said.settings) && say_rules(said.rules.as_slice(), rules)
 }
 
 // The configuration that says these rules; none where what was written doesn't say them.
