@@ -80,18 +80,18 @@ pub one_more : (targets : List CountedTarget) (tried : Tried) (seen new : List S
 one_more targets tried seen new count counted one many below is at_count told = λ place other last within there here.
     elim (cases_eq place count) as (λ found. IsSeenAs (was_tried tried place) other.target last) [
       | inl same ↦
-        let its : Some other ≡ Some counted = sym there ∙ ap (slice_get targets) same ∙ at_count in
-        let other_is : other ≡ counted = cc in
-        let has : Some last ≡ Some one =
-        sym here ∙ ap (λ (l : List Seen). slice_get l place) is ∙ ap (slice_get (seen ++ one ∷ [])) (same ∙ sym many) ∙ at_end seen one in
-        let last_is : last ≡ one = cc in
-        subst (λ (p : ℕ). IsSeenAs (was_tried tried p) other.target last) (sym same)
-        (subst (λ (t : CountedTarget). IsSeenAs (was_tried tried count) t.target last) (sym other_is)
-        (subst (λ (s : Seen). IsSeenAs (was_tried tried count) counted.target s) (sym last_is) told))
+          let its : Some other ≡ Some counted = sym there ∙ ap (slice_get targets) same ∙ at_count in
+          let other_is : other ≡ counted = cc in
+          let has : Some last ≡ Some one =
+          sym here ∙ ap (λ (l : List Seen). slice_get l place) is ∙ ap (slice_get (seen ++ one ∷ [])) (same ∙ sym many) ∙ at_end seen one in
+          let last_is : last ≡ one = cc in
+          subst (λ (p : ℕ). IsSeenAs (was_tried tried p) other.target last) (sym same)
+          (subst (λ (t : CountedTarget). IsSeenAs (was_tried tried count) t.target last) (sym other_is)
+          (subst (λ (s : Seen). IsSeenAs (was_tried tried count) counted.target s) (sym last_is) told))
       | inr apart ↦
-        below place other last (omega (arith, within, apart)) there
-        (sym (before_end seen one place (omega (arith, within, apart, many)))
-        ∙ ap (λ (l : List Seen). slice_get l place) (sym is) ∙ here)
+          below place other last (omega (arith, within, apart)) there
+          (sym (before_end seen one place (omega (arith, within, apart, many)))
+          ∙ ap (λ (l : List Seen). slice_get l place) (sym is) ∙ here)
     ]
 
 -- all are
