@@ -3,7 +3,7 @@ use Rattle.std.proofs.Common.{◌≡◌, Option, Some, None, sym, subst}
 use Rattle.std.specs.Prelude.{IsSome}
 use Rattle.readiness.specs.declared.agenda.Why.{Why}
 use Rattle.readiness.specs.declared.agenda.Why.TheVariants as why
-use Rattle.relay_conn.specs.Connection.{given_up_at, IfDialing, IfRelaying, IfSeeking, IsSeeking}
+use Rattle.relay_conn.specs.Connection.{given_up_at, IfDialing, IfRelaying, IfSeeking}
 use Rattle.relay_conn.specs.Dialing.{Begins, Connects, KeepsDial, LetsGo, SeeksOn, WaysBegin}
 use Rattle.relay_conn.specs.Heard.{IsTime}
 use Rattle.relay_conn.specs.Others.{IsNoted}
@@ -58,19 +58,6 @@ module _ {U D R : Type 0} where
   connected before new old mid why next is kept begins =
       subst (λ p. IfDialing p (λ d. IfRelaying new (λ relaying. Connects d relaying why next))) (sym is)
       (connected_in new old mid why next kept begins)
-
-  -- one that seeks a target neither dials nor relays
-  pub dials_not : (found : Option (Phase U D R)) (P : Dialing U D R → Type 0) → IsSeeking found → IfDialing found P
-  dials_not None P seeks = absurd seeks
-  dials_not (Some (phase.Dialing d)) P seeks = absurd seeks
-  dials_not (Some (phase.Seeking s)) P seeks = tt
-  dials_not (Some (phase.Relaying r)) P seeks = absurd seeks
-
-  pub relays_not : (found : Option (Phase U D R)) (P : Relaying U D R → Type 0) → IsSeeking found → IfRelaying found P
-  relays_not None P seeks = absurd seeks
-  relays_not (Some (phase.Dialing d)) P seeks = absurd seeks
-  relays_not (Some (phase.Seeking s)) P seeks = tt
-  relays_not (Some (phase.Relaying r)) P seeks = absurd seeks
 
   sought_in : (new : Option (Phase U D R)) (old mid : Dialing U D R) (before after : Dials R) (why : Why) (next : PairNext)
       → KeepsDial old mid why → IsSome mid.failure → (IsTime why (given_up_at old) → ⊥)

@@ -97,10 +97,11 @@ impl<U: Ledger, D: Ledger, R: Wait + Net + Clock + Copy> LoopHost<U, D, R> {
         ensures armed { StayArmed (tasks_of tasks.old) (tasks_of tasks.new) }
     {
         let now = self.context.clock.now();
-        if let Some(task) = tasks.task_mut(token) {
-            task.dial_on(next, now);
-            tasks.keep_time(&*self, token);
-        }
+        let Some(task) = tasks.task_mut(token) else {
+            return;
+        };
+        task.dial_on(next, now);
+        tasks.keep_time(&*self, token);
     }
 
     // Ends it so.
