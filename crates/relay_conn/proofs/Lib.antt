@@ -2,3 +2,4 @@ pub mod ConnectionLemmas
 pub mod DeadlinesLemmas
 pub mod DrainedLemmas
 pub mod RelayingLemmas
+pub mod TrialLemmas

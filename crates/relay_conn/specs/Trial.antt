@@ -21,7 +21,8 @@ pub record IsTrial (client : Acceptance) (tried : Tried) (trial : Trial) : Type 
   pub before : Tried
   pub kept : KeepsTried tried before
   pub next : IsNext (targets_in client) before trial.picked
-  pub picked : IfSome (list_in client) (λ list. IsPicked list before (source_of client.client) (place_tried trial))
+  pub picked : IfSome (list_in client) (λ list.
+      IsPicked list before (source_of client.client) (place_tried trial))
   pub dialled : dialled_to trial.dialled ≡ trial.picked.at
 
 -- the same of any that were tried

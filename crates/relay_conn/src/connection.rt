@@ -137,7 +137,7 @@ impl<U: Ledger, D: Ledger, R: Wait + Clock + Copy> Connection<U, D, R> {
             Some(Phase::Dialing(dialing)) => dialing.go_on(dials, why),
             Some(Phase::Seeking(seeking)) => {
                 seeking.hear(why);
-                DialStep::Waits
+                return PairNext::Waits;
             }
             None => unreachable!(),
         };
@@ -166,9 +166,9 @@ impl<U: Ledger, D: Ledger, R: Wait + Clock + Copy> Connection<U, D, R> {
         PairNext::Again
     }
 
-    // Has its ways begin.
+    // Has its ways begin, where its target is dialled.
     fn begin(&mut self, rt: &R, books: &mut LoopBooks<U, D>, memory: &mut LoopMemory) -> PairNext
-        ensures relays { IsRelaying self.new.phase }
+        ensures relays { IfDialing self.old.phase (λ old. IsRelaying self.new.phase) }
         ensures begun { IfDialing self.old.phase (λ old. IfRelaying self.new.phase (λ new.
             WaysBegin old new result)) }
         ensures kept { KeepsConnection self.old self.new }
@@ -180,11 +180,10 @@ impl<U: Ledger, D: Ledger, R: Wait + Clock + Copy> Connection<U, D, R> {
                 self.phase = Some(Phase::Relaying(relaying));
                 next
             }
-            Some(Phase::Relaying(relaying)) => {
-                self.phase = Some(Phase::Relaying(relaying));
+            other => {
+                self.phase = other;
                 PairNext::Waits
             }
-            Some(Phase::Seeking(_)) | None => unreachable!(),
         }
     }
 

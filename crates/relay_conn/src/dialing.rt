@@ -1,13 +1,10 @@
 //! A connection whose target isn't connected yet. No side is read meanwhile: what is told of one is
 //! kept, and the ways begin with it.
 
-ghost use Rattle.std.specs.Prelude.{◌≡◌, ◌↔◌, ◌⊎◌, true, Some, None, IsSome, OnOk, OnErr};
+ghost use Rattle.std.specs.Prelude.{◌≡◌, ◌↔◌, ◌⊎◌, true, Some, None, IsSome};
 ghost use Rattle.base_types.specs.declared.direction.Dir.{Dir};
-ghost use Rattle.fd_descriptor.specs.TaskHalf.{descriptor_of_half};
-ghost use Rattle.readiness.specs.declared.loop_token.Side.{Side};
 ghost use Rattle.deadline_core.specs.Moments.{earlier_of};
 ghost use Rattle.relay_conn.specs.Connection.{given_up_at};
-ghost use Rattle.relay_conn.specs.Deadlines.{TellsCalls};
 ghost use Rattle.relay_conn.specs.Dialing.{KeepsDial, MayFail, is_device};
 ghost use Rattle.relay_conn.specs.Heard.{KeepsWhatIsTold, IsTime, stop_told};
 ghost use Rattle.relay_conn.specs.Others.{IsNoted, moves_on_in};
@@ -16,17 +13,16 @@ ghost use Rattle.relay_core.specs.SourceState.{resumed};
 ghost use Rattle.relay_core.specs.declared.ways.Way.{Way};
 ghost use Rattle.relay_log.specs.declared.ended.Cause.{Cause};
 ghost use Rattle.relay_log.specs.declared.ended.Ended.{Ended as How};
-ghost use Rattle.relay_shared.specs.Drained.{WasDrained};
 
 use crate::cause::how_undialled;
 use crate::flow::OwnShare;
 use crate::heard::{after_telling, stop_ahead_of};
 use crate::others::{Dials, Others};
-use crate::side::{OpenSide, drain_side, takes_deadline};
+use crate::side::OpenSide;
 use crate::way_time::WayTime;
 use base_types::Dir;
-use deadline_core::{Deadline, earlier};
-use readiness::{Side, Why};
+use deadline_core::earlier;
+use readiness::Why;
 use relay_core::{Copying, Ended, PairTasks, Way, has_come};
 use relay_facts::clock::RelayClock;
 use relay_facts::how_ended::how_of;
@@ -91,9 +87,9 @@ fn blames_target(fault: Fault) -> bool
 }
 
 impl<U: Ledger, D: Ledger, R: Wait + Clock + Copy> Dialing<U, D, R> {
-    // The moment at which it is given up: when a target is to be connected, or a side's read gives
-    // up, whichever comes first.
-    fn given_up_at(&self) -> Option<u64>
+    /// The moment at which it is given up: when a target is to be connected, or a side's read gives
+    /// up, whichever comes first.
+    pub(crate) fn given_up_at(&self) -> Option<u64>
         ensures { result ≡ given_up_at self.now }
     {
         let reads = earlier(
@@ -291,71 +287,6 @@ impl<U: Ledger, D: Ledger, R: Wait + Clock + Copy> Dialing<U, D, R> {
                 self.move_on(dials, How::NoTarget(Cause::Timeout))
             }
             _ => DialStep::Waits,
-        }
-    }
-
-    /// Drains a side.
-    pub(crate) fn drain(&mut self, rt: &R, side: Side) -> Result<(), Fault>
-        ensures client { side ≡ Side.First
-            → OnOk result (WasDrained (descriptor_of_half self.old.client.reader)) }
-        ensures target { side ≡ Side.Second
-            → OnOk result (WasDrained (descriptor_of_half self.old.target.reader)) }
-        ensures kept { self.new ≡ record self.old {
-          client = record self.old.client { reader = self.new.client.reader };
-          target = record self.old.target { reader = self.new.target.reader };
-        } }
-    {
-        match side {
-            Side::First => drain_side(rt, &mut self.client.reader),
-            Side::Second => drain_side(rt, &mut self.target.reader),
-        }
-    }
-
-    /// Sets the deadline of a side, unless that takes none.
-    pub(crate) fn set_deadline(&mut self, side: Side, deadline: Deadline) -> Result<(), Fault>
-        ensures client { side ≡ Side.First → OnOk result (TellsCalls self.old.up.time.deadlines
-            self.new.up.time.deadlines Dir.Read deadline) }
-        ensures target { side ≡ Side.Second → OnOk result (TellsCalls
-            self.old.down.time.deadlines self.new.down.time.deadlines Dir.Read deadline) }
-        ensures client_written { side ≡ Side.First → OnOk result (TellsCalls
-            self.old.down.time.deadlines self.new.down.time.deadlines Dir.Write deadline) }
-        ensures target_written { side ≡ Side.Second → OnOk result (TellsCalls
-            self.old.up.time.deadlines self.new.up.time.deadlines Dir.Write deadline) }
-        ensures refused_up { OnErr result (self.new.up ≡ self.old.up) }
-        ensures refused_down { OnErr result (self.new.down ≡ self.old.down) }
-        ensures connect_by { self.new.connect_by ≡ self.old.connect_by }
-        ensures others { self.new.others ≡ self.old.others }
-    {
-        match side {
-            Side::First => takes_deadline(&mut self.client.reader)?,
-            Side::Second => takes_deadline(&mut self.target.reader)?,
-        }
-        self.tell(side, deadline);
-        Ok(())
-    }
-
-    // A session says when the calls of a side give up.
-    fn tell(&mut self, side: Side, deadline: Deadline)
-        ensures client { side ≡ Side.First → TellsCalls self.old.up.time.deadlines
-            self.new.up.time.deadlines Dir.Read deadline }
-        ensures target { side ≡ Side.Second → TellsCalls self.old.down.time.deadlines
-            self.new.down.time.deadlines Dir.Read deadline }
-        ensures client_written { side ≡ Side.First → TellsCalls self.old.down.time.deadlines
-            self.new.down.time.deadlines Dir.Write deadline }
-        ensures target_written { side ≡ Side.Second → TellsCalls self.old.up.time.deadlines
-            self.new.up.time.deadlines Dir.Write deadline }
-        ensures connect_by { self.new.connect_by ≡ self.old.connect_by }
-        ensures others { self.new.others ≡ self.old.others }
-    {
-        match side {
-            Side::First => {
-                self.up.time.tell(Dir::Read, deadline);
-                self.down.time.tell(Dir::Write, deadline);
-            }
-            Side::Second => {
-                self.down.time.tell(Dir::Read, deadline);
-                self.up.time.tell(Dir::Write, deadline);
-            }
         }
     }
 }

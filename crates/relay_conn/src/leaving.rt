@@ -6,9 +6,9 @@ ghost use Rattle.relay_conn.specs.Cause.{how_connection_ended};
 ghost use Rattle.relay_conn.specs.declared.side.LeftSide.{LeftSide};
 ghost use Rattle.relay_log.specs.declared.ended.Ended.{Ended as How};
 
+use crate::cause::how_ended;
 use crate::connection::Phase;
 use crate::dialing::Dialing;
-use crate::cause::how_ended;
 use crate::relaying::Relaying;
 use crate::seeking::Seeking;
 use crate::side::LeftSide;

@@ -3,6 +3,7 @@
 #![tactic(auto)]
 
 mod asked;
+mod asked_dialing;
 mod cause;
 pub mod connection;
 mod dialing;

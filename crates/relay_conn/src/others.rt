@@ -2,10 +2,15 @@
 //! be tried.
 
 ghost use Rattle.std.specs.Prelude.{◌≡◌, ◌++◌, ◌∷◌, [], true, false, IfSome, IfNone};
+ghost use Rattle.relay_conn.specs.Connection.{given_up_at};
 ghost use Rattle.relay_conn.specs.Others as spec;
 
+use crate::dialing::Dialing;
 use relay_facts::target_list::Picked;
 use std::alloc::Global;
+use std::sync::Wait;
+use std::sync::ledger::Ledger;
+use std::time::Clock;
 use target_pick::{Tried, moves_on_at};
 
 /// The targets that may take a client beside the one that is dialled: there is one at least.
@@ -21,12 +26,7 @@ pub(crate) struct Others {
 
 /// Those beside the target that was picked, and is dialled now by a socket with this token, for a
 /// client that has until that moment for all; none where it is the last.
-pub(crate) fn others_of(
-    picked: &Picked,
-    token: u64,
-    now: u64,
-    until: Option<u64>,
-) -> Option<Others>
+pub(crate) fn others_of(picked: &Picked, token: u64, now: u64, until: Option<u64>) -> Option<Others>
     ensures { result ≡ spec.others_of picked.now token now until }
 {
     if picked.others == 0 {
@@ -37,6 +37,18 @@ pub(crate) fn others_of(
         tried: picked.tried,
         moves_on_at: moves_on_at(now, until, picked.others),
     })
+}
+
+impl<U: Ledger, D: Ledger, R: Wait + Clock + Copy> Dialing<U, D, R> {
+    /// Knows from now on which targets may be tried in place of the one that was picked, whose socket
+    /// has this token.
+    pub(crate) fn keep_others(&mut self, picked: &Picked, token: u64, now: u64)
+        ensures others { self.new.others
+            ≡ spec.others_of picked.now token now (given_up_at self.new) }
+        ensures kept { self.new ≡ record self.old { others = self.new.others } }
+    {
+        self.others = others_of(picked, token, now, self.given_up_at());
+    }
 }
 
 /// What the dials of a loop go on by: its runtime, and which connections are to try another target

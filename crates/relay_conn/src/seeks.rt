@@ -6,10 +6,13 @@ ghost use Rattle.relay_conn.specs.Asked.{KeepsConnection};
 ghost use Rattle.relay_conn.specs.Connection.{awaited_by, IfDialing, IfSeeking, IsDialing, IsSeeking};
 ghost use Rattle.relay_conn.specs.Dialing.{DialsNext};
 ghost use Rattle.relay_conn.specs.Seeking.{IsNotTried, IsTriedNext};
+ghost use Rattle.relay_conn.specs.Side.{IsWhole, key_of_side};
 ghost use Rattle.std.specs.Arc.{arc_value};
 
 use crate::connection::{Connection, Phase};
+use crate::refused::Refused;
 use crate::seeking::NextTarget;
+use crate::set_up::SetUp;
 use crate::trial::Trial;
 use relay_log::ended::Ended as How;
 use std::net::Net;
@@ -58,5 +61,24 @@ impl<U: Ledger, D: Ledger, R: Wait + Clock + Copy> Connection<U, D, R> {
         if let Some(Phase::Seeking(seeking)) = &mut self.phase {
             seeking.failure = Some(how);
         }
+    }
+}
+
+impl<'a, R: Wait + Clock + Copy> SetUp<'a, R> {
+    /// A connection's next target, by its socket, under the token that the one before had; or what
+    /// refused it, and then its socket is dropped.
+    pub fn next_target(&self, trial: Trial, token: u64) -> Result<NextTarget<R>, Refused>
+        ensures key { IfOk result (λ next. key_of_side next.side ≡ token) }
+        ensures whole { IfOk result (λ next. IsWhole next.side) }
+        ensures picked { IfOk result (λ next. next.picked ≡ trial.picked) }
+        ensures token { IfOk result (λ next. next.token ≡ token) }
+    {
+        let Trial { dialled, picked } = trial;
+        let side = self.side(dialled.into_sock(), token)?;
+        Ok(NextTarget {
+            side,
+            picked,
+            token,
+        })
     }
 }

@@ -19,9 +19,7 @@ use crate::dialing::{Dialing, NewWay};
 use crate::dialled::Dialled;
 use crate::flow::OwnShare;
 use crate::idle_time::IdleTime;
-use crate::others::others_of;
 use crate::refused::Refused;
-use crate::seeking::NextTarget;
 use crate::side::{OpenSide, open_side};
 use crate::trial::Trial;
 use crate::way_time::WayTime;
@@ -125,7 +123,6 @@ fn dialing_of<U: Ledger, D: Ledger, R: Wait + Clock + Copy>(
     down: CarriedShare<D>,
     connect_by: Option<u64>,
 ) -> Dialing<U, D, R>
-    ensures last { result.others ≡ None }
     ensures client { result.client ≡ sides.client }
     ensures target { result.target ≡ sides.target }
     ensures up_time { result.up.time ≡ ways.up.time }
@@ -150,8 +147,8 @@ fn dialing_of<U: Ledger, D: Ledger, R: Wait + Clock + Copy>(
 }
 
 impl<'a, R: Wait + Clock + Copy> SetUp<'a, R> {
-    // A side of a socket, of which the poller tells under this token.
-    fn side(&self, sock: Sock, token: u64) -> Result<OpenSide<R>, Refused>
+    /// A side of a socket, of which the poller tells under this token.
+    pub(crate) fn side(&self, sock: Sock, token: u64) -> Result<OpenSide<R>, Refused>
         ensures whole { IfOk result IsWhole }
         ensures key { IfOk result (λ side. key_of_side side ≡ token) }
     {
@@ -278,25 +275,7 @@ impl<'a, R: Wait + Clock + Copy> SetUp<'a, R> {
         };
         let Given { entered, up, down } = given;
         let mut dialing = dialing_of(sides, ways, up, down, connect_by);
-        let until = dialing.until();
-        dialing.others = others_of(&picked, place.second, self.clock.now(), until);
+        dialing.keep_others(&picked, place.second, self.clock.now());
         Ok(Connection::new(entered.keep(), facts, counted, dialing))
-    }
-
-    /// A connection's next target, by its socket, under the token that the one before had; or what
-    /// refused it, and then its socket is dropped.
-    pub fn next_target(&self, trial: Trial, token: u64) -> Result<NextTarget<R>, Refused>
-        ensures key { IfOk result (λ next. key_of_side next.side ≡ token) }
-        ensures whole { IfOk result (λ next. IsWhole next.side) }
-        ensures picked { IfOk result (λ next. next.picked ≡ trial.picked) }
-        ensures token { IfOk result (λ next. next.token ≡ token) }
-    {
-        let Trial { dialled, picked } = trial;
-        let side = self.side(dialled.into_sock(), token)?;
-        Ok(NextTarget {
-            side,
-            picked,
-            token,
-        })
     }
 }

@@ -44,11 +44,7 @@ pub struct NoTrial {
 
 /// Begins a connection for this client, for whom those targets were tried before. None is begun
 /// where no target is left, or where there is no descriptor: that is no target's fault.
-pub fn next_trial<R: Net>(
-    rt: &R,
-    acceptance: &Acceptance,
-    tried: Tried,
-) -> Result<Trial, NoTrial>
+pub fn next_trial<R: Net>(rt: &R, acceptance: &Acceptance, tried: Tried) -> Result<Trial, NoTrial>
     ensures trial { IfOk result (IsTrial acceptance.now tried) }
     ensures none { IfErr result (IsNoTrial acceptance.now) }
 {

@@ -72,14 +72,14 @@ module _ {U D R : Type 0} where
       first same time here = tt
   for_client (Ok connection) client counted its connect_ms at place facts connect_by trial set_up counts begun rule targets
       first same time here = record {
-    facts = facts;
-    rule = rule;
-    targets = targets;
-    trial = trial;
-    first = first;
-    begun = subst (λ p. IfDialing connection.phase (IsBegunWith trial p)) here begun;
-    connect_by = connect_by;
-    time = time;
-    set_up = subst (λ p. IsSetUp facts p connect_by connection) here set_up;
-    counts = counts ∙ same;
-  }
+        facts = facts;
+        rule = rule;
+        targets = targets;
+        trial = trial;
+        first = first;
+        begun = subst (λ p. IfDialing connection.phase (IsBegunWith trial p)) here begun;
+        connect_by = connect_by;
+        time = time;
+        set_up = subst (λ p. IsSetUp facts p connect_by connection) here set_up;
+        counts = counts ∙ same;
+      }

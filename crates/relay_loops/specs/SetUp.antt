@@ -36,8 +36,8 @@ IsRefusedFor client (refused.Target last) =
 IsRefusedFor client other = Unit {0}
 
 module _ {U D R : Type 0} where
-  -- a connection is set up for this client: by what its rule said, with the first of its targets, with what counts it, for this
-  -- place, and with so many milliseconds for its target
+  -- a connection is set up for this client: by what its rule said, with the first of its targets,
+  -- with what counts it, for this place, and with so many milliseconds for its target
   pub record IsConnectionFor (client : Acceptance) (counted : Counted) (connect_ms : Option ℕ)
       (at : Place) (connection : Connection U D R) : Type 0 where
     pub facts : Arc ConnectionFacts Global

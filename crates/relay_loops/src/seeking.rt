@@ -10,6 +10,7 @@ ghost use Rattle.relay_loops.specs.Turns.{StayArmed};
 
 use crate::loops::{ConnLoop, LoopHost};
 use relay_conn::seeking::NextTarget;
+use relay_conn::trial::Trial;
 use relay_facts::clock::Moments;
 use relay_log::ended::Ended as How;
 use std::net::Net;
@@ -52,13 +53,39 @@ impl<U: Ledger, D: Ledger, R: Wait + Net + Clock + Copy> LoopHost<U, D, R> {
         ensures others { OthersKept (tasks_of tasks.old) (tasks_of tasks.new) token }
         ensures armed { StayArmed (tasks_of tasks.old) (tasks_of tasks.new) }
     {
-        let trial = match tasks.task_mut(token)?.next_trial(&self.context.rt)? {
-            Ok(trial) => trial,
-            Err(how) => return Some(Err(how)),
-        };
-        match self.context.set_up(tasks.poller()).next_target(trial, token) {
-            Ok(next) => Some(Ok(next)),
-            Err(refused) => Some(Err(refused.how())),
+        match self.begin_next(tasks, token)? {
+            Ok(trial) => Some(self.registered(tasks, token, trial)),
+            Err(how) => Some(Err(how)),
+        }
+    }
+
+    // Begins a connection to its next target, or says how it ends.
+    fn begin_next(&self, tasks: &mut ConnLoop<U, D, R>, token: u64) -> Option<Result<Trial, How>>
+        ensures others { OthersKept (tasks_of tasks.old) (tasks_of tasks.new) token }
+        ensures armed { StayArmed (tasks_of tasks.old) (tasks_of tasks.new) }
+    {
+        match tasks.task_mut(token) {
+            Some(task) => task.next_trial(&self.context.rt),
+            None => None,
+        }
+    }
+
+    // The side of what was begun, under this token, or how that ends.
+    fn registered(
+        &self,
+        tasks: &ConnLoop<U, D, R>,
+        token: u64,
+        trial: Trial,
+    ) -> Result<NextTarget<R>, How>
+        ensures { IfOk result (λ next. token_of_next next ≡ token) }
+    {
+        match self
+            .context
+            .set_up(tasks.poller())
+            .next_target(trial, token)
+        {
+            Ok(next) => Ok(next),
+            Err(refused) => Err(refused.how()),
         }
     }
 
@@ -70,10 +97,11 @@ impl<U: Ledger, D: Ledger, R: Wait + Net + Clock + Copy> LoopHost<U, D, R> {
         ensures armed { StayArmed (tasks_of tasks.old) (tasks_of tasks.new) }
     {
         let now = self.context.clock.now();
-        if let Some(task) = tasks.task_mut(token) {
-            task.dial_on(next, now);
-            tasks.keep_time(&*self, token);
-        }
+        let Some(task) = tasks.task_mut(token) else {
+            return;
+        };
+        task.dial_on(next, now);
+        tasks.keep_time(&*self, token);
     }
 
     // Ends it so.

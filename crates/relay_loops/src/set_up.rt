@@ -16,7 +16,7 @@ use readiness::{Poller, Sock};
 use relay_conn::connection::Connection;
 use relay_conn::refused::Refused;
 use relay_conn::set_up::{Begins, SetUp};
-use relay_conn::trial::next_trial;
+use relay_conn::trial::{Trial, next_trial};
 use relay_core::idle_deadline;
 use relay_facts::clock::Moments;
 use relay_facts::connection_facts::{Acceptance, ConnectionFacts};
@@ -83,10 +83,33 @@ impl<R: Wait + Net + Clock + Copy> LoopContext<R> {
             IsIdleEnd (arc_value self.now.shared).safeguards.connect_ms begins.connect_by) }
         ensures refused { IfErr result (IsRefusedFor acceptance.now) }
     {
-        let target = match next_trial(&self.rt, acceptance, Tried::none()) {
-            Ok(target) => target,
-            Err(none) => return Err(Refused::Target(none.last())),
-        };
+        match next_trial(&self.rt, acceptance, Tried::none()) {
+            Ok(target) => self.begins_with(sock, acceptance, counted, target),
+            Err(none) => Err(Refused::Target(none.last())),
+        }
+    }
+
+    // What a connection begins with whose first target is dialled.
+    fn begins_with(
+        &self,
+        sock: Sock,
+        acceptance: &Acceptance,
+        counted: Counted,
+        target: Trial,
+    ) -> Result<Begins, Refused>
+        requires { IsFirstTrial acceptance.now target }
+        ensures target { IfOk result (λ begins.
+            IsFirstTrial (arc_value begins.facts).acceptance begins.target) }
+        ensures rule { IfOk result (λ begins.
+            (arc_value begins.facts).acceptance.rule ≡ acceptance.now.rule) }
+        ensures targets { IfOk result (λ begins.
+            list_in (arc_value begins.facts).acceptance ≡ list_in acceptance.now) }
+        ensures client { IfOk result (λ begins. begins.client ≡ sock) }
+        ensures counted { IfOk result (λ begins. begins.counted ≡ counted) }
+        ensures time { IfOk result (λ begins.
+            IsIdleEnd (arc_value self.now.shared).safeguards.connect_ms begins.connect_by) }
+        ensures refused { IfErr result (IsRefusedFor acceptance.now) }
+    {
         match self.facts(acceptance, target.place()) {
             Some(facts) => Ok(Begins {
                 client: sock,
