@@ -1,7 +1,7 @@
 //! What a rule of a configuration says and this version carries out. Each thing that it comes to do
 //! takes a case away here.
 
-ghost use Rattle.std.specs.Prelude.{◌≡◌, ◌≤◌, [], IfOk, IsSomeAnd, length, map, slice_get};
+ghost use Rattle.std.specs.Prelude.{◌≡◌, ◌≤◌, ◌<◌, [], IfOk, Some, length, map};
 ghost use Rattle.config_values.specs.Addr as config;
 ghost use Rattle.relay_admin.specs.rules.Addr.{address_of};
 ghost use Rattle.relay_config.specs.Entries.{clients_entry, head_entry, rule_entry, sockets_entry, target_entry};
@@ -10,6 +10,7 @@ ghost use Rattle.relay_settings.specs.Meaning.{access_alone, clients_alone, each
 ghost use Rattle.relay_settings.specs.Meaning.{head_alone, is_default_resolve, listen_in, rule_in};
 ghost use Rattle.relay_settings.specs.Meaning.{said_rule_entry, said_target_entry, sockets_alone};
 ghost use Rattle.relay_settings.specs.Meaning.{target_behind, targets_in};
+ghost use Rattle.relay_settings.specs.Targets.{first_at};
 
 use crate::address::{address_at, served_if, time_in, unserved};
 use crate::targets::{MAX_TARGETS, SaidRule, Target};
@@ -168,8 +169,8 @@ fn target_behind(rule: usize, found: &[Target], target: &config::Target) -> Resu
 fn first_address(rule: usize, targets: &[Target]) -> Result<Addr, Fault>
     ensures address { Reads address_of result
         (first_address rule (map said_target_entry targets.now)) }
-    ensures own { IfOk result (λ at.
-        IsSomeAnd (slice_get targets.now 0) (λ target. target.at ≡ at)) }
+    ensures some { IfOk result (λ at. 0 < length targets.now) }
+    ensures own { IfOk result (λ at. first_at targets.now ≡ Some at) }
 {
     let [first, ..] = targets else {
         return Err(unserved(Spot::of(Place::Rule(rule), Key::Target)));

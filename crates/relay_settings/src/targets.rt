@@ -1,8 +1,7 @@
 //! A rule with its targets, as a file says them.
 
-ghost use Rattle.std.specs.Prelude.{◌≡◌, ◌≤◌, ◌∷◌, [], IfOk, IsSomeAnd, IsTrue, ◌↔◌, length, slice_get};
-ghost use Rattle.relay_settings.specs.Targets.{own_target};
-ghost use Rattle.target_pick.specs.declared.picking.Balance.{Balance};
+ghost use Rattle.std.specs.Prelude.{◌≡◌, ◌≤◌, ◌<◌, ◌∷◌, [], IfOk, IsTrue, Some, ◌↔◌, length};
+ghost use Rattle.relay_settings.specs.Targets.{first_at, own_target};
 ghost use Rattle.target_pick.specs.declared.picking.Balance.TheVariants.{RoundRobin};
 
 use base_types::OutOfMemory;
@@ -32,7 +31,8 @@ pub struct SaidRule {
     pub balance: Balance,
     /// 1 to 64, in the order of the file.
     pub targets: Vec<Target>,
-    ghost first: { IsSomeAnd (slice_get targets.items 0) (λ target. target.at ≡ rule.target) },
+    ghost some: { 0 < length targets.items },
+    ghost first: { first_at targets.items ≡ Some rule.target },
     ghost few: { length targets.items ≤ 64 },
 }
 
