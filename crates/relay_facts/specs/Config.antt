@@ -13,10 +13,10 @@ use Rattle.relay_facts.specs.declared.served_rule.Said.{Said}
 use Rattle.relay_facts.specs.declared.served_rule.ServedRule.{ServedRule}
 
 -- what an account says is this rule, with its targets, of which one is picked as it says
-pub record SaysRule (rule : SaidRule) (said : Said) : Type 0 where
-  pub rule : said.rule ≡ rule.rule
-  pub targets : targets_with (option_map arc_value said.targets) said.rule ≡ rule.targets.items
-  pub balance : IfSome said.targets (λ list. (arc_value list).balance ≡ rule.balance)
+pub record SaysRule (given : SaidRule) (said : Said) : Type 0 where
+  pub rule : said.rule ≡ given.rule
+  pub targets : targets_with (option_map arc_value said.targets) said.rule ≡ given.targets.items
+  pub balance : IfSome said.targets (λ list. (arc_value list).balance ≡ given.balance)
 
 -- a rule is served at its own address, and so many loops count for it
 abbrev pub ServesRule : Rule → ℕ → ServedRule → Type 0

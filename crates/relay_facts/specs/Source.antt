@@ -1,5 +1,5 @@
 -- What the file of a relay says.
-use Rattle.std.specs.Prelude.{◌≡◌, ◌∷◌, [], ℕ, All, List, map}
+use Rattle.std.specs.Prelude.{◌≡◌, ◌∷◌, [], ℕ, List, Some, length, map, slice_get}
 use Rattle.relay_admin.specs.declared.rules.rule.Rule.{Rule}
 use Rattle.relay_admin.specs.rules.Fault.{SaysRules}
 use Rattle.relay_admin.specs.rules.Grammar.{entries_of}
@@ -19,10 +19,15 @@ SaysNoSettings (source.Config path) settings = Unit {0}
 abbrev pub rules_said : List SaidRule → List Rule
 rules_said all = map (λ said. said.rule) all
 
+-- the rule, with its own target alone
+abbrev pub IsAlone : Rule → SaidRule → Type 0
+IsAlone rule said = (said.rule ≡ rule) × (said.targets.items ≡ own_target rule ∷ [])
+
 -- these rules, each with its own target alone
 pub record AreAlone (rules : List Rule) (all : List SaidRule) : Type 0 where
-  pub rules : rules_said all ≡ rules
-  pub targets : All (λ said. said.targets.items ≡ own_target said.rule ∷ []) all
+  pub count : length all ≡ length rules
+  pub each : (k : ℕ) (rule : Rule) (said : SaidRule) → slice_get rules k ≡ Some rule
+      → slice_get all k ≡ Some said → IsAlone rule said
 
 -- the text is a rules file with these rules, each with its own target alone
 abbrev pub SaysRulesAlone : List ℕ → List SaidRule → Type 0

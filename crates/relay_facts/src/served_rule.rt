@@ -89,10 +89,11 @@ impl ServedRule {
         ensures listen { IfOk result (λ served. (arc_value served).listen ≡ said.rule.listen) }
         ensures loops { IfOk result (λ served. loops_of (arc_value served).counts ≡ loops) }
     {
+        let Said { rule, targets } = said;
         let counts = RuleCounts::new(alloc, loops)?;
         let served = ServedRule {
-            listen: said.rule.listen,
-            said: Mutex::new(said),
+            listen: rule.listen,
+            said: Mutex::new(Said { rule, targets }),
             picks: AtomicU64::new(0),
             is_listening: AtomicBool::new(false),
             standing: AtomicU64::new(0),
