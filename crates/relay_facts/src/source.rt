@@ -2,7 +2,7 @@
 
 ghost use Rattle.std.specs.Prelude.{◌≡◌, IfOk, IfErr};
 ghost use Rattle.relay_admin.specs.ServeFault.{IsFileFault};
-ghost use Rattle.relay_facts.specs.Source.{AreAlone, SaysNoSettings, SaysRulesAlone};
+ghost use Rattle.relay_facts.specs.Source.{SaysNoSettings, SaysTheseRules, rules_said};
 ghost use Rattle.relay_settings.specs.Settings.{SaysNothing};
 ghost use Rattle.relay_admin.specs.declared.serve_fault.ServeFault.{ServeFault};
 
@@ -15,7 +15,7 @@ use std::fs::Files;
 
 // These rules, each of which names its own target alone.
 fn each_alone(alloc: Global, rules: &[Rule]) -> Result<Vec<SaidRule>, OutOfMemory>
-    ensures { IfOk result (λ all. AreAlone rules.now all.items) }
+    ensures { IfOk result (λ all. rules_said all.items ≡ rules.now) }
 {
     let mut all = Vec::new(alloc);
     for rule in rules {
@@ -28,7 +28,7 @@ fn each_alone(alloc: Global, rules: &[Rule]) -> Result<Vec<SaidRule>, OutOfMemor
 #[tactic(auto, using(crate::proofs::FileFaults::of_memory))]
 fn said_by_rules(alloc: Global, text: &[u8]) -> Result<Said, ServeFault>
     ensures settings { IfOk result (λ said. SaysNothing said.settings) }
-    ensures rules { IfOk result (λ said. SaysRulesAlone text.now said.rules.items) }
+    ensures rules { IfOk result (λ said. SaysTheseRules text.now said.rules.items) }
     ensures faults { IfErr result (λ fault. IsFileFault fault) }
 {
     let rules = rules_of(text)?;
