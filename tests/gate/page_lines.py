@@ -44,12 +44,13 @@ def filled(words):
     return [PLACES.get(it, it) for it in words]
 
 
-def with_paths(words, rules, admin):
-    """The words with these paths of a rules file and an admin socket."""
+def with_paths(words, rules, admin, config=""):
+    """The words with these paths of a rules file, an admin socket and a configuration."""
     if not words:
         return []
     text = "\0".join(words)
     text = re.sub(r"--rules[=\0](?!examples/)[^\0]*", f"--rules\0{rules}", text)
+    text = re.sub(r"--config[=\0](?!examples/)[^\0]*", f"--config\0{config}", text)
     return re.sub(r"--admin[=\0][^\0]*", f"--admin\0{admin}", text).split("\0")
 
 
@@ -71,12 +72,11 @@ def asks(checks, line, words):
 
 
 def serves(checks, line, words):
-    """A line of `serve`: the options behind its rules and its admin socket, which are this script's own."""
+    """A line of `serve`: the options behind its file and its admin socket, which are this script's own."""
     given = with_paths(shell_lines.redirected(words)[0], "", "")
-    while "--rules" in given:
-        del given[given.index("--rules") : given.index("--rules") + 2]
-    while "--admin" in given:
-        del given[given.index("--admin") : given.index("--admin") + 2]
+    for option in ("--rules", "--config", "--admin"):
+        while option in given:
+            del given[given.index(option) : given.index(option) + 2]
     own = {"--metrics": f"tcp:127.0.0.1:{free_port()}", "--log": "-"}
     given = [own.get(option, it) for option, it in zip(given, given[1:])]
     with Relay(f"relay web tcp:127.0.0.1:{free_port()} tcp:127.0.0.1:9 never\n", options=given) as relay:
@@ -87,8 +87,10 @@ def others(checks, line, words, folder):
     words, files = shell_lines.redirected(words)
     with open(f"{folder}/rules", "w", encoding="ascii") as file:
         file.write("relay web unix:/a unix:/b never\n")
+    with open(f"{folder}/config", "w", encoding="ascii") as file:
+        file.write('[[rule]]\nname = "web"\nlisten = ["unix:/a"]\ntarget = [{ at = "unix:/b" }]\n')
     with open(f"{ROOT}/{files[0]}" if files else os.devnull, "rb") as stdin:
-        is_taken(checks, line, run(with_paths(words, f"{folder}/rules", ""), stdin))
+        is_taken(checks, line, run(with_paths(words, f"{folder}/rules", "", f"{folder}/config"), stdin))
 
 
 def shown(checks, tree, folder):

@@ -50,7 +50,7 @@ esac
 
 # Names of signals, and beside them: `opens`, by which the relay answers from now on, and `heard`, by which the wrapper has told
 # the relay as many commands as there were signals, and `tried`, by which it has tried to. A `group` ahead sends a signal to every
-# process of the group. `early` has the wrapper send itself so many TERMs once the relay has begun, and before it notes its number.
+# process of the group. `early` names the signals that the wrapper sends itself once the relay has begun, and before it notes its number.
 Row = namedtuple("Row", "name steps said status options given", defaults=((), {}))
 ROWS = (
     Row("TERM lets connections end", "TERM", ["finish 30000"], 0),
@@ -76,8 +76,9 @@ ROWS = (
     Row("status 2", "TERM", ["finish 30000"], 2, (), {"status": "2"}),
     Row("status 3", "TERM", ["finish 30000"], 3, (), {"status": "3"}),
     Row("a relay that ends by itself", "", [], 3, (), {"status": "3", "ends_by": "itself"}),
-    Row("a TERM before the relay's number is known", "", ["finish 30000"], 0, (), {"early": "1"}),
-    Row("two of them", "", ["stop"], 0, (), {"early": "2", "ends_by": "stop"}),
+    Row("a TERM before the relay's number is known", "", ["finish 30000"], 0, (), {"early": "TERM"}),
+    Row("two of them", "", ["stop"], 0, (), {"early": "TERM TERM", "ends_by": "stop"}),
+    Row("a HUP before it is known", "heard TERM", ["reload", "finish 30000"], 0, (), {"early": "HUP"}),
 )
 # Times that `finish` wouldn't take, and none.
 NO_TIMES = ("", "x", "-1", "1 2", "030", "86400001", "999999999", "18446744073709551616")
@@ -97,19 +98,20 @@ class Wrapped:
         os.chmod(self.program, 0o755)
         open(f"{self.folder}/said", "w", encoding="ascii").close()
         self.errors = open(f"{self.folder}/errors", "wb")
-        given = {"status": "0", "ends_by": "finish", "refuses": "", "opens": "at once", "early": "0", **row.given}
+        given = {"status": "0", "ends_by": "finish", "refuses": "", "opens": "at once", "early": "", **row.given}
+        self.early = given["early"].split()
         self.words = ["--rules", "the rules", "--admin", f"{self.folder}/admin"]
         self.process = subprocess.Popen(
-            [*before, shell, self.wrapper(int(given["early"])), *row.options, *self.words], env={**os.environ, "POLLRELAY": self.program, **given},
+            [*before, shell, self.wrapper(), *row.options, *self.words], env={**os.environ, "POLLRELAY": self.program, **given},
             stdin=subprocess.DEVNULL, stderr=self.errors, start_new_session=True,
         )
 
-    def wrapper(self, early):
-        """The wrapper's path, or that of a copy that sends itself TERMs early."""
-        if not early:
+    def wrapper(self):
+        """The wrapper's path, or that of a copy that sends itself signals early."""
+        if not self.early:
             return WRAPPER
         with open(WRAPPER, encoding="ascii") as file:
-            text = file.read().replace("\nrelay=$!\n", "\n" + "kill -TERM $$\n" * early + "relay=$!\n")
+            text = file.read().replace("\nrelay=$!\n", "\n" + "".join(f"kill -{name} $$\n" for name in self.early) + "relay=$!\n")
         with open(f"{self.folder}/wrapper", "w", encoding="ascii") as file:
             file.write(text)
         return file.name
@@ -130,7 +132,7 @@ class Wrapped:
         return below[0] if "unshare" in self.process.args[0] and below else self.process.pid
 
     def take(self, steps):
-        sent = 0
+        sent = len(self.early)
         for step in steps.split():
             if step == "opens":
                 open(f"{self.folder}/open", "w", encoding="ascii").close()

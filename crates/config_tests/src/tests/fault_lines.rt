@@ -207,17 +207,19 @@ const ROWS: &[(&str, &str)] = &[
     ("\"a\\nb\" = 1\n", "bad config: unknown key \"a\\nb\""),
 ];
 
-/// Whether a text's fault has this line, or memory was refused.
-fn says(alloc: Global, text: &str, want: &str) -> bool {
-    let Err(fault) = Config::parse(alloc, text.as_bytes()) else {
-        return false;
-    };
-    if fault == Fault::Memory {
-        return true;
-    }
+/// Whether this fault of a text has this line, or memory was refused.
+fn is_line(alloc: Global, text: &str, fault: Fault, want: &str) -> bool {
     match fault_line(alloc, text.as_bytes(), fault) {
         Ok(line) => line.as_str() == want,
         Err(_) => true,
+    }
+}
+
+/// The same of the fault that the text has.
+fn says(alloc: Global, text: &str, want: &str) -> bool {
+    match Config::parse(alloc, text.as_bytes()) {
+        Ok(_) => false,
+        Err(fault) => fault == Fault::Memory || is_line(alloc, text, fault, want),
     }
 }
 
@@ -233,7 +235,6 @@ fn a_key_that_the_reader_doesnt_carry_out_is_named_like_others(rt: HostRuntime) 
     let text =
         "[[rule]]\nname = \"web\"\nhealth = {}\nlisten = [\"unix:/a\"]\ntarget = [{ at = \"unix:/b\" }]\n";
     let fault = Fault::At(Spot::of(Place::Rule(0), Key::Health), Wrong::Unserved);
-    let line = fault_line(rt.alloc(), text.as_bytes(), fault);
     let want = "bad config: rule \"web\": health: this version doesn't serve it";
-    assert!(rt; matches!(line, Ok(line) if line.as_str() == want));
+    assert!(rt; is_line(rt.alloc(), text, fault, want), "{want}");
 }

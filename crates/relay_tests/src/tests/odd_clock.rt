@@ -72,6 +72,16 @@ impl<R: Abort> Abort for OddClock<R> {
     }
 }
 
+impl<R: Eprint> Eprint for OddClock<R> {
+    fn eprint<D: Display + Drop>(&self, value: D) -> io::Result<()> {
+        self.rt.eprint(value)
+    }
+
+    fn eprintln<D: Display + Drop>(&self, value: D) -> io::Result<()> {
+        self.rt.eprintln(value)
+    }
+}
+
 impl<R: Net> Net for OddClock<R> {
     type Stream = R::Stream;
 
