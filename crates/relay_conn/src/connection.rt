@@ -161,7 +161,9 @@ impl<U: Ledger, D: Ledger, R: Wait + Clock + Copy> Connection<U, D, R> {
             Some(Phase::Dialing(dialing)) => {
                 self.phase = Some(Phase::Seeking(Seeking::of(rt, dialing)));
             }
-            other => self.phase = other,
+            Some(Phase::Seeking(seeking)) => self.phase = Some(Phase::Seeking(seeking)),
+            Some(Phase::Relaying(relaying)) => self.phase = Some(Phase::Relaying(relaying)),
+            None => unreachable!(),
         }
         PairNext::Again
     }
@@ -180,10 +182,15 @@ impl<U: Ledger, D: Ledger, R: Wait + Clock + Copy> Connection<U, D, R> {
                 self.phase = Some(Phase::Relaying(relaying));
                 next
             }
-            other => {
-                self.phase = other;
+            Some(Phase::Seeking(seeking)) => {
+                self.phase = Some(Phase::Seeking(seeking));
                 PairNext::Waits
             }
+            Some(Phase::Relaying(relaying)) => {
+                self.phase = Some(Phase::Relaying(relaying));
+                PairNext::Waits
+            }
+            None => unreachable!(),
         }
     }
 

@@ -50,7 +50,9 @@ impl<U: Ledger, D: Ledger, R: Wait + Clock + Copy> Connection<U, D, R> {
             Some(Phase::Seeking(seeking)) => {
                 self.phase = Some(Phase::Dialing(seeking.dial_on(next, now)));
             }
-            other => self.phase = other,
+            Some(Phase::Dialing(dialing)) => self.phase = Some(Phase::Dialing(dialing)),
+            Some(Phase::Relaying(relaying)) => self.phase = Some(Phase::Relaying(relaying)),
+            None => unreachable!(),
         }
     }
 
