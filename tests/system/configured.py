@@ -27,6 +27,7 @@ from lib.checks import Checks
 from lib.metrics import scrape
 from lib.places import LIB, PROGRAM, ROOT
 from lib.relay import Relay, StartFault, allow_descriptors
+from lib.signals import hear_all
 from lib.sockets import connect, free_port, listener, some_address
 from lib.stages import options, run_stages
 from lib.talk import both_ways
@@ -417,6 +418,7 @@ STAGES = {
 def main():
     given = options(__doc__, STAGES)
     allow_descriptors()
+    hear_all()
     checks = Checks()
     run_stages(checks, STAGES, given.stages)
     return checks.end()

@@ -164,6 +164,12 @@ def wrong_values(tree, command, given, is_part):
     for name, option in command.options.items():
         if option.is_needed and name not in given and not is_part:
             return f"lacks `--{name}`"
+    files = {"rules", "config"} & set(command.options)
+    if len(files) == 2 and not is_part and not files & set(given):
+        return "lacks `--rules` or `--config`"
+    # A rules file can't say where admin sessions are served.
+    if "rules" in given and "admin" in command.options and "admin" not in given and not is_part:
+        return "lacks `--admin`"
     path = given.get("rules", "")
     return f"there is no {path}" if path.startswith("examples/") and not tree.has(path) else None
 
