@@ -2,4 +2,3 @@ pub mod ConnectionLemmas
 pub mod DeadlinesLemmas
 pub mod DrainedLemmas
 pub mod RelayingLemmas
-pub mod TrialLemmas
