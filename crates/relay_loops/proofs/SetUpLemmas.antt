@@ -39,14 +39,14 @@ put_over old mid new at task same put = record {
 pub trial_for : (one other : Acceptance) (trial : Trial) → other.rule ≡ one.rule → list_in other ≡ list_in one
     → other.client ≡ one.client → IsFirstTrial one trial → IsFirstTrial other trial
 trial_for one other trial rule list client first =
-    let its = first.trial in
+    let its = first.begun in
     let targets : targets_in one ≡ targets_in other =
     ap (λ (l : Option Targets). targets_with l one.rule) (sym list)
     ∙ ap (λ (r : Rule). targets_with (list_in other) r) (sym rule) in
     record {
       none = first.none;
       untried = first.untried;
-      trial = record {
+      begun = record {
         before = its.before;
         kept = its.kept;
         next = subst (λ ts. IsNext ts its.before trial.picked) targets its.next;

@@ -27,7 +27,7 @@ use Rattle.target_pick.specs.declared.tried.Tried.{Tried}
 pub record IsFirstTrial (client : Acceptance) (trial : Trial) : Type 0 where
   pub none : Tried
   pub untried : (place : ℕ) → was_tried none place ≡ false
-  pub trial : IsTrial client none trial
+  pub begun : IsTrial client none trial
 
 -- where targets refused a client, all were tried that may take it, or there was no descriptor
 abbrev pub IsRefusedFor : Acceptance → Refused → Type 0

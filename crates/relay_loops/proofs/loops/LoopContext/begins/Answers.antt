@@ -5,7 +5,7 @@ pub begins_with-requires : goal.begins_with-requires
 begins_with-requires g c = record {
   none = c.none.result;
   untried = c.none.ensures;
-  trial = c.in-Ok.ensures.trial;
+  begun = c.in-Ok.ensures.trial;
 }
 
 pub returns-in-Err-clause-refused : goal.returns-in-Err-clause-refused
