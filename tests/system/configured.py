@@ -277,7 +277,10 @@ def by_signal(checks, folder):
 
 
 def refusing(folder, number):
-    return {"LD_PRELOAD": library(f"{LIB}/refuse_nth.c", f"{folder}/refuse_nth.so"), "REFUSE": str(number)}
+    made = f"{folder}/refuse_nth.so"
+    if not os.path.exists(made):
+        library(f"{LIB}/refuse_nth.c", made)
+    return {"LD_PRELOAD": made, "REFUSE": str(number)}
 
 
 def said_in(errors):
