@@ -346,7 +346,10 @@ def converted(checks, folder):
 
 
 def refusing(folder, number):
-    return {"LD_PRELOAD": library(f"{LIB}/refuse_nth.c", f"{folder}/refuse_nth.so"), "REFUSE": str(number)}
+    made = f"{folder}/refuse_nth.so"
+    if not os.path.exists(made):
+        library(f"{LIB}/refuse_nth.c", made)
+    return {"LD_PRELOAD": made, "REFUSE": str(number)}
 
 
 def said_in(errors):
