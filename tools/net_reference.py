@@ -45,6 +45,9 @@ GO = {
     "Conn::close_write": "`TCPConn.CloseWrite`", "Conn::close": "`Conn.Close`, which also ends the calls under way and waits for them",
     "Conn::peer_addr": "`Conn.RemoteAddr`", "Conn::local_addr": "`Conn.LocalAddr`", "Conn::try_clone": "none: goroutines share one value",
     "Service::shutdown": "`http.Server.Shutdown`", "Service::stop": "`http.Server.Close`", "Lines": "`bufio.Scanner`, with a buffer of a limit",
+    "ServiceCloser": "a `context.CancelFunc`", "ServiceCloser::shutdown": "`http.Server.Shutdown` in a goroutine of its own",
+    "Service::wait": "none: `http.Server.Serve` returns at once, and `Shutdown` waits", "Lines::read": "`Scanner.Scan`", "Lines::line": "`Scanner.Bytes`",
+    "Task": "none: a goroutine a connection", "Cause::idle": "none: `SetReadDeadline` before each read",
     "Net": "none: its runtime has the poller", "Net::serve": "none: a goroutine a connection", "address_of": "`net.ResolveTCPAddr`, which looks names up",
 }
 # Which time ends a call's wait.
@@ -174,7 +177,7 @@ def page():
         "# The library net",
         "",
         "For authors of programs on sockets: the reference of each call. `tools/net_reference.py` makes this page of the doc comments and",
-        "contracts in `crates/net/src`. `net-guide.md` builds a server in four steps; `sockets.md` says more of tasks.",
+        "contracts in `crates/net/src`. `net-guide.md` builds servers step by step; `sockets.md` says more of tasks.",
         "",
         "A connection is shared by clones, one a thread; a clone is a `Read` and a `Write`. Clones share time-outs and the deadline; the earlier",
         "one wins. A time-out starts once a call has its direction to itself. A read answers `Ok(0)` at the peer's end.",

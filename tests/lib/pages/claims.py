@@ -19,7 +19,7 @@ from lib.clause_texts import HEAD, owner_of
 
 HEADS = ("Function and clause", "Contract that carries it", "Clause")
 PAGES = ("README.md", "docs/guarantees.md")
-PROGRAMS = ("pollrelay", "echo_server", "page_server", "loop_echo_server")
+PROGRAMS = ("pollrelay", "echo_server", "page_server", "loop_echo_server", "line_server")
 # What crates of the kit call: a service's `call`, by `http_server`.
 BY_KIT = {"call"}
 # What no program calls, though each calls something of the same name: the symbols of the programs that `tools/unproved.py` builds
