@@ -1,0 +1,7 @@
+use Rattle.net.proofs.Drops.{HasDropped}
+use Rattle.net.proofs.gentle.drop_to_end.Given as goal
+
+-- what came so far is counted
+abbrev pub invariant-reads : goal.invariant-reads
+invariant-reads g l =
+    HasDropped l.dropped (g.S.Read.remaining l.fn.source) (g.S.Read.remaining l.source)
