@@ -15,6 +15,6 @@ pub drops_more : (count more : ℕ) (before source after : Option (List ℕ)) (g
     → HasDropped (min (count + more) (2 ^ 64 - 1)) before after
 drops_more count more before source after gave dropped read is = (
   dropped.0 ++ gave,
-  Consumes-trans before source after dropped.0 gave dropped.1.0 read,
-  omega (arith, dropped.1.1, is, length-append dropped.0 gave),
+  Consumes-trans before source after dropped.0 gave dropped.1 read,
+  omega (arith, dropped.2, is, length-append dropped.0 gave),
 )

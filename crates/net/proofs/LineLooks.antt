@@ -40,35 +40,44 @@ takes_on old mid new came part left before empty after =
     }
 
 -- what is found behind bytes in which was no line feed is found in all of them
-pub finds_on : (limit : ℕ) (found : Found) (old mid new : Reading) (came : List ℕ)
-    → Finds limit found.Unended old mid → Finds limit found (with_more mid came) new
-    → Finds limit found (with_more old came) new
+pub finds_on : (limit : ℕ) (what : Found) (old mid new : Reading) (came : List ℕ)
+    → Finds limit found.Unended old mid → Finds limit what (with_more mid came) new
+    → Finds limit what (with_more old came) new
 finds_on limit found.Line old mid new came before after =
     (old.ahead ++ after.0, takes_on old mid new came after.0 (line_feed ∷ new.ahead) before.0 before.1 after.1)
-finds_on limit found.TooLong old mid new came before after =
-    (old.ahead ++ after.0, takes_on old mid new came after.0 new.ahead before.0 before.1 after.1.0, after.1.1)
+finds_on limit found.TooLong old mid new came before after = (
+  old.ahead ++ after.0,
+  takes_on old mid new came after.0 new.ahead before.0 before.1 after.1,
+  after.2,
+  after.3,
+  after.4,
+  after.5,
+  after.6,
+)
 finds_on limit found.Unended old mid new came before after =
     let same : mid.ahead ++ came ≡ came = ap (λ (l : List ℕ). l ++ came) before.1 in
     (subst (λ (l : List ℕ). TakesPart (with_more old came) new (old.ahead ++ l) []) same
     (takes_on old mid new came (mid.ahead ++ came) [] before.0 before.1 after.0), after.1)
 
--- this answer is the end
-is_end : Option (Result Heard Error) → Type 0
-is_end (Some (Ok heard.End)) = Unit {0}
-is_end _ = ⊥
+-- the answer of who heard this
+abbrev pub answer_of : Heard → Option (Result Heard Error)
+answer_of said = Some (Ok said)
 
 -- who heard a line, or too long a one, didn't hear the end
-pub not_the_end : {T : Type 0} (said : Heard) → said ≢ heard.End
-    → Some (Ok said) ≡ Some (Ok heard.End) → T
-not_the_end heard.Line differs same = absurd (subst is_end (sym same) tt)
-not_the_end heard.TooLong differs same = absurd (subst is_end (sym same) tt)
-not_the_end heard.End differs same = absurd (differs refl)
+pub not_the_end : {T : Type 0} (said : Heard) → said ≢ heard.End → answer_of said ≡ answer_of heard.End → T
+not_the_end said differs same =
+    let is : said ≡ heard.End = cc in
+    absurd (differs is)
 
 -- what was heard was the end
-pub was_the_end : (said : Heard) → Some (Ok said) ≡ Some (Ok heard.End) → Some said ≡ Some heard.End
-was_the_end heard.Line same = absurd (subst is_end (sym same) tt)
-was_the_end heard.TooLong same = absurd (subst is_end (sym same) tt)
-was_the_end heard.End same = refl
+pub was_the_end : (said : Heard) → answer_of said ≡ answer_of heard.End → Some said ≡ Some heard.End
+was_the_end said same =
+    let is : said ≡ heard.End = cc in
+    ap (λ (h : Heard). Some h) is
+
+-- and nothing that was heard wasn't
+pub none_is_no_end : {T : Type 0} → None ≡ answer_of heard.End → T
+none_is_no_end same = absurd (cc)
 
 module _ {LIMIT : ℕ} where
   -- what is heard in bytes that came once all was held is heard in all of them
@@ -123,7 +132,7 @@ module _ {LIMIT : ℕ} where
     came = came;
     read = read;
     answered = pends_on (begun old) mid new came held found;
-    end = λ same. absurd (subst is_end (sym same) tt);
+    end = none_is_no_end;
   }
 
   -- what so many reads gave is held
@@ -138,10 +147,10 @@ module _ {LIMIT : ℕ} where
       → HasLooked (Some (Ok said)) old new before after
   read_hears said old mid new before source after gave held found read end = record {
     came = held.0 ++ gave;
-    read = Consumes-trans before source after held.0 gave held.1.0 read;
+    read = Consumes-trans before source after held.0 gave held.1 read;
     answered =
         subst (λ (r : Reading). Hears said r new) (with_both (begun old) held.0 gave)
-        (hears_on said (with_more (begun old) held.0) mid new gave held.1.1 found);
+        (hears_on said (with_more (begun old) held.0) mid new gave held.2 found);
     end = λ same. end (was_the_end said same);
   }
 
@@ -151,7 +160,7 @@ module _ {LIMIT : ℕ} where
       → Consumes source after gave → HoldsAll old new before after
   read_pends old mid new before source after gave held found read = (
     held.0 ++ gave,
-    Consumes-trans before source after held.0 gave held.1.0 read,
+    Consumes-trans before source after held.0 gave held.1 read,
     subst (λ (r : Reading). IsPending r new) (with_both (begun old) held.0 gave)
-    (pends_on (with_more (begun old) held.0) mid new gave held.1.1 found),
+    (pends_on (with_more (begun old) held.0) mid new gave held.2 found),
   )

@@ -22,7 +22,6 @@ use std::time::Duration;
 const DROPPED_BYTES: usize = 4_096;
 
 // Reads to the end, and says how many bytes came.
-#[tactic(auto, using(crate::proofs::Drops::drops_more))]
 fn drop_to_end<S: Read>(source: &mut S) -> io::Result<u64>
     ensures came { IfOk result (λ count. (came : List ℕ)
         × Consumes (S.remaining source.old) (S.remaining source.new) came

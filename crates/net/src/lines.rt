@@ -125,7 +125,6 @@ impl<const LIMIT: usize> Lines<LIMIT> {
     /// The next line of a reader, for a thread: it reads until there is one. A connection is a
     /// reader, whose time-outs and deadline end the wait. After an error the bytes that came before
     /// are kept, and the next call goes on with them.
-    #[tactic(auto, using(crate::proofs::LineLooks::heard_at_once, crate::proofs::LineLooks::read_hears, crate::proofs::LineLooks::read_pends))]
     pub fn read<S: Read>(&mut self, source: &mut S) -> io::Result<Heard>
         ensures looked { HasLooked (Some result) self.old self.new
             (S.remaining source.old) (S.remaining source.new) }
