@@ -27,7 +27,8 @@ BY_KIT = {"call"}
 NAMESAKES = {
     ("lockword_core", "run"), ("deadline_core", "is_under_way"), ("deadline_core", "stored"), ("fd_descriptor", "read"),
     ("fd_descriptor", "write"), ("readiness", "hold"), ("readiness", "hold_listener"), ("handle_io", "read"), ("handle_io", "write"),
-    ("net", "local_addr"), ("net", "wake"), ("net", "closer"), ("net", "find"), ("net", "find_in"), ("net", "line"), ("conntable", "ids"),
+    ("net", "local_addr"), ("net", "wake"), ("net", "closer"), ("net", "find"), ("net", "find_in"), ("net", "line"),
+    ("net", "socket_closer"), ("net", "step"), ("conntable", "ids"),
 }
 LIBRARY = re.compile(r"library calls?: ((?:`\w+`(?:, | and )?)+)")
 WORD = re.compile(r"[A-Za-z_]\w*")
