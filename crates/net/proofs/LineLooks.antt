@@ -1,5 +1,5 @@
 -- What looks for a line come to together, one after the other.
-use Rattle.std.proofs.Common.{◌≡◌, ◌≢◌, ◌++◌, ◌∷◌, ◌∙◌, ℕ, List, [], ap, sym, refl, append_assoc, append-nil, subst}
+use Rattle.std.proofs.Common.{◌≡◌, ◌≢◌, ◌++◌, ◌∷◌, ◌∙◌, ℕ, List, [], ap, sym, append_assoc, append-nil, subst}
 use Rattle.std.proofs.Common.{Option, Some, None, Result, Ok}
 use Rattle.stream_base.specs.LineReader.{Reading, Finds, TakesPart}
 use Rattle.stream_base.specs.Lines.{line_feed}
@@ -55,9 +55,11 @@ finds_on limit found.TooLong old mid new came before after = (
   after.6,
 )
 finds_on limit found.Unended old mid new came before after =
-    let same : mid.ahead ++ came ≡ came = ap (λ (l : List ℕ). l ++ came) before.1 in
-    (subst (λ (l : List ℕ). TakesPart (with_more old came) new (old.ahead ++ l) []) same
-    (takes_on old mid new came (mid.ahead ++ came) [] before.0 before.1 after.0), after.1)
+    let same : mid.ahead ++ came ≡ came = ap (λ (l : List ℕ). l ++ came) before.1 in (
+      subst (λ (l : List ℕ). TakesPart (with_more old came) new (old.ahead ++ l) []) same
+          (takes_on old mid new came (mid.ahead ++ came) [] before.0 before.1 after.0),
+      after.1,
+    )
 
 -- the answer of who heard this
 abbrev pub answer_of : Heard → Option (Result Heard Error)
@@ -162,5 +164,5 @@ module _ {LIMIT : ℕ} where
     held.0 ++ gave,
     Consumes-trans before source after held.0 gave held.1 read,
     subst (λ (r : Reading). IsPending r new) (with_both (begun old) held.0 gave)
-    (pends_on (with_more (begun old) held.0) mid new gave held.2 found),
+        (pends_on (with_more (begun old) held.0) mid new gave held.2 found),
   )

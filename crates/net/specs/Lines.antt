@@ -1,6 +1,6 @@
 -- What a reader of lines has read, and what it heard.
 use Rattle.std.specs.Prelude.{◌≡◌, ℕ, List, [], ◌++◌, if◌then◌else◌}
-use Rattle.std.specs.Prelude.{Option, Some, None, Result, Ok, Err}
+use Rattle.std.specs.Prelude.{Option, Some, Result, Ok}
 use Rattle.std.specs.Io.KnownBytes.{Consumes, IsAtEnd}
 use Rattle.std.specs.declared.io.Error.{Error}
 use Rattle.stream_base.specs.LineReader.{Reading, Finds}

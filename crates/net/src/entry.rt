@@ -75,7 +75,7 @@ impl Entry {
 pub(crate) struct Shut {
     closer: Closer,
     told: Result<(), Fault>,
-    ghost ended: { OnOk told (SawTheEnd (closer_marks closer)) } by { Prim.hlevel props } ,
+    ghost ended: { OnOk told (SawTheEnd (closer_marks closer)) } by { Prim.hlevel props },
 }
 
 impl Shut {

@@ -3,7 +3,8 @@
 
 ghost use Rattle.std.specs.Prelude.{◌≡◌, ◌⊎◌, ◌^◌, ◌-◌, ℕ, List, true, false, length, min};
 ghost use Rattle.std.specs.Prelude.{OnOk, IfOk};
-ghost use Rattle.std.specs.Io.KnownBytes.{Consumes, IsAtEnd};
+ghost use Rattle.std.specs.Io.{ReadsAtMost};
+ghost use Rattle.std.specs.Io.KnownBytes.{Consumes, IsAtEnd, ReadConsumes};
 ghost use Rattle.fd_descriptor.specs.FdHandle.{KeepsHandle};
 ghost use Rattle.net.specs.Conn.{HasEnded, IsNotConnected, guard_of, handle_of, is_closed};
 ghost use Rattle.net.specs.Gentle.{next_dropping};
@@ -21,17 +22,38 @@ use std::time::Duration;
 /// The most bytes that are read at once, to be dropped.
 const DROPPED_BYTES: usize = 4_096;
 
+// A source that is read to be dropped.
+trait Dropping: Read {
+    // What the first value has to do with the second still holds after each read.
+    ghost keeps: { Self → Self → Type 0 };
+
+    fn read_on(&mut self, chunk: &mut [u8]) -> io::Result<usize>
+        ensures bound { ReadsAtMost result chunk.new }
+        ensures bytes { ReadConsumes (Self.remaining self.old) (Self.remaining self.new)
+            result chunk.new }
+        ensures keeps { (first : Self) → keeps first self.old → keeps first self.new };
+}
+
+impl<R: Runs> Dropping for Conn<R> {
+    ghost keeps = { λ first conn. KeepsHandle (handle_of first) (handle_of conn) };
+
+    fn read_on(&mut self, chunk: &mut [u8]) -> io::Result<usize> {
+        self.read(chunk)
+    }
+}
+
 // Reads to the end, and says how many bytes came.
-fn drop_to_end<S: Read>(source: &mut S) -> io::Result<u64>
+fn drop_to_end<S: Dropping>(source: &mut S) -> io::Result<u64>
     ensures came { IfOk result (λ count. (came : List ℕ)
         × Consumes (S.remaining source.old) (S.remaining source.new) came
         × (count ≡ min (length came) (2 ^ 64 - 1))) }
     ensures end { OnOk result (IsAtEnd (S.remaining source.new)) }
+    ensures keeps { (first : S) → S.keeps first source.old → S.keeps first source.new }
 {
     let mut chunk = [0; DROPPED_BYTES];
     let mut dropped: u64 = 0;
     'reads: for _ in 0..u64::MAX {
-        let count = source.read(&mut chunk)?;
+        let count = source.read_on(&mut chunk)?;
         if count == 0 {
             return Ok(dropped);
         }

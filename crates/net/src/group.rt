@@ -7,10 +7,10 @@ ghost use Rattle.net.specs.Group.{FailsToJoin, group_of, group_in};
 use crate::gone::Gone;
 use crate::limits::moment_in;
 use crate::members::{Joined, Members, NoneLeft};
+use crate::running::Net;
 use crate::runs::Runs;
 use crate::shared::Shared;
 use crate::socket_closer::SocketCloser;
-use crate::running::Net;
 use crate::stream::Conn;
 use fd_descriptor::Deadline;
 use std::io;
@@ -115,10 +115,10 @@ impl<R: Runs> ConnGroup<R> {
 
 // Closes all, and says how many were open.
 fn close_all<R: Runs>(closers: &[SocketCloser<R>]) -> usize {
-    let mut open = 0;
+    let mut open: usize = 0;
     for closer in closers {
         if closer.close().was_open() {
-            open += 1;
+            open = open.saturating_add(1);
         }
     }
     open

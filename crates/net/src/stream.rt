@@ -126,6 +126,7 @@ impl<R: Runs> Conn<R> {
         ensures closed { is_closed self.old ≡ true → IsNotConnected result }
         ensures fails { FailsAs Shuts result }
         ensures untold { untold_of self.new ≡ untold_of self.old }
+        ensures guard { guard_of self.new ≡ guard_of self.old }
     {
         let guard = &*self.guard;
         let shut = self.handle.close_write(&guard.shared.rt);

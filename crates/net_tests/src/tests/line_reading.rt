@@ -129,7 +129,11 @@ const POLLS: &[(&str, &[Read], &[(Option<Heard>, &[u8])])] = &[
     ),
     (
         "as many bytes as the limit, and then one more",
-        &[Read::Gives(b"four"), Read::Gives(b"\nfive"), Read::Gives(b"5")],
+        &[
+            Read::Gives(b"four"),
+            Read::Gives(b"\nfive"),
+            Read::Gives(b"5"),
+        ],
         &[
             (None, b"four"),
             (Some(Heard::Line), b"four"),

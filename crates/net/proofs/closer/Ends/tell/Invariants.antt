@@ -1,4 +1,4 @@
-use Rattle.std.proofs.Common.{◌≡◌, length}
+use Rattle.std.proofs.Common.{◌≡◌}
 use Rattle.net.proofs.closer.Ends.tell.Given as goal
 
 -- as many loops as were gone through were told
