@@ -35,7 +35,7 @@ def connected(port):
 def nanoseconds(program, turns, size, by_clock):
     """The server's processor time a turn, or that of the clock."""
     port = free_port()
-    process = subprocess.Popen([program, str(port), "60000"])
+    process = subprocess.Popen([program, str(port), "60000", f"127.0.0.1:{free_port()}"])
     with connected(port) as client:
         client.setsockopt(socket.IPPROTO_TCP, socket.TCP_NODELAY, 1)
         start = time.monotonic_ns()

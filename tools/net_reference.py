@@ -20,17 +20,25 @@ CALLS, KINDS = ROOT / "crates/fd_descriptor/specs/HandleCalls.antt", ROOT / "cra
 SECTIONS = {
     "A net": ("Net", "Net::start", "Net::stop"),
     "Addresses": ("address_of", "tcp", "UNIX"),
-    "Listeners": ("Listener", "Listener::bind", "Listener::accept", "Listener::try_clone", "Listener::close", "Listener::local_addr"),
+    "Listeners": ("Listener", "Listener::bind", "Listener::accept", "Listener::try_clone", "Listener::close", "Listener::closer", "Listener::local_addr"),
     "Connections": (
         "Conn", "Conn::connect", "Conn::read", "Conn::write", "Conn::flush", "Conn::try_clone", "Conn::set_read_timeout",
-        "Conn::set_write_timeout", "Conn::set_deadline", "Conn::close_write", "Conn::close", "Conn::peer_addr", "Conn::local_addr",
+        "Conn::set_write_timeout", "Conn::set_deadline", "Conn::close_write", "Conn::close", "Conn::close_gently", "Conn::socket_closer",
+        "Conn::peer_addr", "Conn::local_addr", "SocketCloser", "SocketCloser::close", "SocketCloser::try_clone", "Gone", "Gone::was_open",
+    ),
+    "Groups of connections": (
+        "ConnGroup", "ConnGroup::new", "ConnGroup::join", "Member", "ConnGroup::count", "ConnGroup::end", "ConnGroup::wait", "NoneLeft",
+        "ConnGroup::try_clone",
     ),
     "Many connections on a few threads": (
         "Net::serve", "Task", "Task::begin", "Task::step", "Next", "Waits", "Cause", "Cause::idle", "Cause::within", "Conn::poll_read",
         "Conn::poll_write", "Conn::wake", "Service", "Service::local_addr", "Service::shutdown", "Service::wait", "Service::stop",
-        "Service::closer", "Conn::closer", "ServiceCloser", "ServiceCloser::shutdown", "ServiceCloser::try_clone",
+        "Service::closer", "Conn::closer", "ServiceCloser", "ServiceCloser::shutdown", "ServiceCloser::try_clone", "Asked", "Asked::is_first",
+        "Ended", "Ended::cut_off", "GentleClose", "GentleClose::new", "GentleClose::step",
     ),
-    "Lines": ("Lines", "Lines::new", "Lines::poll", "Lines::read", "Heard", "Lines::line", "Lines::find", "Lines::find_in"),
+    "Lines": (
+        "Lines", "Lines::new", "Lines::poll", "PollRead", "Lines::read", "Heard", "Lines::line", "Lines::find", "Lines::find_in",
+    ),
     "What a program is generic over": ("Runs", "Unlinks", "Unlinks::unlink"),
     "For programs that look at times and errors themselves": (
         "Limits", "Limits::none", "Limits::each", "Limits::until", "Limits::with_time", "Limits::with_until", "Times", "error_with",
@@ -45,6 +53,10 @@ GO = {
     "Conn::close_write": "`TCPConn.CloseWrite`", "Conn::close": "`Conn.Close`, which also ends the calls under way and waits for them",
     "Conn::peer_addr": "`Conn.RemoteAddr`", "Conn::local_addr": "`Conn.LocalAddr`", "Conn::try_clone": "none: goroutines share one value",
     "Service::shutdown": "`http.Server.Shutdown`", "Service::stop": "`http.Server.Close`", "Lines": "`bufio.Scanner`, with a buffer of a limit",
+    "ServiceCloser": "a `context.CancelFunc`", "ServiceCloser::shutdown": "`http.Server.Shutdown` in a goroutine of its own",
+    "Service::wait": "none: `http.Server.Serve` returns at once, and `Shutdown` waits", "Lines::read": "`Scanner.Scan`", "Lines::line": "`Scanner.Bytes`",
+    "Task": "none: a goroutine a connection", "Cause::idle": "none: `SetReadDeadline` before each read",
+    "SocketCloser::close": "`Listener.Close` and `Conn.Close`, which any goroutine may call", "ConnGroup::wait": "`sync.WaitGroup.Wait`, without a time",
     "Net": "none: its runtime has the poller", "Net::serve": "none: a goroutine a connection", "address_of": "`net.ResolveTCPAddr`, which looks names up",
 }
 # Which time ends a call's wait.
@@ -55,6 +67,7 @@ TIMES = {
     "Conn::poll_read": "the deadline, where it has passed; a task's own time is in `Next`", "Conn::poll_write": "the deadline, where it has passed; a task's own time is in `Next`",
     "Conn::close_write": "none", "Conn::close": "none: it waits until the calls under way have ended, which it ends",
     "Service::wait": "none, but the time of a shutdown that was asked for", "Service::shutdown": "`within`, from the call on",
+    "Conn::close_gently": "`within`, from the call on", "ConnGroup::wait": "`within`, from the call on", "SocketCloser::close": "none: as `Conn::close`",
     "Lines::read": "the reader's own: of a connection the read time-out and the deadline",
     "Lines::poll": "the deadline, where it has passed; a task's own time is in `Next`",
 }
@@ -66,6 +79,8 @@ FAILS = {
     "Listener::accept": "`OutOfMemory`, or the system's error where the poller refuses the socket",
     "Conn::connect": "`OutOfMemory`, or the system's error; `WouldBlock` where the queue at a Unix path is full",
     "Lines::poll": "as `Conn::poll_read`", "Lines::read": "as its reader does, or `Other` after 2^64 reads",
+    "Conn::close_gently": "`TimedOut` where the peer's end didn't come in time; else as `Conn::set_deadline`, `Conn::close_write`, `Conn::read` and `Conn::close`",
+    "ConnGroup::join": "`NotConnected` where the group was ended, or `OutOfMemory`",
     "Conn::flush": "never", "Task::begin": "as the program's own does",
     "address_of": "`InvalidInput`",
 }
@@ -174,7 +189,7 @@ def page():
         "# The library net",
         "",
         "For authors of programs on sockets: the reference of each call. `tools/net_reference.py` makes this page of the doc comments and",
-        "contracts in `crates/net/src`. `net-guide.md` builds a server in four steps; `sockets.md` says more of tasks.",
+        "contracts in `crates/net/src`. `net-guide.md` builds servers step by step; `sockets.md` says more of tasks.",
         "",
         "A connection is shared by clones, one a thread; a clone is a `Read` and a `Write`. Clones share time-outs and the deadline; the earlier",
         "one wins. A time-out starts once a call has its direction to itself. A read answers `Ok(0)` at the peer's end.",

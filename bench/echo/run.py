@@ -73,9 +73,9 @@ def words_of(name, folder, port):
     idle_ms, listen = "60000", f"127.0.0.1:{port}"
     if name == "loops":
         loops = str(len(os.sched_getaffinity(0)))
-        return [f"{ROOT}/crates/loop_echo_server/out/loop_echo_server", str(port), loops, idle_ms]
+        return [f"{ROOT}/crates/loop_echo_server/out/loop_echo_server", str(port), loops, idle_ms, f"unix:{folder}/end-{port}"]
     if name == "threads":
-        return [f"{ROOT}/crates/echo_server/out/echo_server", str(port), idle_ms]
+        return [f"{ROOT}/crates/echo_server/out/echo_server", str(port), idle_ms, f"unix:{folder}/end-{port}"]
     if name == "go":
         return [f"{folder}/go_echo", listen]
     return [f"{folder}/tokio/target/release/tokio_echo", listen]

@@ -3,8 +3,9 @@
 
     python3 tests/gate/net_guide.py
 
-Steps 2 and 4 have to be the programs of `crates/echo_server` and `crates/loop_echo_server`, but for their names in the head; what
-`tools/unproved.py` builds of these is run. The other steps are built by `rt try`, as their reader does.
+Steps 3, 4 and 6 have to be the programs of `crates/echo_server`, `crates/loop_echo_server` and `crates/line_server`, but for their names
+in the head; what `tools/unproved.py` builds of these is run. Steps 1 and 2 are built by `rt try`, as their reader does. What step 5 quotes
+has to stand in the crate that it copies, which isn't proved here.
 """
 import re
 import shlex
@@ -23,11 +24,13 @@ from lib.waiting import comes
 
 PAGE = f"{ROOT}/docs/net-guide.md"
 START = re.compile(r"^rt try -- (.*)$", re.M)
-# Which step is which crate's program.
-EXAMPLES = {2: "echo_server", 4: "loop_echo_server"}
-SAYS = re.compile(r"(?P<who>[A-Z]\w+) (?P<does>connects to|sends|gets|leaves)(?: (?P<what>.*))?|the server prints (?P<said>.*)")
+PROVES = re.compile(r"^rt check\b", re.M)
+# Which step is which crate's program, and what the guide calls it. (Step 5 starts none.)
+STARTED = (1, 2, 3, 4, 6)
+EXAMPLES = {3: ("echo_server", "echo"), 4: ("loop_echo_server", "echo"), 6: ("line_server", "lines")}
+SAYS = re.compile(r"(?P<who>[A-Z]\w+) (?P<does>connects to|sends|gets|leaves)(?: (?P<what>.*))?|the server (?P<ends>ends)")
 # The page's ports, in place of which free ones are taken.
-PORT = re.compile(r"70\d\d")
+PORT = re.compile(r"\b70\d\d\b")
 QUIET_SECONDS = 0.3
 
 
@@ -51,6 +54,9 @@ class Ready:
     def text(self):
         return text_of(f"{self.made}/said")
 
+    def has_ended_well(self):
+        return comes(lambda: self.process.poll() is not None) and self.process.returncode == 0
+
     def end(self):
         self.process.kill()
         self.process.wait()
@@ -60,7 +66,8 @@ class Guide(Follower):
     """A reader of the guide, with the server of the step that he is at, and its clients by their names."""
 
     def __init__(self, checks, folder):
-        super().__init__(checks, folder, {"HOBRINTZA": ROOT})
+        super().__init__(checks, folder, {"HOBRINTZA": ROOT}, PROVES)
+        self.starts = iter(STARTED)
         self.step, self.server, self.clients, self.ports = 0, None, {}, {}
 
     def give(self, line, text):
@@ -69,16 +76,15 @@ class Guide(Follower):
             super().give(line, text)
             return
         self.end()
-        self.step += 1
-        words = shlex.split(start[1])
-        self.ports = {it: str(free_port()) for it in words if PORT.fullmatch(it)}
-        self.start([self.ports.get(it, it) for it in words])
+        self.step = next(self.starts, self.step)
+        self.ports = {it: str(free_port()) for it in PORT.findall(start[1])}
+        self.start(shlex.split(PORT.sub(lambda it: self.ports[it[0]], start[1])))
 
     def start(self, words):
         program, made = text_of(f"{self.at}/src/main.rt"), tempfile.mkdtemp(dir=self.top)
-        crate = EXAMPLES.get(self.step)
-        if crate:
-            wanted = text_of(f"{ROOT}/crates/{crate}/src/main.rt").replace(f"`{crate} ", "`echo ")
+        if self.step in EXAMPLES:
+            crate, name = EXAMPLES[self.step]
+            wanted = text_of(f"{ROOT}/crates/{crate}/src/main.rt").replace(f"`{crate} ", f"`{name} ")
             self.checks.holds(f"step {self.step}: it is the program of crates/{crate}", program == wanted, f"docs/net-guide.md has another text than crates/{crate}/src/main.rt")
             self.server = Ready(crate, words, made)
         else:
@@ -96,8 +102,8 @@ class Guide(Follower):
         it = SAYS.fullmatch(said)
         if not it:
             return False
-        if it["said"]:
-            return comes(lambda: it["said"] in self.server.text().splitlines())
+        if it["ends"]:
+            return self.server.has_ended_well()
         return self.client(it["who"], it["does"], it["what"])
 
     @staticmethod
@@ -140,7 +146,7 @@ def main():
             checks.holds(f"step {guide.step}", False, f"cut short by {fault!r}")
         finally:
             guide.end()
-    checks.expect("its steps", 4, guide.step)
+    checks.expect("its last step", STARTED[-1], guide.step)
     return checks.end()
 
 

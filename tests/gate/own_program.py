@@ -14,7 +14,7 @@ from lib.places import ROOT
 from lib.stages import options
 
 PAGE = f"{ROOT}/docs/your-own-program.md"
-PROVES = re.compile(r"\brt (check|run|lib|test|ci)\b")
+PROVES = re.compile(r"\brt (check|run|lib|test|ci)\b|--(built|for-checks)\b")
 
 
 def main():

@@ -112,9 +112,46 @@ class Vendors(MadeFolder):
         self.assertNotIn("HANDLES", self.ran("top")[1])
 
     def test_a_folder_that_is_not_there_and_this_repository_are_refused(self):
-        for words in (["left"], ["left", f"{self.there}/gone"], ["left", str(self.here)], ["--check"], ["left", "--check"]):
+        for words in (["left"], ["left", f"{self.there}/gone"], ["left", str(self.here)], ["--check"], ["left", "--check"], ["--built"], ["--built", str(self.there)], ["--check", "left", str(self.there)]):
             with self.assertRaises(SystemExit):
                 vendor.main(words)
+
+    def with_libraries(self, *proved):
+        """Has these crates stand proved here, each with a library of its own."""
+        for name in proved:
+            self.write(f"here/crates/{name}/out/rlib/{name}.rlib/code", f"code of {name}\n")
+            self.write(f"here/crates/{name}/out/rlib/stamp", f"sum of {name}")
+        self.patched(mock.patch.object(vendor, "unproved", lambda names: [it for it in names if it not in proved]))
+
+    def test_libraries_come_along_where_all_of_them_stand_proved(self):
+        self.with_libraries("base")
+        self.assertEqual(self.ran("--built", "left")[0], 1)
+        self.assertEqual(self.files(), [])
+        self.with_libraries("base", "left")
+        status, said = self.ran("--built", "left")
+        self.assertEqual((status, "proved already: base left\n" in said), (0, True), said)
+        self.assertEqual(self.text("crates/left/out/rlib/left.rlib/code"), "code of left\n")
+        self.assertEqual(self.text("crates/left/out/rlib/stamp"), "sum of left")
+        self.assertEqual(self.ran("--check"), (0, "2 crates are as they were copied, and 2 libraries\n"))
+
+    def test_a_library_that_is_changed_or_of_other_sources_is_told(self):
+        self.with_libraries("base", "left")
+        for path, told in (
+            ("crates/left/out/rlib/left.rlib/code", "the library of left is changed, or proved anew since"),
+            ("crates/left/out/rlib/stamp", "the library of left is changed, or proved anew since"),
+            ("crates/left/out/rlib/left.rlib/more", "the library of left is changed, or proved anew since"),
+            ("crates/base/src/lib.rt", "crates/base/src/lib.rt is changed"),
+        ):
+            with self.subTest(path):
+                before = [self.ran("--built", "left"), self.ran("--check")]
+                self.assertEqual([it[0] for it in before], [0, 0], before)
+                kept = self.text(path) if (self.there / path).is_file() else None
+                self.write(f"there/{path}", "another\n")
+                self.assertEqual(self.ran("--check"), (1, f"{told}\n"))
+                self.write(f"there/{path}", kept) if kept else (self.there / path).unlink()
+        self.write("here/crates/base/src/lib.rt", "pub fn two() {}\n")
+        self.ran("left")
+        self.assertEqual(self.ran("--check"), (1, "the library of base was proved from other sources\n"))
 
     def test_a_check_where_nothing_was_copied_fails(self):
         self.assertEqual(self.ran("--check"), (1, "0 crates are as they were copied\n"))

@@ -2,8 +2,9 @@
 
 A block of `sh` is commands, in the folder where the block before ended. A block below a line with a path alone is that file. A
 block of `text` behind commands is what they print: each of its lines has to come, in their order. In such a line `..` stands for
-anything.
+anything. Any other block is quoted from the files that stand where the reader is.
 """
+import glob
 import os
 import re
 import subprocess
@@ -29,8 +30,10 @@ class Follower:
                 self.write(block["path"], block["text"])
             elif block["kind"] == "sh":
                 self.give(line, block["text"])
-            else:
+            elif block["kind"] == "text":
                 self.look_for(line, block["text"])
+            else:
+                self.compare(line, block["text"])
 
     def give(self, line, text):
         if self.left_out and self.left_out.search(text):
@@ -52,6 +55,15 @@ class Follower:
         os.makedirs(os.path.dirname(path), exist_ok=True)
         with open(path, "w", encoding="utf-8") as file:
             file.write(text)
+
+    def compare(self, line, text):
+        """A quotation with the files of the crate where the reader is."""
+        there = [it for part in ("src", "specs") for it in glob.glob(f"{self.at}/{part}/**/*.*t", recursive=True)]
+        texts = []
+        for path in there:
+            with open(path, encoding="utf-8") as file:
+                texts.append(file.read())
+        self.checks.holds(f"line {line}: a quotation", any(text in it for it in texts), f"no file of {there} has it")
 
     def look_for(self, line, text):
         """The lines of a text, each behind the one before."""

@@ -31,7 +31,7 @@ def main():
     options(__doc__)
     checks, port = Checks(), free_port()
     address = f"tcp:127.0.0.1:{port}"
-    with subprocess.Popen([PROGRAM, str(port), str(IDLE_MS)]) as server:
+    with subprocess.Popen([PROGRAM, str(port), str(IDLE_MS), f"127.0.0.1:{free_port()}"]) as server:
         try:
             checks.holds("it listens", wait_until(lambda: is_served(address), 10), "no connection")
             clients = [connect(address) for _ in range(CLIENTS)]

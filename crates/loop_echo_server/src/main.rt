@@ -1,14 +1,18 @@
-//! `loop_echo_server PORT LOOPS IDLE_MS` gives back what it is sent at this port of loopback, to many
-//! clients on each of so many threads, and closes a connection that is idle for so long.
+//! `loop_echo_server PORT LOOPS IDLE_MS END` gives back what it is sent at this port of loopback, to
+//! many clients on each of so many threads, closes a connection that is idle for so long, and ends
+//! once somebody connects to the address END.
 #![tactic(auto)]
 
 ghost use Rattle.std.specs.Prelude.{◌≡◌, ◌≤◌};
 
-use net::{Cause, Conn, Listener, Net, Next, Runs, Task, tcp};
+use net::{Cause, Conn, Listener, Net, Next, Runs, ServiceCloser, Task, address_of, tcp};
 use std::alloc::Global;
 use std::io::ErrorKind;
 use std::time::Duration;
-use std::{env, io};
+use std::{env, io, thread};
+
+/// How long clients with something under way may go on once the end was asked for.
+const LAST_MS: u64 = 10_000;
 
 /// What a client said and isn't given back yet: from here to there in the buffer.
 #[derive(Drop)]
@@ -59,13 +63,22 @@ impl<R: Runs> Task<R> for Echo {
     }
 }
 
-/// The port, the threads and the milliseconds that the words ask for.
-fn asked(words: &[String]) -> Option<(u16, usize, u64)> {
+/// Ends the service once somebody has connected to this listener.
+fn end_at_call<R: Runs>(end: Listener<R>, closer: ServiceCloser<R>) -> io::Result<()> {
+    let mut end = end;
+    end.accept()?;
+    closer.shutdown(Duration::from_millis(LAST_MS));
+    Ok(())
+}
+
+/// The port, the threads, the milliseconds and the address that the words ask for.
+fn asked(words: &[String]) -> Option<(u16, usize, u64, &str)> {
     match words {
-        [_, port, loops, idle_ms] => Some((
+        [_, port, loops, idle_ms, end] => Some((
             port.parse().ok()?,
             loops.parse().ok()?,
             idle_ms.parse().ok()?,
+            end.as_str(),
         )),
         _ => None,
     }
@@ -73,13 +86,16 @@ fn asked(words: &[String]) -> Option<(u16, usize, u64)> {
 
 fn main(rt: HostRuntime) -> io::Result<()> {
     let words: Vec<String> = env::args(&rt)?.collect(rt.alloc())?;
-    let Some((port, loops, idle_ms)) = asked(words.as_slice()) else {
+    let Some((port, loops, idle_ms, end)) = asked(words.as_slice()) else {
         return Err(ErrorKind::InvalidInput.into());
     };
     let net = Net::start(rt, rt.alloc())?;
     let listener = Listener::bind(&net, &tcp(port))?;
+    let end = Listener::bind(&net, &address_of(end)?)?;
     let idle = Duration::from_millis(idle_ms);
     let service = net.serve(listener, loops, Echo::new(idle))?;
+    let closer = service.closer()?;
+    thread::spawn(&rt, move || end_at_call(end, closer))?;
     service.wait();
     Ok(())
 }

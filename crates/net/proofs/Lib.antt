@@ -1,2 +1,4 @@
 pub mod Addresses
+pub mod Drops
+pub mod LineLooks
 pub mod Polled

@@ -1,5 +1,8 @@
 -- What a reader of lines has read, and what it heard.
 use Rattle.std.specs.Prelude.{◌≡◌, ℕ, List, [], ◌++◌, if◌then◌else◌}
+use Rattle.std.specs.Prelude.{Option, Some, Result, Ok}
+use Rattle.std.specs.Io.KnownBytes.{Consumes, IsAtEnd}
+use Rattle.std.specs.declared.io.Error.{Error}
 use Rattle.stream_base.specs.LineReader.{Reading, Finds}
 use Rattle.stream_base.specs.declared.line_reader.Found.{Found}
 use Rattle.stream_base.specs.declared.line_reader.Found.TheVariants as found
@@ -48,3 +51,18 @@ module _ {LIMIT : ℕ} where
   pub record IsPending (old : Reading) (new : Lines LIMIT) : Type 0 where
     pub found : Finds LIMIT found.Unended old (reading_of new)
     pub next : begun new ≡ reading_of new
+
+  -- the answer of a call that looked for a line in this reading: it was heard; else, as where a read failed,
+  -- all of the reading is held
+  abbrev pub IsAnswer : Option (Result Heard Error) → Reading → Lines LIMIT → Type 0
+  IsAnswer (Some (Ok heard)) old new = Hears heard old new
+  IsAnswer _ old new = IsPending old new
+
+  -- a call took these bytes of a source, behind what was read before, and answers by all of them; and
+  -- it says that they end only where no more is left of the source
+  pub record HasLooked (answer : Option (Result Heard Error)) (old new : Lines LIMIT)
+      (before after : Option (List ℕ)) : Type 0 where
+    pub came : List ℕ
+    pub read : Consumes before after came
+    pub answered : IsAnswer answer (with_more (begun old) came) new
+    pub end : answer ≡ Some (Ok heard.End) → IsAtEnd after

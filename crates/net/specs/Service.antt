@@ -1,11 +1,11 @@
 -- A service, as its callers see it.
-use Rattle.std.specs.Prelude.{Option}
+use Rattle.std.specs.Prelude.{ℕ, Option, vec_len}
 use Rattle.std.specs.Arc.{arc_value}
 use Rattle.readiness.specs.declared.addr.Addr.{Addr}
 use Rattle.net.specs.declared.closer.Ends.{Ends}
 use Rattle.net.specs.declared.closer.ServiceCloser.{ServiceCloser}
 use Rattle.net.specs.declared.service.Service.{Service}
-use Rattle.net.specs.Listener.{listens_at}
+use Rattle.net.specs.Listener.{listens_at, common_of}
 
 module _ {R : Type 0} where
   -- where its listener listens
@@ -19,3 +19,19 @@ module _ {R : Type 0} where
   -- what all have in common who end one service
   abbrev pub ends_of : ServiceCloser R → Ends R
   ends_of closer = arc_value closer.ends
+
+  -- how many loops a service has
+  abbrev pub loops_in : Ends R → ℕ
+  loops_in ends = vec_len ends.doors
+
+  -- the id of its listener in the table of its net
+  abbrev pub listener_in : Ends R → ℕ
+  listener_in ends = ends.listener
+
+  -- how many of its loops run
+  abbrev pub loops_of : Service R → ℕ
+  loops_of service = vec_len service.loops
+
+  -- the id of its own listener
+  abbrev pub listens_as : Service R → ℕ
+  listens_as service = (common_of service.listener).id

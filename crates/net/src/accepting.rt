@@ -5,16 +5,20 @@ ghost use Rattle.fd_descriptor.specs.FdHandle.{KeepsHandle, descriptor_of, marks
 ghost use Rattle.fd_descriptor.specs.HandleCalls.{Accepts, Closes};
 ghost use Rattle.net.specs.Conn.{IsNotConnected, has_task, is_closed, untold_of};
 ghost use Rattle.net.specs.Failures.{FailsAs, FailsForMemory};
+ghost use Rattle.net.specs.Gone.{gone_id};
+ghost use Rattle.net.specs.SocketCloser.{closes};
 ghost use Rattle.net.specs.Listener.{HasStopped, IsOfFamily, is_shut, listening_handle};
 ghost use Rattle.net.specs.Listener.{listens_at, common_of};
 ghost use Rattle.readiness.specs.Sockets.{is_tcp_addr, is_tcp_listener};
 
 use crate::errors::told;
+use crate::gone::Gone;
 use crate::guard::Guard;
 use crate::home::Home;
 use crate::running::Net;
 use crate::runs::Runs;
 use crate::shared::Shared;
+use crate::socket_closer::SocketCloser;
 use crate::stream::Conn;
 use fd_descriptor::{Dir, FdHandle};
 use readiness::{Addr, LastCodes, Listen, NotedListenRes, Sock, listen_io};
@@ -76,7 +80,9 @@ impl<R: Runs> Listener<R> {
     }
 
     /// Its id in the table of its net.
-    pub(crate) fn id(&self) -> u64 {
+    pub(crate) fn id(&self) -> u64
+        ensures { result ≡ (common_of self.now).id }
+    {
         self.guard.id
     }
 
@@ -135,6 +141,21 @@ impl<R: Runs> Listener<R> {
         let shared = &*self.guard.shared;
         let _ = shared.take(self.guard.id);
         told(self.handle.close(&shared.rt), None)
+    }
+
+    /// Closes it by its net's table, for all who share it.
+    pub(crate) fn end(&self) -> Gone
+        ensures own { gone_id result ≡ (common_of self.now).id }
+    {
+        self.guard.shared.end(self.guard.id)
+    }
+
+    /// A handle that closes it, for other threads, which may do so while it accepts.
+    pub fn closer(&self) -> io::Result<SocketCloser<R>>
+        ensures own { IfOk result (λ closer. closes closer ≡ (common_of self.now).id) }
+        ensures fails { FailsForMemory result }
+    {
+        SocketCloser::of(&self.guard.shared, self.guard.id)
     }
 
     /// Where it listens.

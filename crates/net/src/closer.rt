@@ -1,13 +1,16 @@
 //! What ends a service, for all who may: by a time for its tasks, or at once.
 
 ghost use Rattle.std.specs.Prelude.{◌≡◌, IfOk};
-ghost use Rattle.net.specs.Service.{ends_of};
+ghost use Rattle.net.specs.Asked.{IsAskedOf};
+ghost use Rattle.net.specs.Service.{ends_of, loops_in};
 ghost use Rattle.net.specs.Failures.{FailsForMemory};
 
+use crate::asked::{Asked, ToldAll};
 use crate::door::Door;
 use crate::limits::moment_in;
 use crate::runs::Runs;
 use crate::shared::Shared;
+use fd_descriptor::Deadline;
 use std::io;
 use std::sync::Arc;
 use std::time::Duration;
@@ -22,6 +25,18 @@ pub(crate) struct Ends<R: Runs> {
 }
 
 impl<R: Runs> Ends<R> {
+    // Tells each loop by when its tasks end.
+    fn tell(&self, until: Deadline) -> ToldAll
+        ensures all { result ≡ record { loops = loops_in self.now; until = until } }
+    {
+        let mut told = ToldAll::none(until);
+        let doors = self.doors.as_slice();
+        for at in 0..doors.len() {
+            told = told.and(doors[at].end_by(&self.shared.rt, until));
+        }
+        told
+    }
+
     /// Says at each door that nobody comes any more.
     pub(crate) fn no_more(&self) {
         for door in self.doors.as_slice() {
@@ -70,14 +85,13 @@ impl<R: Runs> ServiceCloser<R> {
     /// the earlier counts. `Service::wait` or `Service::shutdown` waits for the end.
     ///
     /// A task that asks goes on as any: what it answers still goes out.
-    pub fn shutdown(&self, within: Duration) {
+    pub fn shutdown(&self, within: Duration) -> Asked
+        ensures asked { IsAskedOf (ends_of self.now) within result }
+    {
         let ends = &*self.ends;
-        let shared = &*ends.shared;
-        let until = moment_in(shared.now(), Some(within));
+        let until = moment_in(ends.shared.now(), Some(within));
         // The doors come first: who waits for the service looks at them once its listener is closed.
-        for door in ends.doors.as_slice() {
-            door.end_by(&shared.rt, until);
-        }
-        shared.end(ends.listener);
+        let told = ends.tell(until);
+        Asked::new(told, ends.shared.end(ends.listener))
     }
 }

@@ -1,5 +1,8 @@
 //! Where the sockets that were accepted wait for their loop, and where it hears of its end.
 
+ghost use Rattle.std.specs.Prelude.{◌≡◌};
+
+use crate::asked::Told;
 use crate::phase::Phase;
 use crate::runs::Runs;
 use fd_descriptor::Deadline;
@@ -56,11 +59,12 @@ impl Door {
     }
 
     /// Has the loop's tasks end by a moment, by themselves before it.
-    pub(crate) fn end_by<R: Runs>(&self, rt: &R, until: Deadline) {
-        if let Some(waiting) = &mut *self.waiting.lock(rt) {
-            waiting.phase = waiting.phase.ending_by(until);
-        }
+    pub(crate) fn end_by<R: Runs>(&self, rt: &R, until: Deadline) -> Told
+        ensures { result.until ≡ until }
+    {
+        let told = Told::tell(&mut *self.waiting.lock(rt), until);
         self.remote.wake();
+        told
     }
 
     /// Says that nobody comes any more.

@@ -1,7 +1,10 @@
 //! What the table has of a descriptor: its cell, which the poller tells, and a handle, by which who
 //! takes the entry out closes it.
 
-ghost use Rattle.std.specs.Prelude.{◌≡◌};
+ghost use Rattle.std.specs.Prelude.{◌≡◌, OnOk};
+ghost use Rattle.std.proofs.Props.{props};
+ghost use Rattle.fd_descriptor.specs.Marks.{SawTheEnd};
+ghost use Rattle.net.specs.Shut.{closer_marks};
 
 use crate::home::TaskSeat;
 use crate::runs::Runs;
@@ -53,25 +56,47 @@ impl Entry {
     }
 
     /// Closes the descriptor for all its handles. The table's lock must not be held.
-    pub(crate) fn close<R: Runs>(self, rt: &R) -> Result<(), Fault> {
+    pub(crate) fn close<R: Runs>(self, rt: &R) -> Shut {
         let Entry {
             cell: _,
             closer,
             seat,
         } = self;
-        let closed = match closer {
-            Closer::Conn(handle) => {
-                let mut handle = handle;
-                handle.close(rt)
-            }
-            Closer::Listener(handle, _) => {
-                let mut handle = handle;
-                handle.close(rt)
-            }
-        };
+        let shut = Shut::close(closer, rt);
         if let Some(seat) = seat {
             seat.tell(rt);
         }
-        closed
+        shut
+    }
+}
+
+/// What is left of an entry that was closed, with what its close was told.
+#[derive(Drop)]
+pub(crate) struct Shut {
+    closer: Closer,
+    told: Result<(), Fault>,
+    ghost ended: { OnOk told (SawTheEnd (closer_marks closer)) } by { Prim.hlevel props },
+}
+
+impl Shut {
+    fn close<R: Runs>(closer: Closer, rt: &R) -> Shut {
+        match closer {
+            Closer::Conn(handle) => {
+                let mut handle = handle;
+                let told = handle.close(rt);
+                Shut {
+                    closer: Closer::Conn(handle),
+                    told,
+                }
+            }
+            Closer::Listener(handle, path) => {
+                let mut handle = handle;
+                let told = handle.close(rt);
+                Shut {
+                    closer: Closer::Listener(handle, path),
+                    told,
+                }
+            }
+        }
     }
 }

@@ -80,6 +80,6 @@ impl<R: Runs> Drop for Guard<R> {
             peer: _,
             link: _,
         } = self;
-        shared.end(id);
+        let _ = shared.end(id);
     }
 }

@@ -1,11 +1,10 @@
 //! Lines as they come, each up to a limit: for tasks, by polls, and for threads, by reads that wait.
 
-ghost use Rattle.std.specs.Prelude.{◌≡◌, ◌≤◌, [], IfSome, IsNone, length};
-ghost use Rattle.net.specs.Lines.{Hears, IsPending, begun, line_in, reading_of, with_more};
+ghost use Rattle.std.specs.Prelude.{◌≡◌, ◌≢◌, ◌≤◌, [], Some, IfSome, IsNone, length, take};
+ghost use Rattle.net.specs.Lines.{Hears, IsPending, HasLooked, begun, line_in, reading_of, with_more};
 ghost use Rattle.stream_base.specs.declared.line_reader.TheConstants.{CHUNK_BYTES};
 
-use crate::runs::Runs;
-use crate::stream::Conn;
+use crate::poll_read::PollRead;
 use std::io;
 use std::io::{ErrorKind, Read};
 use stream_base::line_reader::{CHUNK_BYTES, Found, LineReader};
@@ -53,6 +52,7 @@ impl<const LIMIT: usize> Lines<LIMIT> {
     /// Looks for the next line in what was read before, for who brings its bytes otherwise. `None`
     /// says that there is none, and that all of them are held.
     pub fn find(&mut self) -> Option<Heard>
+        ensures no_end { IfSome result (λ heard. heard ≢ Heard.End) }
         ensures heard { IfSome result (λ heard. Hears heard (begun self.old) self.new) }
         ensures pending { IsNone result → IsPending (begun self.old) self.new }
     {
@@ -72,6 +72,7 @@ impl<const LIMIT: usize> Lines<LIMIT> {
     pub fn find_in(&mut self, came: &[u8]) -> Option<Heard>
         requires all_held { (begun self.old).ahead ≡ [] }
         requires fits { length came.now ≤ CHUNK_BYTES }
+        ensures no_end { IfSome result (λ heard. heard ≢ Heard.End) }
         ensures heard { IfSome result (λ heard.
             Hears heard (with_more (begun self.old) came.now) self.new) }
         ensures pending { IsNone result → IsPending (with_more (begun self.old) came.now) self.new }
@@ -80,18 +81,41 @@ impl<const LIMIT: usize> Lines<LIMIT> {
         self.find()
     }
 
+    // Looks on in what a read gave of a chunk, where the look before found no line. No byte is the
+    // end.
+    fn hear(&mut self, chunk: &[u8], count: usize) -> Option<Heard>
+        requires all_held { (begun self.old).ahead ≡ [] }
+        requires goes_on { begun self.old ≡ reading_of self.old }
+        requires within { count ≤ length chunk.now }
+        requires fits { length chunk.now ≤ CHUNK_BYTES }
+        ensures heard { IfSome result (λ heard.
+            Hears heard (with_more (begun self.old) (take count chunk.now)) self.new) }
+        ensures pending { IsNone result
+            → IsPending (with_more (begun self.old) (take count chunk.now)) self.new }
+        ensures end { result ≡ Some Heard.End → count ≡ 0 }
+    {
+        if count == 0 {
+            return Some(Heard::End);
+        }
+        self.find_in(&chunk[..count])
+    }
+
     /// The next line of a connection, as far as it is there, for a task. `None` says that no whole
-    /// line is there yet: the task waits for a read. It reads once at most, so where more than 4,096
-    /// bytes are there without a line feed, its task's next step is due at once.
-    pub fn poll<R: Runs>(&mut self, conn: &mut Conn<R>) -> Option<io::Result<Heard>> {
+    /// line is there yet: the task waits for a read. It reads once at most, and only where no line is
+    /// held, so where more than 4,096 bytes are there without a line feed, its task's next step is due
+    /// at once.
+    #[tactic(auto, using(crate::proofs::LineLooks::heard_at_once, crate::proofs::LineLooks::heard_in, crate::proofs::LineLooks::pends_in))]
+    pub fn poll<P: PollRead>(&mut self, source: &mut P) -> Option<io::Result<Heard>>
+        ensures looked { HasLooked result self.old self.new
+            (P.remaining source.old) (P.remaining source.new) }
+    {
         if let Some(heard) = self.find() {
             return Some(Ok(heard));
         }
         let mut chunk = [0; CHUNK_BYTES];
-        match conn.poll_read(&mut chunk)? {
-            Ok(0) => Some(Ok(Heard::End)),
+        match source.poll_read(&mut chunk)? {
             Ok(count) => {
-                let heard = self.find_in(&chunk[..count])?;
+                let heard = self.hear(&chunk, count)?;
                 Some(Ok(heard))
             }
             Err(error) => Some(Err(error)),
@@ -101,17 +125,17 @@ impl<const LIMIT: usize> Lines<LIMIT> {
     /// The next line of a reader, for a thread: it reads until there is one. A connection is a
     /// reader, whose time-outs and deadline end the wait. After an error the bytes that came before
     /// are kept, and the next call goes on with them.
-    pub fn read<S: Read>(&mut self, source: &mut S) -> io::Result<Heard> {
+    pub fn read<S: Read>(&mut self, source: &mut S) -> io::Result<Heard>
+        ensures looked { HasLooked (Some result) self.old self.new
+            (S.remaining source.old) (S.remaining source.new) }
+    {
+        if let Some(heard) = self.find() {
+            return Ok(heard);
+        }
         let mut chunk = [0; CHUNK_BYTES];
-        for _ in 0..u64::MAX {
-            if let Some(heard) = self.find() {
-                return Ok(heard);
-            }
+        'reads: for _ in 0..u64::MAX {
             let count = source.read(&mut chunk)?;
-            if count == 0 {
-                return Ok(Heard::End);
-            }
-            if let Some(heard) = self.find_in(&chunk[..count]) {
+            if let Some(heard) = self.hear(&chunk, count) {
                 return Ok(heard);
             }
         }

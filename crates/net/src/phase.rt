@@ -1,8 +1,7 @@
 //! How far a service has come to its end, as each of its loops sees it.
 
 ghost use Rattle.std.specs.Prelude.{◌≡◌, true, false};
-ghost use Rattle.net.specs.Ending.{is_ending, has_ended};
-ghost use Rattle.net.specs.Limits.{earlier_of};
+ghost use Rattle.net.specs.Ending.{is_ending, has_ended, with_end};
 
 use crate::limits::earlier;
 use fd_descriptor::Deadline;
@@ -36,7 +35,7 @@ impl Phase {
 
     /// The phase once an end by this moment is asked for too.
     pub(crate) fn ending_by(self, until: Deadline) -> Phase
-        ensures { result ≡ record { until = earlier_of self.until until; accepts = self.accepts } }
+        ensures { result ≡ with_end self until }
     {
         Phase {
             until: earlier(self.until, until),

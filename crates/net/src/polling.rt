@@ -16,6 +16,7 @@ ghost use Rattle.net.specs.Failures.{IsPolledFault};
 ghost use Rattle.net.specs.Polled.{IsPolledWrite, reads_block, writes_block};
 
 use crate::errors::error_with;
+use crate::poll_read::PollRead;
 use crate::runs::Runs;
 use crate::stream::{Conn, failed_write, read_answer};
 use fd_descriptor::{Dir, Fault, FdHandle, Progress, TaskReader, TaskWriter, WriteFault};
@@ -152,5 +153,11 @@ impl<R: Runs> Conn<R> {
         let progress = write_once(guard.shared.rt, own, buf);
         self.blocked.write = would_block(&progress);
         polled_write(&mut self.untold, progress, buf.len(), code)
+    }
+}
+
+impl<R: Runs> PollRead for Conn<R> {
+    fn poll_read(&mut self, buf: &mut [u8]) -> Option<io::Result<usize>> {
+        Conn::poll_read(self, buf)
     }
 }

@@ -7,6 +7,7 @@ ghost use Rattle.readiness.specs.Tasks.{task_in};
 use crate::closer::ServiceCloser;
 use crate::door::{Door, Waiting};
 use crate::home::{Home, TaskPlace};
+use crate::over::LoopEnd;
 use crate::phase::Phase;
 use crate::runs::Runs;
 use crate::served::Served;
@@ -110,7 +111,9 @@ impl<T: Task<R>, R: Runs> LoopHost<T, R> {
     }
 
     // Hears how far its service has come.
-    fn hear(&mut self, phase: Phase) {
+    fn hear(&mut self, phase: Phase)
+        ensures heard { self.new.phase ≡ phase }
+    {
         if phase.until != self.phase.until {
             self.set_end(phase.until);
         }
@@ -143,18 +146,26 @@ impl<T: Task<R>, R: Runs> LoopHost<T, R> {
     }
 }
 
-/// A loop from its first turn to its end, at which it closes what it has, and gives what is left.
+/// A loop from its first turn to its end, at which it closes what it has, and gives what is left,
+/// with the number of those that it closed then.
 pub(crate) fn run<T: Task<R>, R: Runs>(
     driver: LoopDriver,
     host: LoopHost<T, R>,
-) -> EventLoop<Served<T, R>>
-    ensures none { (token : ℕ) → task_in (tasks_of result) token ≡ None }
+) -> (EventLoop<Served<T, R>>, usize)
+    ensures none { (token : ℕ) → task_in (tasks_of result.0) token ≡ None }
 {
     let mut host = host;
     let mut tasks = EventLoop::on(driver);
     host.turn_until_over(&mut tasks);
     let rt = host.shared.rt;
     host.door.shut(&rt);
+    let cut = tasks.len();
     tasks.end_all(&mut host);
-    tasks
+    (tasks, cut)
+}
+
+/// The same for its thread, as the end that it gives.
+pub(crate) fn run_to_end<T: Task<R>, R: Runs>(driver: LoopDriver, host: LoopHost<T, R>) -> LoopEnd {
+    let (tasks, cut) = run(driver, host);
+    LoopEnd::of(tasks, cut)
 }

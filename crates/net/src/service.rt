@@ -1,18 +1,21 @@
 //! A service: a listener whose connections are tasks of loops, many on each thread.
 
-ghost use Rattle.std.specs.Prelude.{◌≡◌, IfOk, OnOk};
+ghost use Rattle.std.specs.Prelude.{◌≡◌, None, IfOk, OnOk, IsSomeAnd, vec_len};
+ghost use Rattle.net.specs.Asked.{IsAskedOf};
 ghost use Rattle.net.specs.Failures.{FailsForMemory};
 ghost use Rattle.net.specs.Listener.{HasStopped, listens_at};
+ghost use Rattle.net.specs.Over.{IsOver, over_asked};
 ghost use Rattle.net.specs.Service.{serves_at, ends_of, closer_of};
 
 use crate::accepting::Listener;
 use crate::closer::{Ends, ServiceCloser};
 use crate::door::Door;
 use crate::errors::told;
+use crate::over::{Ended, LoopEnd, LoopsEnded};
 use crate::phase::Phase;
 use crate::running::Net;
 use crate::runs::Runs;
-use crate::serve_loop::{LoopHost, run};
+use crate::serve_loop::{LoopHost, run_to_end};
 use crate::task::Task;
 use readiness::{Addr, LoopDriver, RemoteAlarms};
 use std::alloc::Global;
@@ -32,7 +35,7 @@ pub struct Service<R: Runs + Threads> {
     listener: Listener<R>,
     closer: ServiceCloser<R>,
     accepting: Option<JoinHandle<()>>,
-    loops: Vec<JoinHandle<()>>,
+    loops: Vec<JoinHandle<LoopEnd>>,
 }
 
 // Accepts until the listener is closed, and hands each connection to the next loop. What the system
@@ -88,7 +91,7 @@ fn start_loop<T, R>(
     closer: &ServiceCloser<R>,
     opened: Opened,
     task: T,
-) -> io::Result<JoinHandle<()>>
+) -> io::Result<JoinHandle<LoopEnd>>
 where
     T: Task<R> + Send + 'static,
     R: Runs + Threads + Sockets + Send + Sync + 'static,
@@ -105,12 +108,12 @@ where
         phase: Phase::serving(),
         task,
     };
-    Ok(thread::spawn(&rt, move || drop(run(driver, host)))?)
+    Ok(thread::spawn(&rt, move || run_to_end(driver, host))?)
 }
 
 // Starts the loops, those that were started among them where one isn't.
 fn start_loops<T, R>(
-    started: &mut Vec<JoinHandle<()>>,
+    started: &mut Vec<JoinHandle<LoopEnd>>,
     closer: &ServiceCloser<R>,
     opened: Vec<Opened>,
     task: &T,
@@ -186,10 +189,15 @@ where
 }
 
 // Waits for all loops.
-fn join_all<R: Runs + Threads>(rt: &R, loops: Vec<JoinHandle<()>>) {
-    for one in loops {
-        one.join(rt);
+fn join_all<R: Threads>(rt: &R, loops: Vec<JoinHandle<LoopEnd>>) -> LoopsEnded
+    ensures all { result.loops ≡ vec_len loops }
+{
+    let mut loops = loops;
+    let mut ended = LoopsEnded::none();
+    while let Some(one) = loops.pop() {
+        ended = ended.and(one.join(rt));
     }
+    ended
 }
 
 // Ends what a service has: first who accepts, then each loop with its connections.
@@ -197,7 +205,7 @@ fn end_service<R: Runs + Threads>(
     listener: Listener<R>,
     closer: &ServiceCloser<R>,
     accepting: Option<JoinHandle<()>>,
-    loops: Vec<JoinHandle<()>>,
+    loops: Vec<JoinHandle<LoopEnd>>,
 ) -> (io::Result<()>, Listener<R>)
     ensures stopped { OnOk result.0 (HasStopped result.1) }
     ensures own { listens_at result.1 ≡ listens_at listener }
@@ -209,7 +217,7 @@ fn end_service<R: Runs + Threads>(
         accepting.join(&rt);
     }
     closer.ends.shut();
-    join_all(&rt, loops);
+    let _ = join_all(&rt, loops);
     (closed, listener)
 }
 
@@ -232,22 +240,32 @@ impl<R: Runs + Threads> Service<R> {
     /// Waits until it is over: until the listener is closed and, where `ServiceCloser::shutdown` asked
     /// for that, its tasks have ended, or their time has. Where the listener was closed otherwise, by
     /// a clone or with its net, it then stops. At the end it has no connection and no listener.
-    pub fn wait(self) {
+    pub fn wait(self) -> Ended
+        ensures over { IsOver self result }
+        ensures asked { over_asked result ≡ None }
+    {
         let mut service = self;
         let rt = service.closer.ends.shared.rt;
         if let Some(accepting) = service.accepting.take() {
             accepting.join(&rt);
         }
-        if service.closer.ends.is_ending() {
-            let alloc = service.closer.ends.shared.alloc;
-            join_all(&rt, mem::replace(&mut service.loops, Vec::new(alloc)));
+        if !service.closer.ends.is_ending() {
+            service.closer.ends.shut();
         }
+        let alloc = service.closer.ends.shared.alloc;
+        let loops = mem::replace(&mut service.loops, Vec::new(alloc));
+        let ended = join_all(&rt, loops);
+        Ended::new(ended, service.listener.end())
     }
 
     /// Ends it as `ServiceCloser::shutdown` asks for, and waits until it is over.
-    pub fn shutdown(self, within: Duration) {
-        self.closer.shutdown(within);
-        self.wait()
+    pub fn shutdown(self, within: Duration) -> Ended
+        ensures over { IsOver self result }
+        ensures asked { IsSomeAnd (over_asked result)
+            (IsAskedOf (ends_of (closer_of self)) within) }
+    {
+        let asked = self.closer.shutdown(within);
+        self.wait().by(asked)
     }
 
     /// Closes the listener and all connections at once, and ends the threads.

@@ -1,11 +1,14 @@
 //! What the threads of a net share: the table, the timers and the clock. Locks are taken in the
 //! order limits, cell, timers, and the table's before a cell's; nobody outside this crate sees one.
 
-ghost use Rattle.std.specs.Prelude.{◌≡◌, false, IfOk};
+ghost use Rattle.std.specs.Prelude.{◌≡◌, false, Ok, Err, IfOk, IfErr};
+ghost use Rattle.rwloops.specs.declared.fault.Fault.{Fault};
 ghost use Rattle.fd_descriptor.specs.FdHandle.{saw_closed};
+ghost use Rattle.net.specs.Gone.{gone_id};
 
 use crate::entry::{Closer, Entry};
 use crate::errors::told;
+use crate::gone::{Absent, Gone};
 use crate::home::Home;
 use crate::runs::Runs;
 use arrayvec::ArrayString;
@@ -83,7 +86,10 @@ fn enter(table: &mut ConnTable<Entry>, entry: Entry) -> Result<u64, Fault> {
 }
 
 // The fault of a socket that isn't registered.
-fn registered(done: Result<(), DevKind>) -> Result<(), Fault> {
+fn registered(done: Result<(), DevKind>) -> Result<(), Fault>
+    ensures done { IfOk done (λ _. result ≡ Ok tt) }
+    ensures refused { IfErr done (λ kind. result ≡ Err (Fault.Device kind)) }
+{
     match done {
         Ok(()) => Ok(()),
         Err(kind) => Err(Fault::Device(kind)),
@@ -171,23 +177,27 @@ impl<R: Runs> Shared<R> {
 
     /// Takes an entry out, so that turns tell it nothing more, and gives it where it was there. The
     /// path of a Unix listener goes with it.
-    pub(crate) fn take(&self, id: u64) -> Option<Entry> {
-        let removed = self.table.lock(&self.rt).remove(id);
-        match removed {
-            Ok(entry) => {
-                self.alarms.disarm(id, Dirs::Both);
-                entry.unlink(&self.rt);
-                Some(entry)
-            }
-            Err(_) => None,
+    pub(crate) fn take(&self, id: u64) -> (Absent, Option<Entry>)
+        ensures own { result.0.id ≡ id }
+    {
+        let (absent, entry) = Absent::take_out(&mut *self.table.lock(&self.rt), id);
+        if let Some(entry) = &entry {
+            self.alarms.disarm(id, Dirs::Both);
+            entry.unlink(&self.rt);
         }
+        (absent, entry)
     }
 
     /// Takes an entry out and closes its descriptor, for all that share it.
-    pub(crate) fn end(&self, id: u64) {
-        if let Some(entry) = self.take(id) {
-            let _ = entry.close(&self.rt);
-        }
+    pub(crate) fn end(&self, id: u64) -> Gone
+        ensures own { gone_id result ≡ id }
+    {
+        let (absent, entry) = self.take(id);
+        let shut = match entry {
+            Some(entry) => Some(entry.close(&self.rt)),
+            None => None,
+        };
+        Gone::new(absent, shut)
     }
 
     // From now on nothing more is taken on. Who takes something on just now has the table's lock.
@@ -202,7 +212,7 @@ impl<R: Runs> Shared<R> {
         for _ in self.rt.forever() {
             let first = self.table.lock(&self.rt).first_id();
             match first {
-                Some(id) => self.end(id),
+                Some(id) => drop(self.end(id)),
                 None => return,
             }
         }

@@ -12,11 +12,13 @@ ghost use Rattle.rwloops.specs.declared.fault.WriteFault.{WriteFault};
 ghost use Rattle.net.specs.Conn.{IsNotConnected, FailsBy, IsReadAnswer, IsWriteAnswer};
 ghost use Rattle.net.specs.Conn.{HasEnded, guard_of, handle_of, has_task, is_closed, untold_of};
 ghost use Rattle.net.specs.Failures.{FailsAs, FailsForMemory, IsFaultOf};
+ghost use Rattle.net.specs.SocketCloser.{closes};
 
 use crate::closer::ServiceCloser;
 use crate::errors::{error_with, told};
 use crate::guard::Guard;
 use crate::runs::Runs;
+use crate::socket_closer::SocketCloser;
 use crate::task::Blocked;
 use crate::timing::{DirTimes, arm, arm_both};
 use fd_descriptor::{Dir, Fault, FdHandle, WriteFault};
@@ -124,6 +126,7 @@ impl<R: Runs> Conn<R> {
         ensures closed { is_closed self.old ≡ true → IsNotConnected result }
         ensures fails { FailsAs Shuts result }
         ensures untold { untold_of self.new ≡ untold_of self.old }
+        ensures guard { guard_of self.new ≡ guard_of self.old }
     {
         let guard = &*self.guard;
         let shut = self.handle.close_write(&guard.shared.rt);
@@ -141,12 +144,20 @@ impl<R: Runs> Conn<R> {
         ensures guard { guard_of self.new ≡ guard_of self.old }
     {
         let shared = &*self.guard.shared;
-        let entry = shared.take(self.guard.id);
+        let (_, entry) = shared.take(self.guard.id);
         let closed = told(self.handle.close(&shared.rt), None);
         if let Some(entry) = entry {
             entry.tell_task(&shared.rt);
         }
         closed
+    }
+
+    /// A handle that closes it, for other threads, which may do so while it reads and writes.
+    pub fn socket_closer(&self) -> io::Result<SocketCloser<R>>
+        ensures own { IfOk result (λ closer. closes closer ≡ (guard_of self.now).id) }
+        ensures fails { FailsForMemory result }
+    {
+        SocketCloser::of(&self.guard.shared, self.guard.id)
     }
 
     /// Has the connection's task go on, as `Cause::Ready`, and says whether it is of a service, which

@@ -14,9 +14,12 @@ macro_rules! holds {
 }
 
 mod addresses;
+mod closers;
 mod connecting;
 mod ending;
 mod ends;
+mod gentle;
+mod groups;
 mod line_reading;
 mod listening;
 mod memory;

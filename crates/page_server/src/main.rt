@@ -1,31 +1,80 @@
-//! `page_server PORT` serves one page by HTTP/1.1 at this port of loopback.
+//! `page_server PORT END` serves one page by HTTP/1.1 at this port of loopback, and ends once somebody
+//! connects to the address END.
 #![tactic(auto)]
 
 mod page;
 
 use crate::page::serve_page;
-use net::{Listener, Net, tcp};
+use net::{Listener, Net, Runs, address_of, tcp};
+use std::alloc::Global;
 use std::io::ErrorKind;
+use std::random::RandomSource;
+use std::sync::Arc;
+use std::thread::Threads;
+use std::time::Duration;
 use std::{env, io, thread};
 
-/// The port that the words ask for.
-fn asked(words: &[String]) -> Option<u16> {
+/// How long a thread rests before it tries again.
+const REST_MS: u64 = 5;
+
+/// How often it looks, at the end, whether clients are still there: for ten seconds.
+const LOOKS: u32 = 2_000;
+
+/// Serves each client in a thread of its own, which has a clone of `clients`, until the listener is
+/// closed.
+fn serve<R>(rt: R, alloc: Global, listener: &mut Listener<R>, clients: &Arc<()>) -> io::Result<()>
+where
+    R: Runs + RandomSource + Threads + Send + Sync + 'static,
+{
+    for _ in rt.forever() {
+        match listener.accept() {
+            Ok(conn) => {
+                let here = Arc::try_clone(clients)?;
+                thread::spawn(&rt, move || {
+                    let _ = serve_page(rt, alloc, conn);
+                    drop(here);
+                })?;
+            }
+            Err(error) if error.kind() == ErrorKind::NotConnected => break,
+            Err(_) => thread::sleep(&rt, Duration::from_millis(REST_MS)),
+        }
+    }
+    Ok(())
+}
+
+/// Closes the first listener once somebody has connected to the second.
+fn close_at_call<R: Runs>(listener: Listener<R>, end: Listener<R>) -> io::Result<()> {
+    let (mut listener, mut end) = (listener, end);
+    end.accept()?;
+    listener.close()
+}
+
+/// The port and the address that the words ask for.
+fn asked(words: &[String]) -> Option<(u16, &str)> {
     match words {
-        [_, port] => port.parse().ok(),
+        [_, port, end] => Some((port.parse().ok()?, end.as_str())),
         _ => None,
     }
 }
 
 fn main(rt: HostRuntime) -> io::Result<()> {
     let words: Vec<String> = env::args(&rt)?.collect(rt.alloc())?;
-    let Some(port) = asked(words.as_slice()) else {
+    let Some((port, end)) = asked(words.as_slice()) else {
         return Err(ErrorKind::InvalidInput.into());
     };
     let net = Net::start(rt, rt.alloc())?;
     let mut listener = Listener::bind(&net, &tcp(port))?;
-    for _ in rt.forever() {
-        let conn = listener.accept()?;
-        thread::spawn(&rt, move || serve_page(rt, rt.alloc(), conn))?;
+    let other = listener.try_clone()?;
+    let end = Listener::bind(&net, &address_of(end)?)?;
+    thread::spawn(&rt, move || close_at_call(other, end))?;
+    let clients = Arc::new(rt.alloc(), ())?;
+    serve(rt, rt.alloc(), &mut listener, &clients)?;
+    for _ in 0..LOOKS {
+        if Arc::strong_count(&clients) == 1 {
+            break;
+        }
+        thread::sleep(&rt, Duration::from_millis(REST_MS));
     }
-    unreachable!()
+    net.stop();
+    Ok(())
 }

@@ -9,7 +9,7 @@ clause that this function has, or another function; a definition isn't taken for
 What is promised is said of what runs: each function that a row names is one that a program's `main` comes to by calls, or
 one of a module `laws`; any other is named in the row as one of its `library calls: ..`. A row without a function says in its
 last cell that it is tested. Calls are found by name, so that a name which two functions share counts for both, but for the
-functions of `NAMESAKES`.
+functions of `NAMESAKES`. One that stands there with its type is a library call by both names, as `Lines::read`.
 """
 
 import os
@@ -19,7 +19,7 @@ from lib.clause_texts import HEAD, owner_of
 
 HEADS = ("Function and clause", "Contract that carries it", "Clause")
 PAGES = ("README.md", "docs/guarantees.md")
-PROGRAMS = ("pollrelay", "echo_server", "page_server", "loop_echo_server")
+PROGRAMS = ("pollrelay", "echo_server", "page_server", "loop_echo_server", "line_server")
 # What crates of the kit call: a service's `call`, by `http_server`.
 BY_KIT = {"call"}
 # What no program calls, though each calls something of the same name: the symbols of the programs that `tools/unproved.py` builds
@@ -27,9 +27,10 @@ BY_KIT = {"call"}
 NAMESAKES = {
     ("lockword_core", "run"), ("deadline_core", "is_under_way"), ("deadline_core", "stored"), ("fd_descriptor", "read"),
     ("fd_descriptor", "write"), ("readiness", "hold"), ("readiness", "hold_listener"), ("handle_io", "read"), ("handle_io", "write"),
-    ("net", "local_addr"), ("net", "wake"), ("net", "closer"), ("net", "find"), ("net", "find_in"), ("net", "line"), ("conntable", "ids"),
+    ("net", "local_addr"), ("net", "wake"), ("net", "closer"), ("net", "find"), ("net", "find_in"), ("net", "line"),
+    ("net", "socket_closer"), ("net", "step"), ("net", "peer_addr"), ("net", "Lines::read"), ("conntable", "ids"),
 }
-LIBRARY = re.compile(r"library calls?: ((?:`\w+`(?:, | and )?)+)")
+LIBRARY = re.compile(r"library calls?: ((?:`[\w:]+`(?:, | and )?)+)")
 WORD = re.compile(r"[A-Za-z_]\w*")
 ITEM = re.compile(r"^\s*(?:pub(?:\([a-z]+\))? )?(?:struct|enum|trait|const|type|mod) (\w+)", re.M)
 # (a definition; an indented line without one of these words is a field of a record)
@@ -114,6 +115,12 @@ def called_by(tree, crates, program):
     return {(crate.name, name) for crate in own for name in crate.calls if name in found} - NAMESAKES
 
 
+def name_in(crate, token):
+    """The name by which calls of a function are found: with its type, where another of the crate has the same and is called."""
+    owned = "::".join(token.split("::")[-2:])
+    return owned if (crate, owned) in NAMESAKES else token.split("::")[-1]
+
+
 class Row:
     """One cell's claims: functions, then the clauses of those functions."""
 
@@ -146,7 +153,7 @@ class Row:
             if found is None or not found and group and re.fullmatch(r"[a-z_0-9]+", token):
                 self.missing.append(token)
             elif found:
-                self.functions |= {(it.name, token.split("::")[-1]) for it in self.holders}
+                self.functions |= {(it.name, name_in(it.name, token)) for it in self.holders}
                 group = found if after_clause else group + found
                 after_clause = False
 
@@ -174,7 +181,7 @@ class Row:
 
 def library_calls(row_text):
     """The functions that a row says to be called by no program."""
-    return {it for said in LIBRARY.findall(" ".join(row_text)) for it in re.findall(r"`(\w+)`", said)}
+    return {it for said in LIBRARY.findall(" ".join(row_text)) for it in re.findall(r"`([\w:]+)`", said)}
 
 
 def uncalled(functions, called):

@@ -40,7 +40,8 @@ fn what_is_under_way_at_a_shutdown_is_answered(rt: HostRuntime) {
     let mut clients = Vec::new(rt.alloc());
     wait_for_answers(&rt, &both, &mut clients);
     let service = both.served.take().expect(&rt, "served");
-    service.shutdown(Duration::from_millis(LONG_MS));
+    let ended = service.shutdown(Duration::from_millis(LONG_MS));
+    holds!(rt; ended.cut_off() == 0, "nobody is cut off");
     for conn in clients {
         holds!(rt; hears_all(conn), "the answer, and the end");
     }
@@ -50,11 +51,11 @@ fn what_is_under_way_at_a_shutdown_is_answered(rt: HostRuntime) {
     holds!(rt; before.is_some() && open_files(&rt) == before, "nothing is left open");
 }
 
-fn asks_later<R: Runs>(rt: R, closer: ServiceCloser<R>, ms: u64) {
+fn asks_later<R: Runs>(rt: R, closer: ServiceCloser<R>, ms: u64) -> bool {
     pause(&rt, 20);
-    closer.shutdown(Duration::from_millis(LONG_MS));
+    let first = closer.shutdown(Duration::from_millis(LONG_MS)).is_first();
     pause(&rt, 20);
-    closer.shutdown(Duration::from_millis(ms));
+    first && !closer.shutdown(Duration::from_millis(ms)).is_first()
 }
 
 #[test]
@@ -65,7 +66,8 @@ fn a_shutdown_is_asked_for_from_another_thread_and_the_shorter_time_counts(rt: H
     let service = both.served.take().expect(&rt, "served");
     let closer = service.closer().expect(&rt, "a closer");
     let asking = thread::spawn(&rt, move || asks_later(rt, closer, 20)).expect(&rt, "thread");
-    service.wait();
+    let ended = service.wait();
     holds!(rt; hears_end(&mut conn), "its task was ended");
-    asking.join(&rt);
+    holds!(rt; ended.cut_off() == 1, "it was cut off");
+    holds!(rt; asking.join(&rt), "the first that asks closes the listener");
 }

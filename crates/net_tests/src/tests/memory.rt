@@ -1,14 +1,31 @@
 //! Memory that is refused. It holds where all is given as well: `tests/refused_memory.sh` refuses
 //! each allocation in turn.
 
+use super::tasks::{Does, task_that};
 use super::{millis, open_files};
-use net::{Conn, Listener, Net, Runs, tcp};
+use net::{Addr, Conn, ConnGroup, Listener, Net, Runs, tcp};
 use std::alloc::Global;
 use std::fs::Files;
 use std::io;
 use std::io::{ErrorKind, Read, Write};
 use std::net::Net as Sockets;
 use std::thread::Threads;
+use std::time::Duration;
+
+fn addr_of<R: Runs + Threads + Sockets + Files>(listener: &Listener<R>) -> io::Result<Addr> {
+    match listener.local_addr() {
+        Some(addr) => Ok(addr),
+        None => Err(ErrorKind::AddrNotAvailable.into()),
+    }
+}
+
+/// Both ends of a connection.
+fn both<R: Runs + Threads + Sockets + Files>(net: &Net<R>) -> io::Result<(Conn<R>, Conn<R>)> {
+    let mut listener = Listener::bind(net, &tcp(0))?;
+    let near = Conn::connect(net, &addr_of(&listener)?, millis(10_000))?;
+    let far = listener.accept()?;
+    Ok((near, far))
+}
 
 /// A net, a listener and a connection, with times set, and a round trip.
 fn round<R>(rt: R, alloc: Global) -> io::Result<()>
@@ -16,15 +33,54 @@ where
     R: Runs + Threads + Sockets + Files + Send + Sync + 'static,
 {
     let net = Net::start(rt, alloc)?;
-    let mut listener = Listener::bind(&net, &tcp(0))?;
-    let Some(addr) = listener.local_addr() else {
-        return Err(ErrorKind::AddrNotAvailable.into());
-    };
-    let mut near = Conn::connect(&net, &addr, millis(10_000))?;
-    let mut far = listener.accept()?;
+    let (mut near, mut far) = both(&net)?;
     far.set_read_timeout(millis(10_000))?;
     near.write_all(b"hello")?;
     far.read_exact(&mut [0; 5])
+}
+
+/// A group of one connection, which is ended, and a handle that closes it.
+fn grouped<R>(rt: R, alloc: Global) -> io::Result<()>
+where
+    R: Runs + Threads + Sockets + Files + Send + Sync + 'static,
+{
+    let net = Net::start(rt, alloc)?;
+    let (near, _far) = both(&net)?;
+    let group = ConnGroup::new(&net)?;
+    let _member = group.join(&near)?;
+    let other = group.try_clone()?;
+    let closer = near.socket_closer()?.try_clone()?;
+    other.end();
+    closer.close();
+    Ok(())
+}
+
+/// A close whose peer ends at once.
+fn gently<R>(rt: R, alloc: Global) -> io::Result<()>
+where
+    R: Runs + Threads + Sockets + Files + Send + Sync + 'static,
+{
+    let net = Net::start(rt, alloc)?;
+    let (mut near, mut far) = both(&net)?;
+    far.close_write()?;
+    near.close_gently(Duration::from_secs(10))?;
+    Ok(())
+}
+
+/// A service with a client, which is shut down.
+fn served<R>(rt: R, alloc: Global) -> io::Result<()>
+where
+    R: Runs + Threads + Sockets + Files + Send + Sync + 'static,
+{
+    let net = Net::start(rt, alloc)?;
+    let listener = Listener::bind(&net, &tcp(0))?;
+    let addr = addr_of(&listener)?;
+    let service = net.serve(listener, 1, task_that(Does::Echoes(0)))?;
+    let closer = service.closer()?;
+    let _conn = Conn::connect(&net, &addr, millis(10_000))?;
+    closer.shutdown(Duration::from_millis(10));
+    service.wait();
+    Ok(())
 }
 
 /// The files that are open. One look of two may be refused memory itself, and then sees fewer.
@@ -32,15 +88,39 @@ fn looked(rt: &HostRuntime) -> Option<usize> {
     open_files(rt).max(open_files(rt))
 }
 
+/// Whether it was done, or told as want of memory. Without memory the system starts no thread, and
+/// says so by `EAGAIN`.
+fn is_fine(told: io::Result<()>) -> bool {
+    match told {
+        Ok(()) => true,
+        Err(error) => matches!(error.kind(), ErrorKind::OutOfMemory | ErrorKind::WouldBlock),
+    }
+}
+
 #[test]
 fn a_refused_round_is_told_and_leaves_nothing_open(rt: HostRuntime) {
     let before = looked(&rt);
-    let told = round(rt, rt.alloc());
-    let fine = match told {
-        Ok(()) => true,
-        // Without memory the system starts no thread, and says so by `EAGAIN`.
-        Err(error) => matches!(error.kind(), ErrorKind::OutOfMemory | ErrorKind::WouldBlock),
-    };
-    holds!(rt; fine, "done, or told as want of memory");
+    holds!(rt; is_fine(round(rt, rt.alloc())), "done, or told as want of memory");
+    holds!(rt; before.is_some() && looked(&rt) == before, "nothing is left open");
+}
+
+#[test]
+fn a_refused_group_is_told_and_leaves_nothing_open(rt: HostRuntime) {
+    let before = looked(&rt);
+    holds!(rt; is_fine(grouped(rt, rt.alloc())), "done, or told as want of memory");
+    holds!(rt; before.is_some() && looked(&rt) == before, "nothing is left open");
+}
+
+#[test]
+fn a_refused_gentle_close_is_told_and_leaves_nothing_open(rt: HostRuntime) {
+    let before = looked(&rt);
+    holds!(rt; is_fine(gently(rt, rt.alloc())), "done, or told as want of memory");
+    holds!(rt; before.is_some() && looked(&rt) == before, "nothing is left open");
+}
+
+#[test]
+fn a_refused_service_is_told_and_leaves_nothing_open(rt: HostRuntime) {
+    let before = looked(&rt);
+    holds!(rt; is_fine(served(rt, rt.alloc())), "done, or told as want of memory");
     holds!(rt; before.is_some() && looked(&rt) == before, "nothing is left open");
 }

@@ -1,6 +1,6 @@
 //! The tasks of the servers that are tested.
 
-use net::{Cause, Conn, Next, Runs, Task, Waits};
+use net::{Cause, Conn, GentleClose, Next, Runs, Task, Waits};
 use std::alloc::Global;
 use std::io;
 use std::io::ErrorKind;
@@ -23,6 +23,8 @@ pub enum Does {
     Late(u64),
     /// It gives back what comes first, asks for the end of its service, and is over.
     Closes,
+    /// It gives back what comes first, and closes gently, in so many milliseconds at most.
+    ClosesGently(u64),
     /// None is begun: the loops have one, which begins none.
     BeginsNone,
     IsRefused,
@@ -38,6 +40,7 @@ pub struct Worker {
     buf: [u8; 256],
     from: usize,
     to: usize,
+    close: Option<GentleClose>,
 }
 
 /// A pattern for all tasks.
@@ -47,6 +50,7 @@ pub fn task_that(does: Does) -> Worker {
         buf: [0; 256],
         from: 0,
         to: 0,
+        close: None,
     }
 }
 
@@ -141,6 +145,24 @@ impl Worker {
         Next::Over
     }
 
+    fn closes_gently<R: Runs>(&mut self, conn: &mut Conn<R>, ms: u64) -> Next {
+        if self.close.is_none() {
+            match self.takes(conn) {
+                Came::WaitsToRead => return Next::Read(Waits::Forever),
+                Came::Bytes => {}
+                _ => return Next::Over,
+            }
+            self.gives(conn);
+        }
+        let mut close = match self.close {
+            Some(close) => close,
+            None => GentleClose::new(Duration::from_millis(ms)),
+        };
+        let next = close.step(conn);
+        self.close = Some(close);
+        next
+    }
+
     // The deadline is set once.
     fn waits<R: Runs>(&mut self, conn: &mut Conn<R>, ms: u64) -> Next {
         if ms > 0 && conn.set_deadline(Some(Duration::from_millis(ms))).is_err() {
@@ -172,6 +194,7 @@ impl<R: Runs> Task<R> for Worker {
             },
             Does::Late(ms) => self.late(conn, cause, ms),
             Does::Closes => self.closes(conn),
+            Does::ClosesGently(ms) => self.closes_gently(conn, ms),
             Does::BeginsNone | Does::IsRefused => Next::Over,
         }
     }
