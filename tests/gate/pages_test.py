@@ -39,7 +39,7 @@ ROWS = (
     ("trace", "crates/lockword_script/src/printed_line.rt", r'"woken"', '"awake"', "says nothing of `awake`"),
     ("limits", "crates/lockword_core/src/word.rt", r"REFERENCES_WIDTH: u32 = 24", "REFERENCES_WIDTH: u32 = 22", "4,194,303, as `MAX_REFERENCES` is"),
     ("faults", UNIT, r"(RestartPreventExitStatus)=.*", r"\1=1", "RestartPreventExitStatus isn't"),
-    ("metrics", "crates/relay_metrics/src/family.rt", r"pollrelay_loops", "pollrelay_event_loops", "the figure `pollrelay_event_loops`"),
+    ("metrics", "crates/relay_metrics/src/figures.rt", r"pollrelay_loops", "pollrelay_event_loops", "the figure `pollrelay_event_loops`"),
     ("metrics", "crates/relay_log/src/ended.rt", r'b"drained",', 'b"emptied",', "`pollrelay_rule_ends_total` has the labels"),
     ("metrics", "crates/relay_log/src/ended.rt", r'\n *b"no_target",', "", "`pollrelay_rule_ends_total` has the labels"),
     ("metrics", "crates/relay_log/src/ended.rt", r'b"unreachable", ', "", "`pollrelay_rule_no_target_total` has the labels"),
@@ -73,7 +73,7 @@ ROWS = (
     ("limits", HELP, r"1 to 50000", "1 to 3000", "50,000, as `MAX_PAIRS` is"),
     ("limits", f"{ADMIN}/rules/file.rt", r"MAX_RULES: usize = 64", "MAX_RULES: usize = 65", "its limit of rules isn't 65"),
     ("limits", FORMAT, END, "\nA line of more than 80 bytes ends it.\n", "64, as `MAX_LINE_BYTES` is"),
-    ("limits", f"{COMMAND_LINE}/descriptors.rt", r"SESSIONS: u64 = 32", "SESSIONS: u64 = 31", "`SESSIONS` isn't 32"),
+    ("limits", f"{COMMAND_LINE}/descriptors.rt", r"CLIENTS: u64 = 64", "CLIENTS: u64 = 63", "`METRICS_CLIENTS` isn't 64"),
     ("limits", GUIDE, r"loops \+ 64\) \+ 112", "loops + 64) + 96", "doesn't say that a relay needs 2 × (connections + loops + 64) + 112"),
     ("limits", GUIDE, r"\| 512 \| 1 to 50,000 \|", "| 512 | 1 to 4,000 |", "the Range of --connections CONNECTIONS isn't 50,000"),
     ("limits", GUIDE, r"1,280 with", "1,216 with", "8 loops need 1280 descriptors"),
@@ -153,7 +153,7 @@ ROWS = (
     ("figures", "docs/GATE.md", END, "\nIt tries 1,234 wrong bodies of 77 crates.\n", "1,234 wrong bodies: there are"),
     ("figures", "docs/GATE.md", END, "\nIt tries 1,234 wrong bodies of 77 crates.\n", "77 crates: there are"),
     ("plants", "docs/testing.md", r"\| finish takes no last clients \|", "| finish takes clients |", "aren't those of `tests/plants`"),
-    ("plants", "crates/relay_main/src/ending.rt", r"self\.end_rule\(one\.token, last\);", "self.end_rule(one.token, last_clients);", "0 times, and not once"),
+    ("plants", "crates/relay_main/src/listeners_end.rt", r"self\.end_rule\(one\.token, last\);", "self.end_rule(one.token, last_clients);", "0 times, and not once"),
     ("figures", "examples/first_connection.sh", END, "# Proving takes three quarters of an hour.\n", "proving takes three quarters of an hour here"),
 )
 

@@ -93,3 +93,16 @@ def read_to_end(sock):
     while part := sock.recv(65_536):
         parts.append(part)
     return b"".join(parts)
+
+
+def tcp_rows():
+    """The port of each TCP socket of the system, that of its peer, and how many bytes wait there to be read."""
+    with open("/proc/net/tcp", encoding="ascii") as table:
+        for line in table.read().splitlines()[1:]:
+            _, own, other, _, queues = line.split()[:5]
+            yield int(own.split(":")[1], 16), int(other.split(":")[1], 16), int(queues.split(":")[1], 16)
+
+
+def unread_bytes(port, peer):
+    """How many bytes the system has for the socket at this port with that peer."""
+    return next((unread for own, other, unread in tcp_rows() if (own, other) == (port, peer)), None)

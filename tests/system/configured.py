@@ -10,12 +10,16 @@ served    bytes go through, by the sample too, and settings of the file are in f
 options   an option of the command line wins over its key, and standard error says so; one without a key says nothing.
 reloads   a reload changes a target; a refused one changes nothing and is answered with its line; a key that needs a restart is told.
 signal    HUP to the wrapper has the configuration read again.
+converted the configuration of a rules file says the same rules, by Python's own reader of TOML too; a bad rules file has its verdict.
 memory    each allocation of `check`, of a start and of a reload is refused in turn: each says so, and a relay that runs goes on.
 """
 import os
+import random
 import signal
 import subprocess
 import sys
+import tomllib
+from glob import glob
 
 sys.path.insert(1, f"{sys.path[0]}/..")
 from lib.c_code import library
@@ -72,6 +76,9 @@ FAULTS = (
     (HEAD + "idle = 30\n" + ENDS, 'rule "web": idle: 30 is not a text in quotes'),
     (HEAD + 'idle = "30x"\n' + ENDS, f'rule "web": idle: "30x" {TIME}'),
     (HEAD + 'idle = "3\\n0\\u0007"\n' + ENDS, f'rule "web": idle: "3\\n0\\u{{7}}" {TIME}'),
+    (RULE.replace('[{ at = "unix:/b" }]', "[]"), 'rule "web": target: the list is empty'),
+    (RULE.replace('"unix:/b"', '"unix:/b", weight = 65536'), 'rule "web": target 1: weight: 65536 is not from 0 to 65535'),
+    (RULE.replace('"unix:/b"', '"unix:/b", backup = "yes"'), 'rule "web": target 1: backup: "yes" is not true or false'),
     (HEAD + 'balance = "random"\n' + ENDS, 'rule "web": balance: "random" is none of "round-robin", "least-connections", "first", "source"'),
     ("#" * 1_048_577, "more than 1048576 bytes"),
 )
@@ -90,14 +97,20 @@ UNSERVED = (
     (RULE.replace("unix:/a", "unix:/" + 100 * "a"), 'rule "web": listen 1'),
     (RULE.replace("unix:/b", "tcp:[::1]:80"), 'rule "web": target 1: at'),
     (RULE.replace("unix:/b", "tcp:app.internal:80"), 'rule "web": target 1: at'),
-    (RULE.replace('"unix:/b"', '"unix:/b", weight = 2'), 'rule "web": target 1: weight'),
-    (RULE.replace('"unix:/b"', '"unix:/b", weight = 0'), 'rule "web": target 1: weight'),
-    (RULE.replace('"unix:/b"', '"unix:/b", backup = true'), 'rule "web": target 1: backup'),
-    (RULE.replace('{ at = "unix:/b" }', '{ at = "unix:/b" }, { at = "unix:/c" }'), 'rule "web": target 2'),
+    (RULE.replace("unix:/b", "unix:/" + 100 * "b"), 'rule "web": target 1: at'),
+    (RULE.replace('{ at = "unix:/b" }', '{ at = "unix:/b" }, { at = "tcp:[::1]:80" }'), 'rule "web": target 2: at'),
+    (RULE.replace('{ at = "unix:/b" }', 63 * '{ at = "unix:/b" }, ' + '{ at = "tcp:app.internal:80" }'), 'rule "web": target 64: at'),
     ("".join(RULE.replace("web", f"r{n}").replace("/a", f"/{n}") for n in range(65)), "rule 65"),
     # Of several the first: keys of the whole ahead of rules, and the text's own faults ahead of all.
     (HEAD + "health = {}\nbacklog = 5\n" + ENDS, 'rule "web": backlog'),
     ('log = { file = "-", format = "json" }\n' + HEAD + "health = {}\n" + ENDS, "log: format"),
+)
+# Rules of several targets.
+TARGETS = (
+    RULE.replace('{ at = "unix:/b" }', '{ at = "unix:/b", weight = 2 }, { at = "unix:/b" }, { at = "unix:/c", backup = true }'),
+    RULE.replace('"unix:/b"', '"unix:/b", weight = 0'), RULE.replace('"unix:/b"', '"unix:/b", backup = true'),
+    RULE.replace('{ at = "unix:/b" }', ", ".join(64 * ['{ at = "unix:/b", weight = 65535 }'])),
+    *(HEAD + f'balance = "{word}"\n' + ENDS for word in ("round-robin", "least-connections", "first", "source")),
 )
 # What means the same as without the key.
 WITHOUT_MEANING = (
@@ -134,7 +147,8 @@ def refused(checks, folder, text, why):
 def verdicts(checks, folder):
     for text, why in FAULTS:
         refused(checks, folder, text, why)
-    for text, count in (("", 0), (RULE, 1), (WITHOUT_MEANING, 1), (RULE + RULE.replace("web", "ssh").replace("/a", "/c"), 2)):
+    two = RULE + RULE.replace("web", "ssh").replace("/a", "/c")
+    for text, count in (("", 0), (RULE, 1), (WITHOUT_MEANING, 1), (two, 2), *((text, 1) for text in TARGETS)):
         checks.expect(f"check: {count} rules", (0, f"rules {count}\n", ""), run("check", "--config", written(folder, text)))
 
 
@@ -190,7 +204,7 @@ def served(checks, folder):
         checks.expect("its end", 0, relay.stop()[0])
         with open(f"{relay.folder}/log", encoding="utf-8") as file:
             checks.holds("its log has a line", " web " in file.read(), "it has none")
-    checks.expect("the sample", (0, "rules 2\n", ""), run("check", "--config", SAMPLE))
+    checks.expect("the sample", (0, "rules 3\n", ""), run("check", "--config", SAMPLE))
     target.close()
 
 
@@ -276,6 +290,61 @@ def by_signal(checks, folder):
     second.close()
 
 
+# What a time of a configuration is, in milliseconds.
+UNITS = {"ms": 1, "s": 1_000, "m": 60_000, "h": 3_600_000}
+RULES_FILES = 60
+
+
+def ms_of(time):
+    """The milliseconds of a text; a rule without one is never idle."""
+    if time is None:
+        return "never"
+    digits = time.rstrip("hms")
+    return str(int(digits) * UNITS[time[len(digits):]])
+
+
+def rules_said(text):
+    """The lines of a rules file that says what the configuration says."""
+    rules = tomllib.loads(text).get("rule", [])
+    return [f"relay {it['name']} {it['listen'][0]} {it['target'][0]['at']} {ms_of(it.get('idle'))}" for it in rules
+            if len(it["listen"]) == len(it["target"]) == 1 and set(it["target"][0]) == {"at"}]
+
+
+def some_rules(chance):
+    """The lines of a rules file, with the longest names and paths, and each byte that a path may have."""
+    lines = []
+    for number in range(chance.choice((0, 1, 2, 64))):
+        path = "/" + "".join(chr(chance.randrange(33, 127)) for _ in range(chance.choice((1, 20, 99 - len(str(number)))))) + str(number)
+        ends = [f"tcp:{chance.randrange(256)}.0.0.{number}:{chance.choice((1, 80, 65535))}", f"unix:{path[-100:]}"]
+        chance.shuffle(ends)
+        name = f"{'r' * chance.choice((1, 14))}{number}"
+        lines.append(f"relay {name} {ends[0]} {ends[1]} {chance.choice(('never', 1, 999, 1000, 60000, 90000, 3600000, 86400000))}")
+    return lines
+
+
+def converted(checks, folder):
+    """Samples, and rules files of the largest kind."""
+    chance = random.Random(17)
+    samples = sorted(glob(f"{ROOT}/examples/rules/*.rules"))
+    bad = [path for path in samples if run("check", "--rules", path)[0] != 0]
+    files = [open(path, encoding="utf-8").read() for path in samples if path not in bad]
+    files += ["".join(line + "\n" for line in some_rules(chance)) for _ in range(RULES_FILES)]
+    for path in bad:
+        checks.holds(f"{path}: its verdict", run("convert", "--rules", path) == run("check", "--rules", path), "")
+    for number, text in enumerate(files):
+        rules = [line for line in text.splitlines() if line and not line.startswith("#")]
+        status, printed, errors = run("convert", "--rules", written(folder, text))
+        checks.holds(f"rules file {number}: converted", (status, errors) == (0, ""), f"{status}, {errors!r}")
+        checks.holds(f"rules file {number}: says the same", rules_said(printed) == rules, f"{rules_said(printed)} for {rules}")
+        verdict = run("check", "--config", written(folder, printed))
+        checks.holds(f"rules file {number}: is served", verdict == (0, f"rules {len(rules)}\n", ""), f"{verdict}")
+    for text, line in (("relay web\n", "bad rules: line 1\n"), ("#" * 65_537, "bad rules: too long\n")):
+        said = run("convert", "--rules", written(folder, text))
+        checks.holds(f"{text[:9]!r}: its verdict", said == (1, line, ""), f"{said}")
+    said = run("convert", "--rules", f"{folder}/none")
+    checks.holds("no file: told", said == (3, "", "cannot read rules\n"), f"{said}")
+
+
 def refusing(folder, number):
     made = f"{folder}/refuse_nth.so"
     if not os.path.exists(made):
@@ -345,7 +414,7 @@ def reload_refused(checks, relay, port, target, number):
 
 STAGES = {
     "verdicts": verdicts, "unserved": unserved, "statuses": statuses, "served": served, "options": options_win, "reloads": reloads,
-    "signal": by_signal, "memory": memory,
+    "signal": by_signal, "converted": converted, "memory": memory,
 }
 
 

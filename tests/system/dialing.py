@@ -16,7 +16,7 @@ from lib.black_hole import BlackHole
 from lib.checks import Checks
 from lib.log_text import read_log
 from lib.relay import Relay, Session
-from lib.sockets import connect, free_port, read_to_end
+from lib.sockets import connect, free_port, read_to_end, unread_bytes
 from lib.stages import options, run_stages
 from lib.talk import seconds_until_end
 from lib.waiting import wait_until
@@ -60,16 +60,6 @@ class Dialing:
         self.session.__exit__(*_)
         self.relay.close()
         self.hole.__exit__()
-
-
-def unread_bytes(port, peer):
-    """How many bytes the system has for the socket at this port with that peer."""
-    with open("/proc/net/tcp", encoding="ascii") as table:
-        for line in table.read().splitlines()[1:]:
-            _, own, other, _, queues = line.split()[:5]
-            if int(own.split(":")[1], 16) == port and int(other.split(":")[1], 16) == peer:
-                return int(queues.split(":")[1], 16)
-    return None
 
 
 def unread(checks, folder):

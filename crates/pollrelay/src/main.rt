@@ -13,7 +13,7 @@ use relay_command::{
 use relay_core::Capacity;
 use relay_facts::config::Start;
 use relay_server::{Config, Given, GivenListener, LogFiles, config_text_of, serve, text_of};
-use relay_settings::{Asked, SETTINGS, Source, check_config, wins_over_file};
+use relay_settings::{Asked, SETTINGS, Source, check_config, convert, wins_over_file};
 use relay_shared::address::rule_address;
 use std::alloc::Global;
 use std::env::VarError;
@@ -68,6 +68,18 @@ fn check_file<R: Files + Print + Eprint + AllocGlobal>(rt: &R, source: &Source) 
     match source {
         Source::Rules(path) => check_rules(rt, path.as_str()),
         Source::Config(path) => check_configuration(rt, path.as_str()),
+    }
+}
+
+/// Prints the configuration that says what a rules file says.
+fn convert_rules<R: Files + Print + Eprint + AllocGlobal>(rt: &R, path: &str) -> ExitCode {
+    let text = match text_of(rt, rt.alloc(), path) {
+        Ok(text) => text,
+        Err(fault) => return told(rt, Fault::Relay(fault)),
+    };
+    match convert(rt.alloc(), text.as_slice(), &mut io::writer(rt)) {
+        Ok(status) => ExitCode::from(status),
+        Err(_) => told(rt, NO_MEMORY),
     }
 }
 
@@ -254,6 +266,7 @@ fn main(rt: HostRuntime) -> ExitCode {
     match job(&rt) {
         Ok(Job::Trace) => run_trace(&rt),
         Ok(Job::Check(source)) => check_file(&rt, &source),
+        Ok(Job::Convert(rules)) => convert_rules(&rt, rules.as_str()),
         Ok(Job::Serve(asked)) => match given_listeners(&rt) {
             Ok(given) => run_relay(rt, asked, given),
             Err(fault) => told(&rt, fault),

@@ -38,6 +38,7 @@ origin_of (source.Config path) = Config (string_bytes path)
 pub data Asked : Type 0 where
   Trace : Asked
   Check : Origin → Asked
+  Convert : (rules : Text) → Asked
   Serve : Origin → (admin : Option Text) → (loops pairs : Option ℕ) → (log : Option Text) →
       (metrics : Option Address) → (connect_ms : Option (Option ℕ)) → (per_rule : Option ℕ) →
       (replaces_stale : Option Bool) → Asked
@@ -48,6 +49,7 @@ pub data Asked : Type 0 where
 abbrev pub asked_of : Job → Asked
 asked_of job.Trace = Trace
 asked_of (job.Check file) = Check (origin_of file)
+asked_of (job.Convert rules) = Convert (string_bytes rules)
 asked_of (job.Serve asked) =
     Serve (origin_of asked.source) (option_map string_bytes asked.words.admin)
     (option_map (λ l. l.count) asked.words.loops) (option_map (λ p. p.count) asked.words.pairs)
@@ -129,12 +131,20 @@ named_app =
       top = record bare.top { no_binary_name = true; disable_help_subcommand = true };
     }
 
--- the commands that work by a script or a rules file
-abbrev pub working : App
-working =
+-- `convert` with the path of a rules file
+abbrev pub convert_app : App
+convert_app = with_rule (new_app (codes "convert")) (required_option (codes "rules"))
+
+-- the commands that read a script, a rules file or a configuration
+abbrev pub reading : App
+reading =
     with_subcommand
     (with_subcommand (with_subcommand named_app (new_app (codes "trace")).top) check_app.top)
-    serve_app.top
+    convert_app.top
+
+-- the same, and the one that serves
+abbrev pub working : App
+working = with_subcommand reading serve_app.top
 
 -- the program as `clap` sees it: with the commands that ask a relay or tell of the program
 abbrev pub program : App
@@ -249,6 +259,7 @@ abbrev pub named_job : Text → List Row → Option Asked
 named_job name rows =
     if bytes_eq name (codes "trace") then Some Trace
     else if bytes_eq name (codes "check") then checked_job rows
+    else if bytes_eq name (codes "convert") then Some (Convert (value_of (codes "rules") rows))
     else if bytes_eq name (codes "serve") then served_job rows
     else if bytes_eq name (codes "ctl") then Some (Ctl (value_of (codes "admin") rows) (line_in rows))
     else if bytes_eq name (codes "help") then Some Help

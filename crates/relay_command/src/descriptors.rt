@@ -4,10 +4,7 @@ ghost use Rattle.std.specs.Prelude.{◌≡◌};
 ghost use Rattle.relay_command.specs.Descriptors.{needed};
 
 use relay_admin::MAX_RULES;
-use relay_core::{Loops, PairLimit};
-
-/// As many admin sessions may stand at once, as `MAX_SESSIONS` of `relay_shared` says.
-const SESSIONS: u64 = 32;
+use relay_core::{Loops, MAX_SESSIONS, PairLimit};
 
 /// As many clients may ask for metrics at once, as `MOST_CLIENTS` of `metrics_server` says.
 const METRICS_CLIENTS: u64 = 64;
@@ -25,5 +22,5 @@ pub fn descriptors_needed(pairs: PairLimit, loops: Loops) -> u64
     ensures { result ≡ needed pairs.count loops.count }
 {
     let of_size = 2 * pairs.count as u64 + 2 * loops.count as u64;
-    of_size + 2 * MAX_RULES as u64 + SESSIONS + METRICS_CLIENTS + OTHERS
+    of_size + 2 * MAX_RULES as u64 + MAX_SESSIONS as u64 + METRICS_CLIENTS + OTHERS
 }

@@ -4,7 +4,7 @@ ghost use Rattle.std.specs.Prelude.{◌≡◌, IfOk, false};
 ghost use Rattle.clap.specs.Walk.{rule_of};
 ghost use Rattle.clap.specs.Simple.{app_of};
 ghost use Rattle.clap.specs.declared.builder.command.Command.TheViews.{out-Command};
-ghost use Rattle.relay_command.specs.CommandLine.{check_app, ctl_app, flag_option, operand};
+ghost use Rattle.relay_command.specs.CommandLine.{check_app, convert_app, ctl_app, flag_option, operand};
 ghost use Rattle.relay_command.specs.CommandLine.{optional_option, program, required_option};
 ghost use Rattle.relay_command.specs.CommandLine.{serve_app, serve_needs, serve_watched};
 ghost use Rattle.relay_command.specs.CommandLine as spec;
@@ -47,6 +47,13 @@ fn check<'a>(alloc: Global) -> Result<Command<'a>, OutOfMemory>
     Command::new(alloc, "check")
         .arg(optional(alloc, "rules"))?
         .arg(optional(alloc, "config"))
+}
+
+fn convert<'a>(alloc: Global) -> Result<Command<'a>, OutOfMemory>
+    ensures app { IfOk result (λ command. app_of command ≡ convert_app) }
+    ensures local { IfOk result (λ command. (out-Command command).has_globals ≡ false) }
+{
+    Command::new(alloc, "convert").arg(option(alloc, "rules"))
 }
 
 // `serve` with the options that say by which file, and where it is steered.
@@ -103,16 +110,24 @@ fn ctl<'a>(alloc: Global) -> Result<Command<'a>, OutOfMemory>
         .arg(word(alloc, "second", false))
 }
 
+// The commands that read a file, or a script.
 // (the words `help` and `version` are commands of the program's own, `--help` is none)
-fn working<'a>(alloc: Global) -> Result<Command<'a>, OutOfMemory>
-    ensures { IfOk result (λ command. app_of command ≡ spec.working) }
+fn reading<'a>(alloc: Global) -> Result<Command<'a>, OutOfMemory>
+    ensures { IfOk result (λ command. app_of command ≡ spec.reading) }
 {
     Command::new(alloc, "pollrelay")
         .no_binary_name(true)
         .disable_help_subcommand(true)
         .subcommand(Command::new(alloc, "trace"))?
         .subcommand(check(alloc)?)?
-        .subcommand(serve(alloc)?)
+        .subcommand(convert(alloc)?)
+}
+
+// The same, and the one that serves.
+fn working<'a>(alloc: Global) -> Result<Command<'a>, OutOfMemory>
+    ensures { IfOk result (λ command. app_of command ≡ spec.working) }
+{
+    reading(alloc)?.subcommand(serve(alloc)?)
 }
 
 /// The program's commands.

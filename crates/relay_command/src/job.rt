@@ -25,6 +25,8 @@ pub enum Job {
     Trace,
     /// Say whether this file is good.
     Check(Source),
+    /// Print the configuration that says what the rules file at this path says.
+    Convert(String),
     /// Run the relay that a start asks for so.
     Serve(Asked),
     /// Ask the relay whose admin socket is at `admin` this line, which may be no admin command.
@@ -198,6 +200,7 @@ fn job_named(
     match name {
         "trace" => Ok(Some(Job::Trace)),
         "check" => check_job(alloc, matches),
+        "convert" => Ok(Some(Job::Convert(value(alloc, matches, "rules")?))),
         "serve" => serve_job(alloc, matches),
         "ctl" => {
             let admin = value(alloc, matches, "admin")?;
@@ -232,16 +235,16 @@ fn options_of<'a>(words: &'a [&'a str]) -> &'a [&'a str]
 }
 
 /// The job that the words after the program's name ask for, and `None` where they ask for none.
-/// No word and the word `trace` ask for [`Job::Trace`]; `check` with one of `--rules` and `--config`,
-/// and `serve` with one of them and `--admin`, in any order, for the others; with `--config`
-/// `--admin` may be left out. `serve` may have `--loops` too, with a number from 1 to 64 in digits without a zero ahead, `--connections`, with one from 1 to 50,000,
-/// `--log`, with the path of a file, `--metrics`, with an address as the rules file has it,
-/// `--connect-timeout`, with a number up to 86,400,000, `--connections-per-rule`, with one from 1 to
-/// 50,000, and `--replace-stale`, alone;
-/// `ctl` with `--admin` and one to three words asks for [`Job::Ctl`]; `help` and `version` stand
-/// alone. A value follows its option as the next word, which begins with no `-`, or behind a `=`. A
-/// `--` ends the options: what follows it is an operand, and no command has one. The only fault is
-/// want of memory.
+/// No word and the word `trace` ask for [`Job::Trace`]; `check` with one of `--rules` and
+/// `--config`, `convert` with `--rules`, and `serve` with one of both and `--admin`, in any order,
+/// for the others; with `--config` `--admin` may be left out. `serve` may have `--loops` too, with
+/// a number from 1 to 64 in digits without a zero ahead, `--connections`, with one from 1 to
+/// 50,000, `--log`, with the path of a file, `--metrics`, with an address as the rules file has it,
+/// `--connect-timeout`, with a number up to 86,400,000, `--connections-per-rule`, with one from 1
+/// to 50,000, and `--replace-stale`, alone; `ctl` with `--admin` and one to three words asks for
+/// [`Job::Ctl`]; `help` and `version` stand alone. A value follows its option as the next word,
+/// which begins with no `-`, or behind a `=`. A `--` ends the options: what follows it is an
+/// operand, and no command has one. The only fault is want of memory.
 pub fn job_of(alloc: Global, words: &[&str]) -> Result<Option<Job>, OutOfMemory>
     ensures { IfOk result (λ job. option_map asked_of job
         ≡ job_asked (map (λ word. word.now) words.now)) }

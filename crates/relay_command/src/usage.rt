@@ -19,6 +19,8 @@ pollrelay serve --config FILE [--admin PATH] [OPTION..]
     --replace-stale             Unix sockets at which nobody listens give way
 pollrelay check --rules FILE, pollrelay check --config FILE
     says whether a rules file or a configuration is good
+pollrelay convert --rules FILE
+    prints the configuration that says what a rules file says
 pollrelay ctl --admin PATH WORD..
     has a relay carry out an admin command, and prints its reply:
     list, totals, show, show ID, close ID, drain ID, deadline ID MS,

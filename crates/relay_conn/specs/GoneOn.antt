@@ -1,21 +1,27 @@
 -- What becomes of a connection that goes on.
 use Rattle.readiness.specs.declared.agenda.Why.{Why}
 use Rattle.relay_conn.specs.Asked.{KeepsConnection}
-use Rattle.relay_conn.specs.Connection.{IfDialing, IfRelaying, IsRelaying}
-use Rattle.relay_conn.specs.Dialing.{Connects, DialsOn}
+use Rattle.relay_conn.specs.Connection.{IfDialing, IfRelaying, IfSeeking, IsRelaying, IsSeeking}
+use Rattle.relay_conn.specs.Dialing.{Connects, DialsOn, KeepsSeeking, SeeksOn}
 use Rattle.relay_conn.specs.Relaying.{GoneOn}
 use Rattle.relay_conn.specs.declared.connection.Connection.{Connection}
+use Rattle.relay_conn.specs.declared.others.Dials.{Dials}
 use Rattle.relay_core.specs.declared.pair_tasks.PairNext.{PairNext}
 
 module _ {U D R : Type 0} where
   -- it went on by what its loop heard, in its phase or into the next, and this follows
-  pub record ConnectionGoneOn (old new : Connection U D R) (why : Why) (next : PairNext) : Type 0
-    where
-      pub kept : KeepsConnection old new
-      pub stays : IsRelaying old.phase → IsRelaying new.phase
-      pub relays : IfRelaying old.phase (λ before. IfRelaying new.phase (λ after.
-          GoneOn before after why next))
-      pub dials : IfDialing old.phase (λ before. IfDialing new.phase (λ after.
-          DialsOn before after why next))
-      pub connects : IfDialing old.phase (λ before. IfRelaying new.phase (λ after.
-          Connects before after why next))
+  pub record ConnectionGoneOn (old new : Connection U D R) (before after : Dials R) (why : Why)
+      (next : PairNext) : Type 0 where
+    pub kept : KeepsConnection old new
+    pub stays : IsRelaying old.phase → IsRelaying new.phase
+    pub relays : IfRelaying old.phase (λ before. IfRelaying new.phase (λ after.
+        GoneOn before after why next))
+    pub dials : IfDialing old.phase (λ before. IfDialing new.phase (λ after.
+        DialsOn before after why next))
+    pub connects : IfDialing old.phase (λ before. IfRelaying new.phase (λ after.
+        Connects before after why next))
+    pub seeks : IfDialing old.phase (λ dialed. IfSeeking new.phase (λ seeks.
+        SeeksOn dialed seeks before after why next))
+    pub seeks_on : IfSeeking old.phase (λ sought. IfSeeking new.phase (λ seeks.
+        KeepsSeeking sought seeks why))
+    pub sought : IfSeeking old.phase (λ sought. IsSeeking new.phase)

@@ -1,13 +1,16 @@
 pub mod Asked
+pub mod Cause
 pub mod Connection
 pub mod Deadlines
 pub mod Dialing
 pub mod Dialled
-pub mod Ending
 pub mod Flow
 pub mod GoneOn
 pub mod Heard
+pub mod Others
 pub mod Refused
 pub mod Relaying
+pub mod Seeking
 pub mod SetUp
 pub mod Side
+pub mod Trial

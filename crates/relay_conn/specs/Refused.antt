@@ -1,4 +1,5 @@
 -- Why a connection isn't set up, whose target may be there.
+use Rattle.std.specs.Prelude.{ℕ, Option, Some, None}
 use Rattle.readiness.specs.declared.holding.HoldFault.{HoldFault}
 use Rattle.readiness.specs.declared.holding.HoldFault.TheVariants as fault
 use Rattle.readiness.specs.declared.tasks.NoPlace.{NoPlace}
@@ -24,4 +25,9 @@ abbrev pub how_refused : Refused → How
 how_refused Places = how.Full
 how_refused Memory = how.NoMemory
 how_refused Poller = how.Descriptors
-how_refused (Target cause) = how.NoTarget cause
+how_refused (Target last) = how.NoTarget last.cause
+
+-- the place of the target that was dialled last
+abbrev pub place_refused : Refused → Option ℕ
+place_refused (Target last) = Some last.place
+place_refused other = None

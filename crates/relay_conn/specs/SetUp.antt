@@ -6,10 +6,13 @@ use Rattle.std.specs.declared.sync.Arc.{Arc}
 use Rattle.base_types.specs.declared.direction.Dir.TheVariants.{Read}
 use Rattle.readiness.specs.declared.loop_token.Place.{Place}
 use Rattle.relay_core.specs.declared.pair_tasks.FlowState.TheVariants.{Waits}
+use Rattle.relay_conn.specs.Connection.{given_up_at}
+use Rattle.relay_conn.specs.Others.{others_of}
 use Rattle.relay_conn.specs.Side.{IsWhole, key_of_side}
 use Rattle.relay_conn.specs.declared.connection.Connection.{Connection}
 use Rattle.relay_conn.specs.declared.connection.Phase.TheVariants as phase
 use Rattle.relay_conn.specs.declared.dialing.Dialing.{Dialing}
+use Rattle.relay_conn.specs.declared.trial.Trial.{Trial}
 use Rattle.relay_facts.specs.declared.connection_facts.ConnectionFacts.{ConnectionFacts}
 
 module _ {U D R : Type 0} where
@@ -38,3 +41,9 @@ module _ {U D R : Type 0} where
     pub dialing : Dialing U D R
     pub dials : connection.phase ≡ Some (phase.Dialing dialing)
     pub begins : BeginsDial (arc_value known).acceptance.rule.idle_ms at connect_by dialing
+
+  -- of the target that was begun first it knows which others are left, what they are registered under,
+  -- and when the next one is tried
+  abbrev pub IsBegunWith : Trial → Place → Dialing U D R → Type 0
+  IsBegunWith trial at dialing =
+      (now : ℕ) × (dialing.others ≡ others_of trial.picked at.second now (given_up_at dialing))

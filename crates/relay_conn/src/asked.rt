@@ -32,6 +32,7 @@ impl<U: Ledger, D: Ledger, R: Wait + Clock + Copy> Connection<U, D, R> {
     {
         match &mut self.phase {
             Some(Phase::Dialing(dialing)) => dialing.drain(rt, side),
+            Some(Phase::Seeking(seeking)) => seeking.drain(rt, side),
             Some(Phase::Relaying(relaying)) => relaying.drain(rt, side),
             None => unreachable!(),
         }
@@ -46,6 +47,7 @@ impl<U: Ledger, D: Ledger, R: Wait + Clock + Copy> Connection<U, D, R> {
     {
         match &mut self.phase {
             Some(Phase::Dialing(dialing)) => dialing.set_deadline(side, deadline),
+            Some(Phase::Seeking(seeking)) => seeking.set_deadline(side, deadline),
             Some(Phase::Relaying(relaying)) => relaying.set_deadline(side, deadline),
             None => unreachable!(),
         }

@@ -1,15 +1,13 @@
 //! A connection: a value that belongs to one loop, from its dial to its end. First its target is
 //! dialled, then its ways go on.
 
-ghost use Rattle.std.specs.Prelude.{◌≡◌, ◌<◌, ◌+◌, ◌^◌, is_some, true, unwrap_or};
-ghost use Rattle.fd_descriptor.specs.TaskHalf.{IsHandleOf};
-ghost use Rattle.relay_conn.specs.Ending.{how_connection_ended};
-ghost use Rattle.relay_log.specs.declared.ended.Ended.{Ended as How};
+ghost use Rattle.std.specs.Prelude.{◌≡◌, ◌<◌, ◌+◌, ◌^◌, is_some, true};
 
 use crate::dialing::{DialStep, Dialing};
-use crate::ending::how_ended;
+use crate::leaving::Leaving;
+use crate::others::Dials;
 use crate::relaying::Relaying;
-use crate::side::LeftSide;
+use crate::seeking::Seeking;
 use log_writer::Log;
 use readiness::Why;
 use relay_core::{LoopMemory, PairNext};
@@ -17,7 +15,6 @@ use relay_facts::books::LoopBooks;
 use relay_facts::clock::Moments;
 use relay_facts::connection_facts::ConnectionFacts;
 use relay_facts::log_lines::tell_end;
-use relay_ledger::CarriedShare;
 use relay_log::ended::Ended as How;
 use relay_shared::inbox::Counted;
 use relay_shared::index::Gone;
@@ -31,85 +28,10 @@ use std::time::Clock;
 pub(crate) enum Phase<U: Ledger, D: Ledger, R: Wait + Clock + Copy> {
     /// Its target isn't connected yet.
     Dialing(Dialing<U, D, R>),
+    /// A target was let go, and the next one isn't dialled yet.
+    Seeking(Seeking<U, D, R>),
     /// Its target was connected, which is never taken back.
     Relaying(Relaying<U, D, R>),
-}
-
-/// What is left of a connection that ends: both sides, each to be closed once, both shares, and how
-/// it ended.
-struct Leaving<U: Ledger, D: Ledger> {
-    client: LeftSide,
-    target: LeftSide,
-    up: CarriedShare<U>,
-    down: CarriedShare<D>,
-    how: How,
-}
-
-impl<U: Ledger, D: Ledger, R: Wait + Clock + Copy> Phase<U, D, R> {
-    ghost use Rattle.std.specs.Prelude.{Some};
-    ghost use Rattle.relay_conn.specs.Connection.{up_share, down_share};
-
-    // Ends all calls under way.
-    fn leave(self) -> Leaving<U, D>
-        ensures up { Some result.up ≡ up_share (Some self) }
-        ensures down { Some result.down ≡ down_share (Some self) }
-    {
-        match self {
-            Phase::Dialing(dialing) => leave_dialing(dialing),
-            Phase::Relaying(relaying) => leave_relaying(relaying),
-        }
-    }
-}
-
-fn leave_dialing<U: Ledger, D: Ledger, R: Wait + Clock + Copy>(
-    dialing: Dialing<U, D, R>,
-) -> Leaving<U, D>
-    ensures client { IsHandleOf dialing.client.reader result.client.handle }
-    ensures target { IsHandleOf dialing.target.reader result.target.handle }
-    ensures up { result.up ≡ dialing.up.share }
-    ensures down { result.down ≡ dialing.down.share }
-    ensures how { result.how ≡ unwrap_or dialing.failure How.Closed }
-{
-    let Dialing {
-        client,
-        target,
-        up,
-        down,
-        tasks: _,
-        connect_by: _,
-        failure,
-    } = dialing;
-    Leaving {
-        client: LeftSide::of(client.reader, client.writer),
-        target: LeftSide::of(target.reader, target.writer),
-        up: up.share.back(),
-        down: down.share.back(),
-        how: failure.unwrap_or(How::Closed),
-    }
-}
-
-fn leave_relaying<U: Ledger, D: Ledger, R: Wait + Clock + Copy>(
-    relaying: Relaying<U, D, R>,
-) -> Leaving<U, D>
-    ensures client { IsHandleOf relaying.up.gate.source result.client.handle }
-    ensures target { IsHandleOf relaying.down.gate.source result.target.handle }
-    ensures up { result.up ≡ relaying.up.share }
-    ensures down { result.down ≡ relaying.down.share }
-    ensures how { result.how ≡ how_connection_ended relaying.failure relaying.tasks }
-{
-    let Relaying {
-        tasks,
-        up,
-        down,
-        failure,
-    } = relaying;
-    Leaving {
-        client: LeftSide::of(up.gate.source, down.gate.target),
-        target: LeftSide::of(down.gate.source, up.gate.target),
-        up: up.share.back(),
-        down: down.share.back(),
-        how: how_ended(failure, &tasks),
-    }
 }
 
 /// A connection, and what others know of it.
@@ -148,9 +70,12 @@ impl<U: Ledger, D: Ledger, R: Wait + Clock + Copy> Connection<U, D, R> {
     ghost use Rattle.readiness.specs.declared.agenda.Why.{Why};
     ghost use Rattle.relay_conn.specs.Asked.{KeepsConnection};
     ghost use Rattle.relay_conn.specs.Connection.{awaited_by, IfDialing, IfRelaying, IsRelaying};
+    ghost use Rattle.relay_conn.specs.Connection.{IfSeeking, IsSeeking};
     ghost use Rattle.relay_conn.specs.Connection.{given_up_at, up_share, down_share};
-    ghost use Rattle.relay_conn.specs.Dialing.{Connects, DialsOn, WaysBegin};
+    ghost use Rattle.relay_conn.specs.Dialing.{Connects, DialsOn, KeepsSeeking, LetsGo};
+    ghost use Rattle.relay_conn.specs.Dialing.{SeeksOn, WaysBegin};
     ghost use Rattle.relay_conn.specs.Heard.{IsTime};
+    ghost use Rattle.relay_conn.specs.Others.{moves_on_in};
     ghost use Rattle.relay_conn.specs.Relaying.{GoneOn};
     ghost use Rattle.relay_conn.specs.declared.connection.Phase.{Phase};
     ghost use Rattle.relay_core.specs.declared.pair_tasks.PairNext.{PairNext};
@@ -181,10 +106,10 @@ impl<U: Ledger, D: Ledger, R: Wait + Clock + Copy> Connection<U, D, R> {
     }
 
     /// Goes on by what its loop heard, and says what follows. Once its target is connected its ways
-    /// begin.
+    /// begin. Where another target is to be tried, its loop finds its token among the dials.
     pub fn go_on(
         &mut self,
-        rt: &R,
+        dials: &mut Dials<R>,
         books: &mut LoopBooks<U, D>,
         why: Why,
         memory: &mut LoopMemory,
@@ -194,27 +119,58 @@ impl<U: Ledger, D: Ledger, R: Wait + Clock + Copy> Connection<U, D, R> {
         ensures stays { IsRelaying self.old.phase → IsRelaying self.new.phase }
         ensures timely { IfDialing self.old.phase (λ old. IsTime why (given_up_at old)
             → (result ≡ PairNext.Closes) ⊎ IsRelaying self.new.phase) }
+        ensures moves { IfDialing self.old.phase (λ old. IsTime why (moves_on_in old.others)
+            → (result ≡ PairNext.Closes) ⊎ (IsRelaying self.new.phase ⊎ IsSeeking self.new.phase)) }
         ensures dials { IfDialing self.old.phase (λ old. IfDialing self.new.phase (λ new.
             DialsOn old new why result)) }
         ensures connects { IfDialing self.old.phase (λ old. IfRelaying self.new.phase (λ new.
             Connects old new why result)) }
+        ensures seeks { IfDialing self.old.phase (λ old. IfSeeking self.new.phase (λ new.
+            SeeksOn old new dials.old dials.new why result)) }
+        ensures seeks_on { IfSeeking self.old.phase (λ old. IfSeeking self.new.phase (λ new.
+            KeepsSeeking old new why)) }
+        ensures sought { IfSeeking self.old.phase (λ _. IsSeeking self.new.phase) }
         ensures kept { KeepsConnection self.old self.new }
     {
         let step = match &mut self.phase {
             Some(Phase::Relaying(relaying)) => return relaying.go_on(books, why, memory),
-            Some(Phase::Dialing(dialing)) => dialing.go_on(rt, why),
+            Some(Phase::Dialing(dialing)) => dialing.go_on(dials, why),
+            Some(Phase::Seeking(seeking)) => {
+                seeking.hear(why);
+                return PairNext::Waits;
+            }
             None => unreachable!(),
         };
         match step {
             DialStep::Waits => PairNext::Waits,
-            DialStep::Connected => self.begin(rt, books, memory),
-            DialStep::Failed | DialStep::Late => PairNext::Closes,
+            DialStep::Connected => self.begin(&dials.rt, books, memory),
+            DialStep::Seeks => self.seek(&dials.rt),
+            DialStep::Failed | DialStep::Gone | DialStep::Late => PairNext::Closes,
         }
     }
 
-    // Has its ways begin.
+    // Lets its target go. It gives way, so that its loop doesn't sleep before the next one is dialled.
+    fn seek(&mut self, rt: &R) -> PairNext
+        ensures again { result ≡ PairNext.Again }
+        ensures seeks { IfDialing self.old.phase (λ old. IsSeeking self.new.phase) }
+        ensures let_go { IfDialing self.old.phase (λ old. IfSeeking self.new.phase (λ new.
+            LetsGo old new)) }
+        ensures kept { KeepsConnection self.old self.new }
+    {
+        match self.phase.take() {
+            Some(Phase::Dialing(dialing)) => {
+                self.phase = Some(Phase::Seeking(Seeking::of(rt, dialing)));
+            }
+            Some(Phase::Seeking(seeking)) => self.phase = Some(Phase::Seeking(seeking)),
+            Some(Phase::Relaying(relaying)) => self.phase = Some(Phase::Relaying(relaying)),
+            None => unreachable!(),
+        }
+        PairNext::Again
+    }
+
+    // Has its ways begin, where its target is dialled.
     fn begin(&mut self, rt: &R, books: &mut LoopBooks<U, D>, memory: &mut LoopMemory) -> PairNext
-        ensures relays { IsRelaying self.new.phase }
+        ensures relays { IfDialing self.old.phase (λ old. IsRelaying self.new.phase) }
         ensures begun { IfDialing self.old.phase (λ old. IfRelaying self.new.phase (λ new.
             WaysBegin old new result)) }
         ensures kept { KeepsConnection self.old self.new }
@@ -225,6 +181,10 @@ impl<U: Ledger, D: Ledger, R: Wait + Clock + Copy> Connection<U, D, R> {
                 let next = relaying.go_on(books, Why::Again, memory);
                 self.phase = Some(Phase::Relaying(relaying));
                 next
+            }
+            Some(Phase::Seeking(seeking)) => {
+                self.phase = Some(Phase::Seeking(seeking));
+                PairNext::Waits
             }
             Some(Phase::Relaying(relaying)) => {
                 self.phase = Some(Phase::Relaying(relaying));
@@ -240,6 +200,7 @@ impl<U: Ledger, D: Ledger, R: Wait + Clock + Copy> Connection<U, D, R> {
     {
         match &self.phase {
             Some(Phase::Dialing(dialing)) => dialing.until(),
+            Some(Phase::Seeking(seeking)) => seeking.until(),
             Some(Phase::Relaying(relaying)) => relaying.until(),
             None => unreachable!(),
         }
@@ -288,7 +249,9 @@ impl<U: Ledger, D: Ledger, R: Wait + Clock + Copy> Connection<U, D, R> {
             how,
         } = phase.leave();
         client.close(rt);
-        target.close(rt);
+        if let Some(target) = target {
+            target.close(rt);
+        }
         books.up.settle(Some(up));
         books.down.settle(Some(down));
         note_ended(rt, log, &facts, (client_id, target_id), now, how);

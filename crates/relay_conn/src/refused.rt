@@ -3,8 +3,9 @@
 ghost use Rattle.std.specs.Prelude.{◌≡◌};
 ghost use Rattle.relay_conn.specs.Refused as spec;
 
+use crate::trial::Unreached;
 use readiness::{HoldFault, NoPlace};
-use relay_log::ended::{Cause, Ended as How};
+use relay_log::ended::Ended as How;
 
 /// What refused a connection. It can't be dropped, so that it is told.
 pub enum Refused {
@@ -14,8 +15,8 @@ pub enum Refused {
     Memory,
     /// The system's poller, which took one of its sockets no more.
     Poller,
-    /// The target, to which no connection could be begun.
-    Target(Cause),
+    /// The targets, to none of which a connection could be begun: the last one, and why.
+    Target(Unreached),
 }
 
 impl Refused {
@@ -39,6 +40,16 @@ impl Refused {
         }
     }
 
+    /// The place of the target that was dialled last, where targets refused.
+    pub fn place(&self) -> Option<usize>
+        ensures { result ≡ spec.place_refused self.now }
+    {
+        match self {
+            Refused::Target(last) => Some(last.place),
+            _ => None,
+        }
+    }
+
     /// How that is told.
     pub fn how(self) -> How
         ensures { result ≡ spec.how_refused self }
@@ -47,7 +58,7 @@ impl Refused {
             Refused::Places => How::Full,
             Refused::Memory => How::NoMemory,
             Refused::Poller => How::Descriptors,
-            Refused::Target(cause) => How::NoTarget(cause),
+            Refused::Target(last) => How::NoTarget(last.cause),
         }
     }
 }

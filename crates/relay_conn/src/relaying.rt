@@ -4,9 +4,9 @@ ghost use Rattle.std.specs.Prelude.{◌≡◌, ◌↔◌, ◌⊎◌, ℕ, true, 
 ghost use Rattle.base_types.specs.declared.direction.Dir.{Dir};
 ghost use Rattle.fd_descriptor.specs.TaskHalf.{KeepsHalf, descriptor_of_half};
 ghost use Rattle.readiness.specs.declared.loop_token.Side.{Side};
+ghost use Rattle.relay_conn.specs.Cause as spec;
 ghost use Rattle.relay_conn.specs.Connection.{gives_up, first_given_up};
 ghost use Rattle.relay_conn.specs.Deadlines.{HasCome, TellsCalls};
-ghost use Rattle.relay_conn.specs.Ending as spec;
 ghost use Rattle.relay_conn.specs.Heard.{stop_told};
 ghost use Rattle.relay_conn.specs.Relaying.{Expires, GoneOn};
 ghost use Rattle.relay_conn.specs.Flow.{heard, Went};
@@ -17,8 +17,8 @@ ghost use Rattle.relay_core.specs.declared.passing.Step.{Step};
 ghost use Rattle.relay_core.specs.declared.ways.Way.{Way};
 ghost use Rattle.relay_shared.specs.Drained.{WasDrained};
 
+use crate::cause::{failure_after, given_up};
 use crate::dialing::Dialing;
-use crate::ending::{failure_after, given_up};
 use crate::flow::Flow;
 use crate::heard::{stop_ahead_of, ways_by};
 use crate::side::{drain_side, takes_deadline};
@@ -64,6 +64,7 @@ impl<U: Ledger, D: Ledger, R: Wait + Clock + Copy> Relaying<U, D, R> {
         let Dialing {
             mut client,
             mut target,
+            others: _,
             up,
             down,
             tasks,

@@ -8,8 +8,9 @@ ghost use Rattle.base_types.specs.declared.direction.Dir.{Dir};
 ghost use Rattle.relay_core.specs.declared.pair_tasks.FlowState.{FlowState};
 ghost use Rattle.relay_facts.specs.Books.{TakesBack};
 ghost use Rattle.relay_ledger.specs.Book.{OpensOne};
-ghost use Rattle.relay_conn.specs.Dialled.{dialled_to};
-ghost use Rattle.relay_conn.specs.SetUp.{IsSetUp};
+ghost use Rattle.relay_conn.specs.Connection.{IfDialing};
+ghost use Rattle.relay_conn.specs.SetUp.{IsBegunWith, IsSetUp};
+ghost use Rattle.relay_conn.specs.Trial.{IsSomeTrial};
 ghost use Rattle.relay_conn.specs.Side.{IsWhole, key_of_side};
 ghost use Rattle.relay_shared.specs.Index.{entered_id};
 
@@ -20,12 +21,13 @@ use crate::flow::OwnShare;
 use crate::idle_time::IdleTime;
 use crate::refused::Refused;
 use crate::side::{OpenSide, open_side};
+use crate::trial::Trial;
 use crate::way_time::WayTime;
 use base_types::Dir;
 use readiness::{Place, Poller, Sock};
 use relay_core::{Copying, PairTasks, Step, Way};
 use relay_facts::books::LoopBooks;
-use relay_facts::clock::RelayClock;
+use relay_facts::clock::{Moments, RelayClock};
 use relay_facts::connection_facts::ConnectionFacts;
 use relay_ledger::CarriedShare;
 use relay_shared::inbox::Counted;
@@ -47,12 +49,12 @@ pub struct SetUp<'a, R: Wait + Clock + Copy> {
     pub poller: &'a Poller,
 }
 
-/// What a connection begins with: both its sockets, what is known of it, and the moment by which
-/// its target is to be connected, if it has one.
+/// What a connection begins with: its client's socket, the target that was begun, what is known of
+/// it, and the moment by which a target is to be connected, if that has one.
 #[derive(Drop)]
 pub struct Begins {
     pub client: Sock,
-    pub target: Dialled,
+    pub target: Trial,
     pub facts: Arc<ConnectionFacts>,
     pub counted: Counted,
     pub connect_by: Option<u64>,
@@ -135,6 +137,7 @@ fn dialing_of<U: Ledger, D: Ledger, R: Wait + Clock + Copy>(
     Dialing {
         client: sides.client,
         target: sides.target,
+        others: None,
         up: ways.up.with_share(up),
         down: ways.down.with_share(down),
         tasks: reading_tasks(),
@@ -144,8 +147,8 @@ fn dialing_of<U: Ledger, D: Ledger, R: Wait + Clock + Copy>(
 }
 
 impl<'a, R: Wait + Clock + Copy> SetUp<'a, R> {
-    // A side of a socket, of which the poller tells under this token.
-    fn side(&self, sock: Sock, token: u64) -> Result<OpenSide<R>, Refused>
+    /// A side of a socket, of which the poller tells under this token.
+    pub(crate) fn side(&self, sock: Sock, token: u64) -> Result<OpenSide<R>, Refused>
         ensures whole { IfOk result IsWhole }
         ensures key { IfOk result (λ side. key_of_side side ≡ token) }
     {
@@ -246,9 +249,10 @@ impl<'a, R: Wait + Clock + Copy> SetUp<'a, R> {
         begins: Begins,
         place: Place,
     ) -> Result<Connection<U, D, R>, Refused>
-        requires target { dialled_to begins.target
-            ≡ (arc_value begins.facts).acceptance.rule.target }
+        requires target { IsSomeTrial (arc_value begins.facts).acceptance begins.target }
         ensures set_up { IfOk result (IsSetUp begins.facts place begins.connect_by) }
+        ensures others { IfOk result (λ connection. IfDialing connection.phase (λ dialing.
+            IsBegunWith begins.target place dialing)) }
         ensures counted { IfOk result (λ connection. connection.counted ≡ begins.counted) }
         ensures up_share { OnOk result (OpensOne books.old.up.book books.new.up.book) }
         ensures down_share { OnOk result (OpensOne books.old.down.book books.new.down.book) }
@@ -260,7 +264,8 @@ impl<'a, R: Wait + Clock + Copy> SetUp<'a, R> {
             counted,
             connect_by,
         } = begins;
-        let sides = self.sides(client, target, place)?;
+        let Trial { dialled, picked } = target;
+        let sides = self.sides(client, dialled, place)?;
         let ways = match self.both_prepared(facts.acceptance.rule.idle_ms) {
             Some(ways) => ways,
             None => return Err(Refused::Memory),
@@ -269,7 +274,8 @@ impl<'a, R: Wait + Clock + Copy> SetUp<'a, R> {
             return Err(Refused::Memory);
         };
         let Given { entered, up, down } = given;
-        let dialing = dialing_of(sides, ways, up, down, connect_by);
+        let mut dialing = dialing_of(sides, ways, up, down, connect_by);
+        dialing.keep_others(&picked, place.second, self.clock.now());
         Ok(Connection::new(entered.keep(), facts, counted, dialing))
     }
 }

@@ -4,7 +4,7 @@ use Rattle.std.proofs.Common.{ap}
 use Rattle.std.proofs.Common.{sym, ◌∙◌, append_assoc, arith}
 use Rattle.rwloops.specs.Waits.{Tells}
 use Rattle.rwloops.specs.declared.fault.Fault.{Fault}
-use Rattle.relay_core.specs.declared.accepting.AcceptEnded.{AcceptEnded}
+use Rattle.relay_core.specs.declared.accept_ended.AcceptEnded.{AcceptEnded}
 use Rattle.relay_core.specs.AcceptTrace.{AcceptCall, Accepted, Delivered, Paused, faults_in_a_row, pause_after, GoOn}
 use Rattle.relay_core.specs.AcceptTrace.{turn_calls, LastAnswer, AtClosed, AtDraining, AtFault, IsAccepting}
 use Rattle.relay_core.specs.Accepting.{answers_of, row_after, LastFault, OfClosed, OfDrained, OneTooMany}

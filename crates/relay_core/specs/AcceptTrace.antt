@@ -8,9 +8,9 @@ use Rattle.rwloops.specs.Waits.{Tells}
 use Rattle.rwloops.specs.declared.fault.Fault.{Fault}
 use Rattle.rwloops.specs.declared.fault.Fault.TheVariants.{Closed as ListenerClosed}
 use Rattle.rwloops.specs.declared.fault.Fault.TheVariants.{Draining as ListenerDraining}
-use Rattle.relay_core.specs.declared.accepting.AcceptEnded.{AcceptEnded}
-use Rattle.relay_core.specs.declared.accepting.AcceptEnded.TheVariants.{Closed, Draining}
-use Rattle.relay_core.specs.declared.accepting.AcceptEnded.TheVariants.{TooManyFaults}
+use Rattle.relay_core.specs.declared.accept_ended.AcceptEnded.{AcceptEnded}
+use Rattle.relay_core.specs.declared.accept_ended.AcceptEnded.TheVariants.{Closed, Draining}
+use Rattle.relay_core.specs.declared.accept_ended.AcceptEnded.TheVariants.{TooManyFaults}
 
 -- a call of a gate, with its answer
 pub data AcceptCall (T : Type 0) : Type 0 where

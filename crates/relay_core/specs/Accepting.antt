@@ -7,9 +7,9 @@ use Rattle.rwloops.specs.Waits.{Tells}
 use Rattle.rwloops.specs.declared.fault.Fault.{Fault}
 use Rattle.rwloops.specs.declared.fault.Fault.TheVariants.{Closed as ListenerClosed}
 use Rattle.rwloops.specs.declared.fault.Fault.TheVariants.{Draining as ListenerDraining}
-use Rattle.relay_core.specs.declared.accepting.AcceptEnded.{AcceptEnded}
-use Rattle.relay_core.specs.declared.accepting.AcceptEnded.TheVariants.{Closed, Draining}
-use Rattle.relay_core.specs.declared.accepting.AcceptEnded.TheVariants.{TooManyFaults}
+use Rattle.relay_core.specs.declared.accept_ended.AcceptEnded.{AcceptEnded}
+use Rattle.relay_core.specs.declared.accept_ended.AcceptEnded.TheVariants.{Closed, Draining}
+use Rattle.relay_core.specs.declared.accept_ended.AcceptEnded.TheVariants.{TooManyFaults}
 use Rattle.relay_core.specs.declared.accept_task.AcceptStep.{AcceptStep}
 use Rattle.relay_core.specs.declared.accept_task.AcceptStep.TheVariants.{Pauses, Ended as Over}
 use Rattle.relay_core.specs.AcceptTrace.{AcceptCall, Accepted, pause_after, MayPass, GoOn}

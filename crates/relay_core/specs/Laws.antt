@@ -2,7 +2,7 @@
 use Rattle.std.specs.Prelude.{◌≡◌, ◌*◌, ◌+◌, ◌^◌, min, ℕ, suc, List, [], ◌∷◌, ◌++◌, take, Ok}
 use Rattle.relay_core.specs.declared.copying.Ended.{Ended}
 use Rattle.relay_core.specs.declared.copying.Ended.TheVariants.{Eof}
-use Rattle.relay_core.specs.declared.accepting.AcceptEnded.{AcceptEnded}
+use Rattle.relay_core.specs.declared.accept_ended.AcceptEnded.{AcceptEnded}
 use Rattle.relay_core.specs.CopyTrace.{GateCall, Read, Wrote, reported}
 use Rattle.relay_core.specs.Passing.{Rest, Bytes, unwritten, Passing, EndsAt, IsPassing, IsPassed}
 use Rattle.relay_core.specs.AcceptTrace.{AcceptCall, Accepted, Delivered, Paused, pause_after}

@@ -5,7 +5,8 @@ ghost use Rattle.relay_core.specs.AcceptTrace.{pause_after};
 ghost use Rattle.relay_core.specs.Accepting.{IsTaking, IsPausing, IsEnding, IsBorne, LastFault};
 ghost use Rattle.relay_core.specs.Accepting.{IfPauses, IfAcceptEnded, IsStopOfAccepts};
 
-use crate::accepting::{AcceptEnded, MAX_FAULTS_IN_A_ROW, next_pause_ms};
+use crate::accept_ended::{AcceptEnded, MAX_FAULTS_IN_A_ROW};
+use crate::accept_pauses::next_pause_ms;
 use crate::poll_accept::PollAcceptGate;
 use rwloops::Fault;
 use std::marker::Model;

@@ -1,6 +1,5 @@
 //! The tasks of a pair, one for each way, as an event loop sees them: which of them an event, a
-//! turn or a change from outside resumes, and when the pair is closed. The rules are this project's
-//! own.
+//! turn or a change from outside resumes. The rules are this project's own.
 
 ghost use Rattle.std.specs.Prelude.{◌≡◌, ◌≢◌, ◌⊎◌, ◌↔◌, true, false};
 ghost use Rattle.relay_core.specs.declared.ways.Way.TheVariants.{Up, Down};
@@ -132,20 +131,6 @@ impl PairTasks {
             Way::Down => self.down = state,
         }
         self.next()
-    }
-
-    /// What follows where the ways stand so.
-    pub fn next(&self) -> PairNext
-        ensures closes { result ≡ PairNext.Closes ↔ HasToClose self.now }
-        ensures again { result ≡ PairNext.Again ↔ MayGoOn self.now }
-    {
-        if self.failed || !self.not_over().any() {
-            PairNext::Closes
-        } else if self.ready().any() {
-            PairNext::Again
-        } else {
-            PairNext::Waits
-        }
     }
 }
 

@@ -1,1 +1,3 @@
 pub mod FileFaults
+pub mod SourceLemmas
+pub mod TargetsLemmas

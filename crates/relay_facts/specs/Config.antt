@@ -1,24 +1,43 @@
 -- The rules that a relay is asked to serve, and how large it is.
-use Rattle.std.specs.Prelude.{◌≡◌, ◌≤◌, ℕ, List, Some, IfNone, IfSome, length, slice_get}
+use Rattle.std.specs.Prelude.{◌≡◌, ◌≤◌, ℕ, List, Some, IfNone, IfSome, length, option_map, slice_get}
 use Rattle.std.specs.Arc.{arc_value}
 use Rattle.std.specs.declared.alloc.Global.{Global}
 use Rattle.std.specs.declared.sync.Arc.{Arc}
 use Rattle.relay_admin.specs.declared.rules.rule.Rule.{Rule}
 use Rattle.relay_core.specs.declared.capacity.Capacity.{Capacity}
+use Rattle.relay_settings.specs.declared.asked.Source.{Source}
+use Rattle.relay_settings.specs.declared.said.Said as file
 use Rattle.relay_settings.specs.declared.settings.Settings.{Settings}
+use Rattle.relay_settings.specs.declared.targets.SaidRule.{SaidRule}
+use Rattle.relay_facts.specs.Acceptance.{targets_with}
 use Rattle.relay_facts.specs.Counts.{loops_of}
+use Rattle.relay_facts.specs.Source.{FileSays}
+use Rattle.relay_facts.specs.declared.config.Config.{Config}
+use Rattle.relay_facts.specs.declared.served_rule.Said.{Said}
 use Rattle.relay_facts.specs.declared.served_rule.ServedRule.{ServedRule}
+
+-- what an account says is this rule, with its targets, of which one is picked as it says
+pub record SaysRule (given : SaidRule) (said : Said) : Type 0 where
+  pub rule : said.rule ≡ given.rule
+  pub targets : targets_with (option_map arc_value said.targets) said.rule ≡ given.targets.items
+  pub balance : IfSome said.targets (λ list. (arc_value list).balance ≡ given.balance)
 
 -- a rule is served at its own address, and so many loops count for it
 abbrev pub ServesRule : Rule → ℕ → ServedRule → Type 0
 ServesRule rule loops served = (served.listen ≡ rule.listen) × (loops_of served.counts ≡ loops)
 
 -- each of these rules is served, in their order, and nothing else
-pub record AreServed (rules : List Rule) (loops : ℕ) (all : List (Arc ServedRule Global)) : Type 0
-  where
-    pub count : length all ≡ length rules
-    pub each : (k : ℕ) (rule : Rule) (served : Arc ServedRule Global) → slice_get rules k ≡ Some rule
-        → slice_get all k ≡ Some served → ServesRule rule loops (arc_value served)
+pub record AreServed (rules : List SaidRule) (loops : ℕ) (all : List (Arc ServedRule Global))
+    : Type 0 where
+  pub count : length all ≡ length rules
+  pub each : (k : ℕ) (said : SaidRule) (served : Arc ServedRule Global) → slice_get rules k ≡ Some said
+      → slice_get all k ≡ Some served → ServesRule said.rule loops (arc_value served)
+
+-- what a relay is asked to be is what its file says: each rule is served, and nothing else
+abbrev pub IsOfFile : Source → Config → Type 0
+IsOfFile source config = (said : file.Said) × FileSays source said
+    × (config.start.file ≡ said.settings)
+    × AreServed said.rules.items config.capacity.loops.count config.rules.items
 
 -- as many loops and connections as the settings say, else at most 8 loops, and 512 connections
 pub record IsCapacity (settings : Settings) (capacity : Capacity) : Type 0 where

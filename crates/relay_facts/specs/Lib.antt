@@ -1,3 +1,4 @@
+pub mod Acceptance
 pub mod Books
 pub mod Clock
 pub mod Config
@@ -8,3 +9,4 @@ pub mod RulesFile
 pub mod Safeguards
 pub mod Shown
 pub mod Source
+pub mod Targets

@@ -1,13 +1,14 @@
 -- Who is at the other end of what is shown.
-use Rattle.std.specs.Prelude.{Option, Some}
+use Rattle.std.specs.Prelude.{◌≡◌, Option, Some, IsSomeAnd}
 use Rattle.relay_admin.specs.declared.rules.addr.Addr.{Addr}
-use Rattle.relay_admin.specs.declared.rules.rule.Rule.{Rule}
 use Rattle.relay_admin.specs.declared.admin.shown.ShownSide.{ShownSide}
 use Rattle.relay_admin.specs.declared.admin.shown.ShownSide.TheVariants.{Client, Target, Listener}
+use Rattle.relay_facts.specs.Acceptance.{IsTargetOf}
+use Rattle.relay_facts.specs.declared.connection_facts.Acceptance.{Acceptance}
 
--- of the client's side its own address, if it has one; of the target's side what the rule said; a
--- listener has its own
-abbrev pub peer_of_side : Option Addr → Rule → ShownSide → Option Addr
-peer_of_side client rule Client = client
-peer_of_side client rule Target = Some rule.target
-peer_of_side client rule Listener = Some rule.listen
+-- of the client's side its own address, if it has one; of the target's side that of a target of its
+-- rule; a listener has its own
+abbrev pub IsPeerOfSide : Acceptance → ShownSide → Option Addr → Type 0
+IsPeerOfSide acceptance Client peer = peer ≡ acceptance.client
+IsPeerOfSide acceptance Target peer = IsSomeAnd peer (IsTargetOf acceptance)
+IsPeerOfSide acceptance Listener peer = peer ≡ Some acceptance.rule.listen

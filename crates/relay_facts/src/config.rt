@@ -2,20 +2,23 @@
 
 ghost use Rattle.std.specs.Prelude.{◌≡◌, IfOk, IfErr, is_some, true};
 ghost use Rattle.relay_admin.specs.ServeFault.{IsFileFault};
-ghost use Rattle.relay_facts.specs.Config.{AreServed, IsCapacity};
+ghost use Rattle.std.specs.Arc.{arc_value};
+ghost use Rattle.relay_facts.specs.Config.{AreServed, IsCapacity, IsOfFile, ServesRule};
 ghost use Rattle.relay_facts.specs.Safeguards.{safeguards_of};
 ghost use Rattle.relay_facts.specs.Source.{SaysNoSettings};
 ghost use Rattle.relay_settings.specs.Settings.{AreInForce};
 ghost use Rattle.relay_admin.specs.declared.serve_fault.ServeFault.{ServeFault};
 
 use crate::safeguards::Safeguards;
+use crate::served_rule;
 use crate::served_rule::ServedRule;
 use crate::source::said_by;
 use arrayvec::ArrayString;
+use base_types::OutOfMemory;
 use log_writer::Log;
-use relay_admin::{Rule, ServeFault, Verdict};
+use relay_admin::{ServeFault, Verdict};
 use relay_core::Capacity;
-use relay_settings::{Asked, Said, Settings, in_force};
+use relay_settings::{Asked, Said, SaidRule, Settings, in_force};
 use std::alloc::Global;
 use std::fs::Files;
 use std::sync::Arc;
@@ -43,11 +46,19 @@ pub struct Config {
     pub log: Option<Arc<Log>>,
 }
 
+// The account of a rule.
+fn served_rule(alloc: Global, rule: &SaidRule, loops: usize) -> Result<Arc<ServedRule>, OutOfMemory>
+    ensures { IfOk result (λ served. ServesRule rule.now.rule loops (arc_value served)) }
+{
+    let said = served_rule::Said::of(alloc, rule, None)?;
+    ServedRule::new(alloc, said, loops)
+}
+
 // The accounts of rules, in their order, in a relay with so many loops. None of them has a listener
 // yet.
 fn served_rules(
     alloc: Global,
-    rules: &[Rule],
+    rules: &[SaidRule],
     loops: usize,
 ) -> Result<Vec<Arc<ServedRule>>, ServeFault>
     ensures served { IfOk result (λ all. AreServed rules.now loops all.items) }
@@ -55,7 +66,7 @@ fn served_rules(
 {
     let mut all = Vec::new(alloc);
     for rule in rules {
-        all.push(ServedRule::new(alloc, rule, loops)?)?;
+        all.push(served_rule(alloc, rule, loops)?)?;
     }
     Ok(all)
 }
@@ -95,6 +106,7 @@ impl Config {
     ) -> Result<Config, ServeFault>
         ensures asked { IfOk result (λ config. config.start.asked ≡ asked) }
         ensures rules { IfOk result (λ config. SaysNoSettings asked.source config.start.file) }
+        ensures served { IfOk result (IsOfFile asked.source) }
         ensures in_force { IfOk result (λ config.
             AreInForce asked.words config.start.file config.settings) }
         ensures admin { IfOk result (λ config. is_some config.settings.admin ≡ true) }
@@ -119,9 +131,11 @@ fn config_of<R: Threads>(
     rt: &R,
     alloc: Global,
     start: Start,
-    rules: &[Rule],
+    rules: &[SaidRule],
 ) -> Result<Config, ServeFault>
     ensures start { IfOk result (λ config. config.start ≡ start) }
+    ensures served { IfOk result (λ config.
+        AreServed rules.now config.capacity.loops.count config.rules.items) }
     ensures in_force { IfOk result (λ config.
         AreInForce start.asked.words start.file config.settings) }
     ensures admin { IfOk result (λ config. is_some config.settings.admin ≡ true) }

@@ -1,14 +1,19 @@
 //! A client that was accepted, and the connection that comes of it.
 
-ghost use Rattle.std.specs.Prelude.{◌≡◌, ◌-◌, ◌/◌, IfSome, option_copied};
+ghost use Rattle.std.specs.Prelude.{◌≡◌, ◌-◌, ◌/◌, None, IfSome, IfNone, option_copied};
 ghost use Rattle.std.specs.Arc.{arc_value};
 ghost use Rattle.relay_facts.specs.Counts.{counts_of_loop};
+ghost use Rattle.relay_facts.specs.Acceptance.{IsPicked, IsTargetOf, address_in, list_in, source_of};
+ghost use Rattle.relay_facts.specs.Acceptance.{targets_in};
+ghost use Rattle.relay_facts.specs.Targets.{IsNext, IsNoneLeft};
 
 use crate::counts::LoopCounts;
 use crate::served_rule::ServedRule;
+use crate::target_list::{Picked, Targets};
 use relay_admin::{Addr, Rule, Shown, ShownSide};
 use std::sync::Arc;
-use std::sync::atomic::{AtomicU64, Ordering};
+use std::sync::atomic::{AtomicU64, AtomicUsize, Ordering};
+use target_pick::{Tried, source_number};
 
 /// A client that was accepted.
 #[derive(Drop)]
@@ -16,6 +21,8 @@ pub struct Acceptance {
     pub served: Arc<ServedRule>,
     /// What its rule said then.
     pub rule: Rule,
+    /// Its rule's targets then; without a list the rule's own target is the only one.
+    pub targets: Option<Arc<Targets>>,
     /// The client's address; an unnamed Unix socket has none.
     pub client: Option<Addr>,
     /// The moment, in nanoseconds of the relay's clock.
@@ -28,13 +35,19 @@ impl Acceptance {
         ensures served { IfSome result (λ same. arc_value same.served
             ≡ arc_value self.now.served) }
         ensures rule { IfSome result (λ same. same.rule ≡ self.now.rule) }
+        ensures targets { IfSome result (λ same. list_in same ≡ list_in self.now) }
         ensures client { IfSome result (λ same. same.client ≡ self.now.client) }
         ensures at { IfSome result (λ same. same.at ≡ self.now.at) }
     {
         let served = Arc::try_clone(&self.served).ok()?;
+        let targets = match &self.targets {
+            Some(targets) => Some(Arc::try_clone(targets).ok()?),
+            None => None,
+        };
         Some(Acceptance {
             served,
             rule: self.rule,
+            targets,
             client: self.client,
             at: self.at,
         })
@@ -45,6 +58,61 @@ impl Acceptance {
         ensures { result ≡ (now - self.now.at) / 1000000 }
     {
         ms_between(self.at, now)
+    }
+}
+
+// The number by which `Balance::Source` finds a client's target again: that of its address, without
+// the port, which differs each time.
+fn source_of(client: &Option<Addr>) -> u64
+    ensures { result ≡ source_of client.now }
+{
+    match client {
+        Some(Addr::Tcp(bytes, _)) => source_number(bytes),
+        _ => source_number(&[]),
+    }
+}
+
+impl Acceptance {
+    /// The next target for this client, for whom these were tried; none where no other is left.
+    pub fn next_target(&self, tried: Tried) -> Option<Picked>
+        ensures none { IfNone result (IsNoneLeft (targets_in self.now) tried) }
+        ensures next { IfSome result (IsNext (targets_in self.now) tried) }
+        ensures picked { IfSome (list_in self.now) (λ list. IfSome result (λ picked.
+            IsPicked list tried (source_of self.now.client) picked.place)) }
+    {
+        match &self.targets {
+            Some(targets) => {
+                targets.next(tried, self.served.next_turn(), source_of(&self.client))
+            }
+            None => self.only_target(tried),
+        }
+    }
+
+    // The rule's own target, unless that was tried.
+    fn only_target(&self, tried: Tried) -> Option<Picked>
+        requires { list_in self.now ≡ None }
+        ensures none { IfNone result (IsNoneLeft (targets_in self.now) tried) }
+        ensures next { IfSome result (IsNext (targets_in self.now) tried) }
+    {
+        if tried.has(0) {
+            return None;
+        }
+        Some(Picked {
+            place: 0,
+            at: self.rule.target,
+            tried: tried.with(0),
+            others: 0,
+        })
+    }
+
+    /// The address of the target at this place; the rule's own where there is none.
+    pub fn address(&self, place: usize) -> Addr
+        ensures { result ≡ address_in self.now place }
+    {
+        match &self.targets {
+            Some(targets) => targets.address(place).unwrap_or(self.rule.target),
+            None => self.rule.target,
+        }
     }
 }
 
@@ -63,31 +131,54 @@ fn more_than(was: u64, now: u64) -> u64
     now.saturating_sub(was)
 }
 
-/// A connection while it stands: whose it is, and how many bytes it has passed on. Its loop alone
-/// notes; anybody may ask.
-#[derive(Drop)]
+/// A connection while it stands: whose it is, which target has it, and how many bytes it has passed
+/// on. Its loop alone notes; anybody may ask. Its target counts it from when this is made until this
+/// is let go.
 pub struct ConnectionFacts {
     pub acceptance: Acceptance,
     /// The place of its loop.
     pub loop_place: usize,
+    /// The place of its target, or of the one that is tried, among its rule's.
+    target: AtomicUsize,
     up: AtomicU64,
     down: AtomicU64,
     last: AtomicU64,
 }
 
 impl ConnectionFacts {
-    /// A connection of this client, on the loop at this place, that has passed nothing.
-    pub fn new(acceptance: Acceptance, loop_place: usize) -> ConnectionFacts
+    /// A connection of this client, on the loop at this place, whose target at this place is tried
+    /// first. It has passed nothing.
+    pub fn new(acceptance: Acceptance, loop_place: usize, target: usize) -> ConnectionFacts
         ensures acceptance { result.acceptance ≡ acceptance }
         ensures loop_place { result.loop_place ≡ loop_place }
     {
         let last = AtomicU64::new(acceptance.at);
+        if let Some(targets) = &acceptance.targets {
+            targets.enter(target);
+        }
         ConnectionFacts {
             acceptance,
             loop_place,
+            target: AtomicUsize::new(target),
             up: AtomicU64::new(0),
             down: AtomicU64::new(0),
             last,
+        }
+    }
+
+    /// The address of its target, or of the one that is tried.
+    pub fn target(&self) -> Addr
+        ensures { IsTargetOf self.now.acceptance result }
+    {
+        self.acceptance.address(self.target.load(Ordering::SeqCst))
+    }
+
+    /// From now on the target at this place is tried.
+    pub fn try_target(&self, place: usize) {
+        let was = self.target.swap(place, Ordering::SeqCst);
+        if let Some(targets) = &self.acceptance.targets {
+            targets.enter(place);
+            targets.leave(was);
         }
     }
 
@@ -123,5 +214,21 @@ impl ConnectionFacts {
     /// When bytes were written last, or when it was accepted.
     pub(crate) fn last(&self) -> u64 {
         self.last.load(Ordering::SeqCst)
+    }
+}
+
+impl Drop for ConnectionFacts {
+    fn drop(self) {
+        let ConnectionFacts {
+            acceptance,
+            loop_place: _,
+            target,
+            up: _,
+            down: _,
+            last: _,
+        } = self;
+        if let Some(targets) = &acceptance.targets {
+            targets.leave(target.load(Ordering::SeqCst));
+        }
     }
 }

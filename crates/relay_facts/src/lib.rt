@@ -16,4 +16,6 @@ pub mod safeguards;
 pub mod served_rule;
 pub mod shown;
 pub mod source;
+pub mod target_list;
+pub mod targets;
 pub mod totals;

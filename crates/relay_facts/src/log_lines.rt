@@ -10,7 +10,7 @@ use crate::connection_facts::{Acceptance, ConnectionFacts};
 use crate::served_rule::ServedRule;
 use arrayvec::ArrayString;
 use log_writer::Log;
-use relay_admin::{MAX_ADDR_BYTES, peer_name};
+use relay_admin::{Addr, MAX_ADDR_BYTES, peer_name};
 use relay_log::ended::{Ended, Reason};
 use relay_log::line::LogLine;
 use relay_log::moment::Moment;
@@ -111,22 +111,28 @@ struct Parties {
 }
 
 impl Parties {
-    // Those of a client that was accepted, by its own address and by what its rule said then.
-    fn of(acceptance: &Acceptance) -> Parties
+    // Those of a client that was accepted and of a target, by their addresses.
+    fn of(acceptance: &Acceptance, target: &Addr) -> Parties
         ensures client { result.client.bytes ≡ peer_text (peer_of acceptance.now.client) }
-        ensures target { result.target.bytes
-            ≡ address_text (address_of acceptance.now.rule.target) }
+        ensures target { result.target.bytes ≡ address_text (address_of target.now) }
     {
         Parties {
             client: peer_name(&acceptance.client),
-            target: acceptance.rule.target.text(),
+            target: target.text(),
         }
     }
 }
 
-// Tells of what became of a client that was accepted.
-fn tell<R: Wait + Clock>(rt: &R, log: &Log, acceptance: &Acceptance, now: u64, outcome: &Outcome) {
-    let parties = Parties::of(acceptance);
+// Tells of what became of a client that was accepted, with this target.
+fn tell<R: Wait + Clock>(
+    rt: &R,
+    log: &Log,
+    acceptance: &Acceptance,
+    target: &Addr,
+    now: u64,
+    outcome: &Outcome,
+) {
+    let parties = Parties::of(acceptance, target);
     let line = outcome.line(
         moment_of(rt.since_1970()),
         acceptance.rule.name.as_str(),
@@ -137,7 +143,7 @@ fn tell<R: Wait + Clock>(rt: &R, log: &Log, acceptance: &Acceptance, now: u64, o
     log.push(rt, &line);
 }
 
-/// Tells of a client that was accepted and not served.
+/// Tells of a client that was accepted and not served. No target was tried: its rule's own is named.
 pub fn tell_refused<R: Wait + Clock>(
     rt: &R,
     log: &Log,
@@ -145,7 +151,19 @@ pub fn tell_refused<R: Wait + Clock>(
     now: u64,
     how: Ended,
 ) {
-    tell(rt, log, acceptance, now, &Outcome::refused(how));
+    tell_unserved(rt, log, acceptance, &acceptance.rule.target, now, how);
+}
+
+/// The same where this target was tried last.
+pub fn tell_unserved<R: Wait + Clock>(
+    rt: &R,
+    log: &Log,
+    acceptance: &Acceptance,
+    target: &Addr,
+    now: u64,
+    how: Ended,
+) {
+    tell(rt, log, acceptance, target, now, &Outcome::refused(how));
 }
 
 /// Tells of a connection that has ended, whose sides had these ids.
@@ -158,7 +176,7 @@ pub fn tell_end<R: Wait + Clock>(
     how: Ended,
 ) {
     let outcome = Outcome::ended(facts, ids, how);
-    tell(rt, log, &facts.acceptance, now, &outcome);
+    tell(rt, log, &facts.acceptance, &facts.target(), now, &outcome);
 }
 
 /// Tells that an accept of a rule failed: its listening address stands in place of a client's.

@@ -1,23 +1,81 @@
 //! A rule as a running relay serves it.
 
-ghost use Rattle.std.specs.Prelude.{◌≡◌, IfOk};
+ghost use Rattle.std.specs.Prelude.{◌≡◌, None, IfOk, IfSome, option_map};
 ghost use Rattle.std.specs.Arc.{arc_value};
+ghost use Rattle.relay_facts.specs.Acceptance.{targets_with};
+ghost use Rattle.relay_facts.specs.Config.{SaysRule};
 ghost use Rattle.relay_facts.specs.Counts.{loops_of};
 
 use crate::counts::RuleCounts;
+use crate::target_list::Targets;
 use base_types::OutOfMemory;
 use relay_admin::{Addr, Rule};
+use relay_settings::SaidRule;
 use std::alloc::Global;
 use std::sync::atomic::{AtomicBool, AtomicU64, Ordering};
 use std::sync::{Arc, Mutex, Wait};
 
+/// What a rule says at a moment.
+#[derive(Drop)]
+pub struct Said {
+    pub rule: Rule,
+    /// Its targets; without a list the rule's own target is the only one.
+    pub targets: Option<Arc<Targets>>,
+}
+
+// The list of these targets, where a rule needs one: a client of a rule that is alone with its target
+// is picked none. Connections that are counted by the list of before still are.
+fn list_of(
+    alloc: Global,
+    said: &SaidRule,
+    before: Option<&Targets>,
+) -> Result<Option<Arc<Targets>>, OutOfMemory>
+    ensures targets { IfOk result (λ list.
+        targets_with (option_map arc_value list) said.now.rule ≡ said.now.targets.items) }
+    ensures balance { IfOk result (λ list.
+        IfSome list (λ list. (arc_value list).balance ≡ said.now.balance)) }
+{
+    if said.is_alone() {
+        return Ok(None);
+    }
+    let targets = said.targets.as_slice();
+    let list = Targets::new(alloc, said.balance, targets, before)?;
+    Ok(Some(list))
+}
+
+impl Said {
+    /// What a rule of the file says. `before` is the list of its account, if that has one.
+    pub fn of(alloc: Global, said: &SaidRule, before: Option<&Targets>) -> Result<Said, OutOfMemory>
+        ensures { IfOk result (SaysRule said.now) }
+    {
+        let targets = list_of(alloc, said, before)?;
+        Ok(Said {
+            rule: said.rule,
+            targets,
+        })
+    }
+
+    /// A rule whose own target is its only one.
+    pub fn alone(rule: &Rule) -> Said
+        ensures rule { result.rule ≡ rule.now }
+        ensures targets { result.targets ≡ None }
+    {
+        Said {
+            rule: *rule,
+            targets: None,
+        }
+    }
+}
+
 /// The account of a rule, by its listening address: what the rule says now, and what was counted. It
-/// outlives the rule's listener, which is the main thread's. The rule's name, target and idle time
+/// outlives the rule's listener, which is the main thread's. The rule's name, targets and idle time
 /// change with a reload; a connection goes on by what they were when it was accepted.
 #[derive(Drop)]
 pub struct ServedRule {
     pub listen: Addr,
-    rule: Mutex<Rule>,
+    said: Mutex<Said>,
+    /// How many targets were picked by it.
+    picks: AtomicU64,
     /// Whether its clients are accepted.
     is_listening: AtomicBool,
     /// How many of its connections stand, those that wait for their loops among them.
@@ -26,17 +84,20 @@ pub struct ServedRule {
 }
 
 impl ServedRule {
-    /// A rule without a listener, of a relay with so many loops.
-    pub fn new(alloc: Global, rule: &Rule, loops: usize) -> Result<Arc<ServedRule>, OutOfMemory>
-        ensures listen { IfOk result (λ served. (arc_value served).listen ≡ rule.now.listen) }
+    /// A rule without a listener, of a relay with so many loops, which says this.
+    pub fn new(alloc: Global, said: Said, loops: usize) -> Result<Arc<ServedRule>, OutOfMemory>
+        ensures listen { IfOk result (λ served. (arc_value served).listen ≡ said.rule.listen) }
         ensures loops { IfOk result (λ served. loops_of (arc_value served).counts ≡ loops) }
     {
+        let Said { rule, targets } = said;
+        let counts = RuleCounts::new(alloc, loops)?;
         let served = ServedRule {
             listen: rule.listen,
-            rule: Mutex::new(*rule),
+            said: Mutex::new(Said { rule, targets }),
+            picks: AtomicU64::new(0),
             is_listening: AtomicBool::new(false),
             standing: AtomicU64::new(0),
-            counts: RuleCounts::new(alloc, loops)?,
+            counts,
         };
         match Arc::new(alloc, served) {
             Ok(served) => Ok(served),
@@ -44,14 +105,32 @@ impl ServedRule {
         }
     }
 
-    /// What the rule says now.
+    /// What the rule says now, but for its targets.
     pub fn rule<R: Wait>(&self, rt: &R) -> Rule {
-        *self.rule.lock(rt)
+        self.said.lock(rt).rule
+    }
+
+    /// What it says now. It takes no memory; refused is only a list that is held too often.
+    pub fn said<R: Wait>(&self, rt: &R) -> Option<Said> {
+        let said = self.said.lock(rt);
+        let targets = match &said.targets {
+            Some(targets) => Some(Arc::try_clone(targets).ok()?),
+            None => None,
+        };
+        Some(Said {
+            rule: said.rule,
+            targets,
+        })
     }
 
     /// Has it say this from now on.
-    pub fn change<R: Wait>(&self, rt: &R, rule: &Rule) {
-        *self.rule.lock(rt) = *rule;
+    pub fn say<R: Wait>(&self, rt: &R, said: Said) {
+        *self.said.lock(rt) = said;
+    }
+
+    /// How many targets were picked by it before, this time not counted.
+    pub(crate) fn next_turn(&self) -> u64 {
+        self.picks.fetch_add(1, Ordering::SeqCst)
     }
 
     /// Its clients are accepted from now on, or they aren't.

@@ -1,22 +1,22 @@
 //! What an admin session is shown of a connection or a listener.
 
 ghost use Rattle.std.specs.Prelude.{◌≡◌, ◌-◌, ◌/◌, Some, None};
-ghost use Rattle.relay_facts.specs.Shown.{peer_of_side};
+ghost use Rattle.relay_facts.specs.Shown.{IsPeerOfSide};
 ghost use Rattle.relay_admin.specs.declared.admin.shown.ShownSide.{ShownSide};
 
-use crate::connection_facts::{Acceptance, ConnectionFacts, ms_between};
+use crate::connection_facts::{ConnectionFacts, ms_between};
 use crate::served_rule::ServedRule;
 use relay_admin::{Addr, Rule, Shown, ShownSide};
 use std::sync::Wait;
 
 // The address at the other end of a side.
-fn peer_of(acceptance: &Acceptance, side: ShownSide) -> Option<Addr>
-    ensures { result ≡ peer_of_side acceptance.now.client acceptance.now.rule side }
+fn peer_of(facts: &ConnectionFacts, side: ShownSide) -> Option<Addr>
+    ensures { IsPeerOfSide facts.now.acceptance side result }
 {
     match side {
-        ShownSide::Client => acceptance.client,
-        ShownSide::Target => Some(acceptance.rule.target),
-        ShownSide::Listener => Some(acceptance.rule.listen),
+        ShownSide::Client => facts.acceptance.client,
+        ShownSide::Target => Some(facts.target()),
+        ShownSide::Listener => Some(facts.acceptance.rule.listen),
     }
 }
 
@@ -25,15 +25,14 @@ pub fn shown_side(facts: &ConnectionFacts, id: u64, side: ShownSide, now: u64) -
     ensures id { result.id ≡ id }
     ensures rule { result.rule ≡ facts.now.acceptance.rule.name }
     ensures side { result.side ≡ side }
-    ensures peer { result.peer ≡ peer_of_side facts.now.acceptance.client
-        facts.now.acceptance.rule side }
+    ensures peer { IsPeerOfSide facts.now.acceptance side result.peer }
     ensures age { result.age_ms ≡ (now - facts.now.acceptance.at) / 1000000 }
 {
     Shown {
         id,
         rule: facts.acceptance.rule.name,
         side,
-        peer: peer_of(&facts.acceptance, side),
+        peer: peer_of(facts, side),
         up: facts.up(),
         down: facts.down(),
         age_ms: facts.acceptance.age_ms(now),

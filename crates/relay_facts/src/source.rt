@@ -1,35 +1,48 @@
 //! What the file of a relay says, whichever form it has.
 
-ghost use Rattle.std.specs.Prelude.{◌≡◌, IfOk, IfErr};
+ghost use Rattle.std.specs.Prelude.{◌≡◌, IfOk, IfErr, map};
 ghost use Rattle.relay_admin.specs.ServeFault.{IsFileFault};
-ghost use Rattle.relay_facts.specs.Source.{SaysNoSettings};
+ghost use Rattle.relay_facts.specs.Source.{FileSays, SaysNoSettings, SaysTheseRules, entry_alone};
+ghost use Rattle.relay_settings.specs.Meaning.{SaysAll, said_entry, said_rule_entry};
 ghost use Rattle.relay_settings.specs.Settings.{SaysNothing};
 ghost use Rattle.relay_admin.specs.declared.serve_fault.ServeFault.{ServeFault};
 
 use crate::rules_file::{config_text_of, rules_of, text_of};
-use relay_admin::{Rule, Rules, ServeFault};
-use relay_settings::{Said, Settings, Source, bad_config, read_config};
+use base_types::OutOfMemory;
+use relay_admin::{Rule, ServeFault};
+use relay_settings::{Said, SaidRule, Settings, Source, bad_config, read_config};
 use std::alloc::Global;
 use std::fs::Files;
 
-// The rules in memory of their own.
-fn rules_in(alloc: Global, rules: &Rules) -> Result<Vec<Rule>, ServeFault>
-    ensures faults { IfErr result (λ fault. fault ≡ ServeFault.Memory) }
+// A rule that names its own target alone.
+#[tactic(auto, using(crate::proofs::SourceLemmas::alone_entry))]
+fn alone(alloc: Global, rule: &Rule) -> Result<SaidRule, OutOfMemory>
+    ensures { IfOk result (λ said. said_rule_entry said ≡ entry_alone rule.now) }
 {
-    match Vec::from_slice(alloc, rules.as_slice()) {
-        Ok(rules) => Ok(rules),
-        Err(_) => Err(ServeFault::Memory),
-    }
+    SaidRule::alone(alloc, *rule)
 }
 
-// What a rules file says: no settings.
+// These rules, each of which names its own target alone.
+fn each_alone(alloc: Global, rules: &[Rule]) -> Result<Vec<SaidRule>, OutOfMemory>
+    ensures { IfOk result (λ all.
+        map said_rule_entry all.items ≡ map entry_alone rules.now) }
+{
+    let mut all = Vec::new(alloc);
+    for rule in rules {
+        all.push(alone(alloc, rule)?)?;
+    }
+    Ok(all)
+}
+
+// What a rules file says: no settings, and rules of one target each.
 #[tactic(auto, using(crate::proofs::FileFaults::of_memory))]
 fn said_by_rules(alloc: Global, text: &[u8]) -> Result<Said, ServeFault>
     ensures settings { IfOk result (λ said. SaysNothing said.settings) }
+    ensures rules { IfOk result (λ said. SaysTheseRules text.now said.rules.items) }
     ensures faults { IfErr result (λ fault. IsFileFault fault) }
 {
     let rules = rules_of(text)?;
-    let rules = rules_in(alloc, &rules)?;
+    let rules = each_alone(alloc, rules.as_slice())?;
     Ok(Said {
         settings: Settings::none(),
         rules,
@@ -39,6 +52,7 @@ fn said_by_rules(alloc: Global, text: &[u8]) -> Result<Said, ServeFault>
 // What a configuration says.
 #[tactic(auto, using(crate::proofs::FileFaults::of_memory, crate::proofs::FileFaults::of_bad))]
 fn said_by_config(alloc: Global, text: &[u8]) -> Result<Said, ServeFault>
+    ensures said { IfOk result (λ said. SaysAll text.now (said_entry said)) }
     ensures faults { IfErr result (λ fault. IsFileFault fault) }
 {
     match read_config(alloc, text) {
@@ -55,6 +69,7 @@ fn said_by_config(alloc: Global, text: &[u8]) -> Result<Said, ServeFault>
 #[tactic(auto, using(crate::proofs::FileFaults::of_read, crate::proofs::FileFaults::of_config_read))]
 pub fn said_by<R: Files>(rt: &R, alloc: Global, source: &Source) -> Result<Said, ServeFault>
     ensures rules { IfOk result (λ said. SaysNoSettings source.now said.settings) }
+    ensures said { IfOk result (FileSays source.now) }
     ensures faults { IfErr result (λ fault. IsFileFault fault) }
 {
     match source {

@@ -1,5 +1,5 @@
 -- A client that was accepted, and the task that comes of it.
-use Rattle.std.specs.Prelude.{◌≡◌, ℕ, Option}
+use Rattle.std.specs.Prelude.{◌≡◌, ℕ, false, Option}
 use Rattle.std.specs.Arc.{arc_value}
 use Rattle.std.specs.declared.alloc.Global.{Global}
 use Rattle.std.specs.declared.sync.Arc.{Arc}
@@ -7,20 +7,45 @@ use Rattle.readiness.specs.Tasks.{IsPut}
 use Rattle.readiness.specs.declared.loop_token.Place.{Place}
 use Rattle.readiness.specs.declared.tasks.Tasks.{Tasks}
 use Rattle.relay_conn.specs.Asked.{counted_in}
+use Rattle.relay_conn.specs.Connection.{IfDialing}
 use Rattle.relay_conn.specs.Deadlines.{IsIdleEnd}
-use Rattle.relay_conn.specs.SetUp.{IsSetUp}
+use Rattle.relay_conn.specs.SetUp.{IsBegunWith, IsSetUp}
+use Rattle.relay_conn.specs.Trial.{IsNoTrial, IsTrial, last_of}
 use Rattle.relay_conn.specs.declared.connection.Connection.{Connection}
+use Rattle.relay_conn.specs.declared.refused.Refused.{Refused}
+use Rattle.relay_conn.specs.declared.refused.Refused.TheVariants as refused
+use Rattle.relay_conn.specs.declared.trial.NoTrial.{NoTrial}
+use Rattle.relay_conn.specs.declared.trial.Trial.{Trial}
+use Rattle.relay_facts.specs.Acceptance.{list_in}
 use Rattle.relay_facts.specs.declared.connection_facts.Acceptance.{Acceptance}
 use Rattle.relay_facts.specs.declared.connection_facts.ConnectionFacts.{ConnectionFacts}
 use Rattle.relay_shared.specs.declared.inbox.Counted.{Counted}
+use Rattle.target_pick.specs.Tried.{was_tried}
+use Rattle.target_pick.specs.declared.tried.Tried.{Tried}
+
+-- a connection was begun for a client for whom no target was tried before
+pub record IsFirstTrial (client : Acceptance) (trial : Trial) : Type 0 where
+  pub none : Tried
+  pub untried : (place : ℕ) → was_tried none place ≡ false
+  pub begun : IsTrial client none trial
+
+-- where targets refused a client, all were tried that may take it, or there was no descriptor
+abbrev pub IsRefusedFor : Acceptance → Refused → Type 0
+IsRefusedFor client (refused.Target last) =
+    (none : NoTrial) × IsNoTrial client none × (last ≡ last_of none)
+IsRefusedFor client other = Unit {0}
 
 module _ {U D R : Type 0} where
-  -- a connection is set up for this client: by what its rule said, with what counts it, for this
-  -- place, and with so many milliseconds for its target
+  -- a connection is set up for this client: by what its rule said, with the first of its targets,
+  -- with what counts it, for this place, and with so many milliseconds for its target
   pub record IsConnectionFor (client : Acceptance) (counted : Counted) (connect_ms : Option ℕ)
       (at : Place) (connection : Connection U D R) : Type 0 where
     pub facts : Arc ConnectionFacts Global
     pub rule : (arc_value facts).acceptance.rule ≡ client.rule
+    pub targets : list_in (arc_value facts).acceptance ≡ list_in client
+    pub trial : Trial
+    pub first : IsFirstTrial (arc_value facts).acceptance trial
+    pub begun : IfDialing connection.phase (IsBegunWith trial at)
     pub connect_by : Option ℕ
     pub time : IsIdleEnd connect_ms connect_by
     pub set_up : IsSetUp facts at connect_by connection

@@ -9,9 +9,10 @@ use Rattle.relay_admin.specs.declared.serve_fault.ServeFault.{ServeFault}
 use Rattle.relay_conn.specs.Connection.{awaited_by}
 use Rattle.relay_conn.specs.GoneOn.{ConnectionGoneOn}
 use Rattle.relay_conn.specs.declared.connection.Connection.{Connection}
+use Rattle.relay_conn.specs.declared.others.Dials.{Dials}
 use Rattle.relay_core.specs.declared.pair_tasks.PairNext.{PairNext}
 use Rattle.relay_core.specs.declared.pair_tasks.PairNext.TheVariants as next
-use Rattle.relay_shared.specs.Fault.{poller_fault}
+use Rattle.relay_shared.specs.PollerFault.{poller_fault}
 use Rattle.rwloops.specs.declared.fault.Fault.{Fault}
 
 -- what follows for a loop of what follows for a connection
@@ -26,9 +27,10 @@ IsPollerFault told = (fault : Fault) × (told ≡ poller_fault fault)
 
 module _ {U D R : Type 0} where
   -- a connection went on by what its loop heard, and its loop does what follows of that
-  pub record IsTurnOf (old new : Connection U D R) (why : Why) (told : Turn) : Type 0 where
+  pub record IsTurnOf (old new : Connection U D R) (before after : Dials R) (why : Why) (told : Turn) :
+      Type 0 where
     pub next : PairNext
-    pub gone_on : ConnectionGoneOn old new why next
+    pub gone_on : ConnectionGoneOn old new before after why next
     pub follows : told ≡ follows_of next
 
   -- each connection that awaits a moment has an alarm by then, where each had one before

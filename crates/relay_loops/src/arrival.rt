@@ -38,10 +38,11 @@ impl Arrival {
     /// It isn't served, for this reason.
     pub(crate) fn refused<R: Wait + Clock + Copy>(self, context: &LoopContext<R>, why: Refused) {
         let Arrival { acceptance } = self;
+        let last = why.place();
         let how = why.how();
         if let Some(counts) = acceptance.served.counts.of_loop(context.place) {
             counts.note_refused(how);
         }
-        context.tell_refused(&acceptance, how);
+        context.tell_refused(&acceptance, last, how);
     }
 }

@@ -5,6 +5,7 @@
 mod arrival;
 mod loops;
 mod requests;
+mod seeking;
 mod set_up;
 mod taken;
 

@@ -16,17 +16,19 @@ use fd_descriptor::PollCell;
 use readiness::{EventLoop, Host, Side, Turn, Why};
 use relay_admin::ServeFault;
 use relay_conn::connection::Connection;
+use relay_conn::others::Dials;
 use relay_core::{LoopMemory, PairNext};
 use relay_facts::books::LoopBooks;
 use relay_facts::clock::{Moments, RelayClock};
 use relay_facts::connection_facts::Acceptance;
+use relay_facts::log_lines::tell_unserved;
 use relay_facts::totals::Totals;
 use relay_ledger::PARTS;
 use relay_log::ended::Ended as How;
-use relay_shared::fault::of_poller;
 use relay_shared::inbox::Inbox;
 use relay_shared::index::Gone;
 use relay_shared::loop_handle::LoopParts;
+use relay_shared::poller_fault::of_poller;
 use relay_shared::shared::Shared;
 use std::alloc::Global;
 use std::marker::Brand;
@@ -57,10 +59,16 @@ impl<R: Wait + Clock + Copy> LoopContext<R> {
         }
     }
 
-    /// The log is told of a client that isn't served.
-    pub(crate) fn tell_refused(&self, acceptance: &Acceptance, how: How) {
+    /// The log is told of a client that isn't served, whose target at this place was dialled last, if
+    /// one was.
+    pub(crate) fn tell_refused(&self, acceptance: &Acceptance, last: Option<usize>, how: How) {
         let now = self.clock.now();
-        self.shared.tell_refused(&self.rt, acceptance, now, how);
+        let (Some(log), Some(place)) = (&self.shared.log, last) else {
+            self.shared.tell_refused(&self.rt, acceptance, now, how);
+            return;
+        };
+        let target = acceptance.address(place);
+        tell_unserved(&self.rt, log, acceptance, &target, now, how);
     }
 }
 
@@ -83,6 +91,8 @@ pub(crate) struct LoopHost<U: Ledger, D: Ledger, R: Wait + Clock + Copy> {
     /// An inbox that is empty between turns: it and the loop's change places, so that a turn takes no
     /// memory for a list.
     spare: Inbox,
+    /// Which of its connections seek a target.
+    pub(crate) dials: Dials<R>,
     /// It is lent to each task while that goes on.
     memory: LoopMemory,
 }
@@ -115,9 +125,9 @@ impl<U: Ledger, D: Ledger, R: Wait + Clock + Copy> Host for LoopHost<U, D, R> {
 impl<U: Ledger, D: Ledger, R: Wait + Clock + Copy> LoopHost<U, D, R> {
     /// Has a connection go on, and says what follows for its loop.
     pub(crate) fn go_on_with(&mut self, task: &mut Connection<U, D, R>, why: Why) -> Turn
-        ensures { IsTurnOf task.old task.new why result }
+        ensures { IsTurnOf task.old task.new self.old.dials self.new.dials why result }
     {
-        let next = task.go_on(&self.context.rt, &mut self.books, why, &mut self.memory);
+        let next = task.go_on(&mut self.dials, &mut self.books, why, &mut self.memory);
         task.tell_bytes(&self.context.clock);
         follows_of(next)
     }
@@ -128,6 +138,7 @@ impl<U: Ledger, D: Ledger, R: Wait + Clock + Copy> LoopHost<U, D, R> {
         ensures up { TakesBack self.old.books.up.book self.new.books.up.book (up_share_of task) }
         ensures down { TakesBack self.old.books.down.book self.new.books.down.book
             (down_share_of task) }
+        ensures dials { self.new.dials ≡ self.old.dials }
     {
         let now = self.context.clock.now();
         let shared = &self.context.shared;
@@ -173,7 +184,8 @@ impl<U: Ledger, D: Ledger, R: Wait + Net + Clock + Copy> LoopHost<U, D, R> {
         }
     }
 
-    // Turns until the relay stops, or the poller fails.
+    // Turns until the relay stops, or the poller fails. What seeks a target by a turn has it before
+    // requests look at it, and what does by a request before the next turn, which may sleep.
     fn turn_until_stop(&mut self, tasks: &mut ConnLoop<U, D, R>) -> Result<(), ServeFault>
         ensures faults { IfErr result IsPollerFault }
         ensures armed { StayArmed (tasks_of tasks.old) (tasks_of tasks.new) }
@@ -188,7 +200,9 @@ impl<U: Ledger, D: Ledger, R: Wait + Net + Clock + Copy> LoopHost<U, D, R> {
             if self.context.shared.is_stopped() {
                 return Ok(());
             }
+            self.dial_seekers(tasks);
             self.empty_inbox(tasks);
+            self.dial_seekers(tasks);
         }
         unreachable!()
     }
@@ -228,8 +242,10 @@ where
     let LoopParts { driver, published } = parts;
     let alloc = context.alloc;
     let mut tasks: ConnLoop<U, D, R> = EventLoop::on(driver);
+    let dials = Dials::new(context.rt, alloc);
     let mut host = LoopHost {
         context,
+        dials,
         books: LoopBooks::<U, D>::new(up, down, published),
         spare: match Inbox::new(alloc) {
             Ok(inbox) => inbox,

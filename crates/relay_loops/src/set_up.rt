@@ -1,12 +1,12 @@
 //! Setting a connection up for an accepted socket.
 
-ghost use Rattle.std.specs.Prelude.{◌≡◌, ◌⊎◌, IfOk, IfSome, OnOk, OnErr};
+ghost use Rattle.std.specs.Prelude.{◌≡◌, ◌⊎◌, IfOk, IfErr, IfSome, OnOk, OnErr};
 ghost use Rattle.std.specs.Arc.{arc_value};
 ghost use Rattle.readiness.specs.EventLoop.{tasks_of};
 ghost use Rattle.readiness.specs.Tasks.{HasPlace, IsPut, SameTasks, next_place};
 ghost use Rattle.relay_conn.specs.Deadlines.{IsIdleEnd};
-ghost use Rattle.relay_conn.specs.Dialled.{dialled_to};
-ghost use Rattle.relay_loops.specs.SetUp.{IsConnectionFor, IsServed};
+ghost use Rattle.relay_facts.specs.Acceptance.{list_in};
+ghost use Rattle.relay_loops.specs.SetUp.{IsConnectionFor, IsFirstTrial, IsRefusedFor, IsServed};
 ghost use Rattle.relay_ledger.specs.Book.{OpensOne};
 ghost use Rattle.relay_loops.specs.Turns.{StayArmed};
 
@@ -14,9 +14,9 @@ use crate::loops::{ConnLoop, LoopContext, LoopHost};
 use crate::taken::Delivered;
 use readiness::{Poller, Sock};
 use relay_conn::connection::Connection;
-use relay_conn::dialled::dial;
 use relay_conn::refused::Refused;
 use relay_conn::set_up::{Begins, SetUp};
+use relay_conn::trial::{Trial, next_trial};
 use relay_core::idle_deadline;
 use relay_facts::clock::Moments;
 use relay_facts::connection_facts::{Acceptance, ConnectionFacts};
@@ -25,10 +25,11 @@ use std::net::Net;
 use std::sync::ledger::Ledger;
 use std::sync::{Arc, Wait};
 use std::time::Clock;
+use target_pick::Tried;
 
 impl<R: Wait + Net + Clock + Copy> LoopContext<R> {
     // What a connection of its loop is set up by.
-    fn set_up<'a>(&'a self, poller: &'a Poller) -> SetUp<'a, R>
+    pub(crate) fn set_up<'a>(&'a self, poller: &'a Poller) -> SetUp<'a, R>
         ensures poller { result.poller.now ≡ poller.now }
         ensures clock { result.clock ≡ self.now.clock }
     {
@@ -41,13 +42,17 @@ impl<R: Wait + Net + Clock + Copy> LoopContext<R> {
         }
     }
 
-    // What is known of a connection with this client.
-    fn facts(&self, acceptance: &Acceptance) -> Option<Arc<ConnectionFacts>>
+    // What is known of a connection with this client, whose target at this place is tried first.
+    fn facts(&self, acceptance: &Acceptance, target: usize) -> Option<Arc<ConnectionFacts>>
         ensures rule { IfSome result (λ facts.
             (arc_value facts).acceptance.rule ≡ acceptance.now.rule) }
+        ensures targets { IfSome result (λ facts.
+            list_in (arc_value facts).acceptance ≡ list_in acceptance.now) }
+        ensures client { IfSome result (λ facts.
+            (arc_value facts).acceptance.client ≡ acceptance.now.client) }
         ensures place { IfSome result (λ facts. (arc_value facts).loop_place ≡ self.now.place) }
     {
-        let facts = ConnectionFacts::new(acceptance.try_clone()?, self.place);
+        let facts = ConnectionFacts::new(acceptance.try_clone()?, self.place, target);
         Arc::new(self.alloc, facts).ok()
     }
 
@@ -59,34 +64,61 @@ impl<R: Wait + Net + Clock + Copy> LoopContext<R> {
         Some(idle_deadline(self.clock.now(), connect_ms))
     }
 
-    // Dials the target of a client that was accepted.
+    // Dials the first target of a client that was accepted, or else the next one.
     fn begins(
         &self,
         sock: Sock,
         acceptance: &Acceptance,
         counted: Counted,
     ) -> Result<Begins, Refused>
-        ensures target { IfOk result (λ begins. dialled_to begins.target
-            ≡ (arc_value begins.facts).acceptance.rule.target) }
+        ensures target { IfOk result (λ begins.
+            IsFirstTrial (arc_value begins.facts).acceptance begins.target) }
         ensures rule { IfOk result (λ begins.
             (arc_value begins.facts).acceptance.rule ≡ acceptance.now.rule) }
+        ensures targets { IfOk result (λ begins.
+            list_in (arc_value begins.facts).acceptance ≡ list_in acceptance.now) }
         ensures client { IfOk result (λ begins. begins.client ≡ sock) }
         ensures counted { IfOk result (λ begins. begins.counted ≡ counted) }
         ensures time { IfOk result (λ begins.
             IsIdleEnd (arc_value self.now.shared).safeguards.connect_ms begins.connect_by) }
+        ensures refused { IfErr result (IsRefusedFor acceptance.now) }
     {
-        let Some(facts) = self.facts(acceptance) else {
-            return Err(Refused::Memory);
-        };
-        match dial(&self.rt, &facts.acceptance.rule.target) {
-            Ok(target) => Ok(Begins {
+        match next_trial(&self.rt, acceptance, Tried::none()) {
+            Ok(target) => self.begins_with(sock, acceptance, counted, target),
+            Err(none) => Err(Refused::Target(none.last())),
+        }
+    }
+
+    // What a connection begins with whose first target is dialled.
+    fn begins_with(
+        &self,
+        sock: Sock,
+        acceptance: &Acceptance,
+        counted: Counted,
+        target: Trial,
+    ) -> Result<Begins, Refused>
+        requires { IsFirstTrial acceptance.now target }
+        ensures target { IfOk result (λ begins.
+            IsFirstTrial (arc_value begins.facts).acceptance begins.target) }
+        ensures rule { IfOk result (λ begins.
+            (arc_value begins.facts).acceptance.rule ≡ acceptance.now.rule) }
+        ensures targets { IfOk result (λ begins.
+            list_in (arc_value begins.facts).acceptance ≡ list_in acceptance.now) }
+        ensures client { IfOk result (λ begins. begins.client ≡ sock) }
+        ensures counted { IfOk result (λ begins. begins.counted ≡ counted) }
+        ensures time { IfOk result (λ begins.
+            IsIdleEnd (arc_value self.now.shared).safeguards.connect_ms begins.connect_by) }
+        ensures refused { IfErr result (IsRefusedFor acceptance.now) }
+    {
+        match self.facts(acceptance, target.place()) {
+            Some(facts) => Ok(Begins {
                 client: sock,
                 target,
                 facts,
                 counted,
                 connect_by: self.connect_by(),
             }),
-            Err(cause) => Err(Refused::Target(cause)),
+            None => Err(Refused::Memory),
         }
     }
 }

@@ -5,7 +5,7 @@ use Rattle.std.specs.Option.{option_map_or}
 use Rattle.readiness.specs.LoopToken.{place_in}
 use Rattle.readiness.specs.Tasks.{task_in}
 use Rattle.readiness.specs.declared.tasks.Tasks.{Tasks}
-use Rattle.relay_main.specs.Ending.{AreEndedOf, task_place, token_at}
+use Rattle.relay_main.specs.ListenersEnd.{AreEndedOf, task_place, token_at}
 use Rattle.relay_main.specs.declared.rule_listeners.Listening.{Listening}
 
 -- the token of a listener that was read

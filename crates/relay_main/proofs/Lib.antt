@@ -3,3 +3,4 @@ pub mod ClosingLemmas
 pub mod DrainedLemmas
 pub mod EndingLemmas
 pub mod ListeningLemmas
+pub mod ReloadLemmas

@@ -1,11 +1,10 @@
-pub mod Accepting
+pub mod AcceptTurns
 pub mod Accounts
 pub mod Binding
 pub mod Closing
 pub mod Deadlines
-pub mod Desk
-pub mod Ending
 pub mod Finishing
+pub mod ListenersEnd
 pub mod Listening
 pub mod Opening
 pub mod Pauses
@@ -14,4 +13,5 @@ pub mod Reload
 pub mod RuleListeners
 pub mod RuleTask
 pub mod Session
+pub mod SessionDesk
 pub mod Sessions

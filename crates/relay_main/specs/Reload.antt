@@ -1,9 +1,13 @@
--- What a session is answered where a reload is refused.
+-- What accounts are to say after a reload, and what a session is answered where one is refused.
+use Rattle.std.specs.Prelude.{◌≡◌, ℕ, List, Some, length, slice_get}
 use Rattle.relay_admin.specs.declared.admin.answers.ReloadAnswer.{ReloadAnswer}
 use Rattle.relay_admin.specs.declared.admin.answers.ReloadAnswer.TheVariants.{CannotRead, CannotListen, Verdict}
 use Rattle.relay_admin.specs.declared.admin.answers.ReloadAnswer.TheVariants.{NoMemory, Device}
 use Rattle.relay_admin.specs.declared.serve_fault.ServeFault.{ServeFault}
 use Rattle.relay_admin.specs.declared.serve_fault.ServeFault.TheVariants as fault
+use Rattle.relay_facts.specs.Config.{SaysRule}
+use Rattle.relay_facts.specs.declared.served_rule.Said.{Said}
+use Rattle.relay_settings.specs.declared.targets.SaidRule.{SaidRule}
 
 -- the file, what is bad in it, or an address as at a start; of what else may come to a reload, the
 -- poller alone is left
@@ -14,3 +18,9 @@ answer_of_fault (fault.BadRules verdict) = Verdict verdict
 answer_of_fault (fault.Listen name) = CannotListen name
 answer_of_fault fault.Memory = NoMemory
 answer_of_fault other = Device
+
+-- what the accounts of these rules are to say, in their order
+pub record SayRules (rules : List SaidRule) (all : List Said) : Type 0 where
+  pub count : length all ≡ length rules
+  pub each : (k : ℕ) (rule : SaidRule) (said : Said) → slice_get rules k ≡ Some rule
+      → slice_get all k ≡ Some said → SaysRule rule said

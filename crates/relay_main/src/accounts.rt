@@ -10,7 +10,7 @@ ghost use Rattle.relay_facts.specs.Counts.{loops_of};
 ghost use Rattle.relay_main.specs.Accounts as spec;
 
 use relay_admin::{Addr, Rule, ServeFault, is_same_addr};
-use relay_facts::served_rule::ServedRule;
+use relay_facts::served_rule::{Said, ServedRule};
 use std::alloc::Global;
 use std::sync::Arc;
 
@@ -61,7 +61,7 @@ pub(crate) fn account_of(
 {
     match account_at(accounts, &rule.listen) {
         Some(account) => Ok(Arc::try_clone(account)?),
-        None => Ok(ServedRule::new(alloc, rule, loops)?),
+        None => Ok(ServedRule::new(alloc, Said::alone(rule), loops)?),
     }
 }
 

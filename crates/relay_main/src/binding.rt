@@ -13,7 +13,7 @@ ghost use Rattle.relay_main.specs.Listening.{given_at, left_by};
 ghost use Rattle.relay_shared.specs.BoundPath.{paths_in};
 
 use crate::accounts::account_of;
-use crate::ending::LastClients;
+use crate::listeners_end::LastClients;
 use crate::listening::Opened;
 use crate::main_loop::MainLoop;
 use crate::opening::hold_shared;

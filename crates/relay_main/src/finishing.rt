@@ -3,11 +3,11 @@
 
 ghost use Rattle.std.specs.Prelude.{◌≡◌, ◌↔◌, true, [], IsSome};
 ghost use Rattle.readiness.specs.EventLoop.{tasks_of};
-ghost use Rattle.relay_main.specs.Ending.{AreEnded};
 ghost use Rattle.relay_main.specs.Finishing.{HasFinished, IsOver};
+ghost use Rattle.relay_main.specs.ListenersEnd.{AreEnded};
 ghost use Rattle.relay_shared.specs.BoundPath.{paths_in};
 
-use crate::ending::LastClients;
+use crate::listeners_end::LastClients;
 use crate::main_loop::MainLoop;
 use relay_core::{has_come, pause_end};
 use relay_facts::clock::Moments;

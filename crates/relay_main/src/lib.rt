@@ -2,13 +2,12 @@
 //! sessions, which steer connections, have the rules read again and end the relay.
 #![tactic(auto)]
 
-mod accepting;
+mod accept_turns;
 mod accounts;
-mod admin;
+mod admin_socket;
 mod binding;
-mod desk;
-mod ending;
 mod finishing;
+mod listeners_end;
 mod listening;
 mod main_host;
 mod main_loop;
@@ -19,10 +18,11 @@ mod reload;
 mod rule_listeners;
 mod rule_task;
 mod session;
+mod session_desk;
 mod session_state;
 mod sessions;
 
-pub use ending::AcceptsEnded;
+pub use listeners_end::AcceptsEnded;
 pub use listening::GivenListener;
 pub use main_loop::MainLoop;
 pub use sessions::Sessions;

@@ -5,14 +5,13 @@ ghost use Rattle.std.specs.Arc.{arc_value};
 ghost use Rattle.readiness.specs.EventLoop.{remote_of};
 ghost use Rattle.relay_main.specs.Pauses.{StaysOrIsNoted, earliest};
 
-use crate::admin::Caller;
+use crate::admin_socket::Caller;
 use crate::main_task::MainTask;
 use deadline_core::Dirs;
 use fd_descriptor::{Alarms, PollCell};
 use readiness::{Host, Place, RemoteAlarms, Side, Turn, Why};
-use relay_core::{has_come, pause_end};
+use relay_core::{MAX_SESSIONS, has_come, pause_end};
 use relay_facts::clock::Moments;
-use relay_shared::requests::MAX_SESSIONS;
 use relay_shared::shared::Shared;
 use std::alloc::Global;
 use std::sync::{Arc, Wait};

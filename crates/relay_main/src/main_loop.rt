@@ -12,8 +12,8 @@ ghost use Rattle.relay_admin.specs.ServeFault.{IsRunFault};
 ghost use Rattle.relay_admin.specs.declared.serve_fault.ServeFault.{ServeFault};
 ghost use Rattle.relay_main.specs.Finishing.{IsOver};
 
-use crate::ending::{AcceptsEnded, end_tasks};
 use crate::finishing::is_over;
+use crate::listeners_end::{AcceptsEnded, end_tasks};
 use crate::listening::Listeners;
 use crate::main_host::MainHost;
 use crate::main_task::MainTask;
@@ -25,7 +25,7 @@ use relay_admin::{Rule, ServeFault};
 use relay_facts::clock::{Moments, RelayClock};
 use relay_facts::served_rule::ServedRule;
 use relay_shared::bound_path::BoundPaths;
-use relay_shared::fault::of_poller;
+use relay_shared::poller_fault::of_poller;
 use relay_shared::shared::Shared;
 use std::alloc::Global;
 use std::fs::Files;

@@ -1,6 +1,6 @@
 //! What the main thread's loop has for tasks.
 
-use crate::admin::AdminTask;
+use crate::admin_socket::AdminTask;
 use crate::rule_task::RuleTask;
 use std::sync::Wait;
 

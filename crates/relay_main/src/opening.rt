@@ -10,7 +10,7 @@ ghost use Rattle.relay_admin.specs.ServeFault.{IsRunFault};
 ghost use Rattle.relay_main.specs.Binding.{HasCome, StillStand};
 ghost use Rattle.relay_main.specs.Opening.{IsAdmin, IsAdminFault, IsEntered};
 
-use crate::admin::AdminTask;
+use crate::admin_socket::AdminTask;
 use crate::listening::{Listeners, Opened};
 use crate::main_task::MainTask;
 use crate::rule_listeners::Listening;

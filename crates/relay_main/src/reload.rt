@@ -7,24 +7,28 @@ ghost use Rattle.readiness.specs.EventLoop.{tasks_of};
 ghost use Rattle.readiness.specs.Tasks.{task_in};
 ghost use Rattle.relay_main.specs.Binding.{StillStand};
 ghost use Rattle.relay_admin.specs.declared.admin.answers.ReloadAnswer.{ReloadAnswer};
+ghost use Rattle.relay_admin.specs.declared.rules.verdict.Verdict.{Verdict};
 ghost use Rattle.relay_admin.specs.declared.serve_fault.ServeFault.{ServeFault};
-ghost use Rattle.relay_main.specs.Ending.{AreEnded};
+ghost use Rattle.relay_main.specs.ListenersEnd.{AreEnded};
 ghost use Rattle.relay_main.specs.Plan.{IsPlanned};
-ghost use Rattle.relay_main.specs.Reload.{answer_of_fault};
+ghost use Rattle.relay_facts.specs.Config.{SaysRule};
+ghost use Rattle.relay_facts.specs.Source.{rules_said};
+ghost use Rattle.relay_main.specs.Reload.{SayRules, answer_of_fault};
 ghost use Rattle.relay_main.specs.RuleListeners.{standing_in};
 
 use crate::accounts::account_at;
 use crate::binding::AllBound;
-use crate::ending::LastClients;
+use crate::listeners_end::LastClients;
 use crate::main_loop::MainLoop;
 use crate::plan::{Plan, plan_of};
 use crate::rule_listeners::Listening;
 use relay_admin::{ReloadAnswer, Rule, ServeFault, Verdict};
 use relay_facts::config::Start;
-use relay_facts::served_rule::ServedRule;
+use relay_facts::served_rule::{Said, ServedRule};
 use relay_facts::source::said_by;
-use relay_settings::{SETTINGS, Settings, needs_restart, rule_count};
+use relay_settings::{SETTINGS, SaidRule, Settings, needs_restart, rule_count};
 use relay_shared::bound_path::BoundPaths;
+use std::alloc::Global;
 use std::fs::Files;
 use std::net::Net;
 use std::sync::{Arc, Wait};
@@ -43,11 +47,63 @@ fn answer_of_fault(fault: ServeFault) -> ReloadAnswer
     }
 }
 
-// Has the accounts of these rules, among those, say what the rules say.
-fn change<R: Wait>(rt: &R, accounts: &[Arc<ServedRule>], rules: &[Rule], _bound: &AllBound) {
+// The rules, without their targets.
+fn rules_of(alloc: Global, all: &[SaidRule]) -> Result<Vec<Rule>, ServeFault>
+    ensures rules { IfOk result (λ rules. rules.items ≡ rules_said all.now) }
+    ensures faults { IfErr result (λ fault. fault ≡ ServeFault.Memory) }
+{
+    let mut rules = Vec::new(alloc);
+    for said in all {
+        rules.push(said.rule)?;
+    }
+    Ok(rules)
+}
+
+// What the account of this rule, among those, is to say. Connections that its list counts now are
+// counted on.
+fn said_of<R: Wait>(
+    rt: &R,
+    alloc: Global,
+    accounts: &[Arc<ServedRule>],
+    rule: &SaidRule,
+) -> Result<Said, ServeFault>
+    ensures said { IfOk result (SaysRule rule.now) }
+    ensures faults { IfErr result (λ fault. fault ≡ ServeFault.Memory) }
+{
+    let Some(served) = account_at(accounts, &rule.rule.listen) else {
+        return Ok(Said::of(alloc, rule, None)?);
+    };
+    let Some(before) = served.said(rt) else {
+        return Err(ServeFault::Memory);
+    };
+    match &before.targets {
+        Some(list) => Ok(Said::of(alloc, rule, Some(list))?),
+        None => Ok(Said::of(alloc, rule, None)?),
+    }
+}
+
+// What the accounts of these rules, among those, are to say.
+fn all_said<R: Wait>(
+    rt: &R,
+    alloc: Global,
+    accounts: &[Arc<ServedRule>],
+    rules: &[SaidRule],
+) -> Result<Vec<Said>, ServeFault>
+    ensures said { IfOk result (λ all. SayRules rules.now all.items) }
+    ensures faults { IfErr result (λ fault. fault ≡ ServeFault.Memory) }
+{
+    let mut all = Vec::new(alloc);
     for rule in rules {
-        if let Some(served) = account_at(accounts, &rule.listen) {
-            served.change(rt, rule);
+        all.push(said_of(rt, alloc, accounts, rule)?)?;
+    }
+    Ok(all)
+}
+
+// Has the accounts of rules, among those, say this.
+fn say_all<R: Wait>(rt: &R, accounts: &[Arc<ServedRule>], all: Vec<Said>, _bound: &AllBound) {
+    for said in all {
+        if let Some(served) = account_at(accounts, &said.rule.listen) {
+            served.say(rt, said);
         }
     }
 }
@@ -116,32 +172,43 @@ impl<R: Wait + Net + Files + Clock + Eprint + Copy> MainLoop<R> {
         )
     }
 
-    // Serves these rules from now on; or, after a fault, those of before.
-    fn serve_rules(&mut self, rt: &R, rules: &[Rule], now: u64) -> Result<(), ServeFault>
+    // The plan to what the file says, and what the accounts are to say then.
+    fn prepared(&self, rt: &R, file: &[SaidRule]) -> Result<(Plan, Vec<Said>), ServeFault>
+        ensures plan { IfOk result (λ both. IsPlanned (rules_said file.now)
+            (standing_in (tasks_of self.now.tasks) self.now.listening.items) both.0) }
+        ensures said { IfOk result (λ both. SayRules file.now both.1.items) }
+    {
+        let rules = rules_of(self.alloc, file)?;
+        let plan = self.planned(rt, rules.as_slice())?;
+        let said = all_said(rt, self.alloc, plan.serve.as_slice(), file)?;
+        Ok((plan, said))
+    }
+
+    // Serves what the file says from now on; or, after a fault, the rules of before.
+    fn serve_rules(&mut self, rt: &R, file: &[SaidRule], now: u64) -> Result<(), ServeFault>
         ensures refused { OnErr result
             (StillStand (tasks_of self.old.tasks) (tasks_of self.new.tasks)) }
     {
-        let plan = self.planned(rt, rules)?;
+        let (plan, said) = self.prepared(rt, file)?;
         let bound = self.bind_all(rt, plan.serve.as_slice(), plan.bind.as_slice(), now)?;
-        self.go_over(rt, plan, bound);
+        self.go_over(rt, plan, said, bound);
         Ok(())
     }
 
     // Goes over to a plan of which all is bound.
-    fn go_over(&mut self, rt: &R, plan: Plan, bound: AllBound)
+    fn go_over(&mut self, rt: &R, plan: Plan, said: Vec<Said>, bound: AllBound)
         ensures closed { AreEnded plan.close.items (tasks_of self.old.tasks) (tasks_of self.new.tasks) }
         ensures left { self.new.listening.items
             ≡ standing_in (tasks_of self.new.tasks) self.old.listening.items }
     {
         let Plan {
             serve,
-            bind,
-            keep,
+            bind: _,
+            keep: _,
             end,
             close,
         } = plan;
-        change(rt, serve.as_slice(), bind.as_slice(), &bound);
-        change(rt, serve.as_slice(), keep.as_slice(), &bound);
+        say_all(rt, serve.as_slice(), said, &bound);
         *self.host.shared.rules.lock(rt) = serve;
         self.end_rules(close.as_slice(), LastClients::AreReset);
         self.forget_closed();
@@ -167,6 +234,8 @@ impl<R: Wait + Net + Files + Clock + Eprint + Copy> MainLoop<R> {
     /// Settings stay as they are: standard error has a line for each that the file says otherwise.
     pub(crate) fn reload(&mut self, rt: &R, now: u64) -> ReloadAnswer
         ensures finishing { self.old.finish_at ≢ None → result ≡ ReloadAnswer.Finishing }
+        ensures refused { ((count : ℕ) → result ≢ ReloadAnswer.Verdict (Verdict.Rules count))
+            → StillStand (tasks_of self.old.tasks) (tasks_of self.new.tasks) }
     {
         if self.finish_at.is_some() {
             return ReloadAnswer::Finishing;

@@ -21,7 +21,7 @@ use readiness::{ListenRes, Place, Sock};
 use relay_core::{AcceptStep, Accepting, PollAcceptGate};
 use relay_facts::clock::Moments;
 use relay_facts::connection_facts::Acceptance;
-use relay_facts::served_rule::ServedRule;
+use relay_facts::served_rule::{Said, ServedRule};
 use relay_facts::shown::ListenerTimes;
 use relay_shared::address::rule_address;
 use relay_shared::shared::Shared;
@@ -123,10 +123,11 @@ where
         ensures client { IfSome result (λ acceptance. acceptance.client ≡ client) }
     {
         let served = Arc::try_clone(self.served).ok()?;
-        let rule = served.rule(&self.rt);
+        let Said { rule, targets } = served.said(&self.rt)?;
         Some(Acceptance {
             served,
             rule,
+            targets,
             client,
             at: self.clock.now(),
         })

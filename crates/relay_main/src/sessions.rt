@@ -15,15 +15,14 @@ ghost use Rattle.relay_main.specs.Sessions.{is_held_at, patience};
 ghost use Rattle.relay_main.specs.declared.main_task.MainTask.{MainTask};
 ghost use Rattle.relay_admin.specs.declared.serve_fault.ServeFault.{ServeFault};
 
-use crate::desk::{RelayDesk, late_answer};
 use crate::main_loop::MainLoop;
 use crate::main_task::MainTask;
 use crate::session::{Session, SessionStep};
+use crate::session_desk::{RelayDesk, late_answer};
 use readiness::Sock;
 use relay_admin::ServeFault;
-use relay_core::{has_come, silence_end};
+use relay_core::{MAX_SESSIONS, has_come, silence_end};
 use relay_facts::clock::Moments;
-use relay_shared::requests::MAX_SESSIONS;
 use std::alloc::Global;
 use std::fs::Files;
 use std::mem;

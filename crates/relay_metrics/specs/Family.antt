@@ -1,7 +1,7 @@
 -- What is said of each family of figures.
 use Rattle.std.specs.Prelude.{ℕ, List, [], ◌∷◌, ◌++◌, codes}
-use Rattle.relay_metrics.specs.declared.family.Family.{Family}
-use Rattle.relay_metrics.specs.declared.family.Family.TheVariants as family
+use Rattle.relay_metrics.specs.declared.figures.Family.{Family}
+use Rattle.relay_metrics.specs.declared.figures.Family.TheVariants as family
 
 -- the name of its figures
 unfoldable pub name_text : Family → List ℕ

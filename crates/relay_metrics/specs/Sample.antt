@@ -1,7 +1,7 @@
 -- How one figure is spelled: its name, its labels, its value.
 use Rattle.std.specs.Prelude.{ℕ, ◌+◌, ◌/◌, ◌%◌, List, [], ◌∷◌, ◌++◌, codes}
 use Rattle.std.specs.Fmt.{decimal}
-use Rattle.relay_metrics.specs.declared.family.Family.{Family}
+use Rattle.relay_metrics.specs.declared.figures.Family.{Family}
 use Rattle.relay_metrics.specs.Family.{name_text, head_text}
 
 -- a space, the value and a line feed

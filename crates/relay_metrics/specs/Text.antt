@@ -4,8 +4,8 @@ use Rattle.std.specs.Prelude.{ℕ, Bool, ◌+◌, List, [], ◌∷◌, ◌++◌,
 use Rattle.std.specs.List.{flat_map, zip}
 use Rattle.std.specs.Fmt.{decimal}
 use Rattle.relay_log.specs.Ended.{cause_words, end_labels}
-use Rattle.relay_metrics.specs.declared.family.Family.{Family}
-use Rattle.relay_metrics.specs.declared.family.Family.TheVariants as family
+use Rattle.relay_metrics.specs.declared.figures.Family.{Family}
+use Rattle.relay_metrics.specs.declared.figures.Family.TheVariants as family
 use Rattle.relay_metrics.specs.declared.figures.CarriedBytes.{CarriedBytes}
 use Rattle.relay_metrics.specs.declared.figures.Figures.{Figures}
 use Rattle.relay_metrics.specs.declared.figures.Refusals.{Refusals}

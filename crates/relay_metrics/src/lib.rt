@@ -1,10 +1,9 @@
 //! What a relay tells of itself: a snapshot of its figures, and the text that Prometheus reads. No
 //! thread, no socket and no clock.
 //!
-//! `figures` has the snapshot, `metered` who fills it, `family` the names, `sample` and `text` the text.
+//! `figures` has the snapshot and the names, `metered` who fills it, `sample` and `text` the text.
 #![tactic(auto)]
 
-mod family;
 mod figures;
 mod metered;
 mod rule_text;

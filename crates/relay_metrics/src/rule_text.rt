@@ -5,8 +5,7 @@ ghost use Rattle.relay_metrics.specs.Text.{cause_text, causes_text, defence_text
 ghost use Rattle.relay_metrics.specs.Text.{refused_text, rule_bytes_text, rule_family_text};
 ghost use Rattle.relay_metrics.specs.Text.{rules_text, shortage_text};
 
-use crate::family::Family;
-use crate::figures::{CarriedBytes, Refusals, RuleFigures};
+use crate::figures::{CarriedBytes, Family, Refusals, RuleFigures};
 use crate::sample::{write_rule_sample, write_sample};
 use base_types::OutOfMemory;
 use relay_log::ended::{CAUSE_WORDS, END_LABELS};

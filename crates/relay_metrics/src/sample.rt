@@ -6,7 +6,7 @@ ghost use Rattle.relay_metrics.specs.Family.{name_text};
 ghost use Rattle.relay_metrics.specs.Sample.{label_text, rule_sample_text, sample_text};
 ghost use Rattle.relay_metrics.specs.Sample.{seconds_text, single_text, value_text};
 
-use crate::family::Family;
+use crate::figures::Family;
 use base_types::OutOfMemory;
 use itoa::Buffer;
 use std::alloc::Allocator;

@@ -4,8 +4,7 @@ ghost use Rattle.std.specs.Prelude.{◌≡◌, ◌++◌, IfOk, OnOk};
 ghost use Rattle.relay_metrics.specs.Text.{bytes_text, metrics_text, relay_text, totals_text};
 ghost use Rattle.relay_metrics.specs.Text.{turns_text, up_text};
 
-use crate::family::Family;
-use crate::figures::{CarriedBytes, Figures};
+use crate::figures::{CarriedBytes, Family, Figures};
 use crate::rule_text::write_rules;
 use crate::sample::{write_sample, write_seconds, write_single};
 use base_types::OutOfMemory;

@@ -15,7 +15,6 @@
 #![tactic(auto)]
 
 mod bounds;
-mod ending;
 mod figures;
 mod given;
 mod log_source;
@@ -24,6 +23,7 @@ mod output;
 mod pollers;
 mod server;
 mod serving;
+mod shared_end;
 mod stacks;
 mod threads;
 

@@ -6,8 +6,8 @@ ghost use Rattle.relay_admin.specs.ServeFault.{IsRunFault};
 use readiness::LoopDriver;
 use relay_admin::ServeFault;
 use relay_core::Loops;
-use relay_shared::fault::of_poller;
 use relay_shared::loop_handle::{LoopHandle, LoopParts};
+use relay_shared::poller_fault::of_poller;
 use std::alloc::Global;
 use std::net::Net;
 

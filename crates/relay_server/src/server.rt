@@ -5,9 +5,9 @@ ghost use Rattle.relay_server.specs.Server.{IsSocketsFault, given_in, replaces_s
 ghost use Rattle.relay_admin.specs.ServeFault.{IsRunFault};
 ghost use Rattle.relay_admin.specs.declared.serve_fault.ServeFault.{ServeFault};
 
-use crate::ending::{empty_inboxes, remove_paths};
 use crate::figures::RelayFigures;
 use crate::pollers::Pollers;
+use crate::shared_end::{empty_inboxes, remove_paths};
 use crate::threads::StartedThreads;
 use log_writer::Log;
 use relay_admin::ServeFault;

@@ -1,44 +1,40 @@
--- Rules that are taken one by one.
+-- Entries that are taken one by one.
 use Rattle.std.proofs.Common.{◌≡◌, ◌∙◌, sym, ap, refl, ℕ, ◌+◌, ◌≤◌, ◌<◌, List, [], ◌∷◌, ◌++◌, length, map, get_or, drop, Result, Ok, Err}
 use Rattle.std.proofs.lemmas.List.{drop_all, at_drop_more}
-use Rattle.relay_admin.specs.rules.Grammar.{Entry, entries_of, entry_of}
-use Rattle.relay_admin.specs.declared.rules.rule.Rule as admin
-use Rattle.relay_config.specs.Entries.{rule_entry}
 use Rattle.relay_config.specs.Reading.{◌>>=◌}
 use Rattle.relay_config.specs.declared.fault.Fault.{Fault}
-use Rattle.relay_config.specs.declared.rule.Rule.{Rule}
-use Rattle.relay_settings.specs.Meaning.{rule_behind, rules_in}
+use Rattle.relay_settings.specs.Meaning.{each_of}
 
-entries_of-append : (xs ys : List admin.Rule) → entries_of (xs ++ ys) ≡ entries_of xs ++ entries_of ys
-entries_of-append [] ys = refl
-entries_of-append (x ∷ xs) ys = ap (λ t. entry_of x ∷ t) (entries_of-append xs ys)
+map-append : {A B : Type 0} (f : A → B) (xs ys : List A) → map f (xs ++ ys) ≡ map f xs ++ map f ys
+map-append f [] ys = refl
+map-append f (x ∷ xs) ys = ap (λ t. f x ∷ t) (map-append f xs ys)
 
-module _ (rules : List Rule) where
-  -- the rule at an index is taken next
-  next : (i : ℕ) (rule : Rule) (found : List Entry) → i < length rules → rule ≡ get_or rules i rule
-      → rules_in found (map rule_entry (drop i rules))
-      ≡ (rule_behind found (rule_entry rule) >>= λ entry. rules_in (found ++ entry ∷ []) (map rule_entry (drop (i + 1) rules)))
-  next i rule found within is =
-      at_drop_more (λ (rest : List Rule). rules_in found (map rule_entry rest)) rules i rule within
-      ∙ ap (λ (r : Rule). rule_behind found (rule_entry r) >>= λ entry. rules_in (found ++ entry ∷ []) (map rule_entry (drop (i + 1) rules))) (sym is)
+module _ {A B X Y : Type 0} (entry : X → A) (view : Y → B) (step : List B → A → Result B Fault) (xs : List X) where
+  -- the entry at an index is taken next
+  next : (i : ℕ) (x : X) (found : List B) → i < length xs → x ≡ get_or xs i x
+      → each_of step found (map entry (drop i xs))
+      ≡ (step found (entry x) >>= λ y. each_of step (found ++ y ∷ []) (map entry (drop (i + 1) xs)))
+  next i x found within is =
+      at_drop_more (λ (rest : List X). each_of step found (map entry rest)) xs i x within
+      ∙ ap (λ (one : X). step found (entry one) >>= λ y. each_of step (found ++ y ∷ []) (map entry (drop (i + 1) xs))) (sym is)
 
-  pub goes_on : (i : ℕ) (rule : Rule) (xs : List admin.Rule) (x : admin.Rule) (all : Result (List Entry) Fault) → i < length rules
-      → rule ≡ get_or rules i rule → all ≡ rules_in (entries_of xs) (map rule_entry (drop i rules))
-      → rule_behind (entries_of xs) (rule_entry rule) ≡ Ok (entry_of x)
-      → all ≡ rules_in (entries_of (xs ++ x ∷ [])) (map rule_entry (drop (i + 1) rules))
-  goes_on i rule xs x all within is before read =
-      before ∙ next i rule (entries_of xs) within is
-      ∙ ap (λ (r : Result Entry Fault). r >>= λ y. rules_in (entries_of xs ++ y ∷ []) (map rule_entry (drop (i + 1) rules))) read
-      ∙ ap (λ (found : List Entry). rules_in found (map rule_entry (drop (i + 1) rules))) (sym (entries_of-append xs (x ∷ [])))
+  pub goes_on : (i : ℕ) (x : X) (ys : List Y) (y : Y) (all : Result (List B) Fault) → i < length xs
+      → x ≡ get_or xs i x → all ≡ each_of step (map view ys) (map entry (drop i xs))
+      → step (map view ys) (entry x) ≡ Ok (view y)
+      → all ≡ each_of step (map view (ys ++ y ∷ [])) (map entry (drop (i + 1) xs))
+  goes_on i x ys y all within is before read =
+      before ∙ next i x (map view ys) within is
+      ∙ ap (λ (r : Result B Fault). r >>= λ one. each_of step (map view ys ++ one ∷ []) (map entry (drop (i + 1) xs))) read
+      ∙ ap (λ (found : List B). each_of step found (map entry (drop (i + 1) xs))) (sym (map-append view ys (y ∷ [])))
 
-  pub fails : (i : ℕ) (rule : Rule) (xs : List admin.Rule) (fault : Fault) (all : Result (List Entry) Fault) → i < length rules
-      → rule ≡ get_or rules i rule → all ≡ rules_in (entries_of xs) (map rule_entry (drop i rules))
-      → rule_behind (entries_of xs) (rule_entry rule) ≡ Err fault
+  pub fails : (i : ℕ) (x : X) (ys : List Y) (fault : Fault) (all : Result (List B) Fault) → i < length xs
+      → x ≡ get_or xs i x → all ≡ each_of step (map view ys) (map entry (drop i xs))
+      → step (map view ys) (entry x) ≡ Err fault
       → all ≡ Err fault
-  fails i rule xs fault all within is before read =
-      before ∙ next i rule (entries_of xs) within is
-      ∙ ap (λ (r : Result Entry Fault). r >>= λ y. rules_in (entries_of xs ++ y ∷ []) (map rule_entry (drop (i + 1) rules))) read
+  fails i x ys fault all within is before read =
+      before ∙ next i x (map view ys) within is
+      ∙ ap (λ (r : Result B Fault). r >>= λ one. each_of step (map view ys ++ one ∷ []) (map entry (drop (i + 1) xs))) read
 
-  pub ended : (i : ℕ) (xs : List admin.Rule) (all : Result (List Entry) Fault) → length rules ≤ i
-      → all ≡ rules_in (entries_of xs) (map rule_entry (drop i rules)) → all ≡ Ok (entries_of xs)
-  ended i xs all past before = before ∙ ap (λ (rest : List Rule). rules_in (entries_of xs) (map rule_entry rest)) (drop_all i rules past)
+  pub ended : (i : ℕ) (ys : List Y) (all : Result (List B) Fault) → length xs ≤ i
+      → all ≡ each_of step (map view ys) (map entry (drop i xs)) → all ≡ Ok (map view ys)
+  ended i ys all past before = before ∙ ap (λ (rest : List X). each_of step (map view ys) (map entry rest)) (drop_all i xs past)

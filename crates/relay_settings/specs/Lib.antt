@@ -1,4 +1,6 @@
+pub mod Conversion
 pub mod Meaning
 pub mod Settings
+pub mod Targets
 pub mod Telling
 pub mod Verdict

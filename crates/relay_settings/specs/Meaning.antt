@@ -1,11 +1,11 @@
 -- What a configuration means to a relay: its settings and its rules, or the first place that isn't
 -- carried out.
 use Rattle.std.specs.Prelude.{◌≡◌, ◌==◌, ◌<◌, ◌⊎◌, ℕ, Bool, true, false, ◌&&◌, List, [], ◌∷◌, ◌++◌, length, map}
-use Rattle.std.specs.Prelude.{nat_le, slice_index, Option, Some, None, is_none, option_map, Result, Ok, Err, if◌then◌else◌, not}
+use Rattle.std.specs.Prelude.{nat_le, slice_index, Option, Some, None, is_none, option_map, Result, Ok, Err, if◌then◌else◌}
 use Rattle.std.specs.String.{string_bytes}
 use Rattle.config_values.specs.Addr as config
 use Rattle.relay_admin.specs.rules.Addr.{Address, address_of, tcp, unix}
-use Rattle.relay_admin.specs.rules.Grammar.{Entry, entries_of}
+use Rattle.relay_admin.specs.rules.Grammar.{Entry, entry_of}
 use Rattle.relay_admin.specs.declared.rules.rule.TheConstants as admin
 use Rattle.relay_config.specs.Config.{SaysConfig, SaysFault}
 use Rattle.relay_config.specs.Entries.{AccessEntry, AdminEntry, ClientsEntry, ConfigEntry, HeadEntry, LimitsEntry, LogEntry}
@@ -27,6 +27,9 @@ use Rattle.relay_core.specs.Loops.{loop_count}
 use Rattle.relay_core.specs.PairLimit.{pair_count}
 use Rattle.relay_settings.specs.declared.said.Said.{Said}
 use Rattle.relay_settings.specs.declared.settings.Settings.{Settings}
+use Rattle.relay_settings.specs.declared.targets.SaidRule.{SaidRule}
+use Rattle.relay_settings.specs.declared.targets.Target.{Target}
+use Rattle.target_pick.specs.declared.picking.Balance.{Balance}
 
 -- ---- What isn't carried out
 
@@ -47,6 +50,11 @@ served_if at false = Err (unserved at)
 abbrev pub if_said : {A B : Type 0} → (A → Result B Fault) → Option A → Result (Option B) Fault
 if_said means None = Ok None
 if_said means (Some said) = means said >>= λ y. Ok (Some y)
+
+-- these, and those that entries say, each of which stands behind those before it
+abbrev pub each_of : {A B : Type 0} → (List B → A → Result B Fault) → List B → List A → Result (List B) Fault
+each_of step found [] = Ok found
+each_of step found (x ∷ xs) = step found x >>= λ y. each_of step (found ++ y ∷ []) xs
 
 -- an address that a relay has: one of IPv4, or a path of at most 100 bytes
 abbrev pub relay_address : config.Address → Option Address
@@ -137,6 +145,30 @@ settings_in config = do
 
 -- ---- A rule
 
+-- a target of a rule
+pub record SaidTargetEntry : Type 0 where
+  pub at : Address
+  pub weight : ℕ
+  pub backup : Bool
+
+-- a rule, and its targets
+pub record SaidRuleEntry : Type 0 where
+  pub rule : Entry
+  pub balance : Balance
+  pub targets : List SaidTargetEntry
+
+-- what values of the program say
+abbrev pub said_target_entry : Target → SaidTargetEntry
+said_target_entry target = record { at = address_of target.at; weight = target.weight; backup = target.is_backup }
+
+-- a rule, and its targets
+abbrev pub said_rule_entry : SaidRule → SaidRuleEntry
+said_rule_entry said = record {
+  rule = entry_of said.rule;
+  balance = said.balance;
+  targets = map said_target_entry said.targets.items;
+}
+
 -- names are looked up as often as without the key: no target has one
 abbrev pub is_default_resolve : Option ℕ → Bool
 is_default_resolve (Some ms) = ms == DEFAULT_RESOLVE_MS
@@ -157,7 +189,7 @@ sockets_alone here sockets = do
   waiting ← served_if (spot here key.Backlog) (is_none sockets.backlog)
   served_if (spot here key.Source) (is_none sockets.source)
 
--- what a rule says beside its lists, its name and its idle time; how a target is picked is as it may
+-- what a rule says beside its lists, its name, its idle time and how a target is picked
 unfoldable pub head_alone : Place → HeadEntry → Result (Unit {0}) Fault
 head_alone here head = do
   names ← served_if (spot here key.Resolve) (is_default_resolve head.resolve)
@@ -180,59 +212,64 @@ listen_in rule (first ∷ others) = do
   alone ← served_if (item_spot (place.Rule rule) key.Listen 1) (length others == 0)
   Ok address
 
--- a target that gets clients, as many as any other
-unfoldable pub target_in : Place → TargetEntry → Result Address Fault
+-- a target, at an address that the relay has
+unfoldable pub target_in : Place → TargetEntry → Result SaidTargetEntry Fault
 target_in here target = do
   address ← served (spot here key.At) (relay_address target.at)
-  weight ← served_if (spot here key.Weight) (target.weight == 1)
-  backup ← served_if (spot here key.Backup) (not target.backup)
-  Ok address
+  Ok (record { at = address; weight = target.weight; backup = target.backup })
 
--- the one target of a rule
-unfoldable pub targets_in : ℕ → List TargetEntry → Result Address Fault
-targets_in rule [] = Err (unserved (spot (place.Rule rule) key.Target))
-targets_in rule (first ∷ others) = do
-  address ← target_in (place.Target rule 0) first
-  alone ← served_if (item_spot (place.Rule rule) key.Target 1) (length others == 0)
-  Ok address
+-- the target behind these of a rule
+unfoldable pub target_behind : ℕ → List SaidTargetEntry → TargetEntry → Result SaidTargetEntry Fault
+target_behind rule found target = target_in (place.Target rule (length found)) target
+
+-- the targets of a rule, each at its place
+unfoldable pub targets_in : ℕ → List TargetEntry → Result (List SaidTargetEntry) Fault
+targets_in rule targets = do
+  few ← served_if (item_spot (place.Rule rule) key.Target 64) (nat_le (length targets) 64)
+  each_of (target_behind rule) [] targets
+
+-- the address of the first target
+abbrev pub first_address : ℕ → List SaidTargetEntry → Result Address Fault
+first_address rule [] = Err (unserved (spot (place.Rule rule) key.Target))
+first_address rule (first ∷ others) = Ok first.at
 
 -- the rule with this number
-unfoldable pub rule_in : ℕ → RuleEntry → Result Entry Fault
+unfoldable pub rule_in : ℕ → RuleEntry → Result SaidRuleEntry Fault
 rule_in n rule = do
   idle ← time_in (spot (place.Rule n) key.Idle) rule.head.idle
   head ← head_alone (place.Rule n) rule.head
   access ← access_alone (place.Rule n) rule
   listen ← listen_in n rule.listen
-  target ← targets_in n rule.targets
-  Ok (record { name = rule.head.name; listen = listen; target = target; idle = idle })
+  targets ← targets_in n rule.targets
+  target ← first_address n targets
+  Ok (record {
+    rule = record { name = rule.head.name; listen = listen; target = target; idle = idle };
+    balance = rule.head.balance;
+    targets = targets;
+  })
 
 -- the rule behind these, of which there are at most 64 in all
-unfoldable pub rule_behind : List Entry → RuleEntry → Result Entry Fault
+unfoldable pub rule_behind : List SaidRuleEntry → RuleEntry → Result SaidRuleEntry Fault
 rule_behind found rule = do
   few ← served_if (item_spot place.Top key.Rule (length found)) (nat_le (length found) 63)
   rule_in (length found) rule
-
--- these, and those behind them
-abbrev pub rules_in : List Entry → List RuleEntry → Result (List Entry) Fault
-rules_in found [] = Ok found
-rules_in found (rule ∷ rules) = rule_behind found rule >>= λ entry. rules_in (found ++ entry ∷ []) rules
 
 -- ---- The whole
 
 -- what a configuration or a rules file says
 pub record SaidEntry : Type 0 where
   pub settings : SettingsEntry
-  pub rules : List Entry
+  pub rules : List SaidRuleEntry
 
 -- what a value of the program says
 abbrev pub said_entry : Said → SaidEntry
-said_entry said = record { settings = settings_entry said.settings; rules = entries_of said.rules.items }
+said_entry said = record { settings = settings_entry said.settings; rules = map said_rule_entry said.rules.items }
 
 -- what a configuration says, key by key
 unfoldable pub said_in : ConfigEntry → Result SaidEntry Fault
 said_in config = do
   settings ← settings_in config
-  rules ← rules_in [] config.rules
+  rules ← each_of rule_behind [] config.rules
   Ok (record { settings = settings; rules = rules })
 
 -- the text is a configuration that is carried out, and says this

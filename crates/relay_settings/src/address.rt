@@ -1,6 +1,6 @@
 //! The addresses, times and places of a configuration that a relay can have.
 
-ghost use Rattle.std.specs.Prelude.{◌≡◌, option_map};
+ghost use Rattle.std.specs.Prelude.{◌≡◌, true, IfOk, option_map};
 ghost use Rattle.config_values.specs.Addr as config;
 ghost use Rattle.relay_admin.specs.rules.Addr.{address_of};
 ghost use Rattle.relay_config.specs.Fault.{Reads};
@@ -20,7 +20,8 @@ pub(crate) fn unserved(spot: Spot) -> Fault
 
 /// A place that is carried out, or isn't.
 pub(crate) fn served_if(spot: Spot, is_served: bool) -> Result<(), Fault>
-    ensures { result ≡ served_if spot is_served }
+    ensures is { result ≡ served_if spot is_served }
+    ensures served { IfOk result (λ it. is_served ≡ true) }
 {
     if is_served {
         Ok(())

@@ -8,9 +8,10 @@ ghost use Rattle.relay_config.specs.declared.fault.Fault.{Fault};
 ghost use Rattle.relay_settings.specs.Verdict.{IsConfigVerdict, IsOfConfig};
 
 use crate::said::read_config;
+use crate::targets::SaidRule;
 use arrayvec::ArrayString;
 use base_types::OutOfMemory;
-use relay_admin::{MAX_WHY_BYTES, Rule, Verdict};
+use relay_admin::{MAX_WHY_BYTES, Verdict};
 use relay_config::{Fault, fault_line};
 use std::alloc::Global;
 use std::io::Write;
@@ -19,7 +20,7 @@ use std::io::Write;
 const BAD_CONFIG: &str = "bad config: ";
 
 /// How many rules there are, as a verdict has it.
-pub fn rule_count(rules: &[Rule]) -> u32
+pub fn rule_count(rules: &[SaidRule]) -> u32
     ensures { result ≡ min (length rules.now) (2 ^ 32 - 1) }
 {
     rules.len().min(0xffff_ffff) as u32

@@ -5,15 +5,19 @@
 mod address;
 mod asked;
 mod check;
+mod conversion;
 mod keys;
 mod rules;
 mod said;
 mod served;
 mod settings;
+mod targets;
 mod telling;
 
 pub use asked::{Asked, Source};
 pub use check::{bad_config, check_config, rule_count};
+pub use conversion::convert;
 pub use said::{MAX_CONFIG_BYTES, Said, read_config};
 pub use settings::{MAX_CONNECT_MS, Settings, in_force};
+pub use targets::{MAX_TARGETS, SaidRule, Target};
 pub use telling::{SETTINGS, Setting, needs_restart, wins_over_file};

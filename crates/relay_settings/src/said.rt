@@ -9,7 +9,7 @@ ghost use Rattle.relay_settings.specs.Meaning.{IsFirstFault, SaysAll, said_entry
 use crate::keys::settings_of;
 use crate::rules::rules_of;
 use crate::settings::Settings;
-use relay_admin::Rule;
+use crate::targets::SaidRule;
 use relay_config::{Config, Fault};
 use std::alloc::Global;
 
@@ -20,7 +20,7 @@ pub const MAX_CONFIG_BYTES: usize = relay_config::MAX_BYTES;
 #[derive(Drop)]
 pub struct Said {
     pub settings: Settings,
-    pub rules: Vec<Rule>,
+    pub rules: Vec<SaidRule>,
 }
 
 /// What a configuration says, or its first fault: of the text, then of what this version doesn't

@@ -1,36 +1,46 @@
 //! What a rule of a configuration says and this version carries out. Each thing that it comes to do
 //! takes a case away here.
 
-ghost use Rattle.std.specs.Prelude.{◌≡◌, map};
+ghost use Rattle.std.specs.Prelude.{◌≡◌, ◌≤◌, ◌<◌, [], IfOk, Some, length, map};
 ghost use Rattle.config_values.specs.Addr as config;
 ghost use Rattle.relay_admin.specs.rules.Addr.{address_of};
-ghost use Rattle.relay_admin.specs.rules.Grammar.{entry_of};
 ghost use Rattle.relay_config.specs.Entries.{clients_entry, head_entry, rule_entry, sockets_entry, target_entry};
-ghost use Rattle.relay_config.specs.Fault.{Reads};
-ghost use Rattle.relay_settings.specs.Meaning.{access_alone, clients_alone, head_alone, is_default_resolve};
-ghost use Rattle.relay_settings.specs.Meaning.{listen_in, rule_in, sockets_alone, target_in, targets_in};
+ghost use Rattle.relay_config.specs.Fault.{Answers, Reads};
+ghost use Rattle.relay_settings.specs.Meaning.{access_alone, clients_alone, each_of, first_address};
+ghost use Rattle.relay_settings.specs.Meaning.{head_alone, is_default_resolve, listen_in, rule_in};
+ghost use Rattle.relay_settings.specs.Meaning.{said_rule_entry, said_target_entry, sockets_alone};
+ghost use Rattle.relay_settings.specs.Meaning.{target_behind, targets_in};
+ghost use Rattle.relay_settings.specs.Targets.{first_at};
 
 use crate::address::{address_at, served_if, time_in, unserved};
+use crate::targets::{MAX_TARGETS, SaidRule, Target};
 use relay_admin::{Addr, Rule};
 use relay_config as config;
-use relay_config::{Clients, DEFAULT_RESOLVE_MS, Fault, Head, Key, Place, Sockets, Spot, Target};
+use relay_config::{Clients, DEFAULT_RESOLVE_MS, Fault, Head, Key, Place, Sockets, Spot};
+use std::alloc::Global;
 
 /// The rule with this number as a relay serves it, or its first place that isn't carried out.
 #[tactic(auto, unfolding(crate::specs::Meaning::rule_in))]
-pub(crate) fn rule_of(number: usize, rule: &config::Rule) -> Result<Rule, Fault>
-    ensures { Reads entry_of result (rule_in number (rule_entry rule.now)) }
+pub(crate) fn rule_of(alloc: Global, number: usize, rule: &config::Rule) -> Result<SaidRule, Fault>
+    ensures { Answers said_rule_entry result (rule_in number (rule_entry rule.now)) }
 {
     let place = Place::Rule(number);
     let idle_ms = time_in(Spot::of(place, Key::Idle), rule.head.idle_ms)?;
     head_alone(place, &rule.head)?;
     access_alone(place, rule)?;
     let listen = listen_of(number, rule.listen.as_slice())?;
-    let target = target_of(number, rule.targets.as_slice())?;
-    Ok(Rule {
-        name: rule.head.name,
-        listen,
-        target,
-        idle_ms,
+    let targets = targets_of(alloc, number, rule.targets.as_slice())?;
+    let target = first_address(number, targets.as_slice())?;
+    let name = rule.head.name;
+    Ok(SaidRule {
+        rule: Rule {
+            name,
+            listen,
+            target,
+            idle_ms,
+        },
+        balance: rule.head.balance,
+        targets,
     })
 }
 
@@ -109,27 +119,61 @@ fn listen_of(rule: usize, listen: &[config_values::Addr]) -> Result<Addr, Fault>
     Ok(addr)
 }
 
-/// The one target of a rule.
+/// The targets of a rule, each at its place.
 #[tactic(auto, unfolding(crate::specs::Meaning::targets_in))]
-fn target_of(rule: usize, targets: &[Target]) -> Result<Addr, Fault>
-    ensures { Reads address_of result (targets_in rule (map target_entry targets.now)) }
+fn targets_of(alloc: Global, rule: usize, targets: &[config::Target]) -> Result<Vec<Target>, Fault>
+    ensures targets { Answers (λ found. map said_target_entry found.items) result
+        (targets_in rule (map target_entry targets.now)) }
+    ensures few { IfOk result (λ found. length found.items ≤ 64) }
 {
-    let place = Place::Rule(rule);
-    let [first, others @ ..] = targets else {
-        return Err(unserved(Spot::of(place, Key::Target)));
-    };
-    let addr = target_in(Place::Target(rule, 0), first)?;
-    served_if(Spot::item(place, Key::Target, 1), others.is_empty())?;
-    Ok(addr)
+    let is_few = targets.len() <= MAX_TARGETS;
+    served_if(
+        Spot::item(Place::Rule(rule), Key::Target, MAX_TARGETS),
+        is_few,
+    )?;
+    each_target(alloc, rule, targets)
 }
 
-/// A target that gets clients, as many as any other.
-#[tactic(auto, unfolding(crate::specs::Meaning::target_in))]
-fn target_in(place: Place, target: &Target) -> Result<Addr, Fault>
-    ensures { Reads address_of result (target_in place (target_entry target.now)) }
+#[tactic(auto, using(crate::proofs::OneByOne::goes_on, crate::proofs::OneByOne::fails, crate::proofs::OneByOne::ended))]
+fn each_target(alloc: Global, rule: usize, targets: &[config::Target]) -> Result<Vec<Target>, Fault>
+    ensures targets { Answers (λ found. map said_target_entry found.items) result
+        (each_of (target_behind rule) [] (map target_entry targets.now)) }
+    ensures count { IfOk result (λ found. length found.items ≡ length targets.now) }
 {
-    let addr = address_at(Spot::of(place, Key::At), &target.at)?;
-    served_if(Spot::of(place, Key::Weight), target.weight == 1)?;
-    served_if(Spot::of(place, Key::Backup), !target.is_backup)?;
-    Ok(addr)
+    let mut found = Vec::new(alloc);
+    for target in targets {
+        let served = target_behind(rule, found.as_slice(), target)?;
+        if found.push(served).is_err() {
+            return Err(Fault::Memory);
+        }
+    }
+    Ok(found)
+}
+
+/// The target behind these of a rule.
+#[tactic(auto, unfolding(crate::specs::Meaning::target_behind, crate::specs::Meaning::target_in))]
+fn target_behind(rule: usize, found: &[Target], target: &config::Target) -> Result<Target, Fault>
+    ensures { Reads said_target_entry result
+        (target_behind rule (map said_target_entry found.now) (target_entry target.now)) }
+{
+    let place = Place::Target(rule, found.len());
+    let at = address_at(Spot::of(place, Key::At), &target.at)?;
+    Ok(Target {
+        at,
+        weight: target.weight,
+        is_backup: target.is_backup,
+    })
+}
+
+/// The address of the first target.
+fn first_address(rule: usize, targets: &[Target]) -> Result<Addr, Fault>
+    ensures address { Reads address_of result
+        (first_address rule (map said_target_entry targets.now)) }
+    ensures some { IfOk result (λ at. 0 < length targets.now) }
+    ensures own { IfOk result (λ at. first_at targets.now ≡ Some at) }
+{
+    let [first, ..] = targets else {
+        return Err(unserved(Spot::of(Place::Rule(rule), Key::Target)));
+    };
+    Ok(first.at)
 }

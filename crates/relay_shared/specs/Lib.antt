@@ -2,12 +2,12 @@ pub mod Addr
 pub mod BoundPath
 pub mod Drained
 pub mod Drop
-pub mod Fault
 pub mod Inbox
 pub mod Index
 pub mod IndexLaws
 pub mod Laws
 pub mod Placing
+pub mod PollerFault
 pub mod Requests
 pub mod StalePath
 pub mod Standing

@@ -4,8 +4,9 @@ ghost use Rattle.std.specs.Prelude.{◌≡◌, ◌++◌, ◌∷◌, [], IfSome, 
 ghost use Rattle.std.specs.Arc.{arc_value};
 ghost use Rattle.relay_shared.specs.Inbox.{IsLeft, IsTaken, sockets_in, requests_in};
 
-use crate::requests::{MAX_SESSIONS, Posted, Request};
+use crate::requests::{Posted, Request};
 use readiness::{LoopRemote, Sock};
+use relay_core::MAX_SESSIONS;
 use relay_facts::connection_facts::Acceptance;
 use relay_facts::served_rule::ServedRule;
 use std::alloc::{AllocError, Global};

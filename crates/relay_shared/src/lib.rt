@@ -4,11 +4,11 @@
 
 pub mod address;
 pub mod bound_path;
-pub mod fault;
 pub mod inbox;
 pub mod index;
 pub mod laws;
 pub mod loop_handle;
+pub mod poller_fault;
 pub mod requests;
 pub mod shared;
 pub mod stale_path;

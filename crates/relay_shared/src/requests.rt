@@ -18,11 +18,9 @@ ghost use Rattle.relay_shared.specs.Requests.{unknown_answer};
 use crate::index::Gone;
 use base_types::OutOfMemory;
 use deadline_core::Deadline;
+use relay_core::MAX_SESSIONS;
 use rwloops::Fault;
 use std::alloc::Global;
-
-/// The most sessions at once.
-pub const MAX_SESSIONS: usize = 32;
 
 /// What is asked of a side of a connection.
 #[derive(Clone, Copy)]

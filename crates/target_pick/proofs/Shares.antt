@@ -1,7 +1,7 @@
 -- What a share says of its target.
-use Rattle.std.proofs.Common.{◌≡◌, ◌∙◌, sym, ap, refl, subst, ℕ, zero, suc, ◌+◌, ◌*◌, ◌≤◌, ◌<◌, Bool, true, false, ◌&&◌, not, List, []}
-use Rattle.std.proofs.Common.{◌∷◌, length, get_or, set, All, arith, inl, inr}
-use Rattle.std.specs.Prelude.{◌⊎◌, ◌||◌, map, slice_get, slice_index, nat_lt, IsSomeAnd, if◌then◌else◌}
+use Rattle.std.proofs.Common.{◌≡◌, ◌∙◌, sym, ap, refl, ℕ, zero, suc, ◌*◌, ◌≤◌, ◌<◌, Bool, true, false, ◌&&◌, not, List, []}
+use Rattle.std.proofs.Common.{◌∷◌, get_or, set, All, arith}
+use Rattle.std.specs.Prelude.{◌||◌, map, slice_get, slice_index, nat_lt, IsSomeAnd, if◌then◌else◌}
 use Rattle.std.specs.List.{list_any}
 use Rattle.std.proofs.Math.Nat.{le_of_mul-le-mul_right, mul-le-mul_right, mul_assoc, mul_comm}
 use Rattle.std.proofs.lemmas.List.Elements.{All-cons, All-nil}

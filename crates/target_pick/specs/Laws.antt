@@ -1,5 +1,5 @@
 -- What picks have to be, over all clients of a rule and over all tries of one.
-use Rattle.std.specs.Prelude.{◌≡◌, ◌≢◌, ◌≤◌, ◌<◌, ◌+◌, ◌*◌, ◌/◌, ℕ, Bool, true, false, List, slice_index}
+use Rattle.std.specs.Prelude.{◌≡◌, ◌≤◌, ◌<◌, ◌+◌, ◌*◌, ◌/◌, ℕ, true, false, List, slice_index}
 use Rattle.target_pick.specs.Health.{failures_of, is_up, passes_of}
 use Rattle.target_pick.specs.Pick.{MayTakeAt, owner_of_turn, tried_at, turns_had}
 use Rattle.target_pick.specs.Seen.{total}

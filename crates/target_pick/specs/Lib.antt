@@ -3,3 +3,5 @@ pub mod Laws
 pub mod Pick
 pub mod Seen
 pub mod Source
+pub mod Tried
+pub mod TurnTime

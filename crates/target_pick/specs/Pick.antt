@@ -50,6 +50,14 @@ tried_at [] at = []
 tried_at (target ∷ targets) zero = tried target ∷ targets
 tried_at (target ∷ targets) (suc at) = target ∷ tried_at targets at
 
+-- one, where the target may take the client
+abbrev pub taker : Seen → ℕ
+taker target = if may_take target then 1 else 0
+
+-- how many targets may take the client
+abbrev pub takers : List Seen → ℕ
+takers targets = total (map taker targets)
+
 -- ---- Many picks
 
 -- how many of so many turns in a row, from this one on, the target at this place has

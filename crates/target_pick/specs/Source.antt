@@ -1,5 +1,5 @@
 -- A client's address as a number.
-use Rattle.std.specs.Prelude.{◌+◌, ◌*◌, ◌%◌, ◌^◌, ℕ, List, fold, bit_xor}
+use Rattle.std.specs.Prelude.{◌*◌, ◌%◌, ◌^◌, ℕ, List, fold, bit_xor}
 
 -- FNV-1a of 64 bits
 abbrev pub source_number : List ℕ → ℕ

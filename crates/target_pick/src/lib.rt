@@ -10,8 +10,12 @@ mod least;
 mod picking;
 mod seen;
 mod source;
+mod tried;
+mod turn_time;
 
 pub use health::{Health, Limits, Outcome};
-pub use picking::{Balance, pick, try_next};
+pub use picking::{Balance, pick, takers, try_next};
 pub use seen::{MAX_TARGETS, Seen};
 pub use source::source_number;
+pub use tried::Tried;
+pub use turn_time::moves_on_at;

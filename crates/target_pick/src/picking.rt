@@ -2,13 +2,13 @@
 
 ghost use Rattle.std.specs.Prelude.{◌≡◌, ◌≤◌, ◌<◌, false, length, map, All, IfNone, IfSome};
 ghost use Rattle.target_pick.specs.Pick.{HasTurn, IsLeastOf, MayTakeAt, MustBeBackup, owner};
-ghost use Rattle.target_pick.specs.Pick.{tried_at};
+ghost use Rattle.target_pick.specs.Pick.{taker, takers, tried_at};
 ghost use Rattle.target_pick.specs.Seen.{may_take, share_of, total};
 ghost use Rattle.target_pick.specs.declared.picking.Balance.TheVariants.{First, LeastConnections};
 ghost use Rattle.target_pick.specs.declared.picking.Balance.TheVariants.{RoundRobin, Source};
 
 use crate::least::least;
-use crate::seen::{MAX_TARGETS, Seen, asks_backups, share_of, total_share};
+use crate::seen::{MAX_TARGETS, Seen, asks_backups, may_take, share_of, total_share};
 
 /// By what a target is picked.
 #[derive(Clone, Copy, Debug, PartialEq, Eq, Drop)]
@@ -76,4 +76,32 @@ pub fn try_next(balance: Balance, targets: &mut [Seen], turn: u64, source: u64) 
     let at = pick(balance, targets, turn, source)?;
     targets[at].was_tried = true;
     Some(at)
+}
+
+/// One, where the target may take the client.
+fn taker(target: &Seen) -> usize
+    ensures is { result ≡ taker target.now }
+    ensures few { result ≤ 1 }
+{
+    if may_take(target) { 1 } else { 0 }
+}
+
+/// How many targets may take the client.
+pub fn takers(targets: &[Seen]) -> usize
+    ensures few { result ≤ length targets.now }
+    ensures count { result ≡ takers targets.now }
+    ensures none { result ≡ 0 → All (λ target. may_take target ≡ false) targets.now }
+{
+    count_takers(targets)
+}
+
+fn count_takers(targets: &[Seen]) -> usize
+    ensures few { result ≤ length targets.now }
+    ensures count { result ≡ takers targets.now }
+{
+    let mut count = 0;
+    for target in targets {
+        count += taker(target);
+    }
+    count
 }

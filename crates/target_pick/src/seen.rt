@@ -8,7 +8,7 @@ ghost use Rattle.target_pick.specs.Seen.{total};
 pub const MAX_TARGETS: usize = 65_536;
 
 /// What is known of a target when one is picked for a client.
-#[derive(Clone, Copy, Debug, PartialEq, Eq, Drop)]
+#[derive(Clone, Copy, Debug, PartialEq, Eq, Default, Drop)]
 pub struct Seen {
     /// How many turns it has, of all targets' together. With 0 it gets nobody.
     pub weight: u16,

@@ -29,16 +29,16 @@ FILES = {
     "MOST_CLIENTS": "crates/metrics_server/src/lib.rt",
     "LIMIT_NS": "crates/metrics_server/src/lib.rt",
     "PATIENCE_SECONDS": "crates/pollrelay/src/main.rt",
-    "MAX_SILENCE_MS": "crates/relay_core/src/idle.rt",
-    "MAX_SESSIONS": "crates/relay_shared/src/requests.rt",
-    "MAX_FAULTS_IN_A_ROW": "crates/relay_core/src/accepting.rt",
+    "MAX_SILENCE_MS": "crates/relay_core/src/silence.rt",
+    "MAX_SESSIONS": "crates/relay_core/src/session_limit.rt",
+    "MAX_FAULTS_IN_A_ROW": "crates/relay_core/src/accept_ended.rt",
     "MAX_INTERRUPTIONS": "crates/stream_base/src/attempt.rt",
     "lockword_script::MAX_LINE_BYTES": "crates/lockword_script/src/script.rt",
     "HOLDERS": "crates/lockword_script/src/script.rt",
     "MAX_REFERENCES": "crates/lockword_core/src/word.rt",
     "MAX_WAITERS": "crates/lockword_core/src/word.rt",
     "MAX_SIGNALS": "crates/lockword_core/src/signals.rt",
-    "TURNS_IN_A_ROW": "crates/relay_core/src/resuming.rt",
+    "TURNS_IN_A_ROW": "crates/relay_core/src/copying.rt",
     "ACCEPTS_IN_A_ROW": "crates/relay_core/src/accept_task.rt",
     "OWN_ROOM_BYTES": "crates/relay_core/src/kept.rt",
     "BUFFER_BYTES": "crates/relay_workers/src/buffers.rt",
@@ -129,12 +129,12 @@ def in_sentences(tree, told, known):
 
 
 def needed(tree, told, known):
-    """The most descriptors of a relay, which counts sessions and clients by the limits that they have, and of which the guide says
+    """The most descriptors of a relay, which counts clients of the metrics by the limit that they have, and of which the guide says
     the same, as of one without options."""
     own = constants(tree.text(NEEDED))
-    for name, limit in (("SESSIONS", "MAX_SESSIONS"), ("METRICS_CLIENTS", "MOST_CLIENTS")):
-        told.holds(own.get(name) == known[limit], NEEDED, f"`{name}` isn't {known[limit]}, as `{limit}` is")
-    others = 2 * known["MAX_RULES"] + sum(own.get(it) or 0 for it in ("SESSIONS", "METRICS_CLIENTS", "OTHERS"))
+    name, limit = "METRICS_CLIENTS", "MOST_CLIENTS"
+    told.holds(own.get(name) == known[limit], NEEDED, f"`{name}` isn't {known[limit]}, as `{limit}` is")
+    others = 2 * known["MAX_RULES"] + known["MAX_SESSIONS"] + sum(own.get(it) or 0 for it in (name, "OTHERS"))
     formula = f"2 × (connections + loops + {known['MAX_RULES']}) + {others - 2 * known['MAX_RULES']}"
     told.holds(formula in tree.text(GUIDE), GUIDE, f"doesn't say that a relay needs {formula} descriptors")
     for pairs, loops in (("DEFAULT_PAIRS", "MOST_BY_DEFAULT"), ("MAX_PAIRS", "MAX_LOOPS")):

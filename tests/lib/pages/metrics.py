@@ -9,7 +9,7 @@ from lib.pages.markdown import bare, rows, section, spans
 from lib.pages.rust import functions
 from lib.pages.tree import GUIDE
 
-FAMILIES = "crates/relay_metrics/src/family.rt"
+FAMILIES = "crates/relay_metrics/src/figures.rt"
 ENDED = "crates/relay_log/src/ended.rt"
 TEXTS = ("crates/relay_metrics/src/text.rt", "crates/relay_metrics/src/rule_text.rt")
 PLACES = "crates/relay_metrics/src/place.rt"

@@ -148,12 +148,12 @@ def wrong(tree, line, found, known):
 
 
 def redirected(words):
-    """The words without those of a redirection, and the files of these."""
+    """The words without those of a redirection, and the files that these read."""
     kept, files = [], []
     while words:
         word, *words = words
         if re.fullmatch(r"[<>]+|>&", word):
-            files, words = [*files, *words[:1]], words[1:]
+            files, words = [*files, *words[:1] * (word == "<")], words[1:]
         elif not re.fullmatch(r"\d?[<>].*", word):
             kept.append(word)
     return kept, files

@@ -11,7 +11,7 @@ ROWS = (
     ("crates/relay_command/src/job.rt", r'== "--" =>', r"`--`[^|.\n]*\| ?Refused|`--` is refused", "a `--` at the end is taken"),
     ("crates/readiness/src/holding.rt", r"pub struct HeldSocket", r"entry for it \(`Held`\)", "the entry of a table is `HeldSocket`"),
     # (an author who looks for that thread's locks finds none)
-    ("crates/relay_main/src/admin.rt", r"pub struct AdminTask", r"the admin thread", "admin sessions are tasks of the main thread"),
+    ("crates/relay_main/src/admin_socket.rt", r"pub struct AdminTask", r"the admin thread", "admin sessions are tasks of the main thread"),
     # (a sceptic finds a program that was built and proved by nobody)
     ("tools/unproved.py", r"checks in place of proofs", r"prover checks before the program is built|built only after a prover|aren't all proved isn't built", "`rt try` builds a program with nothing proved"),
     # (a listener that came by a reload has a greater id than connections that stand)

@@ -28,6 +28,10 @@ fn checked(alloc: Global, rules: &str) -> Option<Job> {
     Some(Job::Check(rules_file(alloc, rules)?))
 }
 
+fn converted(alloc: Global, rules: &str) -> Option<Job> {
+    Some(Job::Convert(String::from_str(alloc, rules).ok()?))
+}
+
 /// What words say that say only where admin sessions are served.
 fn steered_at(admin: Option<String>) -> Settings {
     let mut words = Settings::none();
@@ -309,6 +313,25 @@ fn serve_takes_no_other_log_or_address(rt: HostRuntime) -> Result<(), Fail> {
     for words in [
         ["check", "--rules", "F", "--log=a"],
         ["check", "--rules", "F", "--metrics=unix:/m"],
+    ] {
+        assert!(&rt; is_job(rt.alloc(), &words, &None), "{words:?}");
+    }
+    Ok(())
+}
+
+#[test]
+fn a_rules_file_alone_is_converted(rt: HostRuntime) -> Result<(), Fail> {
+    let job = converted(rt.alloc(), "F");
+    for words in [["convert", "--rules", "F"], ["convert", "--rules=F", "--"]] {
+        assert!(&rt;
+            job.is_some() && is_job(rt.alloc(), &words, &job),
+            "{words:?}"
+        );
+    }
+    for words in [
+        ["convert", "--config", "F"],
+        ["convert", "--rules", "--"],
+        ["convert", "F", "--rules"],
     ] {
         assert!(&rt; is_job(rt.alloc(), &words, &None), "{words:?}");
     }

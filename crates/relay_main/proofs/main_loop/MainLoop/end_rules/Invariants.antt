@@ -1,6 +1,6 @@
 use Rattle.std.proofs.Common.{◌≡◌}
 use Rattle.readiness.specs.EventLoop.{tasks_of}
-use Rattle.relay_main.specs.Ending.{AreEndedOf}
+use Rattle.relay_main.specs.ListenersEnd.{AreEndedOf}
 use Rattle.relay_main.proofs.main_loop.MainLoop.end_rules.Given as goal
 
 abbrev pub invariant-loop-one : goal.invariant-loop-one

@@ -1,0 +1,42 @@
+-- What is said of a rule that has its own target alone, and of what a file asks for.
+use Rattle.std.proofs.Common.{◌≡◌, ◌∙◌, List, [], ◌∷◌, Result, Ok, Err, ap, subst}
+use Rattle.std.specs.Prelude.{IfOk, map}
+use Rattle.relay_admin.specs.declared.rules.rule.Rule.{Rule}
+use Rattle.relay_admin.specs.declared.serve_fault.ServeFault.{ServeFault}
+use Rattle.relay_admin.specs.rules.Grammar.{entry_of}
+use Rattle.relay_facts.specs.Config.{AreServed, IsOfFile}
+use Rattle.relay_facts.specs.Source.{FileSays, entry_alone}
+use Rattle.relay_facts.specs.declared.config.Config.{Config}
+use Rattle.relay_facts.specs.declared.config.Start.{Start}
+use Rattle.relay_settings.specs.declared.asked.Source.{Source}
+use Rattle.relay_settings.specs.declared.said.Said.{Said}
+use Rattle.relay_settings.specs.Meaning.{SaidRuleEntry, said_rule_entry, said_target_entry}
+use Rattle.relay_settings.specs.Targets.{own_target}
+use Rattle.relay_settings.specs.declared.targets.SaidRule.{SaidRule}
+use Rattle.relay_settings.specs.declared.targets.Target.{Target}
+use Rattle.target_pick.specs.declared.picking.Balance.{Balance}
+use Rattle.target_pick.specs.declared.picking.Balance.TheVariants.{RoundRobin}
+
+abbrev entry_with : Rule → Balance → List Target → SaidRuleEntry
+entry_with rule balance targets = record {
+  rule = entry_of rule;
+  balance = balance;
+  targets = map said_target_entry targets;
+}
+
+pub alone_entry : (said : SaidRule) (rule : Rule) → said.rule ≡ rule → said.balance ≡ RoundRobin
+    → said.targets.items ≡ own_target rule ∷ [] → said_rule_entry said ≡ entry_alone rule
+alone_entry said rule same balance targets =
+    ap (λ r. entry_with r said.balance said.targets.items) same
+    ∙ ap (λ b. entry_with rule b said.targets.items) balance
+    ∙ ap (λ ts. entry_with rule RoundRobin ts) targets
+
+-- a start by what a file says, whose rules are served, is one of that file
+pub of_file : (made : Result Config ServeFault) (source : Source) (said : Said) (start : Start) (rules : List SaidRule)
+    → FileSays source said → rules ≡ said.rules.items → start.file ≡ said.settings
+    → IfOk made (λ config. config.start ≡ start)
+    → IfOk made (λ config. AreServed rules config.capacity.loops.count config.rules.items)
+    → IfOk made (IsOfFile source)
+of_file (Err fault) source said start rules says same file is served = tt
+of_file (Ok config) source said start rules says same file is served =
+    (said, says, ap (λ (s : Start). s.file) is ∙ file, subst (λ rs. AreServed rs config.capacity.loops.count config.rules.items) same served)

@@ -1,0 +1,35 @@
+-- A rules file as a configuration.
+use Rattle.std.specs.Prelude.{◌≡◌, ℕ, List, [], ◌∷◌, None, map, false}
+use Rattle.relay_admin.specs.rules.Fault.{SaysRules}
+use Rattle.relay_admin.specs.rules.Grammar.{Entry}
+use Rattle.relay_settings.specs.Meaning.{SaidEntry, SaidRuleEntry, SaysAll, SettingsEntry}
+use Rattle.target_pick.specs.declared.picking.Balance.TheVariants.{RoundRobin}
+
+-- no setting is said
+abbrev pub nothing_said : SettingsEntry
+nothing_said = record {
+  admin = None;
+  loops = None;
+  pairs = None;
+  per_rule = None;
+  connect = None;
+  replaces_stale = None;
+  log = None;
+  metrics = None;
+}
+
+-- a rule whose own target is its only one
+abbrev pub rule_alone : Entry → SaidRuleEntry
+rule_alone rule = record {
+  rule = rule;
+  balance = RoundRobin;
+  targets = record { at = rule.target; weight = 1; backup = false } ∷ [];
+}
+
+-- these rules, and no setting
+abbrev pub rules_alone : List Entry → SaidEntry
+rules_alone rules = record { settings = nothing_said; rules = map rule_alone rules }
+
+-- the text is a configuration that says what the rules file says, and nothing else
+abbrev pub MeansRules : List ℕ → List ℕ → Type 0
+MeansRules file text = (rules : List Entry) × SaysRules file rules × SaysAll text (rules_alone rules)

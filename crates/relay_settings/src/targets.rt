@@ -1,0 +1,75 @@
+//! A rule with its targets, as a file says them.
+
+ghost use Rattle.std.specs.Prelude.{◌≡◌, ◌≤◌, ◌<◌, ◌∷◌, [], IfOk, IsTrue, Some, ◌↔◌, length};
+ghost use Rattle.relay_settings.specs.Targets.{first_at, own_target};
+ghost use Rattle.target_pick.specs.declared.picking.Balance.TheVariants.{RoundRobin};
+
+use base_types::OutOfMemory;
+use relay_admin::{Addr, Rule};
+use std::alloc::Global;
+use target_pick::Balance;
+
+/// The most targets of a rule.
+pub const MAX_TARGETS: usize = relay_config::MAX_TARGETS;
+
+/// A target of a rule.
+#[derive(Clone, Copy, Debug, PartialEq, Eq, Drop)]
+pub struct Target {
+    pub at: Addr,
+    /// How many turns it has, of all targets' together. With 0 it gets nobody.
+    pub weight: u16,
+    /// It gets clients only where no other target may take them.
+    pub is_backup: bool,
+}
+
+/// A rule, and its targets.
+#[derive(Drop)]
+pub struct SaidRule {
+    /// Its own target is the first one.
+    pub rule: Rule,
+    /// By what a client's is picked.
+    pub balance: Balance,
+    /// 1 to 64, in the order of the file.
+    pub targets: Vec<Target>,
+    ghost some: { 0 < length targets.items },
+    ghost first: { first_at targets.items ≡ Some rule.target },
+    ghost few: { length targets.items ≤ 64 },
+}
+
+// The target of a rule that names one alone.
+fn own_target(rule: &Rule) -> Target
+    ensures { result ≡ own_target rule.now }
+{
+    Target {
+        at: rule.target,
+        weight: 1,
+        is_backup: false,
+    }
+}
+
+impl SaidRule {
+    /// A rule whose own target is its only one, as a rules file says it.
+    pub fn alone(alloc: Global, rule: Rule) -> Result<SaidRule, OutOfMemory>
+        ensures rule { IfOk result (λ said. said.rule ≡ rule) }
+        ensures balance { IfOk result (λ said. said.balance ≡ RoundRobin) }
+        ensures targets { IfOk result (λ said. said.targets.items ≡ own_target rule ∷ []) }
+    {
+        let mut targets = Vec::new(alloc);
+        targets.push(own_target(&rule))?;
+        Ok(SaidRule {
+            rule,
+            balance: Balance::RoundRobin,
+            targets,
+        })
+    }
+
+    /// Whether its own target is its only one, and gets clients as any other would.
+    pub fn is_alone(&self) -> bool
+        ensures { IsTrue result ↔ (self.now.targets.items ≡ own_target self.now.rule ∷ []) }
+    {
+        match self.targets.as_slice() {
+            [only] => only.weight == 1 && !only.is_backup,
+            _ => false,
+        }
+    }
+}
