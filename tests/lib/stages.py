@@ -5,6 +5,9 @@ import subprocess
 import tempfile
 import time
 
+from lib.checks import Checks
+from lib.relay import allow_descriptors
+
 # What may cut a stage short: it has failed then, and those after it are run.
 FAULTS = (OSError, EOFError, RuntimeError, TypeError, StopIteration, subprocess.SubprocessError)
 
@@ -38,3 +41,13 @@ def run_stages(checks, stages, chosen=()):
             except FAULTS as fault:
                 checks.holds(name, False, f"cut short by {fault!r}")
         print(f"{name}: {time.monotonic() - began:.1f} s", flush=True)
+
+
+def run_script(doc, stages, given=None):
+    """Runs the stages for which a script is asked, with as many descriptors as it may have, and gives its exit status.
+
+    `given` is what it was asked, where it has options of its own."""
+    given, checks = given or options(doc, stages), Checks()
+    allow_descriptors()
+    run_stages(checks, stages, given.stages)
+    return checks.end()

@@ -14,10 +14,9 @@ import threading
 import time
 
 sys.path.insert(1, f"{sys.path[0]}/..")
-from lib.checks import Checks
-from lib.relay import Session, allow_descriptors
+from lib.relay import Session
 from lib.sockets import connect, read_to_end
-from lib.stages import options, run_stages
+from lib.stages import run_script
 from lib.talk import hears, says
 from lib.tried import WAIT_SECONDS, Tried
 
@@ -127,12 +126,5 @@ def woken(checks, _):
 STAGES = {it.__name__: it for it in (done, others, woken)}
 
 
-def main():
-    given, checks = options(__doc__, STAGES), Checks()
-    allow_descriptors()
-    run_stages(checks, STAGES, given.stages)
-    return checks.end()
-
-
 if __name__ == "__main__":
-    sys.exit(main())
+    sys.exit(run_script(__doc__, STAGES))

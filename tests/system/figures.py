@@ -12,12 +12,10 @@ import sys
 import time
 
 sys.path.insert(1, f"{sys.path[0]}/..")
-from lib.checks import Checks
 from lib.log_text import logged
 from lib.metrics import scrape
-from lib.relay import allow_descriptors
 from lib.sockets import connect, read_to_end, some_address
-from lib.stages import options, run_stages
+from lib.stages import options, run_script
 from lib.talk import has_ended, passes, says
 from lib.tried import Tried
 from lib.waiting import comes
@@ -265,12 +263,5 @@ def quiet(checks, folder):
 STAGES = {it.__name__: it for it in (causes, address, quiet)}
 
 
-def main():
-    given, checks = options(__doc__, STAGES), Checks()
-    allow_descriptors()
-    run_stages(checks, STAGES, given.stages)
-    return checks.end()
-
-
 if __name__ == "__main__":
-    sys.exit(main())
+    sys.exit(run_script(__doc__, STAGES))

@@ -20,12 +20,10 @@ import time
 
 sys.path.insert(1, f"{sys.path[0]}/..")
 from lib.c_code import library
-from lib.checks import Checks
 from lib.echoes import target
 from lib.places import LIB
-from lib.relay import allow_descriptors
 from lib.sockets import connect, read_to_end
-from lib.stages import options, run_stages
+from lib.stages import options, run_script
 from lib.talk import hears, passes
 from lib.tried import Tried
 from lib.waiting import comes
@@ -257,12 +255,5 @@ def parts(checks, folder):
 STAGES = {it.__name__: it for it in (echoes, half_ends, bulk, at_once, most_pairs, late_reads, stalls, parts)}
 
 
-def main():
-    given, checks = options(__doc__, STAGES), Checks()
-    allow_descriptors()
-    run_stages(checks, STAGES, given.stages)
-    return checks.end()
-
-
 if __name__ == "__main__":
-    sys.exit(main())
+    sys.exit(run_script(__doc__, STAGES))

@@ -15,11 +15,9 @@ import sys
 import threading
 
 sys.path.insert(1, f"{sys.path[0]}/..")
-from lib.checks import Checks
 from lib.example_server import LONG_MS, SHORT_MS, Server, bad_words, program
-from lib.relay import allow_descriptors
 from lib.sockets import read_to_end
-from lib.stages import options, run_stages
+from lib.stages import options, run_script
 from lib.talk import has_ended, hears, says
 from lib.waiting import comes
 
@@ -144,13 +142,6 @@ def clients(checks, _):
 STAGES = {it.__name__: it for it in (commands, ends, clients, shutdown)}
 
 
-def main():
-    checks = Checks()
-    allow_descriptors()
-    run_stages(checks, STAGES, GIVEN.stages)
-    return checks.end()
-
-
 if __name__ == "__main__":
     GIVEN = options(__doc__, STAGES, proved=False)
-    sys.exit(main())
+    sys.exit(run_script(__doc__, STAGES, GIVEN))

@@ -13,11 +13,10 @@ import time
 
 sys.path.insert(1, f"{sys.path[0]}/..")
 from lib.c_code import library
-from lib.checks import Checks
 from lib.places import LIB
-from lib.relay import Relay, allow_descriptors
+from lib.relay import Relay
 from lib.sockets import BlackHole, connect, some_address
-from lib.stages import options, run_stages
+from lib.stages import options, run_script
 from lib.talk import has_ended, hears, says, seconds_until_end
 from lib.tried import WAIT_SECONDS, Tried
 
@@ -111,12 +110,5 @@ def targets(checks, _):
 STAGES = {it.__name__: it for it in (rule, silence, targets)}
 
 
-def main():
-    given, checks = options(__doc__, STAGES), Checks()
-    allow_descriptors()
-    run_stages(checks, STAGES, given.stages)
-    return checks.end()
-
-
 if __name__ == "__main__":
-    sys.exit(main())
+    sys.exit(run_script(__doc__, STAGES))

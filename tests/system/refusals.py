@@ -13,11 +13,10 @@ import sys
 
 sys.path.insert(1, f"{sys.path[0]}/..")
 from lib.c_code import library
-from lib.checks import Checks
 from lib.log_text import logged
 from lib.places import LIB
-from lib.relay import StartFault, allow_descriptors
-from lib.stages import options, run_stages
+from lib.relay import StartFault
+from lib.stages import options, run_script
 from lib.talk import says
 from lib.tried import Tried
 from lib.waiting import comes
@@ -120,12 +119,5 @@ def memory(checks, _):
 STAGES = {it.__name__: it for it in (poller, memory)}
 
 
-def main():
-    given, checks = options(__doc__, STAGES), Checks()
-    allow_descriptors()
-    run_stages(checks, STAGES, given.stages)
-    return checks.end()
-
-
 if __name__ == "__main__":
-    sys.exit(main())
+    sys.exit(run_script(__doc__, STAGES))

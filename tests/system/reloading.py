@@ -21,12 +21,11 @@ import time
 
 sys.path.insert(1, f"{sys.path[0]}/..")
 from lib.c_code import library
-from lib.checks import Checks
 from lib.metrics import scrape
 from lib.places import LIB
-from lib.relay import StartFault, allow_descriptors
+from lib.relay import StartFault
 from lib.sockets import connect, listener, some_address
-from lib.stages import options, run_stages
+from lib.stages import options, run_script
 from lib.talk import has_ended
 from lib.tried import WAIT_SECONDS, Ends, Tried, is_refused
 from lib.waiting import comes
@@ -244,12 +243,5 @@ def closed(checks, _):
 STAGES = {it.__name__: it for it in (rules, refused, paths, renewed, account, poller, prompt, whole, closed)}
 
 
-def main():
-    given, checks = options(__doc__, STAGES), Checks()
-    allow_descriptors()
-    run_stages(checks, STAGES, given.stages)
-    return checks.end()
-
-
 if __name__ == "__main__":
-    sys.exit(main())
+    sys.exit(run_script(__doc__, STAGES))

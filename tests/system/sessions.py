@@ -11,11 +11,9 @@ counted   each session that gave way to another is counted.
 import sys
 
 sys.path.insert(1, f"{sys.path[0]}/..")
-from lib.checks import Checks
 from lib.metrics import scrape
-from lib.relay import allow_descriptors
 from lib.sockets import connect, some_address
-from lib.stages import options, run_stages
+from lib.stages import options, run_script
 from lib.talk import has_ended, hears, says
 from lib.tried import WAIT_SECONDS, Tried
 
@@ -104,12 +102,5 @@ def counted(checks, _):
 STAGES = {it.__name__: it for it in (delays, most, stopped, counted)}
 
 
-def main():
-    given, checks = options(__doc__, STAGES), Checks()
-    allow_descriptors()
-    run_stages(checks, STAGES, given.stages)
-    return checks.end()
-
-
 if __name__ == "__main__":
-    sys.exit(main())
+    sys.exit(run_script(__doc__, STAGES))

@@ -22,11 +22,10 @@ import time
 
 sys.path.insert(1, f"{sys.path[0]}/..")
 from lib.black_hole import BlackHole
-from lib.checks import Checks
 from lib.log_text import logged
-from lib.relay import Relay, allow_descriptors
+from lib.relay import Relay
 from lib.sockets import free_port, listener, some_address, tcp_rows, unread_bytes
-from lib.stages import options, run_stages
+from lib.stages import run_script
 from lib.waiting import wait_until
 
 SOON = 10
@@ -263,9 +262,7 @@ def least(checks, folder):
     with Several((A, B, C), "least-connections") as it:
         clients = [it.got() for _ in range(9)]
         checks.expect("least: alike", "AAABBBCCC", "".join(sorted(name for _, name in clients)))
-        for client, name in clients:
-            if name == "B":
-                client.close()
+        leave(clients, "B")
         checks.holds("least: three have gone", it.comes_to(6), it.standing())
         clients += [it.got() for _ in range(3)]
         checks.expect("least: to the one that has none", "BBB", "".join(name for _, name in clients[9:]))
@@ -278,6 +275,13 @@ def least(checks, folder):
         clients = [it.got() for _ in range(8)]
         checks.expect("least: where the least refuses", "BBBBCCCC", "".join(sorted(name for _, name in clients)))
         close_all(clients)
+
+
+def leave(clients, target):
+    """Closes those of the clients that have this target."""
+    for client, name in clients:
+        if name == target:
+            client.close()
 
 
 def close_all(clients):
@@ -352,9 +356,7 @@ def counted_on(checks):
         checks.expect("counted on: the reload", "rules 1", it.relay.ask("reload"))
         clients += [it.got() for _ in range(2)]
         checks.expect("counted on: to the new one", "CC", "".join(name for _, name in clients[4:]))
-        for client, name in clients:
-            if name == "A":
-                client.close()
+        leave(clients, "A")
         checks.holds("counted on: two have gone", it.comes_to(4), it.standing())
         clients += [it.got() for _ in range(2)]
         checks.expect("counted on: to the one that they had", "AA", "".join(name for _, name in clients[6:]))
@@ -368,12 +370,5 @@ def counted_on(checks):
 STAGES = {it.__name__: it for it in (refused, late, nobody, backups, turns, least, source, first, unweighted, told, reloads)}
 
 
-def main():
-    given, checks = options(__doc__, STAGES), Checks()
-    allow_descriptors()
-    run_stages(checks, STAGES, given.stages)
-    return checks.end()
-
-
 if __name__ == "__main__":
-    sys.exit(main())
+    sys.exit(run_script(__doc__, STAGES))

@@ -12,10 +12,8 @@ import sys
 import time
 
 sys.path.insert(1, f"{sys.path[0]}/..")
-from lib.checks import Checks
 from lib.log_text import logged
-from lib.relay import allow_descriptors
-from lib.stages import options, run_stages
+from lib.stages import options, run_script
 from lib.tried import Tried
 from lib.waiting import comes
 
@@ -143,12 +141,5 @@ def lines(checks, folder):
 STAGES = {it.__name__: it for it in (peers, times, lines)}
 
 
-def main():
-    given, checks = options(__doc__, STAGES), Checks()
-    allow_descriptors()
-    run_stages(checks, STAGES, given.stages)
-    return checks.end()
-
-
 if __name__ == "__main__":
-    sys.exit(main())
+    sys.exit(run_script(__doc__, STAGES))

@@ -21,10 +21,8 @@ import sys
 import time
 
 sys.path.insert(1, f"{sys.path[0]}/..")
-from lib.checks import Checks
-from lib.relay import allow_descriptors
 from lib.sockets import connect, is_served
-from lib.stages import options, run_stages
+from lib.stages import run_script
 from lib.talk import hears
 from lib.tried import WAIT_SECONDS, Tried, is_refused
 from lib.waiting import TURNS, comes
@@ -335,12 +333,5 @@ STAGES = {it.__name__: it for it in (
 )}
 
 
-def main():
-    given, checks = options(__doc__, STAGES), Checks()
-    allow_descriptors()
-    run_stages(checks, STAGES, given.stages)
-    return checks.end()
-
-
 if __name__ == "__main__":
-    sys.exit(main())
+    sys.exit(run_script(__doc__, STAGES))
