@@ -5,6 +5,8 @@
 set -eu
 root=$(cd "$(dirname "$0")/../.." && pwd)
 work=$(mktemp -d)
+# What a refusal may take, on a machine that is full of other work.
+seconds=300
 trap 'rm -rf "$work"' EXIT
 mkdir -p "$work/crates/misuse/src" "$work/crates/misuse/specs" "$work/crates/misuse/proofs"
 touch "$work/crates/misuse/specs/Lib.antt" "$work/crates/misuse/proofs/Lib.antt"
@@ -31,7 +33,12 @@ refuses() {
 # refuses_in FILE WHAT: src/FILE.rt of this crate is refused at each marked line, and at no other
 refuses_in() {
     grep -n '// refused: ' "src/$1.rt" | sed 's/:.*refused: / /' | sort -u > "$work/wanted"
-    rt check --only "" 2>&1 | sed -n 's/^src\/'"$1"'\.rt:\([0-9]*\):[0-9]*: error\[\([a-z0-9-]*\)\].*/\1 \2/p' | sort -u > "$work/found"
+    if ! [ -s "$work/wanted" ]; then
+        echo "$2: no line is marked"
+        exit 1
+    fi
+    # (rt would go on to prove what stands below, where nothing is refused)
+    timeout "$seconds" rt check --only "" 2>&1 | sed -n 's/^src\/'"$1"'\.rt:\([0-9]*\):[0-9]*: error\[\([a-z0-9-]*\)\].*/\1 \2/p' | sort -u > "$work/found"
     shift
     if ! diff "$work/wanted" "$work/found"; then
         echo "$1: not refused as it must be (< wanted, > found)"
@@ -176,10 +183,10 @@ END
 # A side of a connection that ends is closed, and once.
 cd "$work/crates/relay_conn"
 cp src/connection.rt "$work/connection.rt"
-sed -i -e 's|^            target,$|            target, // refused: linear-value-let-go|' -e '/^        target\.close(rt);$/d' src/connection.rt
+sed -i -e 's|^            target,$|            target, // refused: linear-value-let-go|' -e '/^        if let Some(target) = target {$/,/^        }$/d' src/connection.rt
 refuses_in connection 'a side that is left open'
 cp "$work/connection.rt" src/connection.rt
-sed -i 's|^        target\.close(rt);$|&\n        target.close(rt); // refused: borrow-e0382|' src/connection.rt
+sed -i 's|^            target\.close(rt);$|&\n            target.close(rt); // refused: borrow-e0382|' src/connection.rt
 refuses_in connection 'a side that is closed twice'
 cp "$work/connection.rt" src/connection.rt
 
