@@ -24,7 +24,8 @@ from lib.relay import Relay
 from lib.sockets import connect, free_port, listener
 from lib.waiting import wait_until
 
-SECONDS = 20
+# Longer than a line takes, also on a machine that is full of other work.
+SECONDS = 120
 FIRST = "examples/first_connection.sh"
 TRIES = 3
 PORT = re.compile(r":\d{4,5}\b")

@@ -1,17 +1,19 @@
 """Waits for what comes about elsewhere, and looks at what a process takes meanwhile."""
+import contextlib
+import glob
 import os
 import time
 
 # The most turns of a millisecond that a script waits for what comes about at once.
 TURNS = 10_000
+# The seconds of each turn of a wait that says how long it is.
+TURN_SECONDS = 0.005
 
 
 def wait_until(is_so, seconds):
-    """Asks until the answer is true or the time is over, and gives the last answer."""
-    end = time.monotonic() + seconds
-    while not (answer := is_so()) and time.monotonic() < end:
-        time.sleep(0.005)
-    return answer
+    """Asks until the answer is true, so many seconds at least, and gives the last answer: on a busy machine, where a turn takes longer, it
+    waits longer too."""
+    return comes(is_so, round(seconds / TURN_SECONDS), TURN_SECONDS)
 
 
 def processor_seconds(pid):
@@ -21,10 +23,19 @@ def processor_seconds(pid):
     return sum(map(int, ticks)) / os.sysconf("SC_CLK_TCK")
 
 
-def comes(is_so, turns=TURNS):
+def ready_seconds(*pids):
+    """The seconds so far for which threads of these processes were ready to run and had to wait for a processor."""
+    total = 0
+    for path in (it for pid in pids for it in glob.glob(f"/proc/{pid}/task/*/schedstat")):
+        with contextlib.suppress(OSError), open(path, encoding="ascii") as file:
+            total += int(file.read().split()[1])
+    return total / 1e9
+
+
+def comes(is_so, turns=TURNS, turn_seconds=0.001):
     """Asks until the answer is true, so many times at most, and gives the last answer: no time is too late for it."""
     for _ in range(turns):
         if answer := is_so():
             return answer
-        time.sleep(0.001)
+        time.sleep(turn_seconds)
     return is_so()

@@ -8,6 +8,7 @@ others  a close ends no other connection that a session does something to at the
 woken   a close reaches a loop that is about to sleep.
 """
 import contextlib
+import os
 import random
 import sys
 import threading
@@ -19,13 +20,15 @@ from lib.sockets import connect, read_to_end
 from lib.stages import run_script
 from lib.talk import hears, says
 from lib.tried import WAIT_SECONDS, Tried
+from lib.waiting import ready_seconds
 
 # Closes in a row, beside nothing and beside a session that has lines of its own answered all the time.
 CLOSES, BUSY_LINES = 30, 500
 # Rounds of a close beside commands on so many other connections.
 BESIDE, OTHERS = 6, 4
 # Closes that come while the loop is about to sleep: so many at most, or as many as come in so many seconds. A loop that isn't told wakes a
-# second later; the longest that a close may take, and on a machine that is full of other work some rounds have a longer one.
+# second later; the longest that a close may take, and on a machine that is full of other work some rounds have a longer one, though what
+# a thread waits for a processor isn't counted.
 WOKEN, AT_ONCE, SECONDS, LONGEST, ROUNDS = 3_000, 50, 30, 0.7, 3
 
 
@@ -89,15 +92,15 @@ def others(checks, _):
 
 
 def close_turning(it, session, stays, client):
-    """How long a close takes that comes while the loop turns for a byte or for other commands."""
-    before = random.randrange(4)
-    began = time.monotonic()
+    """How long a close takes that comes while the loop turns for a byte or for other commands, beside waits for a processor."""
+    before, pids = random.randrange(4), (os.getpid(), it.relay.process.pid)
+    began = time.monotonic() - ready_seconds(*pids)
     stays.client.sendall(b"x")
     session.sock.sendall(b"deadline 2 never\n" * before + f"close {client}\n".encode())
     said = [session.line("close") for _ in range(before + 1)]
     if said != ["ok"] * (before + 1):
         it.expect("a close is answered", ["ok"] * (before + 1), said)
-    return time.monotonic() - began
+    return time.monotonic() - ready_seconds(*pids) - began
 
 
 def longest_close(it, session, stays, first):

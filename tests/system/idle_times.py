@@ -22,24 +22,24 @@ IDLE_MS = 300
 LATE = 10
 # A clock may be read a little before the call that sets a moment.
 EARLY = 0.005
+# How often a connection is opened anew whose idle time was over before all was said.
+TRIES = 20
 
 
 class Opened:
-    """A connection of a rule, with the ids of its sides, over which a byte has passed each way."""
+    """A connection of a rule, with the ids of its sides, over which a byte has passed each way, and that has these deadlines then."""
 
-    def __init__(self, served, session):
+    def __init__(self, served, session, deadlines):
         before = set(session.ask("list").split())
-        self.ask, self.ends = session.ask, served.open()
+        self.ask, self.ends, opened = session.ask, served.open(), time.monotonic()
         self.ids = wait_until(lambda: sorted(int(word) for word in set(session.ask("list").split()) - before), LATE)
         # (a way's idle time begins anew as the relay reads, which may be long before the byte is seen here)
         self.began = time.monotonic()
-        if not both_ways(*self.ends):
-            raise RuntimeError("no byte came back")
+        self.is_ready = len(self.ids) == 2 and both_ways(*self.ends) and all(self.deadline(*it) == "ok" for it in deadlines)
+        self.took = time.monotonic() - opened
 
     def deadline(self, side, when):
-        reply = self.ask(f"deadline {self.ids[side]} {when}")
-        if reply != "ok":
-            raise RuntimeError(f"a deadline was answered {reply!r}")
+        return self.ask(f"deadline {self.ids[side]} {when}")
 
     def passes_up(self):
         return passes(*self.ends, b"x")
@@ -55,6 +55,18 @@ class Opened:
             sock.close()
 
 
+def opened(served, session, *deadlines, within=IDLE_MS / 1000):
+    """A connection that had its deadlines within its idle time, for which a busy machine may need some tries."""
+    for _ in range(TRIES):
+        it = Opened(served, session, deadlines)
+        if it.took < within and not it.is_ready:
+            raise RuntimeError("no byte came back, or a deadline was refused")
+        if it.took < within:
+            return it
+        it.close()
+    raise RuntimeError("this process was too slow each time")
+
+
 def ends(checks, name, least, took):
     """It has ended, and not before so many seconds."""
     checks.holds(name, took is not None and took >= least - EARLY, f"after {took} s, not from {least} s on")
@@ -62,15 +74,15 @@ def ends(checks, name, least, took):
 
 def idle(checks, _folder):
     with Served(IDLE_MS) as served, Session(served.relay.admin) as session:
-        it = Opened(served, session)
+        it = opened(served, session)
         ends(checks, "idle: both ways", 0.3, it.ended())
         it.close()
-        it = Opened(served, session)
+        it = opened(served, session)
         while time.monotonic() - it.began < LATE and it.passes_up():
             time.sleep(0.005)
         ends(checks, "idle: one way, beside traffic of the other", 0.3, time.monotonic() - it.began)
         it.close()
-        it = Opened(served, session)
+        it = opened(served, session)
         it.ends[0].settimeout(LATE)
         try:
             while time.monotonic() - it.began < LATE:
@@ -96,14 +108,10 @@ ASKED = [
 def asked(checks, _folder):
     with Served(IDLE_MS) as served, Session(served.relay.admin) as session:
         for name, deadlines, least in ASKED:
-            it = Opened(served, session)
-            for side, when in deadlines:
-                it.deadline(side, when)
+            it = opened(served, session, *deadlines)
             ends(checks, f"asked: {name}", least, it.ended())
             it.close()
-        it = Opened(served, session)
-        for side in (0, 1):
-            it.deadline(side, "never")
+        it = opened(served, session, (0, "never"), (1, "never"))
         checks.expect("asked: never of both sides", None, it.ended(1))
         passed = time.monotonic()
         checks.holds("asked: a byte passes then", it.passes_up(), "it doesn't come")
@@ -113,15 +121,12 @@ def asked(checks, _folder):
 
 def without(checks, _folder):
     with Served("never") as served, Session(served.relay.admin) as session:
-        it = Opened(served, session)
-        it.deadline(0, 200)
+        it = opened(served, session, (0, 200), within=LATE)
         while time.monotonic() - it.began < LATE and both_ways(*it.ends):
             time.sleep(0.005)
         ends(checks, "without: a deadline beside traffic", 0.2, time.monotonic() - it.began)
         it.close()
-        it = Opened(served, session)
-        it.deadline(0, 1_000)
-        it.deadline(0, "never")
+        it = opened(served, session, (0, 1_000), (0, "never"), within=1)
         checks.expect("without: a deadline that is lifted", None, it.ended(1.5))
         checks.holds("without: it goes on", both_ways(*it.ends), "no byte came back")
         checks.expect("without: drained", "ok", session.ask(f"drain {it.ids[0]}"))

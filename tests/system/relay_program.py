@@ -334,10 +334,10 @@ def send_all(sock, sent):
 
 def rest_of(sock):
     """All that comes until the end."""
-    rest = b""
+    parts = []
     while data := received(sock):
-        rest += data
-    return rest
+        parts.append(data)
+    return b"".join(parts)
 
 
 def received(sock):
