@@ -4,9 +4,9 @@
     sh tests/run.sh [--lanes N] [--list] full            the full tier too
     sh tests/run.sh [--lanes N] [--list] outside         of the quick tier what tries the program from outside
 
-The quick tier is the tests of each crate, and each program on its stored input, as `rt try` builds them, with checks in place
-of proofs; and the rows of the table in tests/README.md that are quick, among them those that try the relay from outside, on a
-program that is built the same way. A part has a line: how it ended, its seconds, and how many it passed. A part that failed is
+The quick tier is the rows of the table in tests/README.md that are quick, among them those that run the tests of crates, built as
+`rt try` builds them, with checks in place of proofs, and those that try the relay from outside, on a program that is built the same
+way; the tests of each crate that no row names; and each program on its stored input that is no row of its own. A part has a line: how it ended, its seconds, and how many it passed. A part that failed is
 told with the end of what it said, and with the command that runs it alone. The last line is `N passed, M failed`.
 
 It needs the kit's rt on the path, python3, and what the rows of the table name.
@@ -37,11 +37,12 @@ LINES_SHOWN = 40
 PASSED, RAN = re.compile(r"(\d+) passed[;,] (\d+) failed"), re.compile(r"^Ran (\d+) tests?", re.M)
 
 # A word of the check that `rt try` makes beside each run, for a hint on names, which takes as long as the run.
-HINT, HINT_SECONDS = b"no function", 1
+HINT = b"no function"
 
 PROGRAM, RELAY = "program", "pollrelay"
 PROVED = f"crates/{RELAY}/out/{RELAY}"
-QUICK, FULL, OUTSIDE = "quick", "full", "outside"
+# (a crate's tests that a row of the table runs with those of others are run alone by the crate's name)
+QUICK, FULL, OUTSIDE, NAMED = "quick", "full", "outside", "named"
 Row = namedtuple("Row", "name tier seconds needs command shows")
 
 
@@ -56,12 +57,12 @@ def rows():
 
 
 class Part:
-    """A part: a command, what it has to print, where that is stored, what it waits for, and a file that it needs and isn't there."""
+    """A part: a command, what it has to print, where that is stored, what it needs, and a file that it needs and isn't there."""
 
-    def __init__(self, name, words, weight, folder="", on_program=False, is_alone=False, stdin=None, wanted=None, tier=QUICK, lacking=None):
+    def __init__(self, name, words, weight, folder="", needs=(), stdin=None, wanted=None, tier=QUICK, lacking=None):
         self.name, self.words, self.weight, self.folder = name, words, weight, f"{ROOT}/{folder}"
-        self.on_program, self.is_alone, self.stdin, self.wanted = on_program, is_alone, stdin, wanted
-        self.tier, self.lacking = tier, lacking
+        self.on_program, self.is_alone, self.sleeps = (it in needs for it in (PROGRAM, "alone", "sleeps"))
+        self.stdin, self.wanted, self.tier, self.lacking = stdin, wanted, tier, lacking
         self.running = self.said = None
 
     def start(self, program):
@@ -134,24 +135,25 @@ def part_of(row):
     words = [sys.executable if it == "python3" else it for it in shlex.split(row.command)]
     files = [it for it in row.needs if "/" in it] + [os.environ.get("POLLRELAY", PROVED)] * (f"proved {PROGRAM}" in row.needs)
     lacking = next((it for it in files if not os.path.exists(os.path.join(ROOT, it))), None)
-    return Part(row.name, words, row.seconds, on_program=PROGRAM in row.needs, is_alone="alone" in row.needs, tier=row.tier, lacking=lacking)
+    return Part(row.name, words, row.seconds, needs=row.needs, tier=row.tier, lacking=lacking)
 
 
 def parts():
     """All parts, the program's build first, and then those that take longest."""
-    found = []
+    found = list(map(part_of, rows()))
+    named, joined = {row.name for row in rows()}, {word for row in rows() if row.tier == QUICK for word in row.command.split()}
     for name, folder in crates():
         if has_tests(folder):
-            found.append(Part(name, ["rt", "try", "--test"], 60 + lines_in(folder) / 20, folder))
+            tier = NAMED if name in joined else QUICK
+            found.append(Part(name, ["rt", "try", "--test"], 60 + lines_in(folder) / 20, folder, tier=tier))
         stored = f"{ROOT}/{folder}/stdout"
-        if os.path.isfile(f"{ROOT}/{folder}/src/main.rt") and os.path.isfile(stored):
+        if os.path.isfile(f"{ROOT}/{folder}/src/main.rt") and os.path.isfile(stored) and name not in named:
             args = [it for it in text_of(f"{ROOT}/{folder}/args").split("\n") if it]
             given, is_relay = f"{ROOT}/{folder}/stdin", name == RELAY
             words = ["sh", "-c", 'exec "$POLLRELAY" "$@"', "sh", *args] if is_relay else ["rt", "try", "--", *args]
-            stored_run = {"stdin": given if os.path.isfile(given) else None, "wanted": stored, "on_program": is_relay}
+            stored_run = {"stdin": given if os.path.isfile(given) else None, "wanted": stored, "needs": [PROGRAM] * is_relay}
             found.append(Part(name, words, 1 if is_relay else 50, folder, **stored_run))
-    found += map(part_of, rows())
-    found.sort(key=lambda it: (it.on_program, -it.weight))
+    found.sort(key=lambda it: -it.weight)
     return [Part(PROGRAM, [sys.executable, "tools/unproved.py"], 999), *found]
 
 
@@ -182,7 +184,7 @@ class Run:
             return False
         if part.is_alone:
             return not self.running and all(it.is_alone for it in self.waiting)
-        return len(self.running) < self.lanes
+        return sum(it.sleeps == part.sleeps for it in self.running) < self.lanes
 
     def start_ready(self):
         for part in list(self.waiting):
@@ -223,12 +225,9 @@ class Run:
         print(f"FAILED  {part.name:18}     not run, since {why}", flush=True)
 
     def run(self):
-        looked = 0
         while self.waiting or self.running:
             self.start_ready()
-            if time.monotonic() - looked > HINT_SECONDS:
-                looked = time.monotonic()
-                end_hints({it.running.pid for it in self.running})
+            end_hints({it.running.pid for it in self.running})
             for part in [it for it in self.running if it.has_ended()]:
                 self.running.remove(part)
                 self.end(part)

@@ -66,12 +66,12 @@ class Runs(MadeFolder):
 
     def test_parts_on_the_program_have_it(self):
         program = self.part(run.PROGRAM, "sleep 0.3; echo /bin/true")
-        asks = self.part("asks", 'test "$POLLRELAY" = /bin/true', on_program=True)
+        asks = self.part("asks", 'test "$POLLRELAY" = /bin/true', needs=[run.PROGRAM])
         self.assertEqual(self.ran(program, asks)[:2], (2, 0))
 
     def test_parts_on_a_program_that_was_not_built_have_failed(self):
         program = self.part(run.PROGRAM, "exit 1")
-        passed, failed, said = self.ran(program, self.part("asks", "true", on_program=True))
+        passed, failed, said = self.ran(program, self.part("asks", "true", needs=[run.PROGRAM]))
         self.assertEqual((passed, failed), (0, 2))
         self.assertIn("asks", said)
 
@@ -83,10 +83,16 @@ class Runs(MadeFolder):
     def test_a_part_that_runs_alone_does(self):
         note = f"{self.folder}/note"
         beside = self.part("beside", f"echo in >> {note}; sleep 0.5; echo out >> {note}")
-        alone = self.part("alone", f"echo alone >> {note}", is_alone=True)
+        alone = self.part("alone", f"echo alone >> {note}", needs=["alone"])
         self.ran(alone, beside)
         with open(note, encoding="utf-8") as file:
             self.assertEqual(file.read().split(), ["in", "out", "alone"])
+
+    def test_a_part_that_sleeps_takes_no_lane_of_one_that_computes(self):
+        waits = f"for _ in $(seq 100); do test -e {self.folder}/note && exit 0; sleep 0.1; done; exit 1"
+        computes = self.part("computes", waits)
+        sleeps = self.part("sleeps", f"touch {self.folder}/note", needs=["sleeps"])
+        self.assertEqual(self.ran(computes, sleeps, lanes=1)[:2], (2, 0))
 
     def test_a_part_that_takes_too_long_is_ended(self):
         with mock.patch.object(run, "PART_SECONDS", 0.3):
@@ -100,6 +106,14 @@ class Runs(MadeFolder):
         self.assertEqual((chosen("full"), chosen("two", "one")), (["program", "one", "two", "four"], ["program", "one", "two"]))
         os.environ["POLLRELAY"] = "/bin/true"
         self.assertEqual((chosen("two"), chosen("outside")), (["two"], ["four"]))
+
+    def test_tests_of_a_crate_are_run_with_those_of_others_or_alone(self):
+        self.write("crates.txt", "one:\ntwo: one\nthree:\n")
+        for name in ("one", "two"):
+            self.write(f"crates/{name}/src/lib.rt", "#[test]\n")
+        self.write("tests/README.md", "| `both` | quick | 9 |  | `sh both one` | x |")
+        chosen = lambda *names: [it.name for it in run.chosen_parts(names)]
+        self.assertEqual((chosen(), chosen("one"), chosen("full")), (["two", "both"], ["one"], ["two", "both"]))
 
     def test_files_and_the_proved_program_are_what_a_part_may_lack(self):
         for needs, lacking in (([], None), (["program"], None), (["out/it", "alone"], "out/it"), (["proved program"], run.PROVED)):
