@@ -5,8 +5,8 @@ import re
 from lib.pages.markdown import rows, section
 
 PARTS = "tests/README.md"
-# What a part may need beside packages: a program that is built, and a machine of its own.
-NO_PACKAGES = {"", "program", "proved program", "alone"}
+# What a part may need beside packages: a program that is built, a machine of its own, a lane among those that mostly wait.
+NO_PACKAGES = {"", "program", "proved program", "alone", "sleeps"}
 SEARCHES, WAKE_UPS = "tests/gate/wakeups.sh", "docs/wake-ups.md"
 HARMLESS = r"^# *harmless *\|"
 # The page, the words of the count in it, the file that has the list, and what an entry of the list is there.
