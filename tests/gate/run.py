@@ -30,7 +30,7 @@ from lib.places import ROOT
 # What a test may take on a machine that is full of other work, in seconds.
 TEST_SECONDS = 900
 # What a part may take: so long, or so many times what the table says.
-PART_SECONDS, TIMES = 1_500, 5
+PART_SECONDS, TIMES = 2_400, 5
 # How much is shown of what a failed part said.
 LINES_SHOWN = 40
 # How a part says how many it passed: rt's tests and most scripts, and Python's own tests.
