@@ -23,13 +23,13 @@ def processor_seconds(pid):
     return sum(map(int, ticks)) / os.sysconf("SC_CLK_TCK")
 
 
-def ready_seconds(*pids):
-    """The seconds so far for which threads of these processes were ready to run and had to wait for a processor."""
-    total = 0
+def unhindered(*pids):
+    """The moment by a clock that stands while threads of these processes are ready to run and wait for a processor."""
+    waited = 0
     for path in (it for pid in pids for it in glob.glob(f"/proc/{pid}/task/*/schedstat")):
         with contextlib.suppress(OSError), open(path, encoding="ascii") as file:
-            total += int(file.read().split()[1])
-    return total / 1e9
+            waited += int(file.read().split()[1])
+    return time.monotonic() - waited / 1e9
 
 
 def comes(is_so, turns=TURNS, turn_seconds=0.001):

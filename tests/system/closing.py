@@ -20,7 +20,7 @@ from lib.sockets import connect, read_to_end
 from lib.stages import run_script
 from lib.talk import hears, says
 from lib.tried import WAIT_SECONDS, Tried
-from lib.waiting import ready_seconds
+from lib.waiting import unhindered
 
 # Closes in a row, beside nothing and beside a session that has lines of its own answered all the time.
 CLOSES, BUSY_LINES = 30, 500
@@ -94,13 +94,13 @@ def others(checks, _):
 def close_turning(it, session, stays, client):
     """How long a close takes that comes while the loop turns for a byte or for other commands, beside waits for a processor."""
     before, pids = random.randrange(4), (os.getpid(), it.relay.process.pid)
-    began = time.monotonic() - ready_seconds(*pids)
+    began = unhindered(*pids)
     stays.client.sendall(b"x")
     session.sock.sendall(b"deadline 2 never\n" * before + f"close {client}\n".encode())
     said = [session.line("close") for _ in range(before + 1)]
     if said != ["ok"] * (before + 1):
         it.expect("a close is answered", ["ok"] * (before + 1), said)
-    return time.monotonic() - ready_seconds(*pids) - began
+    return unhindered(*pids) - began
 
 
 def longest_close(it, session, stays, first):

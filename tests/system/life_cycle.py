@@ -40,7 +40,7 @@ from lib.signals import hear_all
 from lib.sockets import BlackHole, connect, is_served, some_address
 from lib.stages import options, run_stages
 from lib.talk import heard, seconds_until_end
-from lib.waiting import wait_until
+from lib.waiting import unhindered, wait_until
 
 WRAPPER = f"{ROOT}/packaging/pollrelay-run"
 RATE = 200
@@ -338,7 +338,10 @@ def without_descriptors(checks, name, folder, fast, wakes):
     with Relay(RULE.format("one", address, to), env={"LD_PRELOAD": shim, "FAST": str(fast)}) as relay:
         checks.holds(f"{name}: it serves", comes_back(address), "nothing came back")
         waiting = while_short(relay, address, wakes)
-        checks.expect(f"{name}: who has waited is served within 2 s", b"hello", heard(waiting, 2))
+        began = unhindered(relay.process.pid)
+        checks.expect(f"{name}: who has waited is served", b"hello", heard(waiting, SETTLE_SECONDS))
+        took = unhindered(relay.process.pid) - began
+        checks.holds(f"{name}: within 2 s, beside its waits for a processor", took < 2, f"{took:.2f} s")
         waiting.close()
         checks.holds(f"{name}: others too", comes_back(address), "nothing came back")
         checks.expect(f"{name}: status and totals", (0, (15, 15)), relay.stop()[:2])
