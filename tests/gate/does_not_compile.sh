@@ -1,12 +1,12 @@
 #!/bin/sh
 # Uses of the lock word's values, of calls under way and of a relay's connections, that the compiler refuses. Each line below
 # that ends in `// refused: CODE` has to be refused with that code, and no other line with any. It proves nothing and takes
-# about two minutes.
+# about a minute.
 set -eu
 root=$(cd "$(dirname "$0")/../.." && pwd)
 work=$(mktemp -d)
 # What a refusal may take, on a machine that is full of other work.
-seconds=300
+seconds=600
 trap 'rm -rf "$work"' EXIT
 mkdir -p "$work/crates/misuse/src" "$work/crates/misuse/specs" "$work/crates/misuse/proofs"
 touch "$work/crates/misuse/specs/Lib.antt" "$work/crates/misuse/proofs/Lib.antt"
@@ -24,32 +24,51 @@ done
 } > "$work/crates.txt"
 cd "$work/crates/misuse"
 
-# refuses WHAT: the program on standard input is refused at each marked line, and at no other
-refuses() {
-    cat > src/lib.rt
-    refuses_in lib "$1"
+# module NAME: a module of this crate, on standard input
+module() {
+    cat > "src/$1.rt"
+    echo "mod $1;" >> src/lib.rt
+    modules="$modules $1"
 }
 
-# refuses_in FILE WHAT: src/FILE.rt of this crate is refused at each marked line, and at no other
+# refuses_in WHAT FILE..: each src/FILE.rt of this crate is refused at each marked line, and at no other
 refuses_in() {
-    grep -n '// refused: ' "src/$1.rt" | sed 's/:.*refused: / /' | sort -u > "$work/wanted"
-    if ! [ -s "$work/wanted" ]; then
-        echo "$2: no line is marked"
-        exit 1
-    fi
-    # (rt would go on to prove what stands below, where nothing is refused)
-    timeout "$seconds" rt check --only "" 2>&1 | sed -n 's/^src\/'"$1"'\.rt:\([0-9]*\):[0-9]*: error\[\([a-z0-9-]*\)\].*/\1 \2/p' | sort -u > "$work/found"
+    what=$1
     shift
+    : > "$work/marked"
+    for file; do
+        if ! grep -n '// refused: ' "src/$file.rt" > "$work/lines"; then
+            echo "$what: no line of $file is marked"
+            exit 1
+        fi
+        sed "s/:.*refused: / /; s/^/$file /" "$work/lines" >> "$work/marked"
+    done
+    sort -u "$work/marked" > "$work/wanted"
+    # (rt would go on to prove what stands below, where nothing is refused)
+    timeout "$seconds" rt check --only "" > "$work/said" 2>&1 || true
+    for file; do
+        sed -n 's/^src\/'"$file"'\.rt:\([0-9]*\):[0-9]*: error\[\([a-z0-9-]*\)\].*/'"$file"' \1 \2/p' "$work/said"
+    done | sort -u > "$work/found"
     if ! diff "$work/wanted" "$work/found"; then
-        echo "$1: not refused as it must be (< wanted, > found)"
+        echo "$what: not refused as it must be (< wanted, > found)"
         exit 1
     fi
-    echo "$1: refused at $(wc -l < "$work/wanted") lines, as it must be"
+    echo "$what: refused at $(wc -l < "$work/wanted") lines, as it must be"
 }
 
-refuses 'a half after the unlock, and a value spent twice' << 'END'
+# begin WHAT: this crate anew, without a module
+begin() {
+    modules=''
+    rm -f src/*.rt
+    printf '//! %s.\n#![tactic(auto)]\n' "$1" > src/lib.rt
+}
+
+# The compiler looks at what is spent twice only where nothing is let go, and at both only where all else is well.
+begin 'Values that are spent twice'
+
+# A half after the unlock, and a value spent twice.
+module spent_twice << 'END'
 //! A value goes into one call, and the half is lent for as long as its lock is.
-#![tactic(auto)]
 
 use lockword::{LockWord, ReadLock, Ref, UnlockRead, UnlockWrite, WriteLock};
 
@@ -77,62 +96,10 @@ pub fn reference_copied(held: Ref<u64, u64>) -> (Ref<u64, u64>, Ref<u64, u64>) {
 }
 END
 
-refuses 'a value that must be spent, and is let go' << 'END'
-//! A reference, a lock, a place in a queue, a signal owed, the close, the drain that owes signals and the duty to destroy
-//! can't be dropped.
-#![tactic(auto)]
-
-use lockword::{Closing, Drains, Last, Owing, ReadLock, ReadWait, Ref, WriteLock, WriteWait};
-
-pub fn reference(held: Ref<u64, u64>) {} // refused: linear-value-let-go
-
-pub fn read_lock(lock: ReadLock<u64, u64>) {} // refused: linear-value-let-go
-
-pub fn write_lock(lock: WriteLock<u64, u64>) {} // refused: linear-value-let-go
-
-pub fn queued_reader(wait: ReadWait<u64, u64>) {} // refused: linear-value-let-go
-
-pub fn queued_writer(wait: WriteWait<u64, u64>) {} // refused: linear-value-let-go
-
-pub fn signal_owed(owing: Owing<u64, u64>) {} // refused: linear-value-let-go
-
-pub fn close(closing: Closing<u64, u64>) {} // refused: linear-value-let-go
-
-pub fn drain(drains: Drains<u64, u64>) {} // refused: linear-value-let-go
-
-pub fn duty_to_destroy(last: Last<u64, u64>) {} // refused: linear-value-let-go
-END
-
-refuses 'a value that is taken apart, or made up' << 'END'
-//! The fields are private, so that nobody takes a half out of its lock or makes a seat of a reference.
-#![tactic(auto)]
-
-use lockword::{ReadLock, Ref, Seat};
-
-pub fn half_out_of_its_lock(lock: ReadLock<u64, u64>) -> u64 {
-    lock.half // refused: private-field
-}
-
-pub fn seat_of_a_reference(held: Ref<u64, u64>) -> Seat<u64, u64> {
-    Seat { place: held.place } // refused: private-field
-}
-END
-
-refuses 'a try call that takes a lock' << 'END'
-//! To take a lock is to wait, and a try call has no runtime to wait with.
-#![tactic(auto)]
-
-use std::sync::Mutex;
-
-pub fn try_with_a_mutex_around_the_state(state: &Mutex<u64>) -> u64 {
-    *state.lock() // refused: mismatched-argument-count
-}
-END
-
-refuses "a task's half after its end" << 'END'
+# A task's half after its end.
+module half_after_end << 'END'
 //! A task's half goes into its end, which gives a handle back; while there is a half its handle is gone, and a half that is in
 //! use stays under its lock.
-#![tactic(auto)]
 
 use fd_descriptor::{Fault, FdHandle, Progress, Resource, TaskReader, TaskWriter, TryRead, TryWrite};
 use std::sync::Wait;
@@ -180,14 +147,78 @@ where
 }
 END
 
+# shellcheck disable=SC2086
+refuses_in 'values that are spent twice' $modules
+
+begin 'Values that are let go'
+
+# A value that must be spent, and is let go.
+module let_go << 'END'
+//! A reference, a lock, a place in a queue, a signal owed, the close, the drain that owes signals and the duty to destroy
+//! can't be dropped.
+
+use lockword::{Closing, Drains, Last, Owing, ReadLock, ReadWait, Ref, WriteLock, WriteWait};
+
+pub fn reference(held: Ref<u64, u64>) {} // refused: linear-value-let-go
+
+pub fn read_lock(lock: ReadLock<u64, u64>) {} // refused: linear-value-let-go
+
+pub fn write_lock(lock: WriteLock<u64, u64>) {} // refused: linear-value-let-go
+
+pub fn queued_reader(wait: ReadWait<u64, u64>) {} // refused: linear-value-let-go
+
+pub fn queued_writer(wait: WriteWait<u64, u64>) {} // refused: linear-value-let-go
+
+pub fn signal_owed(owing: Owing<u64, u64>) {} // refused: linear-value-let-go
+
+pub fn close(closing: Closing<u64, u64>) {} // refused: linear-value-let-go
+
+pub fn drain(drains: Drains<u64, u64>) {} // refused: linear-value-let-go
+
+pub fn duty_to_destroy(last: Last<u64, u64>) {} // refused: linear-value-let-go
+END
+
+# shellcheck disable=SC2086
+refuses_in 'values that are let go' $modules
+
+begin 'Values that are made up, and a wait without a runtime'
+# A value that is taken apart, or made up.
+module made_up << 'END'
+//! The fields are private, so that nobody takes a half out of its lock or makes a seat of a reference.
+
+use lockword::{ReadLock, Ref, Seat};
+
+pub fn half_out_of_its_lock(lock: ReadLock<u64, u64>) -> u64 {
+    lock.half // refused: private-field
+}
+
+pub fn seat_of_a_reference(held: Ref<u64, u64>) -> Seat<u64, u64> {
+    Seat { place: held.place } // refused: private-field
+}
+END
+
+# A try call that takes a lock.
+module waiting_try << 'END'
+//! To take a lock is to wait, and a try call has no runtime to wait with.
+
+use std::sync::Mutex;
+
+pub fn try_with_a_mutex_around_the_state(state: &Mutex<u64>) -> u64 {
+    *state.lock() // refused: mismatched-argument-count
+}
+END
+
+# shellcheck disable=SC2086
+refuses_in 'values that are made up, and a wait without a runtime' $modules
+
 # A side of a connection that ends is closed, and once.
 cd "$work/crates/relay_conn"
 cp src/connection.rt "$work/connection.rt"
 sed -i -e 's|^            target,$|            target, // refused: linear-value-let-go|' -e '/^        if let Some(target) = target {$/,/^        }$/d' src/connection.rt
-refuses_in connection 'a side that is left open'
+refuses_in 'a side that is left open' connection
 cp "$work/connection.rt" src/connection.rt
 sed -i 's|^            target\.close(rt);$|&\n            target.close(rt); // refused: borrow-e0382|' src/connection.rt
-refuses_in connection 'a side that is closed twice'
+refuses_in 'a side that is closed twice' connection
 cp "$work/connection.rt" src/connection.rt
 
 # A client that was delivered to its loop is counted, and why it is refused is told.
@@ -195,11 +226,11 @@ cd "$work/crates/relay_loops"
 sed -i -e '/^                arrival\.refused(/d' \
     -e 's|^        match self\.connect(tasks, .*{$|& // refused: linear-value-let-go|' \
     -e 's|^            Err(why) => {$|& // refused: linear-value-let-go|' src/set_up.rt
-refuses_in set_up 'a client that is neither served nor refused'
+refuses_in 'a client that is neither served nor refused' set_up
 
 # The same inside the word: a `LockWord` that keeps a mutex beside its table, and a try that takes it before its step.
 cd "$work/crates/lockword"
 sed -i 's|^    pub(crate) table: Table<.*|&\n    pub(crate) guard: std::sync::Mutex<u64>,|' src/holders.rt
 sed -i 's|^        match self\.try_step::<TakeReference>.*|        let held = self.guard.lock(); // refused: mismatched-argument-count\n&|' src/references.rt
 sed -i 's|Ok((LockWord { table }, |Ok((LockWord { table, guard: std::sync::Mutex::new(0) }, |' src/destroy.rt
-refuses_in references 'a lock held inside the word'
+refuses_in 'a lock held inside the word' references
