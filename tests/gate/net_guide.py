@@ -4,8 +4,8 @@
     python3 tests/gate/net_guide.py
 
 Steps 3, 4 and 6 have to be the programs of `crates/echo_server`, `crates/loop_echo_server` and `crates/line_server`, but for their names
-in the head; what `tools/unproved.py` builds of these is run. Steps 1 and 2 are built by `rt try`, as their reader does. What step 5 quotes
-has to stand in the crate that it copies, which isn't proved here.
+in the head; they and step 2 are built as one program (`lib/example_programs.py`). Step 1 is built by `rt try`, as its reader does. What
+step 5 quotes has to stand in the crate that it copies, which isn't proved here.
 """
 import re
 import shlex
@@ -15,6 +15,7 @@ import tempfile
 
 sys.path.insert(1, f"{sys.path[0]}/..")
 from lib.checks import Checks
+from lib.example_programs import SECOND_STEP, program
 from lib.follower import Follower
 from lib.places import ROOT
 from lib.sockets import connect, free_port, is_served
@@ -40,13 +41,12 @@ def text_of(path):
 
 
 class Ready:
-    """A program that stands already, with these words."""
+    """A program of the examples, with these words."""
 
-    def __init__(self, crate, words, made):
-        built = subprocess.run([sys.executable, f"{ROOT}/tools/unproved.py", crate], capture_output=True, text=True, check=True)
+    def __init__(self, name, words, made):
         self.made = made
         with open(f"{made}/said", "wb") as said:
-            self.process = subprocess.Popen([built.stdout.strip(), *words], stdin=subprocess.DEVNULL, stdout=said, stderr=said)
+            self.process = subprocess.Popen([program(name), *words], stdin=subprocess.DEVNULL, stdout=said, stderr=said)
 
     def comes_to(self, is_so):
         return comes(is_so)
@@ -81,16 +81,20 @@ class Guide(Follower):
         self.start(shlex.split(PORT.sub(lambda it: self.ports[it[0]], start[1])))
 
     def start(self, words):
-        program, made = text_of(f"{self.at}/src/main.rt"), tempfile.mkdtemp(dir=self.top)
-        if self.step in EXAMPLES:
-            crate, name = EXAMPLES[self.step]
-            wanted = text_of(f"{ROOT}/crates/{crate}/src/main.rt").replace(f"`{crate} ", f"`{name} ")
-            self.checks.holds(f"step {self.step}: it is the program of crates/{crate}", program == wanted, f"docs/net-guide.md has another text than crates/{crate}/src/main.rt")
-            self.server = Ready(crate, words, made)
-        else:
-            self.server = Trial(self.at, words, made)
+        made = tempfile.mkdtemp(dir=self.top)
+        self.server = Trial(self.at, words, made) if self.step == 1 else Ready(self.name_of_program(), words, made)
         is_there = self.server.comes_to(lambda: is_served(self.address(words[0])))
         self.checks.holds(f"step {self.step}: it serves", is_there, self.server.text()[-2_000:])
+
+    def name_of_program(self):
+        """By what name the step's program stands: where it is an example, its text has to be that of the example's crate."""
+        if self.step not in EXAMPLES:
+            return SECOND_STEP
+        crate, name = EXAMPLES[self.step]
+        wanted = text_of(f"{ROOT}/crates/{crate}/src/main.rt").replace(f"`{crate} ", f"`{name} ")
+        is_it = text_of(f"{self.at}/src/main.rt") == wanted
+        self.checks.holds(f"step {self.step}: it is the program of crates/{crate}", is_it, f"docs/net-guide.md has another text than crates/{crate}/src/main.rt")
+        return crate
 
     def look_for(self, line, text):
         if self.server:

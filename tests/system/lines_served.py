@@ -15,7 +15,7 @@ import sys
 import threading
 
 sys.path.insert(1, f"{sys.path[0]}/..")
-from lib.example_server import LONG_MS, SHORT_MS, Server, bad_words, program
+from lib.example_server import LONG_MS, SHORT_MS, Server, bad_words, path_of
 from lib.sockets import read_to_end
 from lib.stages import options, run_script
 from lib.talk import has_ended, hears, says
@@ -90,7 +90,7 @@ class Busy(threading.Thread):
 
 
 def server_with(idle_ms):
-    return Server(program("line_server", GIVEN.proved), idle_ms, end=False)
+    return Server(path_of("line_server", GIVEN.proved), idle_ms, end=False)
 
 
 def shutdown(checks, _):
@@ -112,7 +112,7 @@ def shutdown(checks, _):
 
 
 def commands(checks, _):
-    bad_words(checks, "lines", program("line_server", GIVEN.proved))
+    bad_words(checks, "lines", path_of("line_server", GIVEN.proved))
     with server_with(LONG_MS) as server:
         each_command(checks, server)
 
