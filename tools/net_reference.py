@@ -36,6 +36,12 @@ SECTIONS = {
         "Service::closer", "Conn::closer", "ServiceCloser", "ServiceCloser::shutdown", "ServiceCloser::try_clone", "Asked", "Asked::is_first",
         "Ended", "Ended::cut_off", "GentleClose", "GentleClose::new", "GentleClose::step",
     ),
+    "A server of lines": (
+        "LineTask", "LineTask::new", "LineHandler", "LineHandler::begin", "LineHandler::answer", "LineHandler::too_long", "AfterLine",
+    ),
+    "Bytes that go out": (
+        "Outgoing", "Outgoing::new", "Outgoing::of", "Outgoing::push", "Outgoing::poll", "Outgoing::is_sent", "Outgoing::reuse", "PollWrite",
+    ),
     "Lines": (
         "Lines", "Lines::new", "Lines::poll", "PollRead", "Lines::read", "Heard", "Lines::line", "Lines::find", "Lines::find_in",
     ),
@@ -55,7 +61,7 @@ GO = {
     "Service::shutdown": "`http.Server.Shutdown`", "Service::stop": "`http.Server.Close`", "Lines": "`bufio.Scanner`, with a buffer of a limit",
     "ServiceCloser": "a `context.CancelFunc`", "ServiceCloser::shutdown": "`http.Server.Shutdown` in a goroutine of its own",
     "Service::wait": "none: `http.Server.Serve` returns at once, and `Shutdown` waits", "Lines::read": "`Scanner.Scan`", "Lines::line": "`Scanner.Bytes`",
-    "Task": "none: a goroutine a connection", "Cause::idle": "none: `SetReadDeadline` before each read",
+    "Task": "none: a goroutine a connection", "LineTask": "none: a loop over `bufio.Scanner` in a goroutine", "Outgoing": "none: a goroutine's `Write` waits", "Cause::idle": "none: `SetReadDeadline` before each read",
     "SocketCloser::close": "`Listener.Close` and `Conn.Close`, which any goroutine may call", "ConnGroup::wait": "`sync.WaitGroup.Wait`, without a time",
     "Net": "none: its runtime has the poller", "Net::serve": "none: a goroutine a connection", "address_of": "`net.ResolveTCPAddr`, which looks names up",
 }
@@ -69,6 +75,7 @@ TIMES = {
     "Service::wait": "none, but the time of a shutdown that was asked for", "Service::shutdown": "`within`, from the call on",
     "Conn::close_gently": "`within`, from the call on", "ConnGroup::wait": "`within`, from the call on", "SocketCloser::close": "none: as `Conn::close`",
     "Lines::read": "the reader's own: of a connection the read time-out and the deadline",
+    "Outgoing::poll": "the deadline, where it has passed; a task's own time is in `Next`",
     "Lines::poll": "the deadline, where it has passed; a task's own time is in `Next`",
 }
 # How calls fail whose clauses name no call of a handle, and what comes beside those that do.
@@ -78,6 +85,8 @@ FAILS = {
     "Listener::bind": "`OutOfMemory`, `Other` where the net has its 4,096 sockets, or the system's error: the address is taken, isn't this machine's, or isn't allowed",
     "Listener::accept": "`OutOfMemory`, or the system's error where the poller refuses the socket",
     "Conn::connect": "`OutOfMemory`, or the system's error; `WouldBlock` where the queue at a Unix path is full",
+    "Outgoing::poll": "as its sink's write", "Outgoing::push": "`AllocError`",
+    "LineHandler::begin": "as the program's own does", "LineHandler::answer": "as the program's own does", "LineHandler::too_long": "as the program's own does",
     "Lines::poll": "as `Conn::poll_read`", "Lines::read": "as its reader does, or `Other` after 2^64 reads",
     "Conn::close_gently": "`TimedOut` where the peer's end didn't come in time; else as `Conn::set_deadline`, `Conn::close_write`, `Conn::read` and `Conn::close`",
     "ConnGroup::join": "`NotConnected` where the group was ended, or `OutOfMemory`",
@@ -117,7 +126,7 @@ def items():
     for path in sorted(SRC.glob("*.rt")):
         text = path.read_text()
         for head in HEAD.finditer(text):
-            is_public = re.search(r"\bpub (?:fn|struct|enum|trait|const|static) ", head[0]) or owner_of(text, head.start()) == "Task"
+            is_public = re.search(r"\bpub (?:fn|struct|enum|trait|const|static) ", head[0]) or owner_of(text, head.start()) in ("Task", "LineHandler")
             is_read_or_write = path.name == "stream.rt" and head[4] in ("read", "write", "flush")
             is_method = bool(head[2]) and head[3] == "fn"
             if not (is_public or is_read_or_write or is_method and head[4] == "unlink"):

@@ -7,9 +7,11 @@ commands  each command, many of them at once, and a line that comes byte by byte
 ends      the ends of a session: by QUIT, by a line that is too long, by a half-close, by its idle time.
 clients   a hundred at once, of which the server keeps nothing.
 shutdown  SHUTDOWN while fifty clients are busy: each hears whole answers and then the end, and none is reset.
+newcomers SHUTDOWN while clients wait in the queue of the listener, each with a line: each is answered, and none is reset.
 
 The program is built with nothing proved; with --proved it is the one that a proof of its crate has left in out/.
 """
+import signal
 import socket
 import sys
 import threading
@@ -28,6 +30,8 @@ ROWS = (
     (b"GET \xff", b"ERROR"), (b"SET \xc3\xa9 \xc3\xa0", b"OK"), (b"GET \xc3\xa9", b"VALUE \xc3\xa0"), (b"GET empty\r", b"NONE"), (b"QUIT now", b"ERROR"),
 )
 PIPELINED, CLIENTS, FEW, BUSY, LINE_BYTES = 2_000, 100, 32, 50, 1_024
+# How many servers are ended while clients wait in their queue.
+SHUTDOWNS = 4
 
 
 def answered(sock, said, wanted):
@@ -111,6 +115,23 @@ def shutdown(checks, _):
         checks.holds("lines, shutdown: nobody is let in any more", server.is_closed(), "somebody is")
 
 
+def newcomers(checks, _):
+    """While the server is stopped one client asks for the end, and others connect, each with a line: all wait in the queue."""
+    for _ in range(SHUTDOWNS):
+        with server_with(LONG_MS) as server:
+            last = server.client()
+            checks.holds("lines, newcomers: who asks is served before", answered(last, b"COUNT", b"COUNT 0"), "it isn't")
+            server.process.send_signal(signal.SIGSTOP)
+            said = [says(it, b"COUNT\n") for it in server.some(FEW)] + [says(last, b"SHUTDOWN\n")]
+            server.process.send_signal(signal.SIGCONT)
+            checks.expect("lines, newcomers: all was taken", [True] * (FEW + 1), said)
+            ends = [read_to_end(it) for it in server.clients]
+            checks.expect("lines, newcomers: each is answered, and hears the end", [b"BYE\n"] + [b"COUNT 0\n"] * FEW, ends)
+            for it in server.clients:
+                it.close()
+            checks.expect("lines, newcomers: its status", 0, server.status())
+
+
 def commands(checks, _):
     bad_words(checks, "lines", path_of("line_server", GIVEN.proved))
     with server_with(LONG_MS) as server:
@@ -139,7 +160,7 @@ def clients(checks, _):
         checks.holds("lines: no file is left", comes(lambda: len(server.files()) <= files), f"{files} before, now {server.files()}")
 
 
-STAGES = {it.__name__: it for it in (commands, ends, clients, shutdown)}
+STAGES = {it.__name__: it for it in (commands, ends, clients, shutdown, newcomers)}
 
 
 if __name__ == "__main__":

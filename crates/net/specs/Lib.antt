@@ -8,10 +8,13 @@ pub mod Gentle
 pub mod Gone
 pub mod Group
 pub mod Home
+pub mod LastCall
 pub mod Limits
+pub mod LineTask
 pub mod Lines
 pub mod Listener
 pub mod Members
+pub mod Outgoing
 pub mod Over
 pub mod Polled
 pub mod Service

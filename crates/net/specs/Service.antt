@@ -1,11 +1,19 @@
 -- A service, as its callers see it.
-use Rattle.std.specs.Prelude.{ℕ, Option, vec_len}
+use Rattle.std.specs.Prelude.{ℕ, Bool, true, false, Option, vec_len}
 use Rattle.std.specs.Arc.{arc_value}
+use Rattle.std.specs.declared.io.ErrorKind.{ErrorKind}
+use Rattle.std.specs.declared.io.ErrorKind.TheVariants.{NotConnected, TimedOut}
 use Rattle.readiness.specs.declared.addr.Addr.{Addr}
 use Rattle.net.specs.declared.closer.Ends.{Ends}
 use Rattle.net.specs.declared.closer.ServiceCloser.{ServiceCloser}
 use Rattle.net.specs.declared.service.Service.{Service}
 use Rattle.net.specs.Listener.{listens_at, common_of}
+
+-- an accept that fails so is the last: the listener is closed, or its last call came
+abbrev pub is_last_accept : ErrorKind → Bool
+is_last_accept NotConnected = true
+is_last_accept TimedOut = true
+is_last_accept _ = false
 
 module _ {R : Type 0} where
   -- where its listener listens

@@ -2,7 +2,7 @@
 
 ghost use Rattle.std.specs.Prelude.{◌≡◌, true, false, None, IfOk, OnOk};
 ghost use Rattle.fd_descriptor.specs.FdHandle.{KeepsHandle, descriptor_of, marks_of};
-ghost use Rattle.fd_descriptor.specs.HandleCalls.{Accepts, Closes};
+ghost use Rattle.fd_descriptor.specs.HandleCalls.{Accepts, Closes, SetsDeadline};
 ghost use Rattle.net.specs.Conn.{IsNotConnected, has_task, is_closed, untold_of};
 ghost use Rattle.net.specs.Failures.{FailsAs, FailsForMemory};
 ghost use Rattle.net.specs.Gone.{gone_id};
@@ -20,7 +20,7 @@ use crate::runs::Runs;
 use crate::shared::Shared;
 use crate::socket_closer::SocketCloser;
 use crate::stream::Conn;
-use fd_descriptor::{Dir, FdHandle};
+use fd_descriptor::{Deadline, Dir, FdHandle, TaskReader};
 use readiness::{Addr, LastCodes, Listen, NotedListenRes, Sock, listen_io};
 use std::fs::Files;
 use std::io;
@@ -96,6 +96,32 @@ impl<R: Runs> Listener<R> {
         let guard = &*self.guard;
         let accepted = self.handle.accept(&guard.shared.rt);
         told(accepted, guard.code(Dir::Read))
+    }
+
+    /// Lifts the deadline by which a last call ended its accepts.
+    pub(crate) fn lift(&mut self) -> io::Result<()>
+        ensures keeps { KeepsHandle (listening_handle self.old) (listening_handle self.new) }
+        ensures closed { is_shut self.old ≡ true → IsNotConnected result }
+        ensures fails { FailsAs SetsDeadline result }
+        ensures guard { self.new.guard ≡ self.old.guard }
+    {
+        let guard = &*self.guard;
+        let rt = guard.shared.rt;
+        let now = guard.shared.now();
+        let lifted = self
+            .handle
+            .set_read_deadline(&rt, Deadline::Never, now, guard);
+        told(lifted, None)
+    }
+
+    /// Who waits at it, if anybody does, as a socket that no poller knows yet.
+    pub(crate) fn poll_sock(&mut self) -> Option<Sock>
+        ensures guard { self.new.guard ≡ self.old.guard }
+    {
+        let rt = self.guard.shared.rt;
+        let handle = self.handle.share().ok()?;
+        let mut half = TaskReader::new(rt, handle);
+        half.poll_accept()?.ok()
     }
 
     /// Waits for a connection. It fails as a handle's accept does, by want of memory, or with the

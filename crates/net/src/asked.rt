@@ -1,13 +1,13 @@
 //! What an end of a service that was asked for leaves with who asked: only the doors of its loops,
-//! and the table with its listener, give it.
+//! and the last call at its listener, give it.
 
 ghost use Rattle.std.specs.Prelude.{◌≡◌, ◌<◌, ◌+◌, ◌-◌, ◌^◌, ℕ, IfSome, IsSomeAnd, IsNone};
 ghost use Rattle.net.specs.Asked.{asked_loops, asked_listener, asked_until};
 ghost use Rattle.net.specs.Ending.{with_end};
-ghost use Rattle.net.specs.Gone.{gone_id, was_there};
+ghost use Rattle.net.specs.LastCall.{called_id, was_called};
 
 use crate::door::Waiting;
-use crate::gone::Gone;
+use crate::last_call::LastCall;
 use fd_descriptor::Deadline;
 
 /// That a loop was told by when its tasks end.
@@ -60,17 +60,17 @@ impl ToldAll {
     }
 }
 
-/// That an end of a service was asked for: each of its loops was told of it, and its listener is out
-/// of the net. Who asked for the end has this, and nothing else gives one.
+/// That an end of a service was asked for: each of its loops was told of it, and so was who accepts
+/// for it. Who asked for the end has this, and nothing else gives one.
 #[derive(Drop)]
 pub struct Asked {
     told: ToldAll,
-    listener: Gone,
+    listener: LastCall,
 }
 
 impl Asked {
-    /// Of loops that were told, and the listener that went after that.
-    pub(crate) fn new(told: ToldAll, listener: Gone) -> Asked
+    /// Of loops that were told, and the last call at the listener after that.
+    pub(crate) fn new(told: ToldAll, listener: LastCall) -> Asked
         ensures loops { asked_loops result ≡ told.loops }
         ensures until { asked_until result ≡ told.until }
         ensures listener { asked_listener result ≡ listener }
@@ -81,7 +81,7 @@ impl Asked {
     /// Whether the service listened until then. Otherwise another had asked before, or its listener
     /// was closed.
     pub fn is_first(&self) -> bool
-        ensures { result ≡ was_there (asked_listener self.now) }
+        ensures { result ≡ was_called (asked_listener self.now) }
     {
         self.listener.was_open()
     }

@@ -80,9 +80,10 @@ impl<R: Runs> ServiceCloser<R> {
         })
     }
 
-    /// Asks the service to end, and returns: it listens no more, each of its tasks has a step by
-    /// `Cause::Ending` and may go on for so long, and those that stand then are ended. Of two times
-    /// the earlier counts. `Service::wait` or `Service::shutdown` waits for the end.
+    /// Asks the service to end, and returns: who has connected and waits at its listener is taken in,
+    /// and then it listens no more; each of its tasks has a step by `Cause::Ending` and may go on for
+    /// so long, and those that stand then are ended. Of two times the earlier counts. `Service::wait`
+    /// or `Service::shutdown` waits for the end.
     ///
     /// A task that asks goes on as any: what it answers still goes out.
     pub fn shutdown(&self, within: Duration) -> Asked
@@ -90,8 +91,8 @@ impl<R: Runs> ServiceCloser<R> {
     {
         let ends = &*self.ends;
         let until = moment_in(ends.shared.now(), Some(within));
-        // The doors come first: who waits for the service looks at them once its listener is closed.
+        // The doors come first: who waits for the service looks at them once nobody accepts any more.
         let told = ends.tell(until);
-        Asked::new(told, ends.shared.end(ends.listener))
+        Asked::new(told, ends.shared.call_last(ends.listener))
     }
 }

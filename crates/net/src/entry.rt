@@ -9,8 +9,8 @@ ghost use Rattle.net.specs.Shut.{closer_marks};
 use crate::home::TaskSeat;
 use crate::runs::Runs;
 use arrayvec::ArrayString;
-use fd_descriptor::{Fault, FdHandle, PollCell};
-use readiness::{HasCell, MAX_PATH_BYTES, NotedListenRes, SockRes};
+use fd_descriptor::{Deadline, Fault, FdHandle, PollCell};
+use readiness::{HasCell, MAX_PATH_BYTES, NotedListenRes, SockRes, TimerAlarms};
 use std::sync::Arc;
 
 /// How an entry closes its descriptor.
@@ -40,6 +40,28 @@ impl HasCell for Entry {
     }
 }
 
+/// What a last call at an entry leaves.
+#[derive(Drop)]
+pub(crate) enum Called {
+    /// Its accepts, those that wait now too, end as late.
+    Late,
+    /// They end, since it is closed.
+    Shut(Shut),
+}
+
+// Gives the accepts of a listener a deadline that has passed.
+fn end_accepts<R: Runs>(
+    closer: &mut Closer,
+    rt: &R,
+    alarms: &TimerAlarms<R>,
+    now: u64,
+) -> Result<(), Fault> {
+    match closer {
+        Closer::Listener(handle, _) => handle.set_read_deadline(rt, Deadline::At(0), now, alarms),
+        Closer::Conn(_) => Err(Fault::Closed),
+    }
+}
+
 impl Entry {
     /// Removes the path of a Unix listener, so that who comes later isn't refused it.
     pub(crate) fn unlink<R: Runs>(&self, rt: &R) {
@@ -52,6 +74,21 @@ impl Entry {
     pub(crate) fn tell_task<R: Runs>(&self, rt: &R) {
         if let Some(seat) = &self.seat {
             seat.tell(rt);
+        }
+    }
+
+    /// Has the accepts of a listener end as late, so that who accepts takes in those who wait, and
+    /// closes it. Where that is refused, as of a connection, the descriptor is closed.
+    pub(crate) fn call_last<R: Runs>(self, rt: &R, alarms: &TimerAlarms<R>, now: u64) -> Called {
+        let Entry {
+            cell: _,
+            closer,
+            seat: _,
+        } = self;
+        let mut closer = closer;
+        match end_accepts(&mut closer, rt, alarms, now) {
+            Ok(()) => Called::Late,
+            Err(_) => Called::Shut(Shut::close(closer, rt)),
         }
     }
 

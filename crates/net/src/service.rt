@@ -5,7 +5,7 @@ ghost use Rattle.net.specs.Asked.{IsAskedOf};
 ghost use Rattle.net.specs.Failures.{FailsForMemory};
 ghost use Rattle.net.specs.Listener.{HasStopped, listens_at};
 ghost use Rattle.net.specs.Over.{IsOver, over_asked};
-ghost use Rattle.net.specs.Service.{serves_at, ends_of, closer_of};
+ghost use Rattle.net.specs.Service.{serves_at, ends_of, closer_of, is_last_accept};
 
 use crate::accepting::Listener;
 use crate::closer::{Ends, ServiceCloser};
@@ -29,6 +29,10 @@ use std::{io, mem, thread};
 /// How long an accept rests that the system refuses, as where no file can be opened any more.
 const REST_MS: u64 = 5;
 
+/// How many of those who wait each loop takes in at most, once the last call came: as many as the
+/// sockets of a net.
+const LAST_ROUNDS: u32 = 4_096;
+
 /// A service that runs by itself: a thread accepts, and each connection is a task of one of the
 /// loops, in turn. When it is stopped, or let go, its listener and all its connections are closed.
 pub struct Service<R: Runs + Threads> {
@@ -38,16 +42,40 @@ pub struct Service<R: Runs + Threads> {
     loops: Vec<JoinHandle<LoopEnd>>,
 }
 
-// Accepts until the listener is closed, and hands each connection to the next loop. What the system
-// refuses is tried again after a rest, so that a want of files or memory ends no service.
+// Whether an accept that fails so is the last: the listener is closed, or its last call came.
+fn ends_accepts(kind: ErrorKind) -> bool
+    ensures { result ≡ is_last_accept kind }
+{
+    matches!(kind, ErrorKind::NotConnected | ErrorKind::TimedOut)
+}
+
+// Accepts until the listener is closed or its last call comes, and hands each connection to the next
+// loop. What the system refuses is tried again after a rest, so that a want of files or memory ends
+// no service.
 fn hand_out<R: Runs>(rt: &R, listener: &mut Listener<R>, doors: &[Arc<Door>]) {
     for _ in rt.forever() {
         for door in doors {
             match listener.accept_sock() {
                 Ok(sock) => door.hand_in(rt, sock),
-                Err(error) if error.kind() == ErrorKind::NotConnected => return,
+                Err(error) if ends_accepts(error.kind()) => return,
                 Err(_) => thread::sleep(rt, Duration::from_millis(REST_MS)),
             }
+        }
+    }
+}
+
+// Hands out those who wait at a listener whose last call came, a bounded number, so that a flood of
+// clients can't keep it open.
+fn hand_out_last<R: Runs>(rt: &R, listener: &mut Listener<R>, doors: &[Arc<Door>]) {
+    if listener.lift().is_err() {
+        return;
+    }
+    for _ in 0..LAST_ROUNDS {
+        for door in doors {
+            let Some(sock) = listener.poll_sock() else {
+                return;
+            };
+            door.hand_in(rt, sock);
         }
     }
 }
@@ -56,6 +84,8 @@ fn hand_out<R: Runs>(rt: &R, listener: &mut Listener<R>, doors: &[Arc<Door>]) {
 fn accept_on<R: Runs>(rt: R, listener: Listener<R>, ends: Arc<Ends<R>>) {
     let mut listener = listener;
     hand_out(&rt, &mut listener, ends.doors.as_slice());
+    hand_out_last(&rt, &mut listener, ends.doors.as_slice());
+    let _ = listener.close();
     ends.no_more();
 }
 
@@ -237,7 +267,7 @@ impl<R: Runs + Threads> Service<R> {
         self.closer.try_clone()
     }
 
-    /// Waits until it is over: until the listener is closed and, where `ServiceCloser::shutdown` asked
+    /// Waits until it is over: until it listens no more and, where `ServiceCloser::shutdown` asked
     /// for that, its tasks have ended, or their time has. Where the listener was closed otherwise, by
     /// a clone or with its net, it then stops. At the end it has no connection and no listener.
     pub fn wait(self) -> Ended

@@ -1,6 +1,7 @@
 //! Memory that is refused. It holds where all is given as well: `tests/refused_memory.sh` refuses
 //! each allocation in turn.
 
+use super::line_tasks::line_round;
 use super::tasks::{Does, task_that};
 use super::{millis, open_files};
 use net::{Addr, Conn, ConnGroup, Listener, Net, Runs, tcp};
@@ -122,5 +123,12 @@ fn a_refused_gentle_close_is_told_and_leaves_nothing_open(rt: HostRuntime) {
 fn a_refused_service_is_told_and_leaves_nothing_open(rt: HostRuntime) {
     let before = looked(&rt);
     holds!(rt; is_fine(served(rt, rt.alloc())), "done, or told as want of memory");
+    holds!(rt; before.is_some() && looked(&rt) == before, "nothing is left open");
+}
+
+#[test]
+fn a_refused_service_of_lines_is_told_and_leaves_nothing_open(rt: HostRuntime) {
+    let before = looked(&rt);
+    holds!(rt; is_fine(line_round(rt, rt.alloc())), "done, or told as want of memory");
     holds!(rt; before.is_some() && looked(&rt) == before, "nothing is left open");
 }
