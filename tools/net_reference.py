@@ -1,11 +1,11 @@
 #!/usr/bin/env python3
 """Makes the reference of the library `net` out of its public items: what each is, its signature, which time ends its wait, how it
-fails, and what Go calls it.
+fails, and what Go and tokio have in its place.
 
     python3 tools/net_reference.py > docs/net.md
 
 What an item does is its doc comment. How a call fails is read from its contract: the call of a handle that a clause names, the faults
-that `fd_descriptor` lists for that call, and the kind that `handle_io` gives to each fault. Go's names and the times stand below; a
+that `fd_descriptor` lists for that call, and the kind that `handle_io` gives to each fault. Go's and tokio's names and the times stand below; a
 public item without them, or one of them without an item, is a fault of this script.
 """
 import pathlib
@@ -58,12 +58,37 @@ GO = {
     "Conn::set_read_timeout": "none: `SetReadDeadline` before each read", "Conn::set_write_timeout": "none: `SetWriteDeadline` before each write",
     "Conn::close_write": "`TCPConn.CloseWrite`", "Conn::close": "`Conn.Close`, which also ends the calls under way and waits for them",
     "Conn::peer_addr": "`Conn.RemoteAddr`", "Conn::local_addr": "`Conn.LocalAddr`", "Conn::try_clone": "none: goroutines share one value",
-    "Service::shutdown": "`http.Server.Shutdown`", "Service::stop": "`http.Server.Close`", "Lines": "`bufio.Scanner`, with a buffer of a limit",
+    "Service::shutdown": "`http.Server.Shutdown(ctx)`; over a `net.Listener` by hand: a close, a `sync.WaitGroup`, deadlines", "Service::stop": "`http.Server.Close`", "Lines": "`bufio.Scanner`, with `Buffer(buf, LIMIT)`",
     "ServiceCloser": "a `context.CancelFunc`", "ServiceCloser::shutdown": "`http.Server.Shutdown` in a goroutine of its own",
     "Service::wait": "none: `http.Server.Serve` returns at once, and `Shutdown` waits", "Lines::read": "`Scanner.Scan`", "Lines::line": "`Scanner.Bytes`",
     "Task": "none: a goroutine a connection", "LineTask": "none: a loop over `bufio.Scanner` in a goroutine", "Outgoing": "none: a goroutine's `Write` waits", "Cause::idle": "none: `SetReadDeadline` before each read",
     "SocketCloser::close": "`Listener.Close` and `Conn.Close`, which any goroutine may call", "ConnGroup::wait": "`sync.WaitGroup.Wait`, without a time",
     "Net": "none: its runtime has the poller", "Net::serve": "none: a goroutine a connection", "address_of": "`net.ResolveTCPAddr`, which looks names up",
+}
+# What tokio 1 has in its place, with tokio-util.
+TOKIO = {
+    "Net": "its runtime has the driver", "Listener": "`net::TcpListener`, `net::UnixListener`", "Listener::bind": "`TcpListener::bind`",
+    "Listener::accept": "`TcpListener::accept`", "Listener::close": "none: its drop, or a `CancellationToken` in a `select!`",
+    "Conn": "`net::TcpStream`, `net::UnixStream`", "Conn::connect": "`timeout(time, TcpStream::connect(addr))`", "Conn::read": "`AsyncReadExt::read`",
+    "Conn::write": "`AsyncWriteExt::write_all`", "Conn::try_clone": "`into_split`, which gives an owner of reads and one of writes", "Conn::set_read_timeout": "`timeout(time, read)`",
+    "Conn::set_write_timeout": "`timeout(time, write)`", "Conn::set_deadline": "`timeout_at` around each call", "Conn::close_write": "`AsyncWriteExt::shutdown`",
+    "Conn::close": "none: its drop", "Conn::close_gently": "none: `shutdown`, and reads to the end under `timeout`",
+    "Conn::peer_addr": "`TcpStream::peer_addr`", "Conn::poll_read": "`try_read`", "Conn::poll_write": "`try_write`", "Conn::wake": "`Notify::notify_one`",
+    "SocketCloser": "a clone of a `CancellationToken`", "ConnGroup": "`TaskTracker`", "ConnGroup::count": "`TaskTracker::len`",
+    "ConnGroup::end": "`CancellationToken::cancel`", "ConnGroup::wait": "`timeout(time, TaskTracker::wait())`", "Net::serve": "`tokio::spawn` a connection",
+    "Task": "none: a task is a future", "Cause::idle": "`timeout(time, read)`", "Cause::within": "`timeout(time, write)`",
+    "Service::shutdown": "`CancellationToken::cancel`, then `TaskTracker::wait` under `timeout`", "Service::stop": "`Runtime::shutdown_background`",
+    "ServiceCloser": "a clone of the `CancellationToken`", "ServiceCloser::shutdown": "`CancellationToken::cancel`",
+    "Service::wait": "`TaskTracker::wait`", "GentleClose": "none: by hand, as `Conn::close_gently`", "LineTask": "a loop over `Framed` in a task",
+    "Lines": "`Framed` with `LinesCodec::new_with_max_length`", "Lines::poll": "`StreamExt::next`", "Outgoing": "`AsyncWriteExt::write_buf`",
+}
+# What each has in place of a variant.
+VARIANTS = {
+    "Cause": {"Ending": "In Go `<-ctx.Done()` in a `select`, in tokio `token.cancelled()` in a `select!`."},
+    "Heard": {
+        "TooLong": "In Go `bufio.ErrTooLong`, in tokio `LinesCodecError::MaxLineLengthExceeded`.",
+        "End": "In Go `Scan` gives `false` and `Err` `nil`, in tokio the stream ends.",
+    },
 }
 # Which time ends a call's wait.
 TIMES = {
@@ -177,19 +202,20 @@ def entry(name, item):
     if signature.startswith(("fn ", "const ")):
         lines += ["```text", *textwrap.wrap(signature, 100, subsequent_indent="    "), "```", ""]
     lines += [doc, ""]
-    rows = [("Ends its wait", TIMES.get(name)), ("Fails", fails(name, contract)), ("In Go", GO.get(name))]
+    rows = [("Ends its wait", TIMES.get(name)), ("Fails", fails(name, contract)), ("In Go", GO.get(name)), ("In tokio", TOKIO.get(name))]
     rows = [f"| {head} | {text} |" for head, text in rows if text]
     if rows:
         lines += ["| | |", "|---|---|", *rows, ""]
     if variants:
-        lines += ["| Variant | When |", "|---|---|", *(f"| `{it}` | {when} |" for it, when in variants), ""]
+        beside = VARIANTS.get(name, {})
+        lines += ["| Variant | When |", "|---|---|", *(f"| `{it}` | {f'{when} {beside.get(it, str())}'.strip()} |" for it, when in variants), ""]
     return lines
 
 
 def page():
     found = items()
     named = [it for names in SECTIONS.values() for it in names]
-    lacking = {*named, *GO, *TIMES, *FAILS} - set(found)
+    lacking = {*named, *GO, *TOKIO, *VARIANTS, *TIMES, *FAILS} - set(found)
     exported = exports()
     more = {it for it in found if it.split("::")[0] in exported} - set(named)
     if lacking or more:
