@@ -115,16 +115,14 @@ fn hears<R: Runs>(conn: &mut Conn<R>, end: End, wanted: &[u8]) -> io::Result<boo
     if end == End::Own {
         conn.close_write()?;
     }
-    let mut heard = [0; 64];
-    let mut count = 0;
-    for _ in 0..64u8 {
-        let more = conn.read(&mut heard[count..])?;
-        if more == 0 {
-            return Ok(&heard[..count] == wanted);
+    for wanted in wanted {
+        let mut heard = [0];
+        conn.read_exact(&mut heard)?;
+        if heard != [*wanted] {
+            return Ok(false);
         }
-        count = count.saturating_add(more).min(63);
     }
-    Ok(false)
+    Ok(conn.read(&mut [0])? == 0)
 }
 
 #[test]
