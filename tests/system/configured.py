@@ -42,7 +42,10 @@ ENDS = 'listen = ["unix:/a"]\ntarget = [{ at = "unix:/b" }]\n'
 TIME = "is no time (as 500ms, 30s, 5m, 2h, at most a day; or never)"
 LISTEN = "is no address to listen at (as tcp:0.0.0.0:443, tcp:[::]:443, unix:/run/x.sock)"
 ADDRESS = "is no address (as tcp:10.0.0.1:443, tcp:[::1]:443, tcp:app.internal:443, unix:/run/x.sock)"
+NETWORK = "is no network (as 10.0.0.0/8, 2001:db8::/32, 10.0.0.1)"
 NAME = 'is no name (a letter, then letters, digits and "-", all small, at most 16)'
+# Lists that let the clients of these tests in.
+LISTS = 'allow = ["127.0.0.0/8", "2001:db8::/32"]\ndeny = ["10.0.0.0/8"]\n'
 # A text as a new operator may write it, and what is said of it behind `bad config: `.
 FAULTS = (
     ("admin = /run/relay.sock\n", "line 1, column 9: no TOML: invalid value, expected a string, number, boolean, date-time, array or inline table"),
@@ -80,6 +83,12 @@ FAULTS = (
     (RULE.replace('"unix:/b"', '"unix:/b", weight = 65536'), 'rule "web": target 1: weight: 65536 is not from 0 to 65535'),
     (RULE.replace('"unix:/b"', '"unix:/b", backup = "yes"'), 'rule "web": target 1: backup: "yes" is not true or false'),
     (HEAD + 'balance = "random"\n' + ENDS, 'rule "web": balance: "random" is none of "round-robin", "least-connections", "first", "source"'),
+    (HEAD + 'allow = "10.0.0.0/8"\n' + ENDS, 'rule "web": allow: "10.0.0.0/8" is not a list of texts'),
+    (HEAD + "allow = []\n" + ENDS, 'rule "web": allow: the list is empty'),
+    (HEAD + 'allow = ["10.0.0.0/8", "10.0.0/8"]\n' + ENDS, f'rule "web": allow 2: "10.0.0/8" {NETWORK}'),
+    (HEAD + 'deny = ["10.0.0.0/33"]\n' + ENDS, f'rule "web": deny 1: "10.0.0.0/33" {NETWORK}'),
+    (HEAD + 'deny = ["app.internal"]\n' + ENDS, f'rule "web": deny 1: "app.internal" {NETWORK}'),
+    (HEAD + 'alow = ["10.0.0.0/8"]\n' + ENDS, 'rule "web": unknown key "alow"; "allow" is meant?'),
     ("#" * 1_048_577, "more than 1048576 bytes"),
 )
 # A text with what isn't carried out, and the place that is named.
@@ -90,7 +99,7 @@ UNSERVED = (
     *((HEAD + f"{key} = {value}\n" + ENDS, f'rule "web": {key}') for key, value in (
         ("connections", "5"), ("connections_per_source", "5"), ("accepts_per_source", '"5/s"'), ("keepalive", '"30s"'),
         ("user_timeout", '"30s"'), ("backlog", "5"), ("source", '"127.0.0.1"'), ("resolve", '"5s"'), ("resolve", '"never"'),
-        ("allow", '["127.0.0.1"]'), ("deny", '["127.0.0.1"]'), ("proxy_protocol", '{ to_target = "v2" }'), ("health", "{}"),
+        ("proxy_protocol", '{ to_target = "v2" }'), ("health", "{}"),
     )),
     (RULE.replace('["unix:/a"]', '["unix:/a", "unix:/c"]'), 'rule "web": listen 2'),
     (RULE.replace("unix:/a", "tcp:[::1]:80"), 'rule "web": listen 1'),
@@ -359,7 +368,7 @@ def said_in(errors):
 
 def memory(checks, folder):
     # (the file of a fault takes memory for its words too)
-    for name, text, whole in (("good", RULE, (0, "rules 1\n")), ("bad", RULE + "zone = 1\n", (1, 'bad config: rule "web": unknown key "zone"\n'))):
+    for name, text, whole in (("good", RULE + LISTS, (0, "rules 1\n")), ("bad", RULE + "zone = 1\n", (1, 'bad config: rule "web": unknown key "zone"\n'))):
         path = written(folder, text)
         for number in range(1, 2_000):
             status, printed, errors = run("check", "--config", path, env=refusing(folder, number))
@@ -377,7 +386,7 @@ def starts(checks, folder):
     port, (target, at) = free_port(), target_at(folder, "target")
     for number in range(1, 3_000):
         try:
-            with Relay(config(port, at), form="config", env=refusing(folder, number)) as relay:
+            with Relay(config(port, at, "", LISTS), form="config", env=refusing(folder, number)) as relay:
                 was_refused = reload_refused(checks, relay, port, target, number)
         except StartFault as fault:
             said, was_refused = said_in(fault.errors)

@@ -29,10 +29,11 @@ refusal_of how.Descriptors = count_behind 5
 refusal_of other = count_behind 4
 
 -- the count in `RuleCounts` of the clients that were dropped so: since as many connections stood as
--- may, of the rule or on the whole, or for want of memory
+-- may, of the rule or on the whole, or for want of memory, or since its lists didn't let them in
 abbrev pub drop_of : Ended → ℕ × ℕ → ℕ × ℕ
 drop_of how.RuleFull = count_behind 2
 drop_of how.NoMemory = count_behind 3
+drop_of how.Denied = count_behind 4
 drop_of other = count_behind 1
 
 -- how many loops count for a rule

@@ -1,4 +1,5 @@
 pub mod Acceptance
+pub mod Admission
 pub mod Books
 pub mod Clock
 pub mod Config

@@ -5,12 +5,14 @@ ghost use Rattle.std.specs.Arc.{arc_value};
 ghost use Rattle.relay_facts.specs.Counts.{counts_of_loop};
 ghost use Rattle.relay_facts.specs.Acceptance.{IsPicked, IsTargetOf, address_in, list_in, source_of};
 ghost use Rattle.relay_facts.specs.Acceptance.{targets_in};
+ghost use Rattle.relay_facts.specs.Admission.{lists_in};
 ghost use Rattle.relay_facts.specs.Targets.{IsNext, IsNoneLeft};
 
 use crate::counts::LoopCounts;
 use crate::served_rule::ServedRule;
 use crate::target_list::{Picked, Targets};
 use relay_admin::{Addr, Rule, Shown, ShownSide};
+use relay_settings::Access;
 use std::sync::Arc;
 use std::sync::atomic::{AtomicU64, AtomicUsize, Ordering};
 use target_pick::{Tried, source_number};
@@ -23,6 +25,8 @@ pub struct Acceptance {
     pub rule: Rule,
     /// Its rule's targets then; without a list the rule's own target is the only one.
     pub targets: Option<Arc<Targets>>,
+    /// Who might connect to its rule then; without lists all clients.
+    pub access: Option<Arc<Access>>,
     /// The client's address; an unnamed Unix socket has none.
     pub client: Option<Addr>,
     /// The moment, in nanoseconds of the relay's clock.
@@ -36,6 +40,7 @@ impl Acceptance {
             ≡ arc_value self.now.served) }
         ensures rule { IfSome result (λ same. same.rule ≡ self.now.rule) }
         ensures targets { IfSome result (λ same. list_in same ≡ list_in self.now) }
+        ensures access { IfSome result (λ same. lists_in same ≡ lists_in self.now) }
         ensures client { IfSome result (λ same. same.client ≡ self.now.client) }
         ensures at { IfSome result (λ same. same.at ≡ self.now.at) }
     {
@@ -44,10 +49,15 @@ impl Acceptance {
             Some(targets) => Some(Arc::try_clone(targets).ok()?),
             None => None,
         };
+        let access = match &self.access {
+            Some(access) => Some(Arc::try_clone(access).ok()?),
+            None => None,
+        };
         Some(Acceptance {
             served,
             rule: self.rule,
             targets,
+            access,
             client: self.client,
             at: self.at,
         })

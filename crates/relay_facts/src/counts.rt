@@ -173,11 +173,13 @@ impl LoopCounts {
 #[derive(Drop)]
 pub struct RuleCounts {
     /// The clients that were accepted, and of those the ones that were dropped, since as many
-    /// connections stood as may, on the whole or of the rule, or memory was refused.
+    /// connections stood as may, on the whole or of the rule, or memory was refused, or the rule's
+    /// lists didn't let them in.
     pub accepted: Counter,
     pub full: Counter,
     pub rule_full: Counter,
     pub no_memory: Counter,
+    pub denied: Counter,
     /// The rows of accepts that failed one after the other.
     pub accept_faults: Counter,
     pub(crate) by_loop: Vec<LoopCounts>,
@@ -200,6 +202,7 @@ impl RuleCounts {
             full: Counter::new(),
             rule_full: Counter::new(),
             no_memory: Counter::new(),
+            denied: Counter::new(),
             accept_faults: Counter::new(),
             by_loop,
         })
@@ -217,6 +220,7 @@ impl RuleCounts {
         match how {
             Ended::RuleFull => &self.rule_full,
             Ended::NoMemory => &self.no_memory,
+            Ended::Denied => &self.denied,
             _ => &self.full,
         }
     }

@@ -3,6 +3,7 @@
 //! them. Nothing here needs a socket.
 #![tactic(auto)]
 
+pub mod admission;
 pub mod books;
 pub mod clock;
 pub mod config;

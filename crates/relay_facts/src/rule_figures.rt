@@ -38,6 +38,7 @@ fn sums(counts: &RuleCounts) -> (u64, CarriedBytes, Refusals) {
     let mut connections = 0u64;
     let mut bytes = CarriedBytes::default();
     let mut refused = Refusals::default();
+    add(&mut refused.denied, counts.denied.get());
     add(&mut refused.full, counts.full.get());
     add(&mut refused.rule_full, counts.rule_full.get());
     add(&mut refused.no_memory, counts.no_memory.get());

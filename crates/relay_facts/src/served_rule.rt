@@ -3,6 +3,7 @@
 ghost use Rattle.std.specs.Prelude.{◌≡◌, None, IfOk, IfSome, option_map};
 ghost use Rattle.std.specs.Arc.{arc_value};
 ghost use Rattle.relay_facts.specs.Acceptance.{targets_with};
+ghost use Rattle.relay_facts.specs.Admission.{allowed_by, denied_by};
 ghost use Rattle.relay_facts.specs.Config.{SaysRule};
 ghost use Rattle.relay_facts.specs.Counts.{loops_of};
 
@@ -10,7 +11,7 @@ use crate::counts::RuleCounts;
 use crate::target_list::Targets;
 use base_types::OutOfMemory;
 use relay_admin::{Addr, Rule};
-use relay_settings::SaidRule;
+use relay_settings::{Access, SaidRule};
 use std::alloc::Global;
 use std::sync::atomic::{AtomicBool, AtomicU64, Ordering};
 use std::sync::{Arc, Mutex, Wait};
@@ -21,6 +22,8 @@ pub struct Said {
     pub rule: Rule,
     /// Its targets; without a list the rule's own target is the only one.
     pub targets: Option<Arc<Targets>>,
+    /// Who may connect to it; without lists all clients may.
+    pub access: Option<Arc<Access>>,
 }
 
 // The list of these targets, where a rule needs one: a client of a rule that is alone with its target
@@ -43,33 +46,54 @@ fn list_of(
     Ok(Some(list))
 }
 
+// Who may connect to a rule, in memory of its own, where the rule has lists.
+fn access_of(alloc: Global, said: &SaidRule) -> Result<Option<Arc<Access>>, OutOfMemory>
+    ensures allow { IfOk result (λ access.
+        allowed_by (option_map arc_value access) ≡ said.now.access.allow.items) }
+    ensures deny { IfOk result (λ access.
+        denied_by (option_map arc_value access) ≡ said.now.access.deny.items) }
+{
+    if said.has_no_lists() {
+        return Ok(None);
+    }
+    let allow = Vec::from_slice(alloc, said.access.allow.as_slice())?;
+    let deny = Vec::from_slice(alloc, said.access.deny.as_slice())?;
+    let access = Arc::new(alloc, Access { allow, deny })?;
+    Ok(Some(access))
+}
+
 impl Said {
     /// What a rule of the file says. `before` is the list of its account, if that has one.
     pub fn of(alloc: Global, said: &SaidRule, before: Option<&Targets>) -> Result<Said, OutOfMemory>
         ensures { IfOk result (SaysRule said.now) }
     {
         let targets = list_of(alloc, said, before)?;
+        let access = access_of(alloc, said)?;
         Ok(Said {
             rule: said.rule,
             targets,
+            access,
         })
     }
 
-    /// A rule whose own target is its only one.
+    /// A rule whose own target is its only one, and which lets all clients in.
     pub fn alone(rule: &Rule) -> Said
         ensures rule { result.rule ≡ rule.now }
         ensures targets { result.targets ≡ None }
+        ensures access { result.access ≡ None }
     {
         Said {
             rule: *rule,
             targets: None,
+            access: None,
         }
     }
 }
 
 /// The account of a rule, by its listening address: what the rule says now, and what was counted. It
-/// outlives the rule's listener, which is the main thread's. The rule's name, targets and idle time
-/// change with a reload; a connection goes on by what they were when it was accepted.
+/// outlives the rule's listener, which is the main thread's. The rule's name, targets, idle time and
+/// lists of clients change with a reload; a connection goes on by what they were when it was
+/// accepted.
 #[derive(Drop)]
 pub struct ServedRule {
     pub listen: Addr,
@@ -89,11 +113,19 @@ impl ServedRule {
         ensures listen { IfOk result (λ served. (arc_value served).listen ≡ said.rule.listen) }
         ensures loops { IfOk result (λ served. loops_of (arc_value served).counts ≡ loops) }
     {
-        let Said { rule, targets } = said;
+        let Said {
+            rule,
+            targets,
+            access,
+        } = said;
         let counts = RuleCounts::new(alloc, loops)?;
         let served = ServedRule {
             listen: rule.listen,
-            said: Mutex::new(Said { rule, targets }),
+            said: Mutex::new(Said {
+                rule,
+                targets,
+                access,
+            }),
             picks: AtomicU64::new(0),
             is_listening: AtomicBool::new(false),
             standing: AtomicU64::new(0),
@@ -105,7 +137,7 @@ impl ServedRule {
         }
     }
 
-    /// What the rule says now, but for its targets.
+    /// What the rule says now, but for its targets and its lists.
     pub fn rule<R: Wait>(&self, rt: &R) -> Rule {
         self.said.lock(rt).rule
     }
@@ -117,9 +149,14 @@ impl ServedRule {
             Some(targets) => Some(Arc::try_clone(targets).ok()?),
             None => None,
         };
+        let access = match &said.access {
+            Some(access) => Some(Arc::try_clone(access).ok()?),
+            None => None,
+        };
         Some(Said {
             rule: said.rule,
             targets,
+            access,
         })
     }
 

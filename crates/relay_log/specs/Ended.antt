@@ -31,6 +31,7 @@ ended_text ended.Closed = codes "closed"
 ended_text ended.Drained = codes "drained"
 ended_text (ended.Read why) = codes "read " ++ reason_text why
 ended_text (ended.Write why) = codes "write " ++ reason_text why
+ended_text ended.Denied = codes "denied"
 ended_text ended.Full = codes "full"
 ended_text ended.RuleFull = codes "rule full"
 ended_text ended.NoMemory = codes "no memory"
@@ -46,7 +47,7 @@ cause_place cause.Timeout = 2
 cause_place cause.Descriptors = 3
 
 -- the place of an end among the counts of connections that ended; one that was set up never ends as
--- full, and is no failed accept
+-- denied or full, and is no failed accept
 abbrev pub end_place : Ended → ℕ
 end_place ended.Eof = 0
 end_place ended.Idle = 1

@@ -94,7 +94,7 @@ impl Cause {
     }
 }
 
-/// How a connection ended, or what else a line tells. `Full`, `RuleFull`, `NoMemory` and
+/// How a connection ended, or what else a line tells. `Denied`, `Full`, `RuleFull`, `NoMemory` and
 /// `Descriptors` are of clients that were refused, `NoTarget` of those and of connections whose
 /// targets weren't reached later.
 #[derive(Clone, Copy, Debug, PartialEq, Eq, Drop)]
@@ -111,6 +111,8 @@ pub enum Ended {
     Read(Reason),
     /// A write failed.
     Write(Reason),
+    /// The lists of its rule don't let the client in.
+    Denied,
     /// As many connections stood as may.
     Full,
     /// As many connections of its rule stood as may.
@@ -127,14 +129,14 @@ pub enum Ended {
 
 impl Ended {
     /// Its place among the counts of connections that ended. A connection that was set up was never
-    /// refused for want of room, and is no failed accept: those would be counted as closed.
+    /// refused as it came, and is no failed accept: those would be counted as closed.
     pub fn place(self) -> usize
         ensures { result ≡ end_place self }
     {
         match self {
             Ended::Eof => 0,
             Ended::Idle => 1,
-            Ended::Closed | Ended::Full | Ended::RuleFull => 2,
+            Ended::Closed | Ended::Denied | Ended::Full | Ended::RuleFull => 2,
             Ended::NoMemory | Ended::Descriptors | Ended::Accept(_) => 2,
             Ended::Drained => 3,
             Ended::Read(_) => 4,
@@ -162,6 +164,7 @@ impl Ended {
             Ended::Drained => into.extend_from_slice(b"drained"),
             Ended::Read(why) => write_failed(into, b"read ", why),
             Ended::Write(why) => write_failed(into, b"write ", why),
+            Ended::Denied => into.extend_from_slice(b"denied"),
             Ended::Full => into.extend_from_slice(b"full"),
             Ended::RuleFull => into.extend_from_slice(b"rule full"),
             Ended::NoMemory => into.extend_from_slice(b"no memory"),

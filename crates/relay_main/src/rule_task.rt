@@ -123,11 +123,16 @@ where
         ensures client { IfSome result (λ acceptance. acceptance.client ≡ client) }
     {
         let served = Arc::try_clone(self.served).ok()?;
-        let Said { rule, targets } = served.said(&self.rt)?;
+        let Said {
+            rule,
+            targets,
+            access,
+        } = served.said(&self.rt)?;
         Some(Acceptance {
             served,
             rule,
             targets,
+            access,
             client,
             at: self.clock.now(),
         })

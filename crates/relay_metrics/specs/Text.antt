@@ -51,10 +51,11 @@ shortage_text rule refused = cause_text family.RuleRefused rule (codes "no_memor
 
 -- a rule's refused connections, for each cause
 unfoldable pub refused_text : List ℕ → Refusals → List ℕ
-refused_text rule refused = cause_text family.RuleRefused rule (codes "full") refused.full
+refused_text rule refused = cause_text family.RuleRefused rule (codes "denied") refused.denied
+    ++ (cause_text family.RuleRefused rule (codes "full") refused.full
     ++ (cause_text family.RuleRefused rule (codes "no_target") refused.no_target
     ++ (cause_text family.RuleRefused rule (codes "rule_full") refused.rule_full
-    ++ shortage_text rule refused))
+    ++ shortage_text rule refused)))
 
 -- a rule's figure for a cause with its count
 abbrev pub counted_text : Family → List ℕ → List ℕ × ℕ → List ℕ

@@ -22,6 +22,8 @@ pub struct CarriedBytes {
 /// The connections of a rule that were refused as they came.
 #[derive(Clone, Copy, Debug, Default, PartialEq, Eq, Drop)]
 pub struct Refusals {
+    /// The rule's lists didn't let the client in.
+    pub denied: u64,
     /// As many stood as may.
     pub full: u64,
     /// Its target wasn't reached.

@@ -121,6 +121,7 @@ fn write_refused<A: Allocator>(
 ) -> Result<(), OutOfMemory>
     ensures { OnOk result (into.new.items ≡ into.old.items ++ refused_text rule.now refused) }
 {
+    write_cause(into, Family::RuleRefused, rule, b"denied", refused.denied)?;
     write_cause(into, Family::RuleRefused, rule, b"full", refused.full)?;
     write_cause(
         into,

@@ -2,6 +2,7 @@
 use Rattle.std.specs.Prelude.{◌≡◌, ℕ, List, [], ◌∷◌, None, map, false}
 use Rattle.relay_admin.specs.rules.Fault.{SaysRules}
 use Rattle.relay_admin.specs.rules.Grammar.{Entry}
+use Rattle.relay_config.specs.Entries.{AccessEntry}
 use Rattle.relay_settings.specs.Meaning.{SaidEntry, SaidRuleEntry, SaysAll, SettingsEntry}
 use Rattle.target_pick.specs.declared.picking.Balance.TheVariants.{RoundRobin}
 
@@ -18,11 +19,16 @@ nothing_said = record {
   metrics = None;
 }
 
--- a rule whose own target is its only one
+-- no list has a network, so that all clients are let in
+abbrev pub no_lists : AccessEntry
+no_lists = record { allow = []; deny = [] }
+
+-- a rule whose own target is its only one, and which lets all clients in
 abbrev pub rule_alone : Entry → SaidRuleEntry
 rule_alone rule = record {
   rule = rule;
   balance = RoundRobin;
+  access = no_lists;
   targets = record { at = rule.target; weight = 1; backup = false } ∷ [];
 }
 

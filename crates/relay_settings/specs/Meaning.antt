@@ -9,6 +9,7 @@ use Rattle.relay_admin.specs.rules.Grammar.{Entry, entry_of}
 use Rattle.relay_admin.specs.declared.rules.rule.TheConstants as admin
 use Rattle.relay_config.specs.Config.{SaysConfig, SaysFault}
 use Rattle.relay_config.specs.Entries.{AccessEntry, AdminEntry, ClientsEntry, ConfigEntry, HeadEntry, LimitsEntry, LogEntry}
+use Rattle.relay_config.specs.Entries.{access_entry}
 use Rattle.relay_config.specs.Entries.{RuleEntry, ServiceEntry, SocketsEntry, TargetEntry}
 use Rattle.relay_config.specs.Fault.{item_spot, spot}
 use Rattle.relay_config.specs.Reading.{◌>>=◌, or_fault}
@@ -151,21 +152,23 @@ pub record SaidTargetEntry : Type 0 where
   pub weight : ℕ
   pub backup : Bool
 
--- a rule, and its targets
+-- a rule, its targets, and who may connect to it
 pub record SaidRuleEntry : Type 0 where
   pub rule : Entry
   pub balance : Balance
+  pub access : AccessEntry
   pub targets : List SaidTargetEntry
 
 -- what values of the program say
 abbrev pub said_target_entry : Target → SaidTargetEntry
 said_target_entry target = record { at = address_of target.at; weight = target.weight; backup = target.is_backup }
 
--- a rule, and its targets
+-- a rule, its targets, and who may connect to it
 abbrev pub said_rule_entry : SaidRule → SaidRuleEntry
 said_rule_entry said = record {
   rule = entry_of said.rule;
   balance = said.balance;
+  access = access_entry said.access;
   targets = map said_target_entry said.targets.items;
 }
 
@@ -197,13 +200,6 @@ head_alone here head = do
   sockets ← sockets_alone here head.sockets
   served_if (spot here key.Health) (is_none head.health)
 
--- all clients are let in, and none says by a header who it is
-unfoldable pub access_alone : Place → RuleEntry → Result (Unit {0}) Fault
-access_alone here rule = do
-  allow ← served_if (spot here key.Allow) (length rule.access.allow == 0)
-  deny ← served_if (spot here key.Deny) (length rule.access.deny == 0)
-  served_if (spot here key.ProxyProtocol) (is_none rule.proxy)
-
 -- the one listener of a rule
 unfoldable pub listen_in : ℕ → List config.Address → Result Address Fault
 listen_in rule [] = Err (unserved (spot (place.Rule rule) key.Listen))
@@ -233,18 +229,19 @@ abbrev pub first_address : ℕ → List SaidTargetEntry → Result Address Fault
 first_address rule [] = Err (unserved (spot (place.Rule rule) key.Target))
 first_address rule (first ∷ others) = Ok first.at
 
--- the rule with this number
+-- the rule with this number; no client says by a header who it is
 unfoldable pub rule_in : ℕ → RuleEntry → Result SaidRuleEntry Fault
 rule_in n rule = do
   idle ← time_in (spot (place.Rule n) key.Idle) rule.head.idle
   head ← head_alone (place.Rule n) rule.head
-  access ← access_alone (place.Rule n) rule
+  proxy ← served_if (spot (place.Rule n) key.ProxyProtocol) (is_none rule.proxy)
   listen ← listen_in n rule.listen
   targets ← targets_in n rule.targets
   target ← first_address n targets
   Ok (record {
     rule = record { name = rule.head.name; listen = listen; target = target; idle = idle };
     balance = rule.head.balance;
+    access = rule.access;
     targets = targets;
   })
 

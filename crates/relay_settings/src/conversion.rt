@@ -99,7 +99,10 @@ fn is_same_idle(one: Option<u32>, other: Option<u32>) -> bool
 fn says_rule(said: &SaidRule, rule: &Rule) -> bool
     ensures { IsTrue result → said_rule_entry said.now ≡ rule_alone (entry_of rule.now) }
 {
-    said.is_alone() && said.balance == Balance::RoundRobin && is_same_rule(&said.rule, rule)
+    said.is_alone()
+        && said.has_no_lists()
+        && said.balance == Balance::RoundRobin
+        && is_same_rule(&said.rule, rule)
 }
 
 fn say_rules(said: &[SaidRule], rules: &[Rule]) -> bool

@@ -1,12 +1,14 @@
 //! What a rule of a configuration says and this version carries out. Each thing that it comes to do
 //! takes a case away here.
 
-ghost use Rattle.std.specs.Prelude.{◌≡◌, ◌≤◌, ◌<◌, [], IfOk, Some, length, map};
+ghost use Rattle.std.specs.Prelude.{◌≡◌, ◌≤◌, ◌<◌, [], IfErr, IfOk, Some, length, map};
 ghost use Rattle.config_values.specs.Addr as config;
 ghost use Rattle.relay_admin.specs.rules.Addr.{address_of};
-ghost use Rattle.relay_config.specs.Entries.{clients_entry, head_entry, rule_entry, sockets_entry, target_entry};
+ghost use Rattle.relay_config.specs.Entries.{access_entry, clients_entry, head_entry, rule_entry};
+ghost use Rattle.relay_config.specs.Entries.{sockets_entry, target_entry};
 ghost use Rattle.relay_config.specs.Fault.{Answers, Reads};
-ghost use Rattle.relay_settings.specs.Meaning.{access_alone, clients_alone, each_of, first_address};
+ghost use Rattle.relay_config.specs.declared.fault.Fault.{Fault};
+ghost use Rattle.relay_settings.specs.Meaning.{clients_alone, each_of, first_address};
 ghost use Rattle.relay_settings.specs.Meaning.{head_alone, is_default_resolve, listen_in, rule_in};
 ghost use Rattle.relay_settings.specs.Meaning.{said_rule_entry, said_target_entry, sockets_alone};
 ghost use Rattle.relay_settings.specs.Meaning.{target_behind, targets_in};
@@ -16,7 +18,7 @@ use crate::address::{address_at, served_if, time_in, unserved};
 use crate::targets::{MAX_TARGETS, SaidRule, Target};
 use relay_admin::{Addr, Rule};
 use relay_config as config;
-use relay_config::{Clients, DEFAULT_RESOLVE_MS, Fault, Head, Key, Place, Sockets, Spot};
+use relay_config::{Access, Clients, DEFAULT_RESOLVE_MS, Fault, Head, Key, Place, Sockets, Spot};
 use std::alloc::Global;
 
 /// The rule with this number as a relay serves it, or its first place that isn't carried out.
@@ -27,7 +29,8 @@ pub(crate) fn rule_of(alloc: Global, number: usize, rule: &config::Rule) -> Resu
     let place = Place::Rule(number);
     let idle_ms = time_in(Spot::of(place, Key::Idle), rule.head.idle_ms)?;
     head_alone(place, &rule.head)?;
-    access_alone(place, rule)?;
+    served_if(Spot::of(place, Key::ProxyProtocol), rule.proxy.is_none())?;
+    let access = access_of(alloc, &rule.access)?;
     let listen = listen_of(number, rule.listen.as_slice())?;
     let targets = targets_of(alloc, number, rule.targets.as_slice())?;
     let target = first_address(number, targets.as_slice())?;
@@ -40,6 +43,7 @@ pub(crate) fn rule_of(alloc: Global, number: usize, rule: &config::Rule) -> Resu
             idle_ms,
         },
         balance: rule.head.balance,
+        access,
         targets,
     })
 }
@@ -96,13 +100,18 @@ fn sockets_alone(place: Place, sockets: &Sockets) -> Result<(), Fault>
     served_if(Spot::of(place, Key::Source), sockets.source.is_none())
 }
 
-#[tactic(auto, unfolding(crate::specs::Meaning::access_alone))]
-fn access_alone(place: Place, rule: &config::Rule) -> Result<(), Fault>
-    ensures { result ≡ access_alone place (rule_entry rule.now) }
+/// The same lists, in memory of their own.
+fn access_of(alloc: Global, access: &Access) -> Result<Access, Fault>
+    ensures same { IfOk result (λ found. access_entry found ≡ access_entry access.now) }
+    ensures faults { IfErr result (λ fault. fault ≡ Fault.Memory) }
 {
-    served_if(Spot::of(place, Key::Allow), rule.access.allow.is_empty())?;
-    served_if(Spot::of(place, Key::Deny), rule.access.deny.is_empty())?;
-    served_if(Spot::of(place, Key::ProxyProtocol), rule.proxy.is_none())
+    let Ok(allow) = Vec::from_slice(alloc, access.allow.as_slice()) else {
+        return Err(Fault::Memory);
+    };
+    let Ok(deny) = Vec::from_slice(alloc, access.deny.as_slice()) else {
+        return Err(Fault::Memory);
+    };
+    Ok(Access { allow, deny })
 }
 
 /// The one listener of a rule.

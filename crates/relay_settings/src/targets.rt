@@ -1,4 +1,4 @@
-//! A rule with its targets, as a file says them.
+//! A rule with its targets and its lists of clients, as a file says them.
 
 ghost use Rattle.std.specs.Prelude.{◌≡◌, ◌≤◌, ◌<◌, ◌∷◌, [], IfOk, IsTrue, Some, ◌↔◌, length};
 ghost use Rattle.relay_settings.specs.Targets.{first_at, own_target};
@@ -6,6 +6,7 @@ ghost use Rattle.target_pick.specs.declared.picking.Balance.TheVariants.{RoundRo
 
 use base_types::OutOfMemory;
 use relay_admin::{Addr, Rule};
+use relay_config::Access;
 use std::alloc::Global;
 use target_pick::Balance;
 
@@ -22,13 +23,15 @@ pub struct Target {
     pub is_backup: bool,
 }
 
-/// A rule, and its targets.
+/// A rule, its targets, and who may connect to it.
 #[derive(Drop)]
 pub struct SaidRule {
     /// Its own target is the first one.
     pub rule: Rule,
     /// By what a client's is picked.
     pub balance: Balance,
+    /// The networks whose clients are let in, and those whose aren't.
+    pub access: Access,
     /// 1 to 64, in the order of the file.
     pub targets: Vec<Target>,
     ghost some: { 0 < length targets.items },
@@ -48,10 +51,13 @@ fn own_target(rule: &Rule) -> Target
 }
 
 impl SaidRule {
-    /// A rule whose own target is its only one, as a rules file says it.
+    /// A rule whose own target is its only one, and which lets all clients in, as a rules file says
+    /// it.
     pub fn alone(alloc: Global, rule: Rule) -> Result<SaidRule, OutOfMemory>
         ensures rule { IfOk result (λ said. said.rule ≡ rule) }
         ensures balance { IfOk result (λ said. said.balance ≡ RoundRobin) }
+        ensures allow { IfOk result (λ said. said.access.allow.items ≡ []) }
+        ensures deny { IfOk result (λ said. said.access.deny.items ≡ []) }
         ensures targets { IfOk result (λ said. said.targets.items ≡ own_target rule ∷ []) }
     {
         let mut targets = Vec::new(alloc);
@@ -59,6 +65,10 @@ impl SaidRule {
         Ok(SaidRule {
             rule,
             balance: Balance::RoundRobin,
+            access: Access {
+                allow: Vec::new(alloc),
+                deny: Vec::new(alloc),
+            },
             targets,
         })
     }
@@ -71,5 +81,13 @@ impl SaidRule {
             [only] => only.weight == 1 && !only.is_backup,
             _ => false,
         }
+    }
+
+    /// Whether its lists have no network, so that it lets all clients in.
+    pub fn has_no_lists(&self) -> bool
+        ensures { IsTrue result
+            ↔ (self.now.access.allow.items ≡ []) × (self.now.access.deny.items ≡ []) }
+    {
+        self.access.allow.is_empty() && self.access.deny.is_empty()
     }
 }

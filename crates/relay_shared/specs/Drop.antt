@@ -1,10 +1,12 @@
 -- Why a client is dropped as it is accepted.
 use Rattle.std.specs.Prelude.{⊤}
 use Rattle.relay_log.specs.declared.ended.Ended.{Ended}
-use Rattle.relay_log.specs.declared.ended.Ended.TheVariants.{Full, RuleFull, NoMemory}
+use Rattle.relay_log.specs.declared.ended.Ended.TheVariants.{Denied, Full, RuleFull, NoMemory}
 
--- as many connections stand as may, on the whole or of its rule, or memory was refused
+-- the lists of its rule don't let it in, as many connections stand as may, on the whole or of its
+-- rule, or memory was refused
 abbrev pub IsDrop : Ended → Type 0
+IsDrop Denied = ⊤
 IsDrop Full = ⊤
 IsDrop RuleFull = ⊤
 IsDrop NoMemory = ⊤

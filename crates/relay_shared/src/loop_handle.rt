@@ -5,7 +5,7 @@ ghost use Rattle.std.specs.Prelude.{◌≡◌, IfErr, IfOk};
 use crate::inbox::{Accepted, Counted, Inbox, Woken};
 use crate::requests::Request;
 use readiness::{LoopDriver, LoopRemote, Sock};
-use relay_facts::connection_facts::Acceptance;
+use relay_facts::admission::Admitted;
 use relay_facts::counts::Counter;
 use relay_facts::totals::{PublishedTotals, Totals};
 use std::alloc::{AllocError, Global};
@@ -47,9 +47,10 @@ impl LoopHandle {
         self.connections.load(Ordering::SeqCst)
     }
 
-    /// Delivers an accepted socket, and wakes the loop. Where there is no memory for it, it is
-    /// dropped.
-    pub fn deliver<R: Wait>(&self, rt: &R, sock: Sock, acceptance: Acceptance) -> Option<Woken> {
+    /// Delivers an accepted socket, whose client was let in, and wakes the loop. Where there is no
+    /// memory for it, it is dropped.
+    pub fn deliver<R: Wait>(&self, rt: &R, sock: Sock, admitted: Admitted) -> Option<Woken> {
+        let Admitted { acceptance } = admitted;
         let counted = Counted::new(&self.connections, &acceptance.served)?;
         let accepted = Accepted {
             sock,

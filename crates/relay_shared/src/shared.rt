@@ -3,10 +3,12 @@
 //! Locks are held for a few steps, and taken in this order: the rules', the index's, a rule's or a
 //! cell's, a remote's. Those of the inboxes and of the slots are held alone.
 
-ghost use Rattle.std.specs.Prelude.{◌≡◌, ◌⊎◌, ◌<◌, ◌≤◌, min, length};
+ghost use Rattle.std.specs.Prelude.{◌≡◌, ◌↔◌, ◌⊎◌, ◌<◌, ◌≤◌, Err, min, length};
 ghost use Rattle.std.specs.Prelude.{IfErr, IfOk, OnOk, IfSome, IfNone, OnSome};
 ghost use Rattle.std.specs.Arc.{arc_value};
 ghost use Rattle.relay_admin.specs.declared.serve_fault.ServeFault.{ServeFault};
+ghost use Rattle.relay_facts.specs.Admission.{IsLetIn};
+ghost use Rattle.relay_log.specs.declared.ended.Ended.{Ended};
 ghost use Rattle.relay_shared.specs.Drop.{IsDrop};
 ghost use Rattle.relay_shared.specs.Placing.{IsFewest, LacksLoops, sum_of};
 
@@ -140,8 +142,8 @@ impl Shared {
     }
 
     /// Delivers a socket that was accepted just now to the loop with the fewest connections. One
-    /// beyond the most pairs, of its rule or of all, or for which memory is refused, is dropped. The
-    /// main thread alone delivers.
+    /// that its rule's lists don't let in, beyond the most pairs, of its rule or of all, or for which
+    /// memory is refused, is dropped. The main thread alone delivers.
     pub fn deliver<R: Wait + Clock>(&self, rt: &R, sock: Sock, acceptance: Acceptance) {
         acceptance.served.note_accept();
         let Some(told) = acceptance.try_clone() else {
@@ -153,7 +155,7 @@ impl Shared {
         }
     }
 
-    // The same, or why the socket is dropped.
+    // The same, or why the socket is dropped. Of a client that isn't let in nothing else is asked.
     fn try_deliver<R: Wait>(
         &self,
         rt: &R,
@@ -161,15 +163,23 @@ impl Shared {
         acceptance: Acceptance,
     ) -> Result<Woken, Ended>
         ensures why { IfErr result IsDrop }
+        ensures let_in { IfOk result (λ _. IsLetIn acceptance) }
+        ensures denied { result ≡ Err Ended.Denied ↔ (IsLetIn acceptance → ⊥) }
     {
-        if self.safeguards.is_at_limit(acceptance.served.standing()) {
+        let Ok(admitted) = acceptance.admitted() else {
+            return Err(Ended::Denied);
+        };
+        if self
+            .safeguards
+            .is_at_limit(admitted.acceptance.served.standing())
+        {
             return Err(Ended::RuleFull);
         }
         let counts = self.counts();
         let Some(handle) = self.fewest(counts.as_slice()) else {
             return Err(Ended::Full);
         };
-        match handle.deliver(rt, sock, acceptance) {
+        match handle.deliver(rt, sock, admitted) {
             Some(woken) => Ok(woken),
             None => Err(Ended::NoMemory),
         }

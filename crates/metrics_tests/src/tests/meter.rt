@@ -18,6 +18,7 @@ fn web() -> Option<RuleFigures> {
             down: u64::MAX,
         },
         refused: Refusals {
+            denied: 4,
             full: 5,
             no_target: 6,
             rule_full: 7,

@@ -54,11 +54,13 @@ pollrelay_rule_bytes_total{rule=\"db-0123456789abc\",way=\"up\"} 0\n\
 pollrelay_rule_bytes_total{rule=\"db-0123456789abc\",way=\"down\"} 0\n\
 # HELP pollrelay_rule_refused_total Connections that were refused as they came, by cause.\n\
 # TYPE pollrelay_rule_refused_total counter\n\
+pollrelay_rule_refused_total{rule=\"web\",cause=\"denied\"} 4\n\
 pollrelay_rule_refused_total{rule=\"web\",cause=\"full\"} 5\n\
 pollrelay_rule_refused_total{rule=\"web\",cause=\"no_target\"} 6\n\
 pollrelay_rule_refused_total{rule=\"web\",cause=\"rule_full\"} 7\n\
 pollrelay_rule_refused_total{rule=\"web\",cause=\"no_memory\"} 8\n\
 pollrelay_rule_refused_total{rule=\"web\",cause=\"descriptors\"} 9\n\
+pollrelay_rule_refused_total{rule=\"db-0123456789abc\",cause=\"denied\"} 0\n\
 pollrelay_rule_refused_total{rule=\"db-0123456789abc\",cause=\"full\"} 0\n\
 pollrelay_rule_refused_total{rule=\"db-0123456789abc\",cause=\"no_target\"} 0\n\
 pollrelay_rule_refused_total{rule=\"db-0123456789abc\",cause=\"rule_full\"} 0\n\

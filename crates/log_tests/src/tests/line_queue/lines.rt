@@ -66,6 +66,7 @@ const ENDS: &[(Ended, &str)] = &[
     (Ended::Write(Reason::BrokenPipe), "write broken-pipe\n"),
     (Ended::Write(Reason::Refused), "write refused\n"),
     (Ended::Write(Reason::Other), "write other\n"),
+    (Ended::Denied, "denied\n"),
     (Ended::Full, "full\n"),
     (Ended::RuleFull, "rule full\n"),
     (Ended::NoMemory, "no memory\n"),

@@ -1,0 +1,67 @@
+//! Which clients the lists of a rule let in.
+
+ghost use Rattle.std.specs.Prelude.{◌≡◌, ◌↔◌, IsTrue, IfOk, IfErr};
+ghost use Rattle.relay_facts.specs.Admission.{AdmitBytes, IsLetIn, LetIn};
+
+use crate::connection_facts::Acceptance;
+use client_nets::admits;
+use relay_admin::Addr;
+use relay_settings::Access;
+use std::net::{IpAddr, Ipv4Addr};
+
+// Whether these lists admit the IPv4 address with these bytes.
+fn admit_bytes(access: &Access, bytes: [u8; 4]) -> bool
+    ensures { IsTrue result
+        ↔ AdmitBytes access.now.allow.items access.now.deny.items bytes }
+{
+    let address = Ipv4Addr::from_octets(bytes);
+    admits(
+        access.allow.as_slice(),
+        access.deny.as_slice(),
+        IpAddr::V4(address),
+    )
+}
+
+// Whether these lists let a client in.
+fn let_in(access: &Access, client: &Option<Addr>) -> bool
+    ensures { IsTrue result
+        ↔ LetIn access.now.allow.items access.now.deny.items client.now }
+{
+    match client {
+        Some(Addr::Tcp(bytes, _)) => admit_bytes(access, *bytes),
+        _ => true,
+    }
+}
+
+impl Acceptance {
+    // Whether the lists of its rule let the client in.
+    fn is_let_in(&self) -> bool
+        ensures { IsTrue result ↔ IsLetIn self.now }
+    {
+        match &self.access {
+            Some(access) => let_in(access, &self.client),
+            None => true,
+        }
+    }
+
+    /// The client, where the lists of its rule let it in; else it comes back.
+    pub fn admitted(self) -> Result<Admitted, Acceptance>
+        ensures admitted { IfOk result (λ admitted. admitted.acceptance ≡ self) }
+        ensures let_in { IfOk result (λ _. IsLetIn self) }
+        ensures same { IfErr result (λ back. back ≡ self) }
+        ensures denied { IfErr result (λ _. IsLetIn self → ⊥) }
+    {
+        if self.is_let_in() {
+            Ok(Admitted { acceptance: self })
+        } else {
+            Err(self)
+        }
+    }
+}
+
+/// A client that the lists of its rule let in. The lists that were asked are those of its accept.
+#[derive(Drop)]
+pub struct Admitted {
+    pub acceptance: Acceptance,
+    ghost let_in: { ∥ IsLetIn acceptance ∥₁ },
+}
