@@ -17,14 +17,14 @@ reloads     a reload changes the list; connections go on, and are counted on whe
 """
 import socket
 import sys
-import threading
 import time
 
 sys.path.insert(1, f"{sys.path[0]}/..")
 from lib.black_hole import BlackHole
+from lib.counting_target import CountingTarget
 from lib.log_text import logged
 from lib.relay import Relay
-from lib.sockets import free_port, listener, some_address, tcp_rows, unread_bytes
+from lib.sockets import free_port, some_address, tcp_rows, unread_bytes
 from lib.stages import run_script
 from lib.waiting import wait_until
 
@@ -32,35 +32,7 @@ SOON = 10
 BYTES = 30_000
 
 
-class Target:
-    """A target that says its name, a letter, to each who connects, and then sends back what comes."""
-
-    def __init__(self, name):
-        self.name, self.taken = name.encode(), 0
-        self.sock, self.address = listener()
-        self.sock.settimeout(None)
-        threading.Thread(target=self.serve, daemon=True).start()
-
-    def serve(self):
-        while True:
-            try:
-                conn = self.sock.accept()[0]
-            except OSError:
-                return
-            self.taken += 1
-            threading.Thread(target=self.echo, args=(conn,), daemon=True).start()
-
-    def echo(self, conn):
-        with conn:
-            try:
-                conn.sendall(self.name)
-                while data := conn.recv(65_536):
-                    conn.sendall(data)
-            except OSError:
-                pass
-
-
-A, B, C = (Target(name) for name in "ABC")
+A, B, C = (CountingTarget(name) for name in "ABC")
 
 
 def table(target):
@@ -180,7 +152,7 @@ def refused(checks, folder):
 
 
 def late(checks, folder):
-    fresh = Target("F")
+    fresh = CountingTarget("F")
     with BlackHole() as hole, Several((hole, fresh), "first", "2s") as it:
         began = time.monotonic()
         client = it.connect(says=bytes(BYTES))

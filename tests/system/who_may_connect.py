@@ -18,14 +18,14 @@ import json
 import random
 import socket
 import sys
-import threading
 import time
 
 sys.path.insert(1, f"{sys.path[0]}/..")
+from lib.counting_target import CountingTarget
 from lib.log_text import logged
 from lib.metrics import scrape
 from lib.relay import Relay
-from lib.sockets import free_port, listener, some_address
+from lib.sockets import free_port, some_address
 from lib.stages import run_script
 from lib.talk import has_ended
 from lib.waiting import wait_until
@@ -36,32 +36,7 @@ LISTS, CLIENTS = 30, 8
 MOST = 256
 
 
-class Target:
-    """A target that sends back what comes, and counts who connected."""
-
-    def __init__(self):
-        self.taken = 0
-        self.sock, self.address = listener()
-        self.sock.settimeout(None)
-        threading.Thread(target=self.serve, daemon=True).start()
-
-    def serve(self):
-        while True:
-            try:
-                conn = self.sock.accept()[0]
-            except OSError:
-                return
-            self.taken += 1
-            threading.Thread(target=echo, args=(conn,), daemon=True).start()
-
-
-def echo(conn):
-    with conn, contextlib.suppress(OSError):
-        while data := conn.recv(65_536):
-            conn.sendall(data)
-
-
-TARGET = Target()
+TARGET = CountingTarget()
 
 
 def said(key, networks):
