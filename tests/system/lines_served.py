@@ -15,6 +15,7 @@ import signal
 import socket
 import sys
 import threading
+import time
 
 sys.path.insert(1, f"{sys.path[0]}/..")
 from lib.example_server import LONG_MS, SHORT_MS, Server, bad_words, path_of
@@ -61,6 +62,10 @@ def each_end(checks, server):
         sock = server.client()
         heard = says(sock, said) and read_to_end(sock)
         checks.expect(f"lines: {name}", wanted, heard)
+    sock = server.client()
+    checks.holds("lines: who leaves hears the end", says(sock, b"QUIT\n") and hears(sock, b"BYE\n") and has_ended(sock), "it doesn't")
+    taken = [says(sock, b"more") and not time.sleep(0.001) for _ in range(FEW)]
+    checks.expect("lines: and is heard to its own end", [True] * FEW, taken)
     for name, said, wanted in (("a half-close", b"COUNT\nGET x\n", b"COUNT 0\nNONE\n"), ("a line without its end", b"COUNT\nQUIT", b"COUNT 0\n")):
         sock = server.client()
         says(sock, said)

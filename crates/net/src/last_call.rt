@@ -1,5 +1,5 @@
 //! The last call at a listener, as its service is ended: who waits there is taken in, and then it is
-//! closed. A listener that were closed at once would have the system reset them.
+//! closed. Where a listener is closed at once, the system resets them.
 
 ghost use Rattle.std.specs.Prelude.{◌≡◌, is_some};
 ghost use Rattle.net.specs.LastCall.{called_id, was_called};
