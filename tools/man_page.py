@@ -22,6 +22,8 @@ WIDTH = 78
 # How wide a line that is set off may be beside its indent, and how one begins that may be broken.
 LITERAL_WIDTH = 66
 COMMAND = re.compile(r"(?:pollrelay|python3|sh|install|docker|systemctl|\[) ")
+# A word of such a line, or an option with its value.
+WORDS = re.compile(r"--?[a-z][\w-]* (?:[^-\s&|]\S*|-(?= |$))|\S+")
 # What keeps a word whole.
 WHOLE = "\\%"
 # A space at which no line is broken: in the guide's words while they are put into lines, and in the man page.
@@ -113,13 +115,18 @@ def listed(kind, lines):
 
 
 def continued(line):
-    """A command in lines that are narrow enough, each but the last with a backslash at its end."""
+    """A command in lines that are narrow enough, each but the last with a backslash at its end. An option stays beside its value, and
+    where one line is too narrow for two commands, each begins one."""
+    if len(line) <= LITERAL_WIDTH:
+        return [line]
     made = [""]
-    for word in line.split(" "):
-        if made[-1] and len(made[-1]) + len(word) + 3 > LITERAL_WIDTH:
-            made[-1] += " \\"
-            made.append("   ")
-        made[-1] += f" {word}" if made[-1] else word
+    for at, command in enumerate(re.split(r"(?<= &&) ", line)):
+        for number, word in enumerate(WORDS.findall(command)):
+            begins = at > 0 and number == 0
+            if made[-1] and (begins or len(made[-1]) + len(word) + 3 > LITERAL_WIDTH):
+                made[-1] += " \\"
+                made.append("   ")
+            made[-1] += f" {word}" if made[-1] else word
     return made
 
 
