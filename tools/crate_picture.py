@@ -12,7 +12,7 @@ import sys
 import textwrap
 from xml.sax.saxutils import escape
 
-BOX, TALL, GAP, ROW, BEND, MARGIN, ROUNDS = 206, 80, 24, 124, 14, 20, 40
+BOX, TALL, GAP, ROW, BEND, MARGIN, ROUNDS = 218, 80, 24, 124, 14, 20, 40
 BESIDE = re.compile(r"_tests$|^bench_")
 
 

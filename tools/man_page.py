@@ -3,7 +3,7 @@
 
     python3 tools/man_page.py > man/pollrelay.1
 
-It knows the forms that the guide has: headings, paragraphs, indented commands, tables, lists, and words set off by
+It knows the forms that the guide has: headings of two depths, paragraphs, indented commands, tables, lists, and words set off by
 backquotes or stars. The first cell of a table's row becomes a tag, and each cell after the second begins with its head, unless it says by itself what it is. A
 sentence is a line, as mdoc wants it. The page's date is that of the newest entry of packaging/debian/changelog.
 """
@@ -21,7 +21,9 @@ PLAIN = {"What it does", "What it is", "What it counts"}
 WIDTH = 78
 # How wide a line that is set off may be beside its indent, and how one begins that may be broken.
 LITERAL_WIDTH = 66
-COMMAND = re.compile(r"(?:pollrelay|python3|sh|install|docker|systemctl) ")
+COMMAND = re.compile(r"(?:pollrelay|python3|sh|install|docker|systemctl|\[) ")
+# A word of such a line, or an option with its value.
+WORDS = re.compile(r"--?[a-z][\w-]* (?:[^-\s&|]\S*|-(?= |$))|\S+")
 # What keeps a word whole.
 WHOLE = "\\%"
 # A space at which no line is broken: in the guide's words while they are put into lines, and in the man page.
@@ -113,13 +115,18 @@ def listed(kind, lines):
 
 
 def continued(line):
-    """A command in lines that are narrow enough, each but the last with a backslash at its end."""
+    """A command in lines that are narrow enough, each but the last with a backslash at its end. An option stays beside its value, and
+    where one line is too narrow for two commands, each begins one."""
+    if len(line) <= LITERAL_WIDTH:
+        return [line]
     made = [""]
-    for word in line.split(" "):
-        if made[-1] and len(made[-1]) + len(word) + 3 > LITERAL_WIDTH:
-            made[-1] += " \\"
-            made.append("   ")
-        made[-1] += f" {word}" if made[-1] else word
+    for at, command in enumerate(re.split(r"(?<= &&) ", line)):
+        for number, word in enumerate(WORDS.findall(command)):
+            begins = at > 0 and number == 0
+            if made[-1] and (begins or len(made[-1]) + len(word) + 3 > LITERAL_WIDTH):
+                made[-1] += " \\"
+                made.append("   ")
+            made[-1] += f" {word}" if made[-1] else word
     return made
 
 
@@ -132,9 +139,9 @@ def literal(lines):
 
 
 def synopsis(lines):
-    """Each way to call a program, a line each."""
+    """Each way to call a program; a line that is indented further goes on with the one before."""
     made = []
-    for at, line in enumerate(lines):
+    for at, line in enumerate(re.sub(r"\n {5,}", " ", "\n".join(lines)).splitlines()):
         program, _, words = line.strip().partition(" ")
         words = re.sub(r"\[[^]]*\]", lambda it: it[0].replace(" ", UNBROKEN), words)
         made += [".br"] * (at > 0) + broken(f"\\fB{escaped(program)}\\fP {whole(escaped(words)).replace(UNBROKEN, KEPT)}")
@@ -152,6 +159,8 @@ def block(lines, section):
         return name(lines[0])
     if section == "Synopsis":
         return synopsis(lines)
+    if is_heading(lines):
+        return subsection(lines)
     if lines[0].startswith("|"):
         return table(lines)
     if lines[0].startswith("    "):
@@ -161,8 +170,20 @@ def block(lines, section):
     return running(" ".join(lines))
 
 
+def subsection(lines):
+    """A heading below a section's, alone in its block."""
+    found = re.fullmatch(r"### (\S.*)", "\n".join(lines))
+    if not found:
+        raise ValueError(f"no heading that is known: {lines[0]}")
+    return [f".Ss {inline(found[1])}"]
+
+
+def is_heading(lines):
+    return lines[0].startswith("#")
+
+
 def is_running(lines):
-    return not lines[0].startswith(("|", "    ", "- ", "1. "))
+    return not lines[0].startswith(("|", "    ", "- ", "1. ", "#"))
 
 
 def sections(text):
@@ -184,7 +205,8 @@ def page(text):
     for head, blocks in sections(text):
         made.append(f".Sh {NAMES.get(head, head.upper())}")
         for at, lines in enumerate(blocks):
-            made += [".Pp"] * (at > 0 and is_running(lines)) + block(lines, head)
+            is_first = at == 0 or is_heading(blocks[at - 1])
+            made += [".Pp"] * (is_running(lines) and not is_first) + block(lines, head)
     return "\n".join(made) + "\n"
 
 

@@ -6,7 +6,8 @@
 A line of `ctl` goes to a relay with two rules and a connection, one of `serve` starts a relay on rules of this script's own and is
 stopped, and the others are given as they stand; paths and what stands for the reader's own words are put in. A line ends with
 status 0, or with 1 where what it asks for is refused, and never as a bad command line. What a page shows below a line behind `$`,
-and of the first connection, has to come.
+and of the first connection, has to come. The rules files and configurations that pages show are good ones, with as many rules as
+they have.
 """
 import os
 import re
@@ -17,7 +18,7 @@ import tempfile
 sys.path.insert(1, f"{sys.path[0]}/..")
 from lib.checks import Checks
 from lib.pages import options, shell_lines
-from lib.pages.markdown import indented
+from lib.pages.markdown import indented, set_off
 from lib.pages.tree import Tree
 from lib.places import PROGRAM, ROOT
 from lib.relay import Relay
@@ -31,6 +32,8 @@ TRIES = 3
 PORT = re.compile(r":\d{4,5}\b")
 # What stands for the reader's own words: the ids are those of a relay with two listeners and a connection.
 PLACES = {"ID": "3", "T": "4", "MS": "60000", "NAME": "web", "LOOPS": "2", "CONNECTIONS": "9", "LOG": "-"}
+# A rule of a rules file, and the head of one of a configuration; a rule whose words stand for the reader's own is none.
+RULE, TABLE = re.compile(r"relay [a-z].*"), "[[rule]]"
 
 
 def run(words, stdin=None):
@@ -109,6 +112,30 @@ def shown(checks, tree, folder):
                 checks.expect(f"{page}:{at}: {line}", wanted, ran.stdout.splitlines())
 
 
+def rules_in(block):
+    """What a block says as a rules file or as a configuration, with the option that reads it and how many rules it has; or nothing."""
+    lines = block.splitlines()
+    if TABLE in lines:
+        return "--config", block, lines.count(TABLE)
+    rules = [it for it in lines if RULE.fullmatch(it)]
+    is_file = rules and all(it in rules or not it or it.startswith(("#", "relay ")) for it in lines)
+    return ("--rules", "\n".join(rules), len(rules)) if is_file else None
+
+
+def rules_shown(checks, tree, folder):
+    """The rules files and configurations that pages show."""
+    seen = set()
+    for page in tree.pages():
+        for line, block in set_off(tree.text(page)):
+            said = rules_in(block)
+            if said:
+                seen.add(said[0])
+                with open(f"{folder}/shown", "w", encoding="utf-8") as file:
+                    file.write(said[1])
+                checks.expect(f"{page}:{line}: a file of {said[2]} rules", (0, f"rules {said[2]}\n", ""), run(["check", said[0], f"{folder}/shown"]))
+    checks.expect("pages show files of both forms", {"--rules", "--config"}, seen)
+
+
 def first_connections(checks, tree):
     """What pages show of the first connection is what the script prints, but for the ports."""
     for page in ("README.md", "examples/README.md"):
@@ -145,6 +172,7 @@ def main():
                 else:
                     others(checks, line, words, folder)
         shown(checks, tree, folder)
+        rules_shown(checks, tree, folder)
     first_connections(checks, tree)
     return checks.end()
 

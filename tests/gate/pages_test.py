@@ -126,6 +126,8 @@ ROWS = (
     ("man", MAN, r"Take the relay out of the balancer", "Say \\\\fBdeadline 1 0\\\\fP", "isn't what tools/man_page.py makes of docs/operations.md"),
     ("man", MAN, r"(?<=Kind: gauge\.\n)Event loops\.", "Labels: | event loops.", "isn't what tools/man_page.py makes of docs/operations.md"),
     ("man", GUIDE, r"`pollrelay_loops` \| gauge \| \|", "`pollrelay_loops` | gauge |", "a row of 3 cells below 4 heads"),
+    ("man", MAN, r"\n\.Ss Several targets", r"\n### Several targets", "isn't what tools/man_page.py makes of docs/operations.md"),
+    ("man", GUIDE, r"\n### Several targets\n", r"\n#### Several targets\n", "no heading that is known: #### Several targets"),
     ("man", GUIDE, r"\n1\. Take[^\n]*\n", r"\n", "isn't what tools/man_page.py makes of docs/operations.md"),
     ("admin", "examples/balancer/two_relays.cfg", r"(#     pollrelay ctl[^\n]* finish 30000\n)(#     \(wait[^\n]*ended[^\n]*\n)", r"\2\1", "a rolling restart goes"),
     ("admin", GUIDE, r"Say `pollrelay ctl --admin PATH finish 30000`", "Say `drain 1`", "a rolling restart goes"),

@@ -15,6 +15,9 @@ none "mandoc -Tlint" "$(mandoc -Tlint -Wstyle $page 2>&1)"
 # Messages are the page's section on diagnostics.
 sed -n 's/^## //p' $guide | tr '[:lower:]' '[:upper:]' | sed 's/^MESSAGES$/DIAGNOSTICS/' >"$words_file"
 none "sections" "$(sed -n 's/^\.Sh //p' $page | diff "$words_file" -)"
+sed -n 's/^### //p' $guide >"$words_file"
+none "sections below these" "$(sed -n 's/^\.Ss //p' $page | diff "$words_file" -)"
+none "headings as they stand in the guide" "$(mandoc -Tascii $page | grep '^ *##')"
 
 # The page as running text.
 text=$(mandoc -Tascii $page | sed "s/.$(printf '\b')//g" | tr -s ' \n\t' ' ')

@@ -24,7 +24,9 @@ from lib.waiting import wait_until
 
 PAGE = f"{ROOT}/docs/from-haproxy-nginx-socat.md"
 SECTION = re.compile(r"^## (\d.*?)$(.*?)(?=^## |\Z)", re.M | re.S)
-BLOCK = re.compile(r"^```(haproxy|nginx|socat|rules|options)\n(.*?)^```$", re.M | re.S)
+BLOCK = re.compile(r"^```(haproxy|nginx|socat|rules|toml|options)\n(.*?)^```$", re.M | re.S)
+# What pollrelay reads, by the kind of its block.
+FILES = {"rules": "rules", "toml": "relay.toml"}
 SERVE = "pollrelay serve --rules rules --admin admin.sock\n"
 # Debian's nginx has the streams in a module of its own.
 NGINX = "load_module /usr/lib/nginx/modules/ngx_stream_module.so;\ndaemon off;\npid {folder}/nginx.pid;\nerror_log {folder}/errors;\nevents {{ }}\n"
@@ -41,7 +43,8 @@ class Place:
         os.chmod(f"{folder}/app.sock", 0o666)
         self.own = {
             "127.0.0.1:8080": f"127.0.0.1:{self.port}", "TCP4-LISTEN:8080": f"TCP4-LISTEN:{self.port}",
-            "127.0.0.1:8081": self.tcp.removeprefix("tcp:"), "127.0.0.1:9464": f"127.0.0.1:{free_port()}", "/run/app.sock": self.unix.removeprefix("unix:"),
+            "127.0.0.1:8081": self.tcp.removeprefix("tcp:"), **{f"127.0.0.1:{it}": target()[1].removeprefix("tcp:") for it in (8082, 8083)},
+            "127.0.0.1:9464": f"127.0.0.1:{free_port()}", "/run/app.sock": self.unix.removeprefix("unix:"),
             "/run/relay/db.sock": f"{folder}/db.sock", "/var/log/relay.log": f"{folder}/log",
         }
 
@@ -59,9 +62,9 @@ def words_of(kind, place, text, options):
     folder = place.folder
     if kind == "socat":
         return shlex.split(place.text(text))
-    with open(f"{folder}/{kind}", "w", encoding="ascii") as file:
+    with open(f"{folder}/{FILES.get(kind, kind)}", "w", encoding="ascii") as file:
         file.write((NGINX.format(folder=folder) if kind == "nginx" else "") + place.text(text))
-    if kind == "rules":
+    if kind in FILES:
         return [PROGRAM, *shlex.split(place.text(options))[1:]]
     return ["haproxy", "-db", "-f", f"{folder}/haproxy"] if kind == "haproxy" else ["nginx", "-p", folder, "-c", f"{folder}/nginx"]
 
@@ -78,7 +81,7 @@ def tries(checks, name, kind, text, options):
             begun = wait_until(lambda: is_served(place.address(text)), SECONDS)
             checks.holds(f"{name}: {kind} begins", begun, said_in(folder))
             checks.holds(f"{name}: {kind} relays a line", begun and comes_back(place.address(text)), said_in(folder))
-            if "log" in f"{text}{options if kind == 'rules' else ''}":
+            if "log" in f"{text}{options if kind in FILES else ''}":
                 logged = f"{folder}/said" if kind == "haproxy" else f"{folder}/log"
                 checks.holds(f"{name}: {kind} has a line of it", wait_until(lambda: has_a_line(logged), SECONDS), said_in(folder))
         finally:
@@ -105,7 +108,8 @@ def main():
         options = blocks.pop("options", SERVE)
         for kind, config in blocks.items():
             tries(checks, name, kind, config, options)
-    checks.holds("five tasks in four forms, of which one has a log", len(checks.passed) + len(checks.failed) == 2 * 5 * 4 + 4, len(checks.passed))
+    count = len(checks.passed) + len(checks.failed)
+    checks.holds("seven tasks, one in three forms and the others in four, of which one has a log", count == 2 * (3 + 6 * 4) + 4, count)
     return checks.end()
 
 

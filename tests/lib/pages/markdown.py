@@ -29,6 +29,14 @@ def indented(text):
             yield at, line[4:]
 
 
+def set_off(text):
+    """Each block that is set off, by four spaces or by a fence, with the line on which its text begins; without the four spaces."""
+    yield from ((line, block) for line, _, block in fences(text))
+    outside = FENCE.sub(lambda it: "\n" * it[0].count("\n"), text)
+    for it in re.finditer(r"^    .*\n(?:(?:[ \t]*\n)*    .*\n)*", outside, re.M):
+        yield outside.count("\n", 0, it.start()) + 1, re.sub(r"^    ", "", it[0], flags=re.M)
+
+
 def paragraphs(text):
     """Each stretch of lines without an empty one, with the line where it begins."""
     at = 1
