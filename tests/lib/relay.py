@@ -149,10 +149,10 @@ class Relay:
         return len(os.listdir(f"/proc/{self.process.pid}/task"))
 
     def nanoseconds(self):
-        """The processor time of each of its threads."""
+        """The processor time of each of its threads, in the order in which they began."""
         task = f"/proc/{self.process.pid}/task"
         times = []
-        for thread in os.listdir(task):
+        for thread in sorted(os.listdir(task), key=int):
             with open(f"{task}/{thread}/schedstat", encoding="ascii") as file:
                 times.append(int(file.read().split()[0]))
         return times

@@ -599,7 +599,7 @@ def spread(checks, _):
             taken.recv(1)
             pairs.append((client, taken))
         checks.expect("spread: threads", 3, relay.threads())
-        before = sorted(relay.nanoseconds())
+        before = relay.nanoseconds()
         for client, taken in pairs[-2:]:
             sending = threading.Thread(target=client.sendall, args=(bytes(STREAM),))
             sending.start()
@@ -607,7 +607,7 @@ def spread(checks, _):
             while left > 0:
                 left -= len(taken.recv(min(left, 1 << 20)))
             sending.join()
-        grown = [now - then for now, then in zip(sorted(relay.nanoseconds()), before)]
+        grown = [now - then for now, then in zip(relay.nanoseconds(), before)]
         busy = sum(one > max(BUSY_NS, sum(grown) / 8) for one in grown)
         checks.holds("spread: threads that copied", busy == 2, f"{busy} of {grown}")
         for pair in pairs:
