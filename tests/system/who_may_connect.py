@@ -210,8 +210,10 @@ def told(checks, _):
             # (its rule is full now: who isn't let in is told as that, and not as one more than may)
             checks.expect("denied of a full rule", False, made.serves("127.0.0.4"))
             checks.expect("one more", False, made.serves("127.0.0.1"))
-        wanted = [("tcp:127.0.0.2", "denied"), ("tcp:127.0.0.3", "denied"), ("tcp:127.0.0.4", "denied"), ("tcp:127.0.0.1", "rule full"), ("tcp:127.0.0.1", "eof")]
-        checks.expect("the log", wanted, made.hows(5))
+            refusals = [("tcp:127.0.0.2", "denied"), ("tcp:127.0.0.3", "denied"), ("tcp:127.0.0.4", "denied"), ("tcp:127.0.0.1", "rule full")]
+            # (another thread tells of the end of the first: it ends once these lines are there)
+            checks.expect("the log of the refusals", refusals, made.hows(4))
+        checks.expect("the log", [*refusals, ("tcp:127.0.0.1", "eof")], made.hows(5))
         line = made.lines(5)[0]
         checks.expect("its line", ("web", "-", "-", TARGET.address, "0", "0"), tuple(line[it] for it in ("rule", "client_id", "target_id", "target", "up", "down")))
         counts = {cause: count_of(figures, refused(cause)) for cause in ("denied", "full", "rule_full", "no_target")}
