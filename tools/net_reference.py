@@ -31,7 +31,7 @@ SECTIONS = {
         "ConnGroup::try_clone",
     ),
     "Many connections on a few threads": (
-        "Net::serve", "Task", "Task::begin", "Task::step", "Next", "Waits", "Cause", "Cause::idle", "Cause::within", "Conn::poll_read",
+        "Net::serve", "listen_and_serve", "Task", "Task::begin", "Task::step", "Next", "Waits", "Cause", "Cause::idle", "Cause::within", "Conn::poll_read",
         "Conn::poll_write", "Conn::wake", "Service", "Service::local_addr", "Service::shutdown", "Service::wait", "Service::stop",
         "Service::closer", "Conn::closer", "ServiceCloser", "ServiceCloser::shutdown", "ServiceCloser::try_clone", "Asked", "Asked::is_first",
         "Ended", "Ended::cut_off", "GentleClose", "GentleClose::new", "GentleClose::step",
@@ -63,7 +63,7 @@ GO = {
     "Service::wait": "none: `http.Server.Serve` returns at once, and `Shutdown` waits", "Lines::read": "`Scanner.Scan`", "Lines::line": "`Scanner.Bytes`",
     "Task": "none: a goroutine a connection", "LineTask": "none: a loop over `bufio.Scanner` in a goroutine", "Outgoing": "none: a goroutine's `Write` waits", "Cause::idle": "none: `SetReadDeadline` before each read",
     "SocketCloser::close": "`Listener.Close` and `Conn.Close`, which any goroutine may call", "ConnGroup::wait": "`sync.WaitGroup.Wait`, without a time",
-    "Net": "none: its runtime has the poller", "Net::serve": "none: a goroutine a connection", "address_of": "`net.ResolveTCPAddr`, which looks names up",
+    "Net": "none: its runtime has the poller", "Net::serve": "none: a goroutine a connection", "listen_and_serve": "`http.ListenAndServe`; without HTTP a loop over `Listener.Accept`", "address_of": "`net.ResolveTCPAddr`, which looks names up",
 }
 # What tokio 1 has in its place, with tokio-util.
 TOKIO = {
@@ -75,7 +75,7 @@ TOKIO = {
     "Conn::close": "none: its drop", "Conn::close_gently": "none: `shutdown`, and reads to the end under `timeout`",
     "Conn::peer_addr": "`TcpStream::peer_addr`", "Conn::poll_read": "`try_read`", "Conn::poll_write": "`try_write`", "Conn::wake": "`Notify::notify_one`",
     "SocketCloser": "a clone of a `CancellationToken`", "ConnGroup": "`TaskTracker`", "ConnGroup::count": "`TaskTracker::len`",
-    "ConnGroup::end": "`CancellationToken::cancel`", "ConnGroup::wait": "`timeout(time, TaskTracker::wait())`", "Net::serve": "`tokio::spawn` a connection",
+    "ConnGroup::end": "`CancellationToken::cancel`", "ConnGroup::wait": "`timeout(time, TaskTracker::wait())`", "Net::serve": "`tokio::spawn` a connection", "listen_and_serve": "none: a loop over `TcpListener::accept`",
     "Task": "none: a task is a future", "Cause::idle": "`timeout(time, read)`", "Cause::within": "`timeout(time, write)`",
     "Service::shutdown": "`CancellationToken::cancel`, then `TaskTracker::wait` under `timeout`", "Service::stop": "`Runtime::shutdown_background`",
     "ServiceCloser": "a clone of the `CancellationToken`", "ServiceCloser::shutdown": "`CancellationToken::cancel`",
@@ -97,7 +97,7 @@ TIMES = {
     "Conn::write": "the write time-out, from when the call has its direction to itself, and the deadline: the earlier",
     "Conn::poll_read": "the deadline, where it has passed; a task's own time is in `Next`", "Conn::poll_write": "the deadline, where it has passed; a task's own time is in `Next`",
     "Conn::close_write": "none", "Conn::close": "none: it waits until the calls under way have ended, which it ends",
-    "Service::wait": "none, but the time of a shutdown that was asked for", "Service::shutdown": "`within`, from the call on",
+    "listen_and_serve": "as `Service::wait`", "Service::wait": "none, but the time of a shutdown that was asked for", "Service::shutdown": "`within`, from the call on",
     "Conn::close_gently": "`within`, from the call on", "ConnGroup::wait": "`within`, from the call on", "SocketCloser::close": "none: as `Conn::close`",
     "Lines::read": "the reader's own: of a connection the read time-out and the deadline",
     "Outgoing::poll": "the deadline, where it has passed; a task's own time is in `Next`",
@@ -107,6 +107,7 @@ TIMES = {
 FAILS = {
     "Net::start": "`OutOfMemory`, or the system's error for a poller or a thread",
     "Net::serve": "`OutOfMemory`, what `Task::begin` answers, or the system's error for a thread",
+    "listen_and_serve": "as `Net::start`, `Listener::bind` and `Net::serve`",
     "Listener::bind": "`OutOfMemory`, `Other` where the net has its 4,096 sockets, or the system's error: the address is taken, isn't this machine's, or isn't allowed",
     "Listener::accept": "`OutOfMemory`, or the system's error where the poller refuses the socket",
     "Conn::connect": "`OutOfMemory`, or the system's error; `WouldBlock` where the queue at a Unix path is full",

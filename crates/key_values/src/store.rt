@@ -5,18 +5,17 @@ ghost use Rattle.std.specs.BTreeMap.{IsUnchanged};
 ghost use Rattle.key_values.specs.Store.{Does, reply_of};
 
 use crate::command::Command;
-use std::alloc::{AllocError, Global};
+use std::alloc::AllocError;
 use std::collections::BTreeMap;
 
 /// Texts by their keys.
 pub type Store = BTreeMap<String, String>;
 
-/// Carries a command out, and puts its answer behind what is to be sent, a line. Where memory is
-/// refused, nothing is done and nothing answered.
+/// Carries a command out, and puts its answer behind what is to be sent, a line. The memory is of
+/// the answer's allocator; where it is refused, nothing is done and nothing answered.
 pub fn carry_out(
     store: &mut Store,
     command: &Command<'_>,
-    alloc: Global,
     out: &mut Vec<u8>,
 ) -> Result<(), AllocError>
     ensures does { OnOk result (Does command.now store.old store.new) }
@@ -24,6 +23,7 @@ pub fn carry_out(
     ensures kept { OnErr result (IsUnchanged store.old store.new) }
     ensures unsaid { OnErr result (out.new.items ≡ out.old.items) }
 {
+    let alloc = *out.allocator();
     match *command {
         Command::Set(key, value) => {
             let (key, value) = (

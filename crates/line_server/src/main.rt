@@ -4,7 +4,7 @@
 #![tactic(auto)]
 
 use key_values::{Command, Store, carry_out};
-use net::{AfterLine, LineHandler, LineTask, Listener, Net, Runs, tcp};
+use net::{AfterLine, LineHandler, LineTask, Runs, listen_and_serve, tcp};
 use std::alloc::Global;
 use std::io::ErrorKind;
 use std::sync::{Arc, Mutex};
@@ -24,7 +24,6 @@ const LAST_MS: u64 = 10_000;
 #[derive(Drop)]
 struct Client {
     store: Arc<Mutex<Store>>,
-    alloc: Global,
 }
 
 // What follows the answer to a command.
@@ -37,9 +36,9 @@ fn after(command: &Command<'_>) -> AfterLine {
 }
 
 impl<R: Runs> LineHandler<R> for Client {
-    fn begin(&self, alloc: Global) -> io::Result<Client> {
+    fn begin(&self, _alloc: Global) -> io::Result<Client> {
         let store = Arc::try_clone(&self.store)?;
-        Ok(Client { store, alloc })
+        Ok(Client { store })
     }
 
     fn answer(&mut self, rt: &R, line: &[u8], out: &mut Vec<u8>) -> io::Result<AfterLine> {
@@ -47,7 +46,7 @@ impl<R: Runs> LineHandler<R> for Client {
             out.extend_from_slice(b"ERROR\n")?;
             return Ok(AfterLine::Listen);
         };
-        carry_out(&mut self.store.lock(rt), &command, self.alloc, out)?;
+        carry_out(&mut self.store.lock(rt), &command, out)?;
         Ok(after(&command))
     }
 
@@ -65,16 +64,14 @@ fn asked(words: &[String]) -> Option<(u16, u64)> {
 }
 
 fn main(rt: HostRuntime) -> io::Result<()> {
-    let words: Vec<String> = env::args(&rt)?.collect(rt.alloc())?;
+    let alloc = rt.alloc();
+    let words: Vec<String> = env::args(&rt)?.collect(alloc)?;
     let Some((port, idle_ms)) = asked(words.as_slice()) else {
         return Err(ErrorKind::InvalidInput.into());
     };
-    let alloc = rt.alloc();
     let store = Arc::new(alloc, Mutex::new(Store::new(alloc)))?;
     let idle = Duration::from_millis(idle_ms);
-    let task = LineTask::<Client, LINE_BYTES>::new(Client { store, alloc }, idle, alloc);
-    let net = Net::start(rt, alloc)?;
-    let listener = Listener::bind(&net, &tcp(port))?;
-    net.serve(listener, LOOPS, task)?.wait();
+    let task = LineTask::<Client, LINE_BYTES>::new(Client { store }, idle, alloc);
+    listen_and_serve(rt, alloc, &tcp(port), LOOPS, task)?;
     Ok(())
 }

@@ -17,6 +17,7 @@ pub mod Members
 pub mod Outgoing
 pub mod Over
 pub mod Polled
+pub mod ServeLoop
 pub mod Service
 pub mod Shut
 pub mod SocketCloser

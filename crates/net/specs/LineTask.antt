@@ -3,7 +3,7 @@ use Rattle.std.specs.Prelude.{◌≡◌, ◌≢◌, ◌⊎◌, ◌++◌, ℕ, Li
 use Rattle.std.specs.Prelude.{Option, Some, None, Result, Ok, Err}
 use Rattle.std.specs.declared.io.Error.{Error}
 use Rattle.std.specs.declared.time.Duration.{Duration}
-use Rattle.net.specs.Lines.{HasLooked, line_in}
+use Rattle.net.specs.Lines.{HasLooked, begun, line_in}
 use Rattle.net.specs.Task.{idle_of, within_of}
 use Rattle.net.specs.declared.line_handler.AfterLine.{AfterLine}
 use Rattle.net.specs.declared.line_handler.AfterLine.TheVariants as after
@@ -41,6 +41,14 @@ abbrev pub Answers : Type 0 → Type 1
 Answers H = H → List ℕ → List ℕ → AfterLine → H → Type 0
 
 module _ {H : Type 0} {LIMIT : ℕ} where
+  -- a client of whom nothing was heard yet, begun of a first one, whose idle time it has
+  pub record IsBegun (begins : H → H → Type 0) (first made : LineTask H LIMIT) : Type 0 where
+    pub handler : begins first.handler made.handler
+    pub idle : made.idle ≡ first.idle
+    pub none : made.out ≡ []
+    pub listens : made.stage ≡ stage.Listens
+    pub unread : begun made.lines ≡ record { held = []; ahead = [] }
+
   -- the same client, but for its answer and its stage
   pub record Keeps (old new : LineTask H LIMIT) : Type 0 where
     pub handler : new.handler ≡ old.handler

@@ -29,18 +29,26 @@ pub trait LineHandler<R: Runs>: Drop {
     /// say of it leaves it out.
     ghost answers: { Self → List ℕ → List ℕ → AfterLine → Self → Type 0 } = { λ _ _ _ _ _. Unit {0} };
 
+    /// Of this one such a one is begun. Whoever has nothing to say of it leaves it out.
+    ghost begins: { Self → Self → Type 0 } = { λ _ _. Unit {0} };
+
     /// One like this for a client who just connected. Where it is refused, the connection is closed.
-    fn begin(&self, alloc: Global) -> io::Result<Self>;
+    fn begin(&self, alloc: Global) -> io::Result<Self>
+        ensures begun { IfOk result (λ made. begins self.now made) };
 
     /// Answers a line, which stands without its line feed: all that it puts into `out` is sent
     /// before the next line is heard. An error ends the connection at once, with no answer. The
-    /// runtime is for locks that are held for short.
+    /// runtime is for locks that are held for short; where memory is wanted, `out` has an allocator.
     fn answer(&mut self, rt: &R, line: &[u8], out: &mut Vec<u8>) -> io::Result<AfterLine>
         requires empty { out.old.items ≡ [] }
         ensures answered { IfOk result (λ after.
             answers self.old line.now out.new.items after self.new) };
 
-    /// Says something to a client whose line is longer than the limit, before the connection ends.
+    /// Says something to a client whose line is longer than the limit, before the connection ends:
+    /// nothing, where a server doesn't say what.
     fn too_long(&mut self, rt: &R, out: &mut Vec<u8>) -> io::Result<()>
-        requires empty { out.old.items ≡ [] };
+        requires empty { out.old.items ≡ [] }
+    {
+        Ok(())
+    }
 }

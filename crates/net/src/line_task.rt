@@ -4,8 +4,8 @@
 ghost use Rattle.std.specs.Prelude.{◌≡◌, [], true, IfOk, IsSomeAnd};
 ghost use Rattle.net.specs.Asked.{IsAskedSomewhere};
 ghost use Rattle.net.specs.Conn.{has_task};
-ghost use Rattle.net.specs.LineTask.{IsAnswered, IsHeard, IsLeft, IsLeaving, IsRound, IsSent, Rounds, SaidBy, Steps};
-ghost use Rattle.net.specs.LineTask.{stage_after};
+ghost use Rattle.net.specs.LineTask.{IsAnswered, IsBegun, IsHeard, IsLeft, IsLeaving, IsRound, IsSent, Rounds};
+ghost use Rattle.net.specs.LineTask.{SaidBy, Steps, stage_after};
 ghost use Rattle.net.specs.Lines.{begun};
 
 use crate::asked::Asked;
@@ -196,6 +196,8 @@ impl<H, const LIMIT: usize> LineTask<H, LIMIT> {
 
 impl<R: Runs, H: LineHandler<R>, const LIMIT: usize> Task<R> for LineTask<H, LIMIT> {
     ghost steps = { λ old cause next new. Steps H.answers cause old next new };
+
+    ghost begins = { λ first made. IsBegun H.begins first made };
 
     fn begin(&self, alloc: Global) -> io::Result<LineTask<H, LIMIT>> {
         Ok(LineTask::new(self.handler.begin(alloc)?, self.idle, alloc))

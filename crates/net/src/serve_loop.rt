@@ -1,8 +1,9 @@
 //! A loop of a service: a thread that has a task for each of its connections.
 
-ghost use Rattle.std.specs.Prelude.{◌≡◌, ℕ, None};
+ghost use Rattle.std.specs.Prelude.{◌≡◌, ℕ, None, IfSome};
 ghost use Rattle.readiness.specs.EventLoop.{tasks_of};
 ghost use Rattle.readiness.specs.Tasks.{task_in};
+ghost use Rattle.net.specs.ServeLoop.{IsBegunIn};
 
 use crate::closer::ServiceCloser;
 use crate::door::{Door, Waiting};
@@ -76,9 +77,13 @@ impl<T: Task<R>, R: Runs> Host for LoopHost<T, R> {
 
 impl<T: Task<R>, R: Runs> LoopHost<T, R> {
     // Begins a task for a connection. Where anything is refused the connection is closed.
-    fn set_up(&mut self, tasks: &mut EventLoop<Served<T, R>>, sock: Sock) -> Option<()> {
+    fn set_up(&mut self, tasks: &mut EventLoop<Served<T, R>>, sock: Sock) -> Option<()>
+        ensures begun { IfSome result (λ _. IsBegunIn T.begins self.old.task (tasks_of tasks.new)) }
+    {
         let place = tasks.vacant().ok()?;
-        let task = self.task.begin(self.shared.alloc).ok()?;
+        let Ok(task) = self.task.begin(self.shared.alloc) else {
+            return None;
+        };
         let peer = sock.peer();
         let home = Home::Loop(TaskPlace {
             poller: tasks.poller(),
@@ -89,10 +94,15 @@ impl<T: Task<R>, R: Runs> LoopHost<T, R> {
         let conn = Conn::hold(&self.shared, sock, peer, &home).ok()?;
         let served = Served::new(task, conn, place)?;
         match tasks.put(served) {
-            Ok(place) => tasks.again(place.first),
-            Err(served) => self.over(served),
+            Ok(place) => {
+                tasks.again(place.first);
+                Some(())
+            }
+            Err(served) => {
+                self.over(served);
+                None
+            }
         }
-        Some(())
     }
 
     // Has the loop look again at the end of its time. Where the alarm is refused memory it looks

@@ -1,24 +1,21 @@
 //! A service: a listener whose connections are tasks of loops, many on each thread.
 
-ghost use Rattle.std.specs.Prelude.{◌≡◌, None, IfOk, OnOk, IsSomeAnd, vec_len};
+ghost use Rattle.std.specs.Prelude.{◌≡◌, None, IfOk, OnOk, IsSomeAnd, max, vec_len};
 ghost use Rattle.net.specs.Asked.{IsAskedOf};
 ghost use Rattle.net.specs.Failures.{FailsForMemory};
 ghost use Rattle.net.specs.Listener.{HasStopped, listens_at};
 ghost use Rattle.net.specs.Over.{IsOver, over_asked};
-ghost use Rattle.net.specs.Service.{serves_at, ends_of, closer_of, is_last_accept};
+ghost use Rattle.net.specs.Service.{serves_at, loops_of, ends_of, closer_of, is_last_accept};
 
 use crate::accepting::Listener;
 use crate::closer::{Ends, ServiceCloser};
 use crate::door::Door;
-use crate::errors::told;
+use crate::open_loops::{Opened, doors_of, open_loops, start_loops};
 use crate::over::{Ended, LoopEnd, LoopsEnded};
-use crate::phase::Phase;
 use crate::running::Net;
 use crate::runs::Runs;
-use crate::serve_loop::{LoopHost, run_to_end};
 use crate::task::Task;
-use readiness::{Addr, LoopDriver, RemoteAlarms};
-use std::alloc::Global;
+use readiness::Addr;
 use std::io::ErrorKind;
 use std::net::Net as Sockets;
 use std::sync::Arc;
@@ -89,84 +86,13 @@ fn accept_on<R: Runs>(rt: R, listener: Listener<R>, ends: Arc<Ends<R>>) {
     ends.no_more();
 }
 
-// What a loop is made of.
-#[derive(Drop)]
-struct Opened {
-    driver: LoopDriver,
-    door: Arc<Door>,
-}
-
-// So many loops that nobody runs yet.
-fn open_loops<R: Sockets>(rt: &R, alloc: Global, loops: usize) -> io::Result<Vec<Opened>> {
-    let mut opened = Vec::with_capacity(alloc, loops)?;
-    for _ in 0..loops {
-        let driver = told(LoopDriver::new(rt, alloc), None)?;
-        let door = Arc::new(alloc, Door::new(alloc, driver.remote()?))?;
-        opened.push(Opened { driver, door })?;
-    }
-    Ok(opened)
-}
-
-// The doors of all loops.
-fn doors_of(alloc: Global, opened: &[Opened]) -> io::Result<Vec<Arc<Door>>> {
-    let mut doors = Vec::new(alloc);
-    for one in opened {
-        doors.push(Arc::try_clone(&one.door)?)?;
-    }
-    Ok(doors)
-}
-
-// Starts a loop that begins its tasks of this one.
-fn start_loop<T, R>(
-    closer: &ServiceCloser<R>,
-    opened: Opened,
-    task: T,
-) -> io::Result<JoinHandle<LoopEnd>>
-where
-    T: Task<R> + Send + 'static,
-    R: Runs + Threads + Sockets + Send + Sync + 'static,
-{
-    let shared = &closer.ends.shared;
-    let rt = shared.rt;
-    let Opened { driver, door } = opened;
-    let host = LoopHost {
-        shared: Arc::try_clone(shared)?,
-        remote: driver.remote()?,
-        alarms: RemoteAlarms::new(rt, driver.remote()?),
-        door,
-        closer: closer.try_clone()?,
-        phase: Phase::serving(),
-        task,
-    };
-    Ok(thread::spawn(&rt, move || run_to_end(driver, host))?)
-}
-
-// Starts the loops, those that were started among them where one isn't.
-fn start_loops<T, R>(
-    started: &mut Vec<JoinHandle<LoopEnd>>,
-    closer: &ServiceCloser<R>,
-    opened: Vec<Opened>,
-    task: &T,
-) -> io::Result<()>
-where
-    T: Task<R> + Send + 'static,
-    R: Runs + Threads + Sockets + Send + Sync + 'static,
-{
-    started.reserve(opened.len())?;
-    for one in opened {
-        let own = task.begin(closer.ends.shared.alloc)?;
-        let thread = start_loop(closer, one, own)?;
-        started.push(thread)?;
-    }
-    Ok(())
-}
-
 impl<R> Service<R>
 where
     R: Runs + Threads + Sockets + Send + Sync + 'static,
 {
     fn start_accepting(&mut self) -> io::Result<()>
         ensures at { serves_at self.new ≡ serves_at self.old }
+        ensures loops { loops_of self.new ≡ loops_of self.old }
     {
         let ends = Arc::try_clone(&self.closer.ends)?;
         let listener = self.listener.try_clone()?;
@@ -187,6 +113,7 @@ where
     where
         T: Task<R> + Send + 'static,
         ensures at { IfOk result (λ service. serves_at service ≡ listens_at listener) }
+        ensures loops { IfOk result (λ service. loops_of service ≡ max loops 1) }
     {
         let (rt, alloc) = (self.shared.rt, self.shared.alloc);
         let opened = open_loops(&rt, alloc, loops.max(1))?;

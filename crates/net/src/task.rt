@@ -1,7 +1,7 @@
 //! What a task of a server is: a value that goes on with its connection whenever that may go on, and
 //! says what it waits for then. It never waits itself.
 
-ghost use Rattle.std.specs.Prelude.{◌≡◌, false};
+ghost use Rattle.std.specs.Prelude.{◌≡◌, false, IfOk};
 ghost use Rattle.net.specs.Task.{reads_of, writes_of, time_of, wait_of, turn_after, cause_of};
 ghost use Rattle.net.specs.Task.{ready_in, idle_of, within_of};
 
@@ -88,9 +88,13 @@ pub trait Task<R: Runs>: Drop {
     /// leaves it out.
     ghost steps: { Self → Cause → Next → Self → Type 0 } = { λ _ _ _ _. Unit {0} };
 
+    /// Of this one such a task is begun. Whoever has nothing to say of it leaves it out.
+    ghost begins: { Self → Self → Type 0 } = { λ _ _. Unit {0} };
+
     /// A task like this one for a connection that was just accepted. Where it is refused, the
     /// connection is closed.
-    fn begin(&self, alloc: Global) -> io::Result<Self>;
+    fn begin(&self, alloc: Global) -> io::Result<Self>
+        ensures begun { IfOk result (λ made. begins self.now made) };
 
     /// Goes on with the connection, by reads and writes that don't wait (`Conn::poll_read`,
     /// `Conn::poll_write`, `Lines::poll`), and says when it goes on next. It bounds what it does at

@@ -23,6 +23,9 @@ impl<R: Runs> LineHandler<R> for Brackets {
     // Each line counts, whatever is answered.
     ghost answers = { λ old line out after new. new.lines ≡ min (old.lines + 1) 255 };
 
+    // Who connects has said no line.
+    ghost begins = { λ first made. made.lines ≡ 0 };
+
     fn begin(&self, _alloc: Global) -> io::Result<Brackets> {
         Ok(Brackets { lines: 0 })
     }
@@ -45,6 +48,20 @@ impl<R: Runs> LineHandler<R> for Brackets {
 
     fn too_long(&mut self, _rt: &R, out: &mut Vec<u8>) -> io::Result<()> {
         Ok(out.extend_from_slice(b"long")?)
+    }
+}
+
+/// Answers nothing, and says nothing to who sends too long a line.
+#[derive(Drop)]
+struct Silent;
+
+impl<R: Runs> LineHandler<R> for Silent {
+    fn begin(&self, _alloc: Global) -> io::Result<Silent> {
+        Ok(Silent)
+    }
+
+    fn answer(&mut self, _rt: &R, _line: &[u8], _out: &mut Vec<u8>) -> io::Result<AfterLine> {
+        Ok(AfterLine::Listen)
     }
 }
 
@@ -84,16 +101,30 @@ const ROWS: &[(&str, &[u8], End, &[u8])] = &[
 ];
 
 /// A service of one loop, whose clients may be silent for so long.
-fn serves<R>(rt: R, alloc: Global, idle_ms: u64) -> io::Result<(Net<R>, Service<R>)>
+fn serves_by<R, H>(
+    rt: R,
+    alloc: Global,
+    idle_ms: u64,
+    handler: H,
+) -> io::Result<(Net<R>, Service<R>)>
 where
     R: Runs + Threads + Sockets + Files + Send + Sync + 'static,
+    H: LineHandler<R> + Send + 'static,
 {
     let net = Net::start(rt, alloc)?;
     let listener = Listener::bind(&net, &tcp(0))?;
     let idle = Duration::from_millis(idle_ms);
-    let task = LineTask::<Brackets, 8>::new(Brackets { lines: 0 }, idle, alloc);
+    let task = LineTask::<H, 8>::new(handler, idle, alloc);
     let service = net.serve(listener, 1, task)?;
     Ok((net, service))
+}
+
+/// The same by brackets.
+fn serves<R>(rt: R, alloc: Global, idle_ms: u64) -> io::Result<(Net<R>, Service<R>)>
+where
+    R: Runs + Threads + Sockets + Files + Send + Sync + 'static,
+{
+    serves_by(rt, alloc, idle_ms, Brackets { lines: 0 })
 }
 
 /// A client of the service that has said this.
@@ -136,6 +167,15 @@ fn clients_of_lines_hear_as_a_row_says(rt: HostRuntime) {
     service.stop();
     net.stop();
     holds!(rt; before.is_some() && open_files(&rt) == before, "nothing is left open");
+}
+
+#[test]
+fn who_sends_too_long_a_line_is_told_nothing_where_nothing_is_said(rt: HostRuntime) {
+    let (net, service) = serves_by(rt, rt.alloc(), 60_000, Silent).expect(&rt, "a service");
+    let mut conn = client(&net, &service, b"a\n123456789\nb\n").expect(&rt, "a client");
+    holds!(rt; hears(&mut conn, End::Theirs, b"").ok() == Some(true), "the end, and no answer");
+    service.stop();
+    net.stop();
 }
 
 #[test]

@@ -4,7 +4,7 @@
 use super::line_tasks::line_round;
 use super::tasks::{Does, task_that};
 use super::{millis, open_files};
-use net::{Addr, Conn, ConnGroup, Listener, Net, Runs, tcp};
+use net::{Addr, Conn, ConnGroup, Listener, Net, Runs, listen_and_serve, tcp};
 use std::alloc::Global;
 use std::fs::Files;
 use std::io;
@@ -84,6 +84,21 @@ where
     Ok(())
 }
 
+/// A server at an address that is taken: it is told so, and nobody is served.
+fn at_taken<R>(rt: R, alloc: Global) -> io::Result<()>
+where
+    R: Runs + Threads + Sockets + Files + Send + Sync + 'static,
+{
+    let net = Net::start(rt, alloc)?;
+    let listener = Listener::bind(&net, &tcp(0))?;
+    let addr = addr_of(&listener)?;
+    match listen_and_serve(rt, alloc, &addr, 1, task_that(Does::Echoes(0))) {
+        Err(error) if error.kind() == ErrorKind::AddrInUse => Ok(()),
+        Err(error) => Err(error),
+        Ok(_) => Err(ErrorKind::InvalidData.into()),
+    }
+}
+
 /// The files that are open. One look of two may be refused memory itself, and then sees fewer.
 fn looked(rt: &HostRuntime) -> Option<usize> {
     open_files(rt).max(open_files(rt))
@@ -123,6 +138,13 @@ fn a_refused_gentle_close_is_told_and_leaves_nothing_open(rt: HostRuntime) {
 fn a_refused_service_is_told_and_leaves_nothing_open(rt: HostRuntime) {
     let before = looked(&rt);
     holds!(rt; is_fine(served(rt, rt.alloc())), "done, or told as want of memory");
+    holds!(rt; before.is_some() && looked(&rt) == before, "nothing is left open");
+}
+
+#[test]
+fn a_refused_server_at_an_address_that_is_taken_leaves_nothing_open(rt: HostRuntime) {
+    let before = looked(&rt);
+    holds!(rt; is_fine(at_taken(rt, rt.alloc())), "taken, or told as want of memory");
     holds!(rt; before.is_some() && looked(&rt) == before, "nothing is left open");
 }
 
