@@ -100,31 +100,37 @@ const ROWS: &[(&str, &[u8], End, &[u8])] = &[
     ("a line without its end", b"a\nb", End::Own, b"1a"),
 ];
 
-/// A service of one loop, whose clients may be silent for so long.
-fn serves_by<R, H>(
-    rt: R,
-    alloc: Global,
-    idle_ms: u64,
-    handler: H,
-) -> io::Result<(Net<R>, Service<R>)>
+/// A net with a listener.
+fn listens<R>(rt: R, alloc: Global) -> io::Result<(Net<R>, Listener<R>)>
 where
     R: Runs + Threads + Sockets + Files + Send + Sync + 'static,
-    H: LineHandler<R> + Send + 'static,
 {
     let net = Net::start(rt, alloc)?;
     let listener = Listener::bind(&net, &tcp(0))?;
-    let idle = Duration::from_millis(idle_ms);
-    let task = LineTask::<H, 8>::new(handler, idle, alloc);
-    let service = net.serve(listener, 1, task)?;
-    Ok((net, service))
+    Ok((net, listener))
 }
 
-/// The same by brackets.
+/// A service of one loop by brackets, whose clients may say nothing for so long.
 fn serves<R>(rt: R, alloc: Global, idle_ms: u64) -> io::Result<(Net<R>, Service<R>)>
 where
     R: Runs + Threads + Sockets + Files + Send + Sync + 'static,
 {
-    serves_by(rt, alloc, idle_ms, Brackets { lines: 0 })
+    let (net, listener) = listens(rt, alloc)?;
+    let idle = Duration::from_millis(idle_ms);
+    let task = LineTask::<Brackets, 8>::new(Brackets { lines: 0 }, idle, alloc);
+    let service = net.serve(listener, 1, task)?;
+    Ok((net, service))
+}
+
+/// One that says nothing.
+fn serves_silent<R>(rt: R, alloc: Global) -> io::Result<(Net<R>, Service<R>)>
+where
+    R: Runs + Threads + Sockets + Files + Send + Sync + 'static,
+{
+    let (net, listener) = listens(rt, alloc)?;
+    let task = LineTask::<Silent, 8>::new(Silent, Duration::from_secs(60), alloc);
+    let service = net.serve(listener, 1, task)?;
+    Ok((net, service))
 }
 
 /// A client of the service that has said this.
@@ -171,7 +177,7 @@ fn clients_of_lines_hear_as_a_row_says(rt: HostRuntime) {
 
 #[test]
 fn who_sends_too_long_a_line_is_told_nothing_where_nothing_is_said(rt: HostRuntime) {
-    let (net, service) = serves_by(rt, rt.alloc(), 60_000, Silent).expect(&rt, "a service");
+    let (net, service) = serves_silent(rt, rt.alloc()).expect(&rt, "a service");
     let mut conn = client(&net, &service, b"a\n123456789\nb\n").expect(&rt, "a client");
     holds!(rt; hears(&mut conn, End::Theirs, b"").ok() == Some(true), "the end, and no answer");
     service.stop();
