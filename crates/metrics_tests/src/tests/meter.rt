@@ -26,7 +26,7 @@ fn web() -> Option<RuleFigures> {
             descriptors: 9,
         },
         ends: [20, 21, 22, 23, 24, 25, 26],
-        unreached: [30, 31, 32, 33],
+        unreached: [30, 31, 32, 33, 35],
         accept_faults: 34,
         is_listening: true,
     })

@@ -88,10 +88,12 @@ pollrelay_rule_no_target_total{rule=\"web\",cause=\"refused\"} 30\n\
 pollrelay_rule_no_target_total{rule=\"web\",cause=\"unreachable\"} 31\n\
 pollrelay_rule_no_target_total{rule=\"web\",cause=\"timeout\"} 32\n\
 pollrelay_rule_no_target_total{rule=\"web\",cause=\"descriptors\"} 33\n\
+pollrelay_rule_no_target_total{rule=\"web\",cause=\"down\"} 35\n\
 pollrelay_rule_no_target_total{rule=\"db-0123456789abc\",cause=\"refused\"} 0\n\
 pollrelay_rule_no_target_total{rule=\"db-0123456789abc\",cause=\"unreachable\"} 0\n\
 pollrelay_rule_no_target_total{rule=\"db-0123456789abc\",cause=\"timeout\"} 0\n\
 pollrelay_rule_no_target_total{rule=\"db-0123456789abc\",cause=\"descriptors\"} 0\n\
+pollrelay_rule_no_target_total{rule=\"db-0123456789abc\",cause=\"down\"} 0\n\
 # HELP pollrelay_rule_accept_faults_total Rows of accepts that failed.\n\
 # TYPE pollrelay_rule_accept_faults_total counter\n\
 pollrelay_rule_accept_faults_total{rule=\"web\"} 34\n\
