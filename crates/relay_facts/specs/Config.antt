@@ -9,7 +9,7 @@ use Rattle.relay_settings.specs.declared.asked.Source.{Source}
 use Rattle.relay_settings.specs.declared.said.Said as file
 use Rattle.relay_settings.specs.declared.settings.Settings.{Settings}
 use Rattle.relay_settings.specs.declared.targets.SaidRule.{SaidRule}
-use Rattle.relay_facts.specs.Acceptance.{targets_with}
+use Rattle.relay_facts.specs.Acceptance.{checks_with, targets_with}
 use Rattle.relay_facts.specs.Admission.{allowed_by, denied_by}
 use Rattle.relay_facts.specs.Counts.{loops_of}
 use Rattle.relay_facts.specs.Source.{FileSays}
@@ -17,12 +17,13 @@ use Rattle.relay_facts.specs.declared.config.Config.{Config}
 use Rattle.relay_facts.specs.declared.served_rule.Said.{Said}
 use Rattle.relay_facts.specs.declared.served_rule.ServedRule.{ServedRule}
 
--- what an account says is this rule, with its targets, of which one is picked as it says, and with
--- its lists of clients
+-- what an account says is this rule, with its targets, of which one is picked and which are checked
+-- as it says, and with its lists of clients
 pub record SaysRule (given : SaidRule) (said : Said) : Type 0 where
   pub rule : said.rule ≡ given.rule
   pub targets : targets_with (option_map arc_value said.targets) said.rule ≡ given.targets.items
   pub balance : IfSome said.targets (λ list. (arc_value list).balance ≡ given.balance)
+  pub checks : checks_with (option_map arc_value said.targets) ≡ given.checks
   pub allow : allowed_by (option_map arc_value said.access) ≡ given.access.allow.items
   pub deny : denied_by (option_map arc_value said.access) ≡ given.access.deny.items
 
