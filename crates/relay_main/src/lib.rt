@@ -6,6 +6,8 @@ mod accept_turns;
 mod accounts;
 mod admin_socket;
 mod binding;
+mod check_task;
+mod checks;
 mod finishing;
 mod listeners_end;
 mod listening;
