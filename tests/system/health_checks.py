@@ -176,6 +176,10 @@ class Checked:
         _, text = scrape(self.metrics)
         return next((line.rpartition(" ")[2] for line in text.splitlines() if line.startswith(start)), None)
 
+    def is_up(self, target):
+        """What the metrics say of a target; none where they have no figure of it."""
+        return self.figure(f'pollrelay_target_up{{rule="web",target="{target.address}"}}')
+
     def __enter__(self):
         return self
 
@@ -196,8 +200,10 @@ def refuses(checks, folder):
         checks.holds("refuses: after as many as pass", down.probes >= 4 or comes(lambda: down.probes >= 4), down.probes)
         checks.holds("refuses: not before", time.monotonic() - began > 0.04, "at once")
         checks.expect("refuses: clients come back to it", "AAAA", it.names(4))
+        checks.expect("refuses: the metrics of one that is up", "1", it.is_up(down))
         down.close()
         checks.holds("refuses: it is down again", it.comes_to(down, "down", "up", "down"), it.changes())
+        checks.expect("refuses: the metrics", ["0", "1"], [it.is_up(down), it.is_up(up)])
         checks.expect("refuses: it is told once", ["down", "up", "down"], it.changes())
         checks.expect("refuses: the other never changed", [], it.changes(up))
     # Behind its first check it listens, and isn't checked any more: who tries it would have it.
@@ -385,6 +391,7 @@ def reloads(checks, folder):
         target.close()
         checks.expect("reloads: a target that refuses is tried each time", "BBB", it.names(3))
         checks.expect("reloads: nothing is told", ["down", "up", "down"], it.changes(target))
+        checks.expect("reloads: nor have the metrics a figure", None, it.is_up(target))
         it.reload((second,), once)
         it.reload((target, second), once, "first")
         checks.holds("reloads: checks are back", it.comes_to(target, "down", "up", "down", "down"), it.lines())

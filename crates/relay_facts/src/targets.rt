@@ -12,9 +12,10 @@ ghost use Rattle.target_pick.specs.Tried.{was_tried};
 use crate::known_targets::{count_at, health_at};
 use crate::target_health::Change;
 use crate::target_list::{CountedTarget, NoneLeft, Picked, Targets};
-use arrayvec::ArrayVec;
+use arrayvec::{ArrayString, ArrayVec};
 use base_types::OutOfMemory;
 use relay_admin::{Addr, is_same_addr};
+use relay_metrics::TargetFigures;
 use relay_settings::{Checks, MAX_TARGETS, Target};
 use std::alloc::Global;
 use std::sync::Arc;
@@ -191,6 +192,21 @@ impl Targets {
             }
         }
         false
+    }
+
+    /// The target at this place as figures tell of it, of a rule with this name. One that isn't
+    /// checked, and one whose address stands before it, have none.
+    pub(crate) fn figures(&self, rule: ArrayString<16>, place: usize) -> Option<TargetFigures> {
+        let counted = self.all.get(place)?;
+        let health = counted.health.as_ref()?;
+        if self.stands_before(place, &counted.target.at) {
+            return None;
+        }
+        Some(TargetFigures {
+            rule,
+            target: counted.target.at.text(),
+            is_up: health.is_up(),
+        })
     }
 
     /// One connection more stands at the target of this place. Each is left once.
