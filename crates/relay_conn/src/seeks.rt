@@ -23,11 +23,7 @@ use std::time::Clock;
 
 impl<U: Ledger, D: Ledger, R: Wait + Clock + Copy> Connection<U, D, R> {
     /// Begins a connection to its next target, or says how it ends; none where it seeks no target.
-    pub fn next_trial(
-        &mut self,
-        rt: &R,
-        log: &Option<Arc<Log>>,
-    ) -> Option<Result<Trial, How>>
+    pub fn next_trial(&mut self, rt: &R, log: &Option<Arc<Log>>) -> Option<Result<Trial, How>>
     where
         R: Net,
         ensures seeks { IfNone result (IsSeeking self.old.phase → ⊥) }

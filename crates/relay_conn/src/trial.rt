@@ -98,7 +98,11 @@ fn note_failure<R: Wait + Clock>(
 fn cause_of_none(down: bool) -> Cause
     ensures { result ≡ cause_of_none down }
 {
-    if down { Cause::Down } else { Cause::Unreachable }
+    if down {
+        Cause::Down
+    } else {
+        Cause::Unreachable
+    }
 }
 
 impl NoTrial {

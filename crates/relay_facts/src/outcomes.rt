@@ -45,12 +45,7 @@ impl Acceptance {
 
 impl ConnectionFacts {
     /// Notes what came of the connect to the target that is tried.
-    pub fn note_outcome<R: Wait + Clock>(
-        &self,
-        rt: &R,
-        log: &Option<Arc<Log>>,
-        outcome: Outcome,
-    ) {
+    pub fn note_outcome<R: Wait + Clock>(&self, rt: &R, log: &Option<Arc<Log>>, outcome: Outcome) {
         self.acceptance
             .note_outcome(rt, log, self.target_place(), outcome);
     }

@@ -204,7 +204,10 @@ impl<R: Wait + Clock + Copy> MainLoop<R> {
             return Err(ServeFault::Memory);
         };
         self.checking.push(place.first)?;
-        match self.tasks.put(MainTask::Check(CheckTask::new(checked, place, now))) {
+        match self
+            .tasks
+            .put(MainTask::Check(CheckTask::new(checked, place, now)))
+        {
             Ok(_) => {
                 self.tasks.keep_time(&self.host, place.first);
                 Ok(())

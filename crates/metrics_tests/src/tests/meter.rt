@@ -48,10 +48,7 @@ fn unused() -> Option<RuleFigures> {
 }
 
 /// Targets of the first rule, and whether they are up.
-const TARGETS: &[(&str, bool)] = &[
-    ("tcp:127.0.0.1:80", true),
-    ("unix:/run/a\"b\\c", false),
-];
+const TARGETS: &[(&str, bool)] = &[("tcp:127.0.0.1:80", true), ("unix:/run/a\"b\\c", false)];
 
 fn target_of(target: &str, is_up: bool) -> Option<TargetFigures> {
     Some(TargetFigures {
