@@ -3,7 +3,7 @@
 ghost use Rattle.std.specs.Prelude.{◌≡◌, ◌+◌, ◌-◌, ◌^◌, min};
 
 use crate::counts::{Counter, RuleCounts};
-use crate::served_rule::ServedRule;
+use crate::served_rule::{Said, ServedRule};
 use base_types::OutOfMemory;
 use relay_log::ended::{CAUSES, ENDS};
 use relay_metrics::{CarriedBytes, Refusals, RuleFigures, TargetFigures};
@@ -80,11 +80,16 @@ pub fn add_target_figures<R: Wait>(
     let Some(said) = served.said(rt) else {
         return Err(OutOfMemory);
     };
-    let Some(targets) = said.targets else {
+    let Said {
+        rule,
+        targets,
+        access: _,
+    } = said;
+    let Some(targets) = targets else {
         return Ok(());
     };
     for place in 0..targets.len() {
-        if let Some(one) = targets.figures(said.rule.name, place) {
+        if let Some(one) = targets.figures(rule.name, place) {
             figures.push(one)?;
         }
     }

@@ -68,8 +68,8 @@ pub struct CheckTask {
 }
 
 // What a connection came to that isn't being made any more.
-fn outcome_of(made: &Result<(), DevKind>) -> Outcome
-    ensures { result ≡ outcome_of made.now }
+fn outcome_of(made: Result<(), DevKind>) -> Outcome
+    ensures { result ≡ outcome_of made }
 {
     match made {
         Ok(()) => Outcome::Passed,
@@ -145,7 +145,7 @@ impl CheckTask {
         if half.is_connecting() {
             return None;
         }
-        let outcome = outcome_of(&half.connected());
+        let outcome = outcome_of(half.connected());
         self.rest();
         Some(outcome)
     }
