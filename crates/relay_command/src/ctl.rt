@@ -26,6 +26,7 @@ pub fn reply_status<R: Read, W: Write>(
     reader: &mut R,
     writer: &mut W,
 ) -> Result<u8, Fault>
+    ensures known { IfOk result (λ status. (status ≡ 0) ⊎ (status ≡ 1)) }
     ensures told { IfOk result (λ status. IfSome (R.remaining reader.old) (λ reply.
         (refusal.reply_is_whole command.now reply ≡ true) × (status ≡ status_of_reply reply)
         × Appends (W.contents writer.old) (W.contents writer.new) reply)) }
@@ -50,7 +51,8 @@ pub fn reply_status<R: Read, W: Write>(
 }
 
 fn status_of(reply: &[u8]) -> u8
-    ensures { result ≡ status_of_reply reply.now }
+    ensures status { result ≡ status_of_reply reply.now }
+    ensures known { (result ≡ 0) ⊎ (result ≡ 1) }
 {
     if reply_refuses(reply) || reply_breaks_off(reply) {
         1

@@ -1,3 +1,5 @@
 pub mod Lists
 pub mod Tables
 pub mod Texts
+pub mod Nearest
+pub mod Places

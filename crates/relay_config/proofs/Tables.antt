@@ -1,10 +1,12 @@
 -- The keys of a table, and those that aren't known.
-use Rattle.std.proofs.Common.{◌≡◌, ◌∙◌, sym, ap, refl, ℕ, suc, ◌+◌, List, [], ◌∷◌, length, map, Bool, true, false, not, Some, None, String, Global, string_bytes, cond}
-use Rattle.std.specs.Prelude.{nat_lt, if◌then◌else◌}
+use Rattle.std.proofs.Common.{◌≡◌, ◌∙◌, sym, ap, refl, ℕ, zero, suc, Bor, Option, option_map, ◌+◌, List, [], ◌∷◌, length, map, Bool, true, false, not, Some, None, String, Global, string_bytes, cond}
+use Rattle.std.specs.Prelude.{nat_lt, slice_get, if◌then◌else◌}
 use Rattle.std.specs.List.{position, position_or_len, prefix_len}
 use Rattle.std.specs.Map.{keys_of}
-use Rattle.toml.specs.View.{members_view}
-use Rattle.toml.proofs.Views.{Entry}
+use Rattle.toml.specs.Data.{get_item}
+use Rattle.toml.specs.View.{items_view, members_view, view}
+use Rattle.toml.specs.declared.value.Value.{Value}
+use Rattle.toml.proofs.Views.{Entry, view_of_ref}
 use Rattle.relay_config.specs.Reading.{keys_in}
 
 keys_in-view : (es : List Entry) → keys_in (members_view es) ≡ map string_bytes (keys_of es)
@@ -33,3 +35,14 @@ position_of_key p es = sym (ap (position p) (keys_in-view es) ∙ of_map (keys_o
         ap (λ n. cond (nat_lt n (length (map string_bytes ks))) (Some n) None) (prefix_len-map string_bytes (λ k. not (p k)) ks)
         ∙ ap (λ m. cond (nat_lt (position_or_len (λ word. p (string_bytes word)) ks) m) (Some (position_or_len (λ word. p (string_bytes word)) ks)) None)
         (length-map string_bytes ks)
+
+-- the item of a list with a number
+item_seen : (vs : List Value) (i : ℕ) → option_map view (slice_get vs i) ≡ get_item i (items_view vs)
+item_seen [] zero = refl
+item_seen [] (suc i) = refl
+item_seen (v ∷ vs) zero = refl
+item_seen (v ∷ vs) (suc i) = item_seen vs i
+
+pub item_found : (found : Option (Bor Value)) (vs : List Value) (i : ℕ) → option_map (λ item. item.now) found ≡ slice_get vs i
+    → option_map (λ item. view item.now) found ≡ get_item i (items_view vs)
+item_found found vs i is = view_of_ref found ∙ ap (option_map view) is ∙ item_seen vs i

@@ -1,5 +1,5 @@
 -- The rules that a relay is asked to serve, and how large it is.
-use Rattle.std.specs.Prelude.{◌≡◌, ◌≤◌, ℕ, List, Some, IfNone, IfSome, length, option_map, slice_get}
+use Rattle.std.specs.Prelude.{◌≡◌, ◌≤◌, ℕ, List, None, Some, IfNone, IfSome, length, option_map, slice_get}
 use Rattle.std.specs.Arc.{arc_value}
 use Rattle.std.specs.declared.alloc.Global.{Global}
 use Rattle.std.specs.declared.sync.Arc.{Arc}
@@ -42,6 +42,10 @@ abbrev pub IsOfFile : Source → Config → Type 0
 IsOfFile source config = (said : file.Said) × FileSays source said
     × (config.start.file ≡ said.settings)
     × AreServed said.rules.items config.capacity.loops.count config.rules.items
+
+-- neither the words of the command line nor the file name an admin socket
+abbrev pub NamesNoAdmin : (words file : Settings) → Type 0
+NamesNoAdmin words file = (words.admin ≡ None) × (file.admin ≡ None)
 
 -- as many loops and connections as the settings say, else at most 8 loops, and 512 connections
 pub record IsCapacity (settings : Settings) (capacity : Capacity) : Type 0 where
