@@ -5,6 +5,7 @@
 
 references  references, closes and the destruction.
 locks       locks, those who wait for them, and signals.
+drains      drained words, which let nobody in.
 limits      the most references, waiters and names.
 bad         the first bad line ends a script.
 devices     an output that fails is told, and where nobody can be told it is a status.
@@ -27,6 +28,7 @@ REFERENCES = (
     ("1 incref", "held 0000000000000008 0 0 -\n"),
     ("1 incref\n1 decref\n", "held 0000000000000008 0 0 -\nkept 0000000000000000 0 0 -\n"),
     ("1 decref\n", "misuse 0000000000000000 0 0 -\n"),
+    ("0+2 incref\n", "held 0000000000000010 0 0 -\n"),
     (
         "1 close\n2 close\n1 decref\n1 destroy\n",
         "closing 0000000000000009 0 0 -\nclosed 0000000000000009 0 0 -\nlast 0000000000000001 0 0 -\n"
@@ -62,8 +64,32 @@ LOCKS = (
         "held 000000000000000a 0 0 -\nqueued 000000000800000a 0 0 -\nclosing 0000000000000013 0 0 -\n"
         "misuse 0000000000000013 0 0 -\n",
     ),
+    ("1000+1000 rsignal\n", "misuse 0000000000000000 0 0 -\n"),
+)
+DRAINS = (
+    (
+        "1 rlock\n2 rlock\n3 drain\n3 rsignal\n2 rwake\n2 rlock\n1 runlock\n5 close\n5 decref\n5 destroy\n",
+        "held 000000000000000a 0 0 -\nqueued 000000000800000a 0 0 -\ndrained 800000000000000a 0 0 -\n"
+        "signalled 800000000000000a 1 0 -\nwoken 800000000000000a 0 0 -\ndraining 800000000000000a 0 0 -\n"
+        "kept 8000000000000000 0 0 -\nclosing 8000000000000009 0 0 -\nlast 8000000000000001 0 0 -\n"
+        "done 8000000000000001 0 0 5\n",
+    ),
+    (
+        "1 rlock\n2 wlock\n3 rlock\n4 wlock\n5 drain\n5 drain\n5 wsignal\n5 wsignal\n5 rsignal\n5 drain\n",
+        "held 000000000000000a 0 0 -\nheld 0000000000000016 0 0 -\nqueued 0000000008000016 0 0 -\n"
+        "queued 0000200008000016 0 0 -\ndrained 8000000000000016 0 0 -\nmisuse 8000000000000016 0 0 -\n"
+        "signalled 8000000000000016 0 1 -\nmisuse 8000000000000016 0 1 -\nsignalled 8000000000000016 1 1 -\n"
+        "draining 8000000000000016 1 1 -\n",
+    ),
+    (
+        "1 drain\n1 wlock\n1 close\n2 drain\n2 incref\n",
+        "drained 8000000000000000 0 0 -\ndraining 8000000000000000 0 0 -\nclosing 8000000000000009 0 0 -\n"
+        "closed 8000000000000009 0 0 -\nclosed 8000000000000009 0 0 -\n",
+    ),
 )
 LIMITS = (
+    # (ten million steps, twenty seconds of an unproved program)
+    ("10000000+10000000 rsignal\n", "misuse 0000000000000000 0 0 -\n"),
     (
         "1+1048575 incref\n0 incref\n0 rlock\n0 close\n0 decref\n1 decref\n0 rlock\n2000000 rlock\n0 runlock\n0 rsignal\n"
         "2000000 rwake\n1 incref\n0 drain\n2000000 incref\n2000000 close\n",
@@ -94,6 +120,10 @@ BAD = (
     ("1 open\n", "bad line 1\n"),
     ("67108863+2 incref\n", "bad line 1\n"),
     ("10000000+10000000 rsignals\n", "bad line 1\n"),
+    ("10000000+10000000 rsignals", "bad line 1\n"),
+    ("1 incref\n\n1 decref\n", "held 0000000000000008 0 0 -\nbad line 2\n"),
+    ("x" * 26, "bad line 1\n"),
+    ("\0", "bad line 1\n"),
 )
 
 
@@ -116,6 +146,10 @@ def locks(checks, _):
     compared(checks, "locks", 0, LOCKS)
 
 
+def drains(checks, _):
+    compared(checks, "drains", 0, DRAINS)
+
+
 def limits(checks, _):
     compared(checks, "limits", 0, LIMITS)
 
@@ -129,7 +163,7 @@ def devices(checks, _):
     checks.expect("devices: neither output takes a byte", 3, trace("1 incref\n", **closed).returncode)
 
 
-STAGES = {it.__name__: it for it in (references, locks, limits, bad, devices)}
+STAGES = {it.__name__: it for it in (references, locks, drains, limits, bad, devices)}
 
 
 def main():

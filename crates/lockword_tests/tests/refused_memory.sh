@@ -1,11 +1,10 @@
 #!/bin/sh
-# Refuses each allocation of each test in turn. `LockWord::new` makes three, the room for as many as may
-# wait, or for the seats of a row, is a fourth, and only the seven tests of many words make more. Where one
-# is refused, the test `a_word_drops_its_halves_once` holds, and each test that can't have its memory gives up
-# with the allocator's error: none faults, panics or hangs. It takes three minutes.
+# Refuses each allocation of each test in turn. `LockWord::new` makes three, and only the tests of many words
+# make more. Where one is refused, the test `a_word_drops_its_halves_once` holds, and each other test that can't
+# have its memory says so: none faults, fails otherwise or hangs. It takes three minutes.
 cd "$(dirname "$0")/.." || exit 1
-allocations=4
-many='references_and_a_close_come_to_the_words_of_the_rows\|locks_queues_and_signals_come_to_the_words_of_the_rows\|a_drain_comes_to_the_words_of_the_rows\|calls_that_wait_answer_as_the_rows_say\|a_close_under_load_ends_every_waiter_in_a_hundred_rounds\|a_drain_under_load_ends_every_waiter_in_a_hundred_rounds\|nobody_misses_an_end_that_comes_as_he_parks'
+allocations=3
+many='a_close_or_a_drain_under_load_ends_a_hundred_rounds\|each_queued_waiter_ends_as_closed_or_as_draining\|nobody_misses_an_end_that_comes_as_he_parks'
 report=$(mktemp)
 trap 'rm -f "$report"' EXIT
 wrong() {
@@ -17,7 +16,7 @@ for n in $(seq $((allocations + 1))); do
     rt try --test --fail-alloc "$n" >"$report" 2>&1
     grep -q 'a_word_drops_its_halves_once \.\.\. ok$' "$report" || wrong "the halves"
     failed=$(grep -c '\.\.\. FAILED$' "$report")
-    gave_up=$(grep -c 'error: AllocError$' "$report")
+    gave_up=$(grep -c 'no memory for a word' "$report")
     [ "$failed" -eq "$gave_up" ] || wrong "a test fails in another way"
     others=$(grep '\.\.\. FAILED$' "$report" | grep -vc "$many")
     if [ "$n" -le "$allocations" ]; then

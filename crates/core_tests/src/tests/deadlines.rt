@@ -1,7 +1,5 @@
-//! Rows of calls with their answers, and memory that is refused.
+//! Rows of calls with their answers: a few for each definition.
 mod alarm_rows;
 mod call_rows;
-mod callers;
 mod poll_rows;
-mod refused_memory;
 mod timer_rows;

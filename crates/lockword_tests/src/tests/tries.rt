@@ -1,192 +1,115 @@
-//! The single tries of a row's seats, each with what the seat has then and what was answered.
+//! Tries by one thread with a seat for each holder: undisturbed none is lost, of which no clause
+//! speaks.
 
-ghost use Rattle.lockword.specs.Places.{seat_place};
+ghost use Rattle.lockword.specs.Places.{seat_place, lock_place, wait_place, owing_place};
 ghost use Rattle.lockword.specs.TransitionOutcomes.{IsSeatOf};
-ghost use Rattle.fdmutex.specs.Refusal.{IsFreedOf};
 
-use super::seats::{Answer, At, Has, LastAt, Slot};
-use super::{CounterSeat, Counters};
-use base_types::Dir;
+use super::{CounterSeat, Counters, word_of, wrong};
 use lockword::{
-    Close, Drain, Freed, Incref, LockRead, LockWrite, Signal, SignalClosing, SignalDrains,
-    UnlockRead, UnlockWrite, WakeRead, WakeWrite,
+    Freed, Incref, LockRead, LockWrite, Owing, ReadLock, ReadWait, Signal, UnlockRead, UnlockWrite,
+    WakeRead,
 };
+use lockword_core::pack;
+use std::process::Abort;
 
-fn free<'a>(word: &'a Counters, held: CounterSeat) -> Has<'a>
-    requires { IsSeatOf word.now (seat_place held) }
+/// The word is this one, to whoever looks.
+fn shows<R: Abort>(rt: &R, word: &Counters, spare: &mut CounterSeat, want: u64)
+    requires { IsSeatOf word.now (seat_place spare.old) }
+    ensures { IsSeatOf word.now (seat_place spare.new) }
 {
-    Slot::Free(At { word, held })
+    let found = pack(word.look(spare));
+    assert!(rt; found == want, "{found:x} in place of {want:x}");
 }
 
-/// What is left of what was given back.
-pub(super) fn left<'a>(word: &'a Counters, freed: Freed<u64, u64>) -> (Has<'a>, Answer)
-    requires { IsFreedOf word.now freed }
+/// Takes the read lock and gives it back.
+fn reads<R: Abort>(rt: &R, word: &Counters, seat: CounterSeat) -> CounterSeat
+    requires { IsSeatOf word.now (seat_place seat) }
+    ensures { IsSeatOf word.now (seat_place result) }
 {
-    match freed {
-        Freed::Kept(held) => (free(word, held), Answer::Kept),
-        Freed::Last(held) => (Slot::Last(LastAt { word, held }), Answer::Last),
-    }
+    let reader = want!(rt; word.try_lock_read(seat), LockRead::Held);
+    want!(rt; word.try_unlock_read(reader), UnlockRead::Free)
 }
 
-pub(super) fn incref(has: Has<'_>) -> (Has<'_>, Answer) {
-    match has {
-        Slot::Free(At { word, held }) => match word.try_incref(held) {
-            Incref::Held(held) => (Slot::Ref(At { word, held }), Answer::Held),
-            Incref::Closed(held) => (free(word, held), Answer::Closed),
-            Incref::TooMany(held, _) => (free(word, held), Answer::TooMany),
-            Incref::Lost(held) => (free(word, held), Answer::Lost),
-            Incref::Draining(held) => (free(word, held), Answer::Draining),
-        },
-        other => (other, Answer::Cannot),
-    }
+/// Takes the write lock and gives it back.
+fn writes<R: Abort>(rt: &R, word: &Counters, seat: CounterSeat) -> CounterSeat
+    requires { IsSeatOf word.now (seat_place seat) }
+    ensures { IsSeatOf word.now (seat_place result) }
+{
+    let writer = want!(rt; word.try_lock_write(seat), LockWrite::Held);
+    want!(rt; word.try_unlock_write(writer), UnlockWrite::Free)
 }
 
-pub(super) fn decref(has: Has<'_>) -> (Has<'_>, Answer) {
-    match has {
-        Slot::Ref(At { word, held }) => left(word, word.drop_ref(held)),
-        other => (other, Answer::Cannot),
+/// One seat takes and gives back a reference and each lock, again and again.
+fn rounds<R: Abort>(rt: &R, word: &Counters, seat: CounterSeat, count: u64) -> CounterSeat
+    requires { IsSeatOf word.now (seat_place seat) }
+    ensures { IsSeatOf word.now (seat_place result) }
+{
+    let mut seat = seat;
+    for _ in 0..count {
+        let held = want!(rt; word.try_incref(seat), Incref::Held);
+        let free = want!(rt; word.drop_ref(held), Freed::Kept);
+        let free = reads(rt, word, free);
+        seat = writes(rt, word, free);
     }
+    seat
 }
 
-pub(super) fn lock_read(has: Has<'_>) -> (Has<'_>, Answer) {
-    match has {
-        Slot::Free(At { word, held }) => match word.try_lock_read(held) {
-            LockRead::Held(held) => (Slot::Reads(At { word, held }), Answer::Held),
-            LockRead::Queued(held) => (Slot::WaitsToRead(At { word, held }), Answer::Queued),
-            LockRead::Closed(held) => (free(word, held), Answer::Closed),
-            LockRead::TooMany(held, _) => (free(word, held), Answer::TooMany),
-            LockRead::Lost(held) => (free(word, held), Answer::Lost),
-            LockRead::Draining(held) => (free(word, held), Answer::Draining),
-        },
-        other => (other, Answer::Cannot),
-    }
+#[test]
+fn no_refusal_without_cause(rt: HostRuntime) {
+    let (word, seat) = word_of(&rt, rt.alloc(), 1, 2);
+    let mut seat = rounds(&rt, &word, seat, 10_000);
+    shows(&rt, &word, &mut seat, 0);
 }
 
-pub(super) fn lock_write(has: Has<'_>) -> (Has<'_>, Answer) {
-    match has {
-        Slot::Free(At { word, held }) => match word.try_lock_write(held) {
-            LockWrite::Held(held) => (Slot::Writes(At { word, held }), Answer::Held),
-            LockWrite::Queued(held) => (Slot::WaitsToWrite(At { word, held }), Answer::Queued),
-            LockWrite::Closed(held) => (free(word, held), Answer::Closed),
-            LockWrite::TooMany(held, _) => (free(word, held), Answer::TooMany),
-            LockWrite::Lost(held) => (free(word, held), Answer::Lost),
-            LockWrite::Draining(held) => (free(word, held), Answer::Draining),
-        },
-        other => (other, Answer::Cannot),
-    }
+/// A reader, and another who is queued behind it.
+fn queued<R: Abort>(
+    rt: &R,
+    word: &Counters,
+    seat: CounterSeat,
+) -> (ReadLock<u64, u64>, ReadWait<u64, u64>)
+    requires { IsSeatOf word.now (seat_place seat) }
+    ensures lock { IsSeatOf word.now (lock_place result.0) }
+    ensures wait { IsSeatOf word.now (wait_place result.1) }
+{
+    let (first, second) = word.split(seat);
+    let reader = want!(rt; word.try_lock_read(first), LockRead::Held);
+    let waiting = want!(rt; word.try_lock_read(second), LockRead::Queued);
+    (reader, waiting)
 }
 
-/// Gives the lock back that the seat has.
-pub(super) fn unlock(has: Has<'_>) -> (Has<'_>, Answer) {
-    match has {
-        Slot::Reads(At { word, held }) => match word.try_unlock_read(held) {
-            UnlockRead::Free(held) => (free(word, held), Answer::Kept),
-            UnlockRead::Owes(held) => (Slot::Owes(At { word, held }), Answer::Owes),
-            UnlockRead::Last(held) => (Slot::Last(LastAt { word, held }), Answer::Last),
-            UnlockRead::Lost(held) => (Slot::Reads(At { word, held }), Answer::Lost),
-        },
-        Slot::Writes(At { word, held }) => match word.try_unlock_write(held) {
-            UnlockWrite::Free(held) => (free(word, held), Answer::Kept),
-            UnlockWrite::Owes(held) => (Slot::Owes(At { word, held }), Answer::Owes),
-            UnlockWrite::Last(held) => (Slot::Last(LastAt { word, held }), Answer::Last),
-            UnlockWrite::Lost(held) => (Slot::Writes(At { word, held }), Answer::Lost),
-        },
-        other => (other, Answer::Cannot),
-    }
+/// The reader gives its lock back and owes a signal, for which the other waits yet.
+fn owed<R: Abort>(
+    rt: &R,
+    word: &Counters,
+    reader: ReadLock<u64, u64>,
+    waiting: ReadWait<u64, u64>,
+) -> (Owing<u64, u64>, ReadWait<u64, u64>)
+    requires lock { IsSeatOf word.now (lock_place reader) }
+    requires wait { IsSeatOf word.now (wait_place waiting) }
+    ensures owing { IsSeatOf word.now (owing_place result.0) }
+    ensures wait { IsSeatOf word.now (wait_place result.1) }
+{
+    let owing = want!(rt; word.try_unlock_read(reader), UnlockRead::Owes);
+    let waiting = want!(rt; word.try_wake_read(waiting), WakeRead::NotYet);
+    (owing, waiting)
 }
 
-/// Gives the signal that is owed.
-pub(super) fn signal(has: Has<'_>) -> (Has<'_>, Answer) {
-    match has {
-        Slot::Owes(At { word, held }) => match word.try_signal(held) {
-            Signal::Signalled(held) => (free(word, held), Answer::Signalled),
-            Signal::Full(held) => (Slot::Owes(At { word, held }), Answer::Full),
-            Signal::Lost(held) => (Slot::Owes(At { word, held }), Answer::Lost),
-        },
-        other => (other, Answer::Cannot),
-    }
+/// The signal is given and taken.
+fn woken<R: Abort>(rt: &R, word: &Counters, owing: Owing<u64, u64>, waiting: ReadWait<u64, u64>)
+    requires owing { IsSeatOf word.now (owing_place owing) }
+    requires wait { IsSeatOf word.now (wait_place waiting) }
+{
+    let _seat = want!(rt; word.try_signal(owing), Signal::Signalled);
+    let _seat = want!(rt; word.try_wake_read(waiting), WakeRead::Woken);
 }
 
-/// Gives one of the signals that a closer owes in a direction.
-pub(super) fn signal_closing(has: Has<'_>, dir: Dir) -> (Has<'_>, Answer) {
-    match has {
-        Slot::Closes(At { word, held }) if held.owed(dir) > 0 => {
-            match word.try_signal_closing(held, dir) {
-                SignalClosing::Signalled(held) => {
-                    (Slot::Closes(At { word, held }), Answer::Signalled)
-                }
-                SignalClosing::Full(held) => (Slot::Closes(At { word, held }), Answer::Full),
-                SignalClosing::Lost(held) => (Slot::Closes(At { word, held }), Answer::Lost),
-            }
-        }
-        other => (other, Answer::Cannot),
-    }
-}
-
-/// Gives one of the signals that a drainer owes in a direction.
-pub(super) fn signal_drains(has: Has<'_>, dir: Dir) -> (Has<'_>, Answer) {
-    match has {
-        Slot::Drains(At { word, held }) if held.owed(dir) > 0 => {
-            match word.try_signal_drains(held, dir) {
-                SignalDrains::Signalled(held) => (free(word, held), Answer::Signalled),
-                SignalDrains::More(held) => (Slot::Drains(At { word, held }), Answer::More),
-                SignalDrains::Full(held) => (Slot::Drains(At { word, held }), Answer::Full),
-                SignalDrains::Lost(held) => (Slot::Drains(At { word, held }), Answer::Lost),
-            }
-        }
-        other => (other, Answer::Cannot),
-    }
-}
-
-/// Takes a signal, where the seat waits for one.
-pub(super) fn wake(has: Has<'_>) -> (Has<'_>, Answer) {
-    match has {
-        Slot::WaitsToRead(At { word, held }) => match word.try_wake_read(held) {
-            WakeRead::Woken(held) => (free(word, held), Answer::Woken),
-            WakeRead::NotYet(held) => (Slot::WaitsToRead(At { word, held }), Answer::NotYet),
-            WakeRead::Lost(held) => (Slot::WaitsToRead(At { word, held }), Answer::Lost),
-        },
-        Slot::WaitsToWrite(At { word, held }) => match word.try_wake_write(held) {
-            WakeWrite::Woken(held) => (free(word, held), Answer::Woken),
-            WakeWrite::NotYet(held) => (Slot::WaitsToWrite(At { word, held }), Answer::NotYet),
-            WakeWrite::Lost(held) => (Slot::WaitsToWrite(At { word, held }), Answer::Lost),
-        },
-        other => (other, Answer::Cannot),
-    }
-}
-
-pub(super) fn close(has: Has<'_>) -> (Has<'_>, Answer) {
-    match has {
-        Slot::Free(At { word, held }) => match word.try_close(held) {
-            Close::Closing(held) => (Slot::Closes(At { word, held }), Answer::Held),
-            Close::Closed(held) => (free(word, held), Answer::Closed),
-            Close::TooMany(held, _) => (free(word, held), Answer::TooMany),
-            Close::Lost(held) => (free(word, held), Answer::Lost),
-        },
-        other => (other, Answer::Cannot),
-    }
-}
-
-/// Gives the closer's reference back, once it owes nothing.
-pub(super) fn leave(has: Has<'_>) -> (Has<'_>, Answer) {
-    match has {
-        Slot::Closes(At { word, held })
-            if held.owed(Dir::Read) == 0 && held.owed(Dir::Write) == 0 => {
-            left(word, word.drop_closing(held))
-        }
-        other => (other, Answer::Cannot),
-    }
-}
-
-pub(super) fn drain(has: Has<'_>) -> (Has<'_>, Answer) {
-    match has {
-        Slot::Free(At { word, held }) => match word.try_drain(held) {
-            Drain::Drained(held) => (free(word, held), Answer::Kept),
-            Drain::Owes(held) => (Slot::Drains(At { word, held }), Answer::Owes),
-            Drain::Closed(held) => (free(word, held), Answer::Closed),
-            Drain::Draining(held) => (free(word, held), Answer::Draining),
-            Drain::Lost(held) => (free(word, held), Answer::Lost),
-        },
-        other => (other, Answer::Cannot),
-    }
+#[test]
+fn a_queued_reader_wakes_once_it_is_signalled(rt: HostRuntime) {
+    let (word, seat) = word_of(&rt, rt.alloc(), 1, 2);
+    let (mut spare, seat) = word.split(seat);
+    let (reader, waiting) = queued(&rt, &word, seat);
+    shows(&rt, &word, &mut spare, 0x800_000a);
+    let (owing, waiting) = owed(&rt, &word, reader, waiting);
+    woken(&rt, &word, owing, waiting);
+    shows(&rt, &word, &mut spare, 0);
 }

@@ -1,33 +1,40 @@
-//! Rows of answers, by scripted gates: how a worker ends, and what its share and its book then have.
-mod by_need;
+//! How a worker ends over a scripted gate, what its share and its book then have, and through which
+//! buffer it reads; and a gate that tells what it wrote.
+mod counted;
 
-ghost use Rattle.std.specs.Prelude.{◌≡◌, ◌+◌};
-ghost use Rattle.relay_core.specs.CopyTrace.{written, uncredited};
+ghost use Rattle.std.specs.Prelude.{◌≡◌};
 
 use relay_core::Ended;
-use relay_ledger::{Book, PARTS, Share};
-use relay_workers::{CopyGate, copy_worker};
+use relay_ledger::{Book, PARTS};
+use relay_workers::{CopyGate, copy_by_need, copy_worker};
 use rwloops::{DevKind, Fault, WriteFault};
 use std::marker::Brand;
 use std::sync::ledger::{Blank, Ledger};
 use std::sync::{Mutex, Wait};
 
-/// Gives the answers of a script, and the reader's end after its reads. It tells nothing, as a
+/// Gives the answers of a script, and adds up the rooms that its reads saw. It tells nothing, as a
 /// socket.
-#[derive(Clone, Copy)]
+#[derive(Drop)]
 struct ScriptedGate {
     reads: &'static [usize],
     // The writes that succeed before one fails.
     whole_writes: u32,
-    failed_write: WriteFault,
-    close: Result<(), Fault>,
+    // How the reads end.
     read_fault: Fault,
+    close: Result<(), Fault>,
+    rooms: usize,
 }
+
+const RESET: WriteFault = WriteFault {
+    fault: Fault::Device(DevKind::Reset),
+    count: 2,
+};
 
 impl CopyGate for ScriptedGate {
     ghost tells = { λ _ _. ⊥ };
 
     fn read(&mut self, buf: &mut [u8]) -> Result<usize, Fault> {
+        self.rooms = self.rooms.saturating_add(buf.len());
         let Some((count, later)) = self.reads.split_first() else {
             return Err(self.read_fault);
         };
@@ -38,8 +45,8 @@ impl CopyGate for ScriptedGate {
     fn write(&mut self, bytes: &[u8]) -> Result<usize, WriteFault> {
         if self.whole_writes == 0 {
             return Err(WriteFault {
-                fault: self.failed_write.fault,
-                count: self.failed_write.count.min(bytes.len()),
+                fault: RESET.fault,
+                count: RESET.count.min(bytes.len()),
             });
         }
         self.whole_writes -= 1;
@@ -51,186 +58,149 @@ impl CopyGate for ScriptedGate {
     }
 }
 
-// How the worker ended, its share's amount and the book's total.
-type Outcome = (Ended, u64, u64);
+/// How the worker ended, its share's amount, the book's total, and the sum of the rooms.
+type Course = (Ended, u64, u64, usize);
 
-// What a worker makes of a gate, on a book that has counted this much before.
+/// What a worker makes of a gate on a book that has counted this much before: one through a buffer
+/// of so many bytes, or one by need.
 fn copied<L: Ledger, R: Wait>(
     rt: &R,
     blank: Blank,
     before: u64,
-    gate: ScriptedGate,
-) -> Option<Outcome>
+    gate: &mut ScriptedGate,
+    is_by_need: bool,
+) -> Option<Course>
     requires name { blank.name ≡ L.name }
     requires parts { blank.parts ≡ L.parts }
     requires all { blank.parts ≡ 4294967296 }
 {
     let mut book = Book::<L>::new(blank);
-    let Ok(mut earlier) = book.open_share() else {
-        return None;
-    };
-    let _ = book.credit(&mut earlier, before);
-    book.settle(earlier);
     let Ok(mut share) = book.open_share() else {
         return None;
     };
+    let _ = book.credit(&mut share, before);
     let book = Mutex::new(book);
-    let mut gate = gate;
-    let mut buf = [0u8; 8];
-    let ended = copy_worker(rt, &mut gate, &book, &mut share, &mut buf);
-    let row = (ended, share.amount(), book.lock(rt).total());
+    let ended = if is_by_need {
+        copy_by_need(rt, gate, &book, &mut share)
+    } else {
+        copy_worker(rt, gate, &book, &mut share, &mut [0u8; 8])
+    };
+    let amount = share.amount();
     share.give_up();
-    Some(row)
+    let total = book.lock(rt).total();
+    Some((ended, amount.saturating_sub(before), total, gate.rooms))
 }
 
-const RESET: WriteFault = WriteFault {
-    fault: Fault::Device(DevKind::Reset),
-    count: 2,
-};
+/// A row: its name, what the book has counted before, the gate's reads, its whole writes, the fault
+/// of its reads and its close; whether the copy is by need; and what the worker makes of it.
+struct Row(
+    &'static str,
+    u64,
+    &'static [usize],
+    u32,
+    Fault,
+    Result<(), Fault>,
+    bool,
+    Course,
+);
+
+const ALL: u32 = u32::MAX;
+
+const EOF: Fault = Fault::EndOfFile;
 
 const BROKEN_PIPE: Fault = Fault::Device(DevKind::BrokenPipe);
 
-/// One read of 5 bytes, and no fault.
-const FIVE: ScriptedGate = ScriptedGate {
-    reads: &[5],
-    whole_writes: u32::MAX,
-    failed_write: RESET,
-    close: Ok(()),
-    read_fault: Fault::EndOfFile,
-};
-
-/// A row: its name, what the book has counted before, the gate, and what the worker makes of it.
-const ROWS: &[(&str, u64, ScriptedGate, Outcome)] = &[
-    (
+const ROWS: &[Row] = &[
+    Row(
         "a failed write credits what it took",
         0,
-        ScriptedGate {
-            reads: &[5, 3],
-            whole_writes: 1,
-            ..FIVE
-        },
-        (Ended::WriteFault(RESET), 7, 7),
+        &[5, 3],
+        1,
+        EOF,
+        Ok(()),
+        false,
+        (Ended::WriteFault(RESET), 7, 7, 16),
     ),
-    (
+    Row(
         "a failed close keeps the credit",
         0,
-        ScriptedGate {
-            close: Err(BROKEN_PIPE),
-            ..FIVE
-        },
-        (Ended::CloseFault(BROKEN_PIPE), 5, 5),
+        &[5],
+        ALL,
+        EOF,
+        Err(BROKEN_PIPE),
+        false,
+        (Ended::CloseFault(BROKEN_PIPE), 5, 5, 16),
     ),
-    (
+    Row(
         "a full book ends a worker",
         18_446_744_073_709_551_612,
-        FIVE,
-        (Ended::BookFull(5), 0, 18_446_744_073_709_551_612),
+        &[5],
+        ALL,
+        EOF,
+        Ok(()),
+        false,
+        (Ended::BookFull(5), 0, 18_446_744_073_709_551_612, 8),
     ),
     // That a book which had room isn't called full: no clause can name what is under the lock.
-    (
+    Row(
         "a book with room takes credit",
         18_446_744_073_709_551_599,
-        ScriptedGate {
-            reads: &[5, 8, 3],
-            ..FIVE
-        },
-        (Ended::Eof, 16, 18_446_744_073_709_551_615),
+        &[5, 8, 3],
+        ALL,
+        EOF,
+        Ok(()),
+        false,
+        (Ended::Eof, 16, 18_446_744_073_709_551_615, 32),
     ),
-    (
+    Row(
         "a failed read ends a worker",
         0,
-        ScriptedGate {
-            reads: &[8],
-            read_fault: Fault::DeadlineExceeded,
-            ..FIVE
-        },
-        (Ended::ReadFault(Fault::DeadlineExceeded), 8, 8),
+        &[8],
+        ALL,
+        Fault::DeadlineExceeded,
+        Ok(()),
+        false,
+        (Ended::ReadFault(Fault::DeadlineExceeded), 8, 8, 16),
+    ),
+    Row(
+        "a first buffer that is never full stays",
+        0,
+        &[1, 1_023, 7],
+        ALL,
+        EOF,
+        Ok(()),
+        true,
+        (Ended::Eof, 1_031, 1_031, 4 * 1_024),
+    ),
+    // The read that ends a copy through the larger buffer has the larger room too.
+    Row(
+        "a full first buffer is followed by a larger",
+        0,
+        &[5, 1_024, 16_384, 1],
+        ALL,
+        EOF,
+        Ok(()),
+        true,
+        (Ended::Eof, 17_414, 17_414, 2 * 1_024 + 3 * 16_384),
     ),
 ];
 
-fn branded<R: Wait>(rt: &R, before: u64, gate: ScriptedGate) -> Option<Outcome> {
-    copied::<Brand, _>(rt, Blank::new(PARTS), before, gate)
+fn course_of<R: Wait>(rt: &R, row: &Row) -> Option<Course> {
+    let Row(_, before, _, whole_writes, read_fault, close, is_by_need, _) = row;
+    let mut gate = ScriptedGate {
+        reads: row.2,
+        whole_writes: *whole_writes,
+        read_fault: *read_fault,
+        close: *close,
+        rooms: 0,
+    };
+    copied::<Brand, _>(rt, Blank::new(PARTS), *before, &mut gate, *is_by_need)
 }
 
 #[test]
 fn a_worker_ends_as_its_rows_say(rt: HostRuntime) {
-    for (row, before, gate, want) in ROWS {
-        assert!(rt; branded(&rt, *before, *gate) == Some(*want), "{row}");
+    for row in ROWS {
+        let went = course_of(&rt, row);
+        assert!(rt; went == Some(row.7), "{}: {went:?}", row.0);
     }
-}
-
-/// Gives single bytes, takes all that it is offered, and tells how much that was.
-#[derive(Drop)]
-struct CountingGate {
-    bytes_left: u32,
-    written: u64,
-}
-
-impl CopyGate for CountingGate {
-    ghost tells = { λ gate calls. gate.written ≡ written calls };
-
-    fn read(&mut self, _buf: &mut [u8]) -> Result<usize, Fault> {
-        if self.bytes_left == 0 {
-            return Err(Fault::EndOfFile);
-        }
-        self.bytes_left -= 1;
-        Ok(1)
-    }
-
-    fn write(&mut self, bytes: &[u8]) -> Result<usize, WriteFault> {
-        match self.written.checked_add(bytes.len() as u64) {
-            Some(sum) => {
-                self.written = sum;
-                Ok(bytes.len())
-            }
-            None => Err(WriteFault {
-                fault: Fault::Device(DevKind::Other),
-                count: 0,
-            }),
-        }
-    }
-
-    fn close_write(&mut self) -> Result<(), Fault> {
-        Ok(())
-    }
-}
-
-// What the contract of a worker says over a gate that tells a part of its calls.
-fn copied_and_counted<L: Ledger, R: Wait>(
-    rt: &R,
-    book: &Mutex<Book<L>>,
-    share: &mut Share<L>,
-    gate: &mut CountingGate,
-) -> Ended
-    requires { gate.old.written ≡ 0 }
-    ensures { share.new + uncredited result ≡ share.old + gate.new.written }
-{
-    let mut buf = [0u8; 8];
-    copy_worker(rt, gate, book, share, &mut buf)
-}
-
-fn counted_run<L: Ledger, R: Wait>(rt: &R, blank: Blank) -> Option<(Ended, u64, u64)>
-    requires name { blank.name ≡ L.name }
-    requires parts { blank.parts ≡ L.parts }
-    requires all { blank.parts ≡ 4294967296 }
-{
-    let mut book = Book::<L>::new(blank);
-    let Ok(mut share) = book.open_share() else {
-        return None;
-    };
-    let book = Mutex::new(book);
-    let mut gate = CountingGate {
-        bytes_left: 300,
-        written: 0,
-    };
-    let ended = copied_and_counted(rt, &book, &mut share, &mut gate);
-    let amount = share.amount();
-    share.give_up();
-    Some((ended, amount, gate.written))
-}
-
-#[test]
-fn share_grows_by_what_a_telling_gate_wrote(rt: HostRuntime) {
-    let got = counted_run::<Brand, _>(&rt, Blank::new(PARTS));
-    assert!(rt; got == Some((Ended::Eof, 300, 300)), "{got:?}");
 }

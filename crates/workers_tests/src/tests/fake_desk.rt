@@ -1,14 +1,13 @@
 //! A desk for tests.
 
-ghost use Rattle.std.specs.Prelude.{◌≡◌, IfSome, None};
+ghost use Rattle.std.specs.Prelude.{◌≡◌, None};
+ghost use Rattle.relay_admin.specs.declared.admin.command.Command.TheVariants as commands;
+ghost use Rattle.relay_admin.specs.admin.Reply.{HasAskedId, answer_of};
 
 use arrayvec::ArrayString;
-use relay_admin::{
-    Addr, CloseAnswer, DeskAnswer, ReloadAnswer, RulesFault, SessionDesk, Shown, ShownSide,
-    SteerAnswer, TotalBytes, Verdict,
-};
+use relay_admin::{Addr, DeskAnswer, RulesFault, Shown, ShownSide, Verdict};
 use relay_workers::Desk;
-use std::alloc::{AllocError, Global};
+use std::alloc::Global;
 
 /// A text in a value of its own, and none of it where it is too long.
 pub(super) fn held<const N: usize>(text: &str) -> ArrayString<N> {
@@ -18,29 +17,25 @@ pub(super) fn held<const N: usize>(text: &str) -> ArrayString<N> {
     }
 }
 
-/// An address by literals.
-#[derive(Clone, Copy)]
-pub(super) enum Place {
-    Tcp([u8; 4], u16),
-    Unix(&'static str),
-}
+/// A path of as many bytes as may be.
+pub(super) const LONG_PATH: &str =
+    "/xxxxxxxxxxxxxxxxxxxxxxxxxxxxxxxxxxxxxxxxxxxxxxxxxxxxxxxxxxxxxxxxxxxxxxxxxxxxxxx\
+    xxxxxxxxxxxxxxxxxxxx";
 
-impl Place {
-    pub(super) fn addr(self) -> Addr {
-        match self {
-            Place::Tcp(ip, port) => Addr::Tcp(ip, port),
-            Place::Unix(path) => Addr::Unix(held(path)),
-        }
-    }
-}
-
-/// A client of the rule `web` from a TCP port, with this id.
-fn shown_client(id: u64) -> Shown {
+/// What is seen of this id: a client from a TCP port, or from 1,006 on a listener at a long path.
+fn sight(id: u64) -> Shown
+    ensures { result.id ≡ id }
+{
+    let (side, peer) = if id < 1_006 {
+        (ShownSide::Client, Addr::Tcp([127, 0, 0, 1], 51234))
+    } else {
+        (ShownSide::Listener, Addr::Unix(held(LONG_PATH)))
+    };
     Shown {
         id,
         rule: held("web"),
-        side: ShownSide::Client,
-        peer: Some(Addr::Tcp([127, 0, 0, 1], 51234)),
+        side,
+        peer: Some(peer),
         up: 12,
         down: 0,
         age_ms: 3500,
@@ -48,82 +43,29 @@ fn shown_client(id: u64) -> Shown {
     }
 }
 
-/// A path of as many bytes as may be.
-const LONG_PATH: &str =
-    "/xxxxxxxxxxxxxxxxxxxxxxxxxxxxxxxxxxxxxxxxxxxxxxxxxxxxxxxxxxxxxxxxxxxxxxxxxxxxxxx\
-    xxxxxxxxxxxxxxxxxxxx";
-
-/// A listener of the rule `web` at such a path.
-fn shown_listener(id: u64) -> Shown {
-    Shown {
-        id,
-        side: ShownSide::Listener,
-        peer: Some(Addr::Unix(held(LONG_PATH))),
-        ..shown_client(id)
-    }
-}
-
-/// A desk with these ids and totals, which counts its questions. Its connection 1 can be drained,
-/// its connection 7 is shown, its connection 2 has gone when it is looked at, ids from 1,006 on are
-/// listeners, and each of its reloads ends otherwise than the one before.
+/// A desk with these ids, which counts its questions. Its connections 1 and 3 can be steered, and 7
+/// is shown; 2 has gone when it is looked at, and each of its reloads ends otherwise than the one
+/// before.
 #[derive(Drop)]
 pub(super) struct FakeDesk {
     pub(super) ids: &'static [u64],
-    pub(super) totals: (u64, u64),
     pub(super) asked: u64,
-    is_drained: bool,
-    reloads: u64,
+    pub(super) is_drained: bool,
+    pub(super) reloads: u64,
 }
 
 impl FakeDesk {
-    pub(super) fn new() -> FakeDesk {
-        FakeDesk {
-            ids: &[1, 2],
-            totals: (12, 0),
-            asked: 0,
-            is_drained: false,
-            reloads: 0,
-        }
-    }
-
-    fn count(&mut self) {
-        self.asked = self.asked.saturating_add(1);
-    }
-
-    fn refused(id: u64) -> DeskAnswer {
-        match id {
-            2 => DeskAnswer::Closed,
-            3 => DeskAnswer::Busy,
-            4 => DeskAnswer::NoMemory,
-            _ => DeskAnswer::Unknown,
-        }
-    }
-
-    fn sight(id: u64) -> Option<Shown>
-        ensures { IfSome result (λ seen. seen.id ≡ id) }
+    fn answer(&mut self, id: u64) -> DeskAnswer
+        ensures { HasAskedId (commands.Show id) (answer_of result) }
     {
+        self.asked = self.asked.saturating_add(1);
         match id {
-            2 => None,
-            // (the clause asks for this id, of which those below say nothing)
-            1_006.. => Some(Shown {
-                id,
-                ..shown_listener(id)
-            }),
-            _ => Some(Shown {
-                id,
-                ..shown_client(id)
-            }),
-        }
-    }
-
-    fn steered(&self, id: u64) -> SteerAnswer {
-        match id {
-            1 if self.is_drained => SteerAnswer::Draining,
-            1 => SteerAnswer::Fine,
-            2 => SteerAnswer::Closed,
-            3 => SteerAnswer::Busy,
-            4 => SteerAnswer::NoMemory,
-            _ => SteerAnswer::Unknown,
+            1 | 3 => DeskAnswer::Fine,
+            2 => DeskAnswer::Closed,
+            4 => DeskAnswer::NoMemory,
+            5 => DeskAnswer::Busy,
+            6 => DeskAnswer::Draining,
+            _ => DeskAnswer::Unknown,
         }
     }
 }
@@ -132,7 +74,7 @@ impl Desk for FakeDesk {
     ghost exchanges = { λ _. None };
 
     fn ids(&mut self, alloc: Global) -> DeskAnswer {
-        self.count();
+        self.asked = self.asked.saturating_add(1);
         match Vec::from_slice(alloc, self.ids) {
             Ok(ids) => DeskAnswer::Ids(ids),
             Err(_) => DeskAnswer::NoMemory,
@@ -140,69 +82,51 @@ impl Desk for FakeDesk {
     }
 
     fn totals(&mut self) -> DeskAnswer {
-        self.count();
-        let (up, down) = self.totals;
-        DeskAnswer::Totals(up, down)
+        self.asked = self.asked.saturating_add(1);
+        DeskAnswer::Totals(12, 0)
     }
 
     fn close(&mut self, id: u64) -> DeskAnswer {
-        self.count();
-        if id != 1 {
-            return FakeDesk::refused(id);
-        }
-        DeskAnswer::Fine
+        self.answer(id)
     }
 
     fn drain(&mut self, id: u64) -> DeskAnswer {
-        self.count();
-        if id != 1 {
-            return FakeDesk::refused(id);
+        if id == 1 && self.is_drained {
+            return self.answer(6);
         }
-        if self.is_drained {
-            return DeskAnswer::Draining;
-        }
-        self.is_drained = true;
-        DeskAnswer::Fine
+        self.is_drained = self.is_drained || id == 1;
+        self.answer(id)
     }
 
     fn deadline(&mut self, _alloc: Global, id: u64, _after_ms: Option<u32>) -> DeskAnswer {
-        self.count();
         if id == 1 && self.is_drained {
-            return DeskAnswer::Draining;
+            return self.answer(6);
         }
-        DeskAnswer::Fine
+        self.answer(id)
     }
 
     fn finish(&mut self, _after_ms: u64) -> DeskAnswer {
-        self.count();
-        DeskAnswer::Fine
+        self.answer(1)
     }
 
     fn show(&mut self, id: u64) -> DeskAnswer {
-        self.count();
-        match id {
-            2 => DeskAnswer::Closed,
-            3 => DeskAnswer::Busy,
-            4 => DeskAnswer::NoMemory,
-            // (the clause asks for this id, of which `shown_client` says nothing)
-            7 => DeskAnswer::Shown(Shown {
-                id,
-                ..shown_client(id)
-            }),
-            _ => DeskAnswer::Unknown,
+        if id == 7 {
+            self.asked = self.asked.saturating_add(1);
+            return DeskAnswer::Shown(sight(id));
         }
+        self.answer(id)
     }
 
     fn ids_to_show(&mut self, alloc: Global) -> DeskAnswer {
-        Desk::ids(self, alloc)
+        self.ids(alloc)
     }
 
     fn look(&mut self, id: u64) -> Option<Shown> {
-        FakeDesk::sight(id)
+        if id == 2 { None } else { Some(sight(id)) }
     }
 
     fn reload(&mut self, _alloc: Global) -> DeskAnswer {
-        self.count();
+        self.asked = self.asked.saturating_add(1);
         self.reloads = self.reloads.saturating_add(1);
         match self.reloads {
             1 => DeskAnswer::Verdict(Verdict::Rules(2)),
@@ -211,82 +135,6 @@ impl Desk for FakeDesk {
             4 => DeskAnswer::CannotListen(held("web-2")),
             5 => DeskAnswer::NoMemory,
             _ => DeskAnswer::Closed,
-        }
-    }
-}
-
-/// The same answers, each of the type of its question.
-impl SessionDesk for FakeDesk {
-    ghost exchanges = { λ _. None };
-
-    fn ids(&mut self, alloc: Global) -> Result<Vec<u64>, AllocError> {
-        self.count();
-        Vec::from_slice(alloc, self.ids)
-    }
-
-    fn totals(&mut self) -> TotalBytes {
-        self.count();
-        let (up, down) = self.totals;
-        TotalBytes { up, down }
-    }
-
-    fn close(&mut self, id: u64) -> Option<CloseAnswer> {
-        self.count();
-        Some(match id {
-            1 => CloseAnswer::Fine,
-            2 => CloseAnswer::Closed,
-            3 => CloseAnswer::Busy,
-            4 => CloseAnswer::NoMemory,
-            _ => CloseAnswer::Unknown,
-        })
-    }
-
-    fn drain(&mut self, id: u64) -> Option<SteerAnswer> {
-        self.count();
-        let answer = self.steered(id);
-        self.is_drained = self.is_drained || id == 1;
-        Some(answer)
-    }
-
-    fn deadline(&mut self, _alloc: Global, id: u64, _after_ms: Option<u32>) -> Option<SteerAnswer> {
-        self.count();
-        if id == 1 && self.is_drained {
-            return Some(SteerAnswer::Draining);
-        }
-        Some(SteerAnswer::Fine)
-    }
-
-    fn finish(&mut self, _after_ms: u64) {
-        self.count();
-    }
-
-    fn show(&mut self, id: u64) -> Option<Shown> {
-        self.count();
-        match id {
-            7 => FakeDesk::sight(id),
-            _ => None,
-        }
-    }
-
-    fn ids_to_show(&mut self, alloc: Global) -> Result<Vec<u64>, AllocError> {
-        self.count();
-        Vec::from_slice(alloc, self.ids)
-    }
-
-    fn look(&mut self, id: u64) -> Option<Shown> {
-        FakeDesk::sight(id)
-    }
-
-    fn reload(&mut self, _alloc: Global) -> ReloadAnswer {
-        self.count();
-        self.reloads = self.reloads.saturating_add(1);
-        match self.reloads {
-            1 => ReloadAnswer::Verdict(Verdict::Rules(2)),
-            2 => ReloadAnswer::Verdict(Verdict::Bad(RulesFault::SameName(65_536))),
-            3 => ReloadAnswer::CannotRead,
-            4 => ReloadAnswer::CannotListen(held("web-2")),
-            5 => ReloadAnswer::NoMemory,
-            _ => ReloadAnswer::Finishing,
         }
     }
 }

@@ -2,7 +2,6 @@
 
 ghost use Rattle.std.specs.Prelude.{◌≡◌};
 
-use super::TURNS;
 use relay_core::Ended;
 use relay_ledger::{Book, PARTS, give_up_all};
 use relay_workers::{AtEnd, CopyGate, Done, start_pair};
@@ -16,36 +15,21 @@ use std::thread;
 use std::thread::Threads;
 use std::time::{Clock, Duration};
 
-fn zero<R: Abort + AllocGlobal>(rt: &R) -> Arc<AtomicU64> {
-    Arc::new(rt.alloc(), AtomicU64::new(0)).expect(rt, "a count")
+/// How many writes have begun, and a sum of how the workers ended.
+#[derive(Drop)]
+struct Tally {
+    begun: AtomicU64,
+    ended: AtomicU64,
 }
 
-fn shared<R: Abort, T>(rt: &R, one: &Arc<T>) -> Arc<T> {
-    Arc::try_clone(one).expect(rt, "shared")
-}
-
-/// Gives three bytes and then the end. A write says that it has begun, and ends once the other
-/// gate's write has, or too many turns are over.
+/// Gives three bytes and then the end. A write says that it has begun, and ends once two have, or
+/// 10,000 turns are over.
 #[derive(Drop)]
 struct OneRound<R: Clock + Drop> {
     rt: R,
-    own: Arc<AtomicU64>,
-    other: Arc<AtomicU64>,
+    tally: Arc<Tally>,
     was_read: bool,
-    /// Whether its close is done, or fails.
-    closes: bool,
-}
-
-impl<R: Clock + Drop> OneRound<R> {
-    fn other_begins(&self) -> bool {
-        for _ in 0..TURNS {
-            if self.other.load(Ordering::SeqCst) > 0 {
-                return true;
-            }
-            thread::sleep(&self.rt, Duration::from_millis(1));
-        }
-        false
-    }
+    close: Result<(), Fault>,
 }
 
 impl<R: Clock + Drop> CopyGate for OneRound<R> {
@@ -60,9 +44,12 @@ impl<R: Clock + Drop> CopyGate for OneRound<R> {
     }
 
     fn write(&mut self, bytes: &[u8]) -> Result<usize, WriteFault> {
-        self.own.fetch_add(1, Ordering::SeqCst);
-        if self.other_begins() {
-            return Ok(bytes.len());
+        self.tally.begun.fetch_add(1, Ordering::SeqCst);
+        for _ in 0..10_000 {
+            if self.tally.begun.load(Ordering::SeqCst) > 1 {
+                return Ok(bytes.len());
+            }
+            thread::sleep(&self.rt, Duration::from_millis(1));
         }
         Err(WriteFault {
             fault: Fault::Closed,
@@ -71,18 +58,14 @@ impl<R: Clock + Drop> CopyGate for OneRound<R> {
     }
 
     fn close_write(&mut self) -> Result<(), Fault> {
-        if self.closes {
-            Ok(())
-        } else {
-            Err(Fault::Closed)
-        }
+        self.close
     }
 }
 
-/// Counts the workers that ended, by a number of its own for each way to end.
+/// Adds up the workers that ended, by a number of its own for each way to end.
 #[derive(Drop)]
 struct Counted {
-    ended: Arc<AtomicU64>,
+    tally: Arc<Tally>,
     whole: u64,
     failed: u64,
 }
@@ -94,96 +77,86 @@ impl AtEnd for Counted {
         } else {
             self.failed
         };
-        self.ended.fetch_add(count, Ordering::SeqCst);
+        self.tally.ended.fetch_add(count, Ordering::SeqCst);
     }
 }
 
-/// Whether the worker ended so, and the book gathers with its share alone, three bytes.
-fn leaves<L: Ledger, R: Wait + AllocGlobal>(
-    rt: &R,
-    book: &Mutex<Book<L>>,
-    done: Done<L>,
-    so: Ended,
-) -> bool {
+fn shared<R: Abort, T>(rt: &R, one: &Arc<T>) -> Arc<T> {
+    Arc::try_clone(one).expect(rt, "shared")
+}
+
+/// How a worker ended, if it left its share, which is settled.
+fn settled<L: Ledger, R: Wait>(rt: &R, book: &Mutex<Book<L>>, done: Done<L>) -> Option<Ended> {
     let Done { ended, share } = done;
     let Some(share) = share else {
-        return false;
+        return None;
     };
     book.lock(rt).settle(share.into_share());
-    let gathered = book.lock(rt).gather(Vec::new(rt.alloc()));
-    match gathered {
-        Ok(total) => total == 3 && ended == so,
-        Err(back) => {
-            give_up_all(back);
-            false
-        }
-    }
+    Some(ended)
 }
 
-/// The gates of a pair of which each worker waits in its write for the other's. The second fails at
-/// its close.
-fn gates<R>(rt: R) -> (OneRound<R>, OneRound<R>)
+/// How both workers ended, and the total of their book, from which no share is missing.
+type Ends = (Option<Ended>, Option<Ended>, Option<u64>);
+
+/// Runs a pair of which each worker waits in its write for the other's. The second fails at its
+/// close.
+fn both_run<L, R>(rt: R, blank: Blank, tally: &Arc<Tally>) -> Ends
 where
-    R: Abort + AllocGlobal + Clock + Copy + Drop,
+    L: Ledger + Send + Sync + 'static,
+    R: Wait + Threads + Clock + Abort + AllocGlobal + Copy + Drop + Send + Sync + 'static,
+    requires name { blank.name ≡ L.name }
+    requires parts { blank.parts ≡ L.parts }
+    requires all { blank.parts ≡ 4294967296 }
 {
-    let one = zero(&rt);
-    let two = zero(&rt);
+    let book = Arc::new(rt.alloc(), Mutex::new(Book::<L>::new(blank)));
+    let book = book.expect(&rt, "a book");
     let first = OneRound {
         rt,
-        own: shared(&rt, &one),
-        other: shared(&rt, &two),
+        tally: shared(&rt, tally),
         was_read: false,
-        closes: true,
+        close: Ok(()),
     };
     let second = OneRound {
         rt,
-        own: two,
-        other: one,
+        tally: shared(&rt, tally),
         was_read: false,
-        closes: false,
+        close: Err(Fault::Closed),
     };
-    (first, second)
-}
-
-/// Runs such a pair.
-fn both_run<U, D, R>(rt: R, up: Blank, down: Blank) -> bool
-where
-    U: Ledger + Send + Sync + 'static,
-    D: Ledger + Send + Sync + 'static,
-    R: Wait + Threads + Clock + Abort + AllocGlobal + Copy + Drop + Send + Sync + 'static,
-    requires up_name { up.name ≡ U.name }
-    requires up_parts { up.parts ≡ U.parts }
-    requires up_all { up.parts ≡ 4294967296 }
-    requires down_name { down.name ≡ D.name }
-    requires down_parts { down.parts ≡ D.parts }
-    requires down_all { down.parts ≡ 4294967296 }
-{
-    let up_book = Mutex::new(Book::<U>::new(up));
-    let up_book = Arc::new(rt.alloc(), up_book).expect(&rt, "a book");
-    let down_book = Mutex::new(Book::<D>::new(down));
-    let down_book = Arc::new(rt.alloc(), down_book).expect(&rt, "a book");
-    let ended = zero(&rt);
-    let (first, second) = gates(rt);
-    let (ups, downs) = (shared(&rt, &up_book), shared(&rt, &down_book));
     let first_end = Counted {
-        ended: shared(&rt, &ended),
+        tally: shared(&rt, tally),
         whole: 1,
         failed: 10,
     };
     let second_end = Counted {
-        ended: shared(&rt, &ended),
+        tally: shared(&rt, tally),
         whole: 100,
         failed: 1_000,
     };
+    let (ups, downs) = (shared(&rt, &book), shared(&rt, &book));
     let started = start_pair(rt, first, second, ups, downs, first_end, second_end);
     let (first, second) = started.ok().expect(&rt, "threads");
-    holds!(rt; leaves(&rt, &up_book, first.join(&rt), Ended::Eof));
-    holds!(rt; leaves(&rt, &down_book, second.join(&rt), Ended::CloseFault(Fault::Closed)));
-    ended.load(Ordering::SeqCst) == 1_001
+    let first = settled(&rt, &book, first.join(&rt));
+    let second = settled(&rt, &book, second.join(&rt));
+    let gathered = book.lock(&rt).gather(Vec::new(rt.alloc()));
+    match gathered {
+        Ok(total) => (first, second, Some(total)),
+        Err(back) => {
+            give_up_all(back);
+            (first, second, None)
+        }
+    }
 }
 
 #[test]
 fn both_directions_run_at_once(rt: HostRuntime) {
-    let (up, down) = (Blank::new(PARTS), Blank::new(PARTS));
-    holds!(rt; both_run::<Brand, Brand, HostRuntime>(rt, up, down));
+    let tally = Tally {
+        begun: AtomicU64::new(0),
+        ended: AtomicU64::new(0),
+    };
+    let tally = Arc::new(rt.alloc(), tally).expect(&rt, "counts");
+    let ends = both_run::<Brand, HostRuntime>(rt, Blank::new(PARTS), &tally);
+    let closed = Some(Ended::CloseFault(Fault::Closed));
+    assert!(rt; ends == (Some(Ended::Eof), closed, Some(6)), "{ends:?}");
+    let ended = tally.ended.load(Ordering::SeqCst);
+    assert!(rt; ended == 1_001, "{ended}");
 }

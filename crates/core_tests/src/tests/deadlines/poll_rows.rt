@@ -3,10 +3,8 @@ use base_types::Dir;
 use base_types::Dir::{Read, Write};
 use deadline_core::Deadline::{At, Never};
 use deadline_core::{Deadline, Dirs, PollState, Refusal};
-use std::process::Abort;
 
 /// A step on a poll state, with the answer that it must get.
-#[derive(Clone, Copy)]
 enum Step {
     Set(Dirs, Deadline, u64, Result<(), Refusal>),
     Tick(u64),
@@ -22,95 +20,54 @@ const EXCEEDED: Result<(), Refusal> = Err(Refusal::DeadlineExceeded);
 
 const CLOSED: Result<(), Refusal> = Err(Refusal::Closed);
 
-const EXPIRES: deadline_core::Look = deadline_core::Look::Refused(Refusal::DeadlineExceeded);
-
 const PARK: deadline_core::Look = deadline_core::Look::Park;
 
 const GO: deadline_core::Look = deadline_core::Look::Go;
 
 const ROWS: &[(&str, &[Step])] = &[
     (
-        "a deadline at the moment of its set has passed",
-        &[
-            Set(Dirs::Read, At(100), 100, Ok(())),
-            Prepare(Read, EXCEEDED),
-            Look(Read, EXPIRES),
-            Prepare(Write, Ok(())),
-        ],
-    ),
-    (
-        "a deadline before the moment of its set has passed",
-        &[
-            Set(Dirs::Write, At(100), 101, Ok(())),
-            Prepare(Write, EXCEEDED),
-            Prepare(Read, Ok(())),
-        ],
-    ),
-    (
-        "no deadline never passes",
-        &[
-            Set(Dirs::Read, Never, 100, Ok(())),
-            Tick(u64::MAX),
-            Prepare(Read, Ok(())),
-        ],
-    ),
-    (
-        "a tick at the moment expires, a tick before it doesn't, and the next set begins anew",
+        "each direction expires by its own deadline, at its moment, until it is set anew",
         &[
             Set(Dirs::Read, At(200), 100, Ok(())),
             Tick(199),
             Prepare(Read, Ok(())),
             Tick(200),
             Prepare(Read, EXCEEDED),
+            Prepare(Write, Ok(())),
             Tick(0),
             Prepare(Read, EXCEEDED),
-            Set(Dirs::Read, At(300), 200, Ok(())),
-            Prepare(Read, Ok(())),
-        ],
-    ),
-    (
-        "each direction expires by its own deadline",
-        &[
-            Set(Dirs::Read, At(100), 0, Ok(())),
-            Set(Dirs::Write, At(200), 0, Ok(())),
-            Tick(150),
-            Prepare(Read, EXCEEDED),
-            Prepare(Write, Ok(())),
-            Set(Dirs::Both, At(150), 150, Ok(())),
+            Set(Dirs::Both, At(300), 300, Ok(())),
             Prepare(Write, EXCEEDED),
-            Set(Dirs::Read, Never, 150, Ok(())),
+            Set(Dirs::Read, Never, 300, Ok(())),
             Prepare(Read, Ok(())),
             Prepare(Write, EXCEEDED),
         ],
     ),
     (
-        "a notice is used up by a look",
+        "a notice is used up by a look, and forgotten by a prepare",
         &[
             Ready(Read),
             Ready(Read),
             Look(Write, PARK),
             Look(Read, GO),
             Look(Read, PARK),
+            Ready(Read),
+            Prepare(Read, Ok(())),
+            Look(Read, PARK),
         ],
     ),
     (
-        "a notice is forgotten by a prepare",
-        &[Ready(Read), Prepare(Read, Ok(())), Look(Read, PARK)],
-    ),
-    (
-        "a refusal keeps the notice, and comes before it",
+        "a refusal keeps the notice and comes before it, and closing comes before expiry",
         &[
             Set(Dirs::Read, At(1), 1, Ok(())),
             Ready(Read),
             Prepare(Read, EXCEEDED),
-            Look(Read, EXPIRES),
+            Look(
+                Read,
+                deadline_core::Look::Refused(Refusal::DeadlineExceeded),
+            ),
             Set(Dirs::Read, Never, 1, Ok(())),
             Look(Read, GO),
-        ],
-    ),
-    (
-        "closing is told before expiry, and refuses a set",
-        &[
             Set(Dirs::Read, At(1), 1, Ok(())),
             Ready(Read),
             Evict,
@@ -123,28 +80,33 @@ const ROWS: &[(&str, &[Step])] = &[
 ];
 
 /// Makes a step, and says whether its answer is the one that it must get.
-fn answers(state: &mut PollState, step: Step) -> bool {
+fn answers(state: &mut PollState, step: &Step) -> bool {
     match step {
-        Set(dirs, deadline, now, want) => return state.set(dirs, deadline, now) == want,
-        Tick(now) => state.tick(now),
-        Ready(dir) => state.ready(dir),
+        Set(dirs, deadline, now, want) => return state.set(*dirs, *deadline, *now) == *want,
+        Tick(now) => state.tick(*now),
+        Ready(dir) => state.ready(*dir),
         Evict => state.evict(),
-        Prepare(dir, want) => return state.prepare(dir) == want,
-        Look(dir, want) => return state.look(dir) == want,
+        Prepare(dir, want) => return state.prepare(*dir) == *want,
+        Look(dir, want) => return state.look(*dir) == *want,
     }
     true
 }
 
-fn run(rt: &impl Abort, row: &str, steps: &[Step]) {
+/// The first step whose answer is another, if one's is.
+fn other_step(steps: &[Step]) -> Option<usize> {
     let mut state = PollState::new();
     for (at, step) in steps.iter().enumerate() {
-        assert!(rt; answers(&mut state, *step), "{row}: step {at}");
+        if !answers(&mut state, step) {
+            return Some(at);
+        }
     }
+    None
 }
 
 #[test]
 fn a_poll_state_answers_as_its_rows_say(rt: HostRuntime) {
     for (row, steps) in ROWS {
-        run(&rt, row, steps);
+        let other = other_step(steps);
+        assert!(rt; other.is_none(), "{row}: step {other:?}");
     }
 }

@@ -1,42 +1,45 @@
-//! Halves and waits that answer by a script. They tell nothing, as a socket.
+//! Halves and waits that answer by a script, and write what is done to a log which both share. They
+//! tell nothing, as a socket.
 ghost use Rattle.rwloops.specs.Outcome.{IsCountWithin};
 
 use base_types::Dir;
 use deadline_core::Refusal;
 use rwloops::{AcceptOutcome, Outcome, TryAccept, TryRead, TryWrite, Waits};
+use std::cell::Cell;
 
-/// Gives the outcomes of a script, each so many times in a row, and `WouldBlock` after its end. It
-/// tells nothing, as a socket.
-#[derive(Drop)]
-pub(super) struct ScriptedHalf {
-    script: &'static [(Outcome, u32)],
-    step: usize,
-    repeats: u32,
-    pub(super) tries: u32,
+const PREPARED: u64 = 1;
+
+const TRIED: u64 = 2;
+
+const WAITED: u64 = 3;
+
+// One more digit for what was done; the greatest number once they don't fit.
+fn note(log: &Cell<u64>, done: u64) {
+    log.set(log.get().saturating_mul(10).saturating_add(done));
 }
 
-impl ScriptedHalf {
-    pub(super) fn new(script: &'static [(Outcome, u32)]) -> ScriptedHalf {
-        ScriptedHalf {
-            script,
-            step: 0,
-            repeats: 0,
-            tries: 0,
-        }
-    }
+/// Gives the outcomes of a script, each so many times in a row, and `WouldBlock` after its end.
+#[derive(Drop)]
+pub(super) struct ScriptedHalf<'a> {
+    pub(super) script: &'static [(Outcome, u32)],
+    pub(super) repeats: u32,
+    pub(super) tries: u32,
+    pub(super) log: &'a Cell<u64>,
+}
 
+impl ScriptedHalf<'_> {
     fn next_outcome(&mut self) -> Outcome {
+        note(self.log, TRIED);
         self.tries = self.tries.saturating_add(1);
-        if self.step >= self.script.len() {
+        let Some(((outcome, times), later)) = self.script.split_first() else {
             return Outcome::WouldBlock;
-        }
-        let (outcome, times) = self.script[self.step];
+        };
         self.repeats = self.repeats.saturating_add(1);
-        if self.repeats >= times {
-            self.step += 1;
+        if self.repeats >= *times {
+            self.script = later;
             self.repeats = 0;
         }
-        outcome
+        *outcome
     }
 }
 
@@ -53,21 +56,18 @@ fn within(outcome: Outcome, offered: usize) -> Outcome
     }
 }
 
-impl TryRead for ScriptedHalf {
+impl TryRead for ScriptedHalf<'_> {
     ghost tells = { λ _ _. ⊥ };
 
     fn try_read(&mut self, buf: &mut [u8]) -> Outcome {
-        let outcome = within(self.next_outcome(), buf.len());
-        if let Outcome::Count(count) = outcome {
-            for byte in &mut buf[..count] {
-                *byte = b'x';
-            }
+        if !buf.is_empty() {
+            buf[0] = b'x';
         }
-        outcome
+        within(self.next_outcome(), buf.len())
     }
 }
 
-impl TryWrite for ScriptedHalf {
+impl TryWrite for ScriptedHalf<'_> {
     ghost tells = { λ _ _. ⊥ };
 
     fn try_write(&mut self, bytes: &[u8]) -> Outcome {
@@ -75,7 +75,7 @@ impl TryWrite for ScriptedHalf {
     }
 }
 
-impl TryAccept for ScriptedHalf {
+impl TryAccept for ScriptedHalf<'_> {
     type T = usize;
 
     ghost tells = { λ _ _. ⊥ };
@@ -93,12 +93,14 @@ impl TryAccept for ScriptedHalf {
 
 /// Grants so many calls, and refuses the next since the deadline has passed.
 #[derive(Drop)]
-pub(super) struct ScriptedWaits {
+pub(super) struct ScriptedWaits<'a> {
     pub(super) grants: u32,
+    pub(super) log: &'a Cell<u64>,
 }
 
-impl ScriptedWaits {
-    fn grant(&mut self) -> Result<(), Refusal> {
+impl ScriptedWaits<'_> {
+    fn grant(&mut self, done: u64) -> Result<(), Refusal> {
+        note(self.log, done);
         if self.grants == 0 {
             return Err(Refusal::DeadlineExceeded);
         }
@@ -107,14 +109,14 @@ impl ScriptedWaits {
     }
 }
 
-impl Waits for ScriptedWaits {
+impl Waits for ScriptedWaits<'_> {
     ghost tells = { λ _ _. ⊥ };
 
     fn prepare(&mut self, _dir: Dir) -> Result<(), Refusal> {
-        self.grant()
+        self.grant(PREPARED)
     }
 
     fn wait(&mut self, _dir: Dir) -> Result<(), Refusal> {
-        self.grant()
+        self.grant(WAITED)
     }
 }

@@ -2,28 +2,21 @@
 
 ghost use Rattle.std.specs.Prelude.{◌≤◌, ⊤};
 
-use super::RESET;
 use relay_core::PollGate;
-use rwloops::{Fault, WriteFault};
+use rwloops::{DevKind, Fault, WriteFault};
 
-/// How a gate goes: it gives so many bytes by each read, 0 for "not yet", and the reader's end after
-/// its reads; it takes so many by each write, 0 for "not yet", and all after its writes.
-#[derive(Clone, Copy)]
-pub(super) struct Pace {
+/// A gate that gives so many bytes by each read, 0 for "not yet", and the reader's end after its
+/// reads; it takes so many by each write, 0 for "not yet", and all after its writes. The bytes are
+/// counted up from 0, which the writes check. It tells nothing, as a socket.
+#[derive(Drop)]
+pub(super) struct PacedGate {
     pub(super) reads: &'static [usize],
     pub(super) writes: &'static [usize],
     // The closes that say "not yet" before one is done.
     pub(super) late_closes: u32,
     // A write after this list of writes fails, having taken one byte.
     pub(super) fails: bool,
-}
-
-/// A gate of this pace. The bytes are counted up from 0, which the writes check. It tells nothing,
-/// as a socket.
-#[derive(Drop)]
-pub(super) struct PacedGate {
-    pace: Pace,
-    next_read: u8,
+    pub(super) next_read: u8,
     pub(super) next_written: u8,
     pub(super) in_order: bool,
     // The fewest and the most bytes that a read asked for.
@@ -31,16 +24,6 @@ pub(super) struct PacedGate {
 }
 
 impl PacedGate {
-    pub(super) fn new(pace: Pace) -> PacedGate {
-        PacedGate {
-            pace,
-            next_read: 0,
-            next_written: 0,
-            in_order: true,
-            asked: (usize::MAX, 0),
-        }
-    }
-
     fn take(&mut self, bytes: &[u8]) {
         for byte in bytes {
             if *byte != self.next_written {
@@ -61,10 +44,10 @@ impl PollGate for PacedGate {
     fn poll_read(&mut self, buf: &mut [u8]) -> Option<Result<usize, Fault>> {
         let (fewest, most) = self.asked;
         self.asked = (fewest.min(buf.len()), most.max(buf.len()));
-        let Some((count, later)) = self.pace.reads.split_first() else {
+        let Some((count, later)) = self.reads.split_first() else {
             return Some(Err(Fault::EndOfFile));
         };
-        self.pace.reads = later;
+        self.reads = later;
         let count = (*count).min(buf.len());
         if count == 0 {
             return None;
@@ -78,13 +61,13 @@ impl PollGate for PacedGate {
 
     fn poll_write(&mut self, bytes: &[u8]) -> Option<Result<usize, WriteFault>> {
         let mut most = bytes.len();
-        if let Some((count, later)) = self.pace.writes.split_first() {
-            self.pace.writes = later;
+        if let Some((count, later)) = self.writes.split_first() {
+            self.writes = later;
             most = *count;
-        } else if self.pace.fails {
+        } else if self.fails {
             self.take(&bytes[..1]);
             return Some(Err(WriteFault {
-                fault: RESET,
+                fault: Fault::Device(DevKind::Reset),
                 count: 1,
             }));
         }
@@ -97,8 +80,8 @@ impl PollGate for PacedGate {
     }
 
     fn poll_close_write(&mut self) -> Option<Result<(), Fault>> {
-        if self.pace.late_closes > 0 {
-            self.pace.late_closes -= 1;
+        if self.late_closes > 0 {
+            self.late_closes -= 1;
             return None;
         }
         Some(Ok(()))

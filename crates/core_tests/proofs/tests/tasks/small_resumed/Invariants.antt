@@ -1,4 +1,0 @@
-use Rattle.core_tests.proofs.tests.tasks.small_resumed.Given as goal
-
-abbrev pub ghosts-resumed : goal.ghosts-resumed
-ghosts-resumed g a = record { name = a.blank.name; parts = a.blank.parts }

@@ -1,7 +1,0 @@
-use Rattle.std.proofs.Common.{◌≡◌}
-use Rattle.lockword.specs.Marks.{word_of}
-use Rattle.lockword.specs.Places.{seat_place}
-use Rattle.lockword_tests.proofs.tests.workers.fn.all_work.scope.Given as goal
-
-abbrev pub invariant-loop-worker : goal.invariant-loop-worker
-invariant-loop-worker g l = word_of (seat_place l.seat) ≡ word_of (seat_place l.initial.seat)

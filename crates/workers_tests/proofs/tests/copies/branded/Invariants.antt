@@ -1,4 +1,0 @@
-use Rattle.workers_tests.proofs.tests.copies.branded.Given as goal
-
-abbrev pub ghosts-copied : goal.ghosts-copied
-ghosts-copied g a = record { name = a.blank.name; parts = a.blank.parts }
