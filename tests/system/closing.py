@@ -4,17 +4,21 @@
     python3 tests/system/closing.py [STAGE]..
 
 done    an answered close is done, also where the main thread is faster than the loop, or has other sessions to serve.
+early   a close that comes while its connection is set up leaves nothing of it.
 others  a close ends no other connection that a session does something to at the same time.
 woken   a close reaches a loop that is about to sleep.
 """
 import contextlib
 import os
 import random
+import socket
 import sys
 import threading
 import time
 
 sys.path.insert(1, f"{sys.path[0]}/..")
+from lib.c_code import library
+from lib.places import LIB
 from lib.relay import Session
 from lib.sockets import connect, read_to_end
 from lib.stages import run_script
@@ -24,6 +28,9 @@ from lib.waiting import unhindered
 
 # Closes in a row, beside nothing and beside a session that has lines of its own answered all the time.
 CLOSES, BUSY_LINES = 30, 500
+# Each look at the clock takes so many milliseconds, so that closes come between two steps of a set-up: so many closes of each of so many
+# connections, of which the first come too soon.
+LOOK_MS, TRIES, SET_UPS = 2, 200, 5
 # Rounds of a close beside commands on so many other connections.
 BESIDE, OTHERS = 6, 4
 # Closes that come while the loop is about to sleep: so many at most, or as many as come in so many seconds. A loop that isn't told wakes a
@@ -71,6 +78,30 @@ def done(checks, _):
         with Busy(it.admin):
             it.expect("so it is beside a busy session", {"ok\nids 1\n"}, set(closes(it, 2 + 2 * CLOSES)))
         it.stop()
+
+
+def close_early(it, id):
+    """Closes the target's side of a connection again and again while its client comes, and sees that all of it goes."""
+    line = f"close {id}\n"
+    with connect(it.admin, WAIT_SECONDS) as session:
+        session.sendall(line.encode() * TRIES)
+        session.shutdown(socket.SHUT_WR)
+        client = it.client()
+        said = read_to_end(session)
+    if b"ok\n" not in said:
+        it.comes_to(line, "ok\n")
+    it.are_over(client, what="its client sees the end")
+    it.answers("list\n", "ids 1\n", "no id is left of it")
+
+
+def early(checks, folder):
+    env = {"LD_PRELOAD": library(f"{LIB}/fast_clock.c", f"{folder}/fast_clock.so"), "LOOK_MS": str(LOOK_MS)}
+    with Tried(checks, "early", 60_000, loops=1, env=env) as it:
+        for at in range(SET_UPS):
+            close_early(it, 3 + 2 * at)
+            if checks.failed:
+                break
+        it.stop("listening 1\nup 0 down 0\n")
 
 
 def others(checks, _):
@@ -126,7 +157,7 @@ def woken(checks, _):
         it.stop()
 
 
-STAGES = {it.__name__: it for it in (done, others, woken)}
+STAGES = {it.__name__: it for it in (done, early, others, woken)}
 
 
 if __name__ == "__main__":

@@ -78,6 +78,7 @@ def unread(checks, folder):
         checks.expect("unread: told so", ["no target timeout"], it.hows(1))
         client, near, _ = it.open()
         checks.expect("unread: closed", "ok", it.ask(f"close {near}"))
+        checks.expect("unread: no id is left of it", "ids 1", it.ask("list"))
         checks.holds("unread: it sees the end", seconds_until_end(client, SOON) is not None, "it stands")
         checks.expect("unread: told as closed", ["no target timeout", "closed"], it.hows(2))
         client.close()
