@@ -17,7 +17,7 @@ class Repository:
     """Two made crates, `high` over `low`, of eight functions and wrong bodies each, and a prover that knows right bodies."""
 
     def __init__(self, folder):
-        self.folder, self.kit, self.unproved, self.tried = folder, "kit 1", set(), []
+        self.folder, self.kit, self.unproved, self.tried = folder, "kit-1 logic a1\n", set(), []
         self.write("crates.txt", "low:\nhigh: low\n")
         self.write(receipts.NAME, "")
         for crate in ("low", "high"):
@@ -123,12 +123,20 @@ class Receipts(unittest.TestCase):
         self.assertEqual(self.stale_by("crates.txt", "high:", "high may_wait=1:"), [it for it in ALL if "high" in it])
         self.assertEqual(self.stale_by("crates.txt", "low:", "low may_wait=1:"), ALL)
 
-    def test_another_kit_and_other_judges_make_every_body_tried(self):
-        with mock.patch.object(self.here, "kit", "kit 2"):
+    def test_another_logic_and_other_judges_make_every_body_tried(self):
+        with mock.patch.object(self.here, "kit", "kit-1 logic b2\n"):
             self.assertEqual(self.tried(), ALL)
         with mock.patch.object(receipts, "JUDGES", receipts.JUDGES[1:]):
             self.assertEqual(self.tried(), ALL)
         self.assertEqual(len(self.tried()), 2)
+
+    def test_another_kit_of_the_same_logic_takes_the_receipts(self):
+        with mock.patch.object(self.here, "kit", "kit-2 logic a1\n"):
+            self.assertEqual(len(self.tried()), 2)
+
+    def test_a_kit_that_names_no_logic_ends_the_run(self):
+        with mock.patch.object(self.here, "kit", "kit-2\n"), self.assertRaisesRegex(SystemExit, "names no logic"):
+            self.here.run()
 
     def test_a_forged_receipt_is_none(self):
         lines = self.here.read(receipts.NAME).splitlines()

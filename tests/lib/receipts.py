@@ -1,9 +1,10 @@
-"""Receipts of wrong bodies: each says that a body was tried over exactly this text, by this kit, and was refused.
+"""Receipts of wrong bodies: each says that a body was tried over exactly this text, with this logic, and was refused.
 
 `tests/gate/wrong_bodies.receipts` has a line `CRATE/NAME DIGEST` for each. The digest is of all that decides the verdict: the
-edit; the sources, specs and proofs of its crate and of every crate below, with their lines of crates.txt; what
-`rt version` says of the kit; and the scripts that judge. Where any byte of these differs, it isn't the receipt of what
-stands here, and the body is tried.
+edit; the sources, specs and proofs of its crate and of every crate below, with their lines of crates.txt; the logic
+that `rt version` names; and the scripts that judge. Where any byte of these differs, it isn't the receipt of what
+stands here, and the body is tried. Kits of one logic share receipts: a goal that is false is open in each of them, and
+the sample is tried by whichever is here.
 """
 
 import hashlib
@@ -36,12 +37,13 @@ def bytes_of(path):
 
 
 def judges():
-    """The kit's identity and the scripts that judge, as they decide every verdict."""
+    """The kit's logic and the scripts that judge, as they decide every verdict."""
     said = checker.run([checker.RT, "version"], ROOT)
-    if said.status:
-        raise SystemExit(f"rt version failed: {said.text}")
+    logic = re.search(r" logic (\w+)$", said.text.strip())
+    if said.status or not logic:
+        raise SystemExit(f"rt version names no logic: {said.text}")
     here = os.path.dirname(os.path.dirname(os.path.realpath(__file__)))
-    return digest(said.text, *(bytes_of(f"{here}/{it}") for it in JUDGES))
+    return digest(logic[1], *(bytes_of(f"{here}/{it}") for it in JUDGES))
 
 
 def line_of(crate):
