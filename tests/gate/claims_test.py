@@ -64,7 +64,7 @@ class Claims(unittest.TestCase):
                 file.parent.mkdir(parents=True, exist_ok=True)
                 file.write_text(text)
             self.tree = Tree(room)
-            self.crates = {it: claims.Crate(self.tree, it) for it in ("timing", "pollrelay")}
+            self.crates = {it: claims.crate_of(self.tree, it) for it in ("timing", "pollrelay")}
             # (a tree reads each file once)
             self.tree.text("crates.txt")
 

@@ -1,14 +1,12 @@
 #!/bin/sh
 # Uses of the lock word's values, of calls under way and of a relay's connections, that the compiler refuses. Each line below
 # that ends in `// refused: CODE` has to be refused with that code, and no other line with any. It proves nothing and takes
-# about a minute.
+# half a minute.
 set -eu
 root=$(cd "$(dirname "$0")/../.." && pwd)
 work=$(mktemp -d)
-# What a refusal may take, on a machine that is full of other work.
-seconds=600
 trap 'rm -rf "$work"' EXIT
-mkdir -p "$work/crates/misuse/src" "$work/crates/misuse/specs" "$work/crates/misuse/proofs"
+mkdir -p "$work/whole" "$work/crates/misuse/src" "$work/crates/misuse/specs" "$work/crates/misuse/proofs"
 touch "$work/crates/misuse/specs/Lib.antt" "$work/crates/misuse/proofs/Lib.antt"
 cp "$root/HANDLES" "$work/"
 below='base_types lockword_core lockword fdmutex deadline_core rwloops fd_descriptor'
@@ -18,53 +16,63 @@ below="$below relay_facts relay_shared relay_conn relay_loops"
 for crate in $below; do
     (cd "$root/crates" && tar --exclude=out --exclude=must-fail --exclude=wrong-bodies -cf - "$crate") | tar -C "$work/crates" -xf -
 done
-{
-    grep -E "^($(echo "$below" | tr ' ' '|'))[ :]" "$root/crates.txt"
-    echo 'misuse: base_types lockword rwloops fd_descriptor'
-} > "$work/crates.txt"
 cd "$work/crates/misuse"
+
+# begin CRATE..: this crate anew, over these and without a module
+begin() {
+    grep -E "^($(echo "$below" | tr ' ' '|'))[ :]" "$root/crates.txt" > "$work/crates.txt"
+    echo "misuse: $*" >> "$work/crates.txt"
+    rm -f src/*.rt
+    printf '//! Misuse.\n#![tactic(auto)]\n' > src/lib.rt
+}
 
 # module NAME: a module of this crate, on standard input
 module() {
     cat > "src/$1.rt"
     echo "mod $1;" >> src/lib.rt
-    modules="$modules $1"
+    holds_mark "misuse/src/$1.rt"
 }
 
-# refuses_in WHAT FILE..: each src/FILE.rt of this crate is refused at each marked line, and at no other
-refuses_in() {
-    what=$1
+# edited CRATE/src/FILE.rt WORDS..: a file of a crate below, as sed leaves it with these words, up to the next look
+edited() {
+    file=$1
     shift
-    : > "$work/marked"
-    for file; do
-        if ! grep -n '// refused: ' "src/$file.rt" > "$work/lines"; then
-            echo "$what: no line of $file is marked"
-            exit 1
-        fi
-        sed "s/:.*refused: / /; s/^/$file /" "$work/lines" >> "$work/marked"
-    done
-    sort -u "$work/marked" > "$work/wanted"
-    # (rt would go on to prove what stands below, where nothing is refused)
-    timeout "$seconds" rt check --only "" > "$work/said" 2>&1 || true
-    for file; do
-        sed -n 's/^src\/'"$file"'\.rt:\([0-9]*\):[0-9]*: error\[\([a-z0-9-]*\)\].*/'"$file"' \1 \2/p' "$work/said"
-    done | sort -u > "$work/found"
-    if ! diff "$work/wanted" "$work/found"; then
-        echo "$what: not refused as it must be (< wanted, > found)"
+    whole="$work/whole/$(echo "$file" | tr / :)"
+    cp "../$file" "$whole"
+    sed -i "$@" "../$file"
+    if cmp -s "$whole" "../$file"; then
+        echo "$file has not what is edited"
         exit 1
     fi
-    echo "$what: refused at $(wc -l < "$work/wanted") lines, as it must be"
 }
 
-# begin WHAT: this crate anew, without a module
-begin() {
-    modules=''
-    rm -f src/*.rt
-    printf '//! %s.\n#![tactic(auto)]\n' "$1" > src/lib.rt
+holds_mark() {
+    if ! grep -q '// refused: ' "../$1"; then
+        echo "no line of $1 is marked"
+        exit 1
+    fi
 }
 
-# The compiler looks at what is spent twice only where nothing is let go, and at both only where all else is well.
-begin 'Values that are spent twice'
+# refuses WHAT: all marked lines are refused, of this crate and of those below it, and no other line is
+refuses() {
+    (cd .. && grep -rn --include='*.rt' '// refused: ' .) | sed 's|^\./||; s|:\([0-9]*\):.*// refused: | \1 |' | sort -u > "$work/wanted"
+    # (rt would go on to prove what stands below, where nothing is refused)
+    rt check --only "" > "$work/said" 2>&1 || true
+    # (of a crate below it tells the whole path)
+    sed -n "s|^src/|misuse/src/|; s|^$work/crates/||; s|:\([0-9]*\):[0-9]*: error\[\([a-z0-9-]*\)\].*| \1 \2|p" "$work/said" | sort -u > "$work/found"
+    if ! diff "$work/wanted" "$work/found"; then
+        echo "$1: not refused as it must be (< wanted, > found)"
+        exit 1
+    fi
+    echo "$1: refused at $(wc -l < "$work/wanted") lines, as it must be"
+    for kept in "$work"/whole/*; do
+        [ ! -f "$kept" ] || mv "$kept" "../$(basename "$kept" | tr : /)"
+    done
+}
+
+# The compiler looks at what is spent twice only where nothing is let go, and at both only where all else is well: hence three looks,
+# each at all crates.
+begin base_types lockword rwloops fd_descriptor relay_conn
 
 # A half after the unlock, and a value spent twice.
 module spent_twice << 'END'
@@ -147,10 +155,12 @@ where
 }
 END
 
-# shellcheck disable=SC2086
-refuses_in 'values that are spent twice' $modules
+# A side of a connection that ends is closed once.
+edited relay_conn/src/connection.rt 's|^            target\.close(rt);$|&\n            target.close(rt); // refused: borrow-e0382|'
+holds_mark relay_conn/src/connection.rt
+refuses 'values that are spent twice'
 
-begin 'Values that are let go'
+begin lockword relay_conn relay_loops
 
 # A value that must be spent, and is let go.
 module let_go << 'END'
@@ -178,10 +188,20 @@ pub fn drain(drains: Drains<u64, u64>) {} // refused: linear-value-let-go
 pub fn duty_to_destroy(last: Last<u64, u64>) {} // refused: linear-value-let-go
 END
 
-# shellcheck disable=SC2086
-refuses_in 'values that are let go' $modules
+# A side of a connection that ends is closed.
+edited relay_conn/src/connection.rt -e 's|^            target,$|            target, // refused: linear-value-let-go|' \
+    -e '/^        if let Some(target) = target {$/,/^        }$/d'
+holds_mark relay_conn/src/connection.rt
 
-begin 'Values that are made up, and a wait without a runtime'
+# A client that was delivered to its loop is counted, and why it is refused is told.
+edited relay_loops/src/set_up.rt -e '/^                arrival\.refused(/d' \
+    -e 's|^        match self\.connect(tasks, .*{$|& // refused: linear-value-let-go|' \
+    -e 's|^            Err(why) => {$|& // refused: linear-value-let-go|'
+holds_mark relay_loops/src/set_up.rt
+refuses 'values that are let go'
+
+begin lockword
+
 # A value that is taken apart, or made up.
 module made_up << 'END'
 //! The fields are private, so that nobody takes a half out of its lock or makes a seat of a reference.
@@ -208,29 +228,10 @@ pub fn try_with_a_mutex_around_the_state(state: &Mutex<u64>) -> u64 {
 }
 END
 
-# shellcheck disable=SC2086
-refuses_in 'values that are made up, and a wait without a runtime' $modules
-
-# A side of a connection that ends is closed, and once.
-cd "$work/crates/relay_conn"
-cp src/connection.rt "$work/connection.rt"
-sed -i -e 's|^            target,$|            target, // refused: linear-value-let-go|' -e '/^        if let Some(target) = target {$/,/^        }$/d' src/connection.rt
-refuses_in 'a side that is left open' connection
-cp "$work/connection.rt" src/connection.rt
-sed -i 's|^            target\.close(rt);$|&\n            target.close(rt); // refused: borrow-e0382|' src/connection.rt
-refuses_in 'a side that is closed twice' connection
-cp "$work/connection.rt" src/connection.rt
-
-# A client that was delivered to its loop is counted, and why it is refused is told.
-cd "$work/crates/relay_loops"
-sed -i -e '/^                arrival\.refused(/d' \
-    -e 's|^        match self\.connect(tasks, .*{$|& // refused: linear-value-let-go|' \
-    -e 's|^            Err(why) => {$|& // refused: linear-value-let-go|' src/set_up.rt
-refuses_in 'a client that is neither served nor refused' set_up
-
 # The same inside the word: a `LockWord` that keeps a mutex beside its table, and a try that takes it before its step.
-cd "$work/crates/lockword"
-sed -i 's|^    pub(crate) table: Table<.*|&\n    pub(crate) guard: std::sync::Mutex<u64>,|' src/holders.rt
-sed -i 's|^        match self\.try_step::<TakeReference>.*|        let held = self.guard.lock(); // refused: mismatched-argument-count\n&|' src/references.rt
-sed -i 's|Ok((LockWord { table }, |Ok((LockWord { table, guard: std::sync::Mutex::new(0) }, |' src/destroy.rt
-refuses_in 'a lock held inside the word' references
+edited lockword/src/holders.rt 's|^    pub(crate) table: Table<.*|&\n    pub(crate) guard: std::sync::Mutex<u64>,|'
+edited lockword/src/seats.rt 's|LockWord { table }|LockWord { table, guard: std::sync::Mutex::new(0) }|'
+edited lockword/src/references.rt \
+    's|^        match self\.try_step::<TakeReference>.*|        let held = self.guard.lock(); // refused: mismatched-argument-count\n&|'
+holds_mark lockword/src/references.rt
+refuses 'values that are made up, and waits without a runtime'

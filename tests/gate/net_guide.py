@@ -4,24 +4,32 @@
     python3 tests/gate/net_guide.py
 
 Steps 3, 4 and 6 have to be the programs of `crates/echo_server`, `crates/loop_echo_server` and `crates/line_server`, but for their names
-in the head; they and step 2 are built as one program (`lib/example_programs.py`). Step 1 is built by `rt try`, as its reader does. What
-step 5 quotes has to stand in the crate that it copies, which isn't proved here.
+in the head; they and steps 1 and 2 are built as one program (`lib/example_programs.py`), over the crates of this repository: those that
+the reader's `rt` finds below his own have to be the same, use the same and have the same texts. What step 5 quotes has to stand in the
+crate that it copies, which isn't proved here.
 """
+import os
 import re
 import shlex
+import shutil
 import subprocess
 import sys
 import tempfile
 
 sys.path.insert(1, f"{sys.path[0]}/..")
 from lib.checks import Checks
-from lib.example_programs import SECOND_STEP, program
+from lib.example_programs import STEPS, program
 from lib.follower import Follower
+from lib.joined import texts_below
 from lib.places import ROOT
 from lib.sockets import connect, free_port, is_served
 from lib.talk import has_ended, heard, hears, says
-from lib.trial import Trial
 from lib.waiting import comes
+
+RT = os.path.realpath(shutil.which("rt") or sys.exit("rt isn't on the path"))
+sys.path.insert(0, os.path.dirname(RT))
+sys.dont_write_bytecode = True
+import rtlib  # the kit's own module, beside rt: it knows what a crate is built over
 
 PAGE = f"{ROOT}/docs/net-guide.md"
 START = re.compile(r"^rt try -- (.*)$", re.M)
@@ -38,6 +46,14 @@ QUIET_SECONDS = 0.3
 def text_of(path):
     with open(path, encoding="utf-8") as file:
         return file.read()
+
+
+def libraries(top, name):
+    """What rt builds a crate of, with those below it: what each uses, of the kit too, and its texts."""
+    crate = next(it for it in rtlib.crates_below(os.path.realpath(top)) if it.name == name)
+    return {
+        it.name: ({*it.of_kit, *(below.name for below in it.deps)}, texts_below(f"{it.folder}/src")) for it in [*crate.below(), crate]
+    }
 
 
 class Ready:
@@ -82,14 +98,18 @@ class Guide(Follower):
 
     def start(self, words):
         made = tempfile.mkdtemp(dir=self.top)
-        self.server = Trial(self.at, words, made) if self.step == 1 else Ready(self.name_of_program(), words, made)
+        self.server = Ready(self.name_of_program(), words, made)
         is_there = self.server.comes_to(lambda: is_served(self.address(words[0])))
         self.checks.holds(f"step {self.step}: it serves", is_there, self.server.text()[-2_000:])
 
     def name_of_program(self):
         """By what name the step's program stands: where it is an example, its text has to be that of the example's crate."""
         if self.step not in EXAMPLES:
-            return SECOND_STEP
+            wanted, found = libraries(ROOT, "net"), libraries(f"{self.at}/../..", os.path.basename(self.at))
+            del found[os.path.basename(self.at)]
+            told = [it for it in {*wanted, *found} if wanted.get(it) != found.get(it)]
+            self.checks.expect(f"step {self.step}: crates below it that aren't those of this repository", [], told)
+            return STEPS[self.step - 1]
         crate, name = EXAMPLES[self.step]
         wanted = text_of(f"{ROOT}/crates/{crate}/src/main.rt").replace(f"`{crate} ", f"`{name} ")
         is_it = text_of(f"{self.at}/src/main.rt") == wanted

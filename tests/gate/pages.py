@@ -17,6 +17,7 @@ from lib.pages.tree import Told, Tree
 SUBJECTS = (
     "options", "admin", "replies", "faults", "trace", "metrics", "log_words", "limits", "version", "kit", "man", "shell_lines", "samples",
     "quotes", "claims", "names", "links", "figures", "listed", "plants", "stale", "packaged", "net_page", "voice", "headline",
+    "tables",
 )
 
 

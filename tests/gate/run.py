@@ -29,8 +29,10 @@ from lib.places import ROOT
 
 # What a test may take on a machine that is full of other work, in seconds.
 TEST_SECONDS = 900
-# What a part may take: so long, or so many times what the table says.
+# What a part may take: so long, or so many times what the table says. Where more is ready to run than there are processors, its seconds
+# are those that it would have had alone.
 PART_SECONDS, TIMES = 2_400, 5
+PROCESSORS = len(os.sched_getaffinity(0))
 # How much is shown of what a failed part said.
 LINES_SHOWN = 40
 # How a part says how many it passed: rt's tests and most scripts, and Python's own tests.
@@ -66,7 +68,8 @@ class Part:
         self.running = self.said = None
 
     def start(self, program):
-        self.began, self.said = time.monotonic(), tempfile.TemporaryFile()
+        self.began = self.looked = time.monotonic()
+        self.had, self.said = 0, tempfile.TemporaryFile()
         self.printed = tempfile.TemporaryFile() if self.wanted is not None else self.said
         env = {**os.environ, "RT_SECONDS": str(TEST_SECONDS), "PYTHONDONTWRITEBYTECODE": "1"}
         if program:
@@ -79,8 +82,14 @@ class Part:
     def seconds(self):
         return time.monotonic() - self.began
 
+    def seconds_alone(self):
+        now = time.monotonic()
+        self.had += (now - self.looked) / max(1, os.getloadavg()[0] / PROCESSORS)
+        self.looked = now
+        return self.had
+
     def has_ended(self):
-        if self.running.poll() is None and self.seconds() > max(PART_SECONDS, TIMES * self.weight):
+        if self.running.poll() is None and self.seconds_alone() > max(PART_SECONDS, TIMES * self.weight):
             os.killpg(self.running.pid, 9)
             self.running.wait()
         return self.running.poll() is not None
@@ -231,7 +240,7 @@ class Run:
             for part in [it for it in self.running if it.has_ended()]:
                 self.running.remove(part)
                 self.end(part)
-            time.sleep(0.1)
+            time.sleep(0.2)
 
 
 def chosen_parts(names):
@@ -258,7 +267,7 @@ def print_list(chosen):
 def main():
     options = argparse.ArgumentParser(description=__doc__.split("\n")[0])
     options.add_argument("parts", nargs="*", metavar="PART", help="parts, or outside, or a tier: quick, full")
-    options.add_argument("--lanes", type=int, default=len(os.sched_getaffinity(0)), metavar="N")
+    options.add_argument("--lanes", type=int, default=PROCESSORS, metavar="N")
     options.add_argument("--list", action="store_true", help="say which parts there are")
     given = options.parse_args()
     if given.list:

@@ -95,8 +95,12 @@ class Runs(MadeFolder):
         self.assertEqual(self.ran(computes, sleeps, lanes=1)[:2], (2, 0))
 
     def test_a_part_that_takes_too_long_is_ended(self):
-        with mock.patch.object(run, "PART_SECONDS", 0.3):
+        with mock.patch.object(run, "PART_SECONDS", 0.3), mock.patch("os.getloadavg", return_value=(0, 0, 0)):
             self.assertEqual(self.ran(self.part("hangs", "sleep 60"))[:2], (0, 1))
+
+    def test_a_part_that_takes_long_on_a_busy_machine_is_not_ended(self):
+        with mock.patch.object(run, "PART_SECONDS", 0.3), mock.patch("os.getloadavg", return_value=(100 * run.PROCESSORS, 0, 0)):
+            self.assertEqual(self.ran(self.part("waits", "sleep 1"))[:2], (1, 0))
 
     def test_tiers_and_names_choose_parts_and_the_program_comes_where_it_is_needed(self):
         rows = ("| `one` | quick | 9 |  | `sh one` | x |", "| `two` | full | 5 | program, alone, gcc | `sh two` | x |", "| `three` | gate | 5 |  | `sh three` | x |", "| `four` | quick | 3 | program | `sh four` | x |")

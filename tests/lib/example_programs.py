@@ -1,4 +1,4 @@
-"""The examples on `net`, the second step of their guide, and what the benchmarks call: one program, built with nothing proved, that is
+"""The examples on `net`, the first two steps of their guide, and what the benchmarks call: one program, built with nothing proved, that is
 each of these by the name by which it is started."""
 import fcntl
 import hashlib
@@ -15,7 +15,8 @@ from lib.trial import Trial
 GUIDE = f"{ROOT}/docs/net-guide.md"
 STEP = re.compile(r"^`src/main.rt`:\n\n```rust\n(.*?)^```$", re.M | re.S)
 CRATES = ("echo_server", "loop_echo_server", "line_server", "page_server", "bench_calls")
-SECOND_STEP = "second_step"
+# (the other steps of the guide are examples)
+STEPS = FIRST_STEP, SECOND_STEP = "first_step", "second_step"
 MADE = f"{ROOT}/crates/net/out/examples"
 # By any other name it is the second step, which needs a port alone and a time.
 CHOICE = """
@@ -44,6 +45,7 @@ fn main(rt: HostRuntime) -> io::Result<ExitCode> {
         Some("loop_echo_server") => loop_echo_server::main(rt)?,
         Some("line_server") => line_server::main(rt)?,
         Some("page_server") => page_server::main(rt)?,
+        Some("first_step") => first_step::main(rt)?,
         _ => second_step::main(rt)?,
     }
     Ok(ExitCode::SUCCESS)
@@ -56,7 +58,8 @@ def joined(top):
     made = Joined(top, "example_programs")
     for it in CRATES:
         made.take_crate(it)
-    made.take(SECOND_STEP, ["net"], {"main.rt": STEP.findall(text_of(GUIDE))[1]})
+    for name, text in zip(STEPS, STEP.findall(text_of(GUIDE))):
+        made.take(name, ["net"], {"main.rt": text})
     made.begin("main.rt", CHOICE)
     return made.crate
 
@@ -69,7 +72,7 @@ def build(crate):
         if not trial.comes_to(lambda: is_served(f"tcp:127.0.0.1:{port}")):
             trial.end()
             raise RuntimeError(f"{trial.text()}rt try didn't come to run the examples")
-        for it in (*CRATES, SECOND_STEP):
+        for it in (*CRATES, *STEPS):
             shutil.copy(trial.program(), f"{MADE}/{it}.new")
             os.replace(f"{MADE}/{it}.new", f"{MADE}/{it}")
         trial.end()

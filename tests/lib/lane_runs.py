@@ -6,6 +6,8 @@ from lib.ends import pump
 from lib.lanes import LANES, SECONDS, Outcome, ends_of, some_size
 from lib.waiting import wait_until
 
+STOP_SECONDS = 10
+
 
 def told(checks, name, outcomes):
     """Takes the outcomes of a run into the checks, and gives their sums."""
@@ -39,7 +41,8 @@ def expect_end(checks, name, relay):
     """Stops the relay and gives its last totals."""
     status, totals, seconds = relay.stop()
     checks.expect(f"{name}: status", 0, status)
-    checks.holds(f"{name}: stopped within 2 s", seconds <= 2, f"{seconds:.2f} s")
+    # (a stop that waited for connections would wait for longer, however busy the machine is)
+    checks.holds(f"{name}: stopped within {STOP_SECONDS} s", seconds <= STOP_SECONDS, f"{seconds:.2f} s")
     bound = [lane.listen for lane in LANES if lane.listen.startswith("unix:")]
     left = [it for it in [relay.admin, *(path[5:] for path in bound)] if os.path.lexists(it)]
     checks.expect(f"{name}: Unix paths that are left", [], left)

@@ -16,7 +16,7 @@ from lib.sockets import REPLY_SECONDS, connect
 
 # Of threads that go last, as `nice` counts: on a machine that is full of other work the least, 19, would leave them next to nothing.
 LOW_PRIORITY = 10
-# 3,500 pairs and 64 listeners take more descriptors than the 1,024 that a shell often gives.
+# 1,000 pairs take more descriptors than the 1,024 that a shell often gives.
 DESCRIPTORS = 8192
 
 

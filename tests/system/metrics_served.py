@@ -21,8 +21,9 @@ import sys
 import time
 
 sys.path.insert(1, f"{sys.path[0]}/..")
+from lib.c_code import library
 from lib.checks import Checks
-from lib.places import PROGRAM
+from lib.places import LIB, PROGRAM
 from lib.relay import Relay
 from lib.sockets import connect, is_served, listener, read_to_end, some_address
 from lib.stages import options, run_stages
@@ -81,9 +82,9 @@ WELL = f"HTTP/1.1 {OK}\r\n{PLAIN}\r\ncontent-length: 3\r\n\r\nok\n".encode()
 class Metered(Relay):
     """A relay with metrics at an address, by one rule."""
 
-    def __init__(self):
+    def __init__(self, env=None):
         self.metrics, self.clients = some_address(), []
-        super().__init__(f"relay a {some_address()} {some_address()} never\n", options=("--metrics", self.metrics))
+        super().__init__(f"relay a {some_address()} {some_address()} never\n", options=("--metrics", self.metrics), env=env)
 
     def client(self):
         self.clients.append(connect(self.metrics, WAIT_SECONDS))
@@ -211,20 +212,22 @@ def limits(checks, _):
         checks.holds("limits: the next is answered", comes(relay.serves), "it isn't")
 
 
-def places(checks, _):
-    with Metered() as relay:
+def places(checks, folder):
+    # (their time is never over by a clock that stands, however long it takes to ask all of them)
+    standing = {"LD_PRELOAD": library(f"{LIB}/fast_clock.c", f"{folder}/clock.so"), "FAST": "0"}
+    with Metered(standing) as relay:
         os.kill(relay.process.pid, signal.SIGSTOP)
         at_once = relay.some(MOST + MORE)
         os.kill(relay.process.pid, signal.SIGCONT)
         checks.expect("places: of those that came at once the first go", [True] * MORE, [has_ended(it) for it in at_once[:MORE]])
         checks.expect("places: the last stand", [True] * MOST, [is_well(it) for it in at_once[MORE:]])
-    with Metered() as relay:
+    with Metered(standing) as relay:
         there = relay.some(MOST)
         checks.expect("places: as many as may stand", [True] * MOST, [is_well(it) for it in there])
         checks.holds("places: one more is answered", is_well(relay.client()), "it isn't")
         checks.holds("places: it has the place of the first", has_ended(there[0]), "the first stays")
         checks.expect("places: and of no other", [True] * (MOST - 1), [is_well(it) for it in there[1:]])
-    with Metered() as relay:
+    with Metered(standing) as relay:
         relay.some(SILENT)
         checks.expect("places: those that say nothing keep nobody out", [True] * 30, [relay.serves() for _ in range(30)])
 

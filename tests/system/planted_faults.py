@@ -98,7 +98,7 @@ PLANTED = [
     ("leaves_a_descriptor", "whole rough drained many", "many: descriptors"),
     ("leaves_memory", "many", "many: memory"),
     ("leaves_its_paths", "whole rough drained many", "whole: Unix paths"),
-    ("stops_late", "whole rough drained many drained_in_time pairs", "whole: stopped within 2 s"),
+    ("stops_late", "whole rough drained many drained_in_time pairs", "whole: stopped within 10 s"),
     ("ends_with_1", "whole rough many", "whole: status"),
 ]
 

@@ -24,7 +24,7 @@ from lib.black_hole import BlackHole
 from lib.c_code import library
 from lib.checks import Checks
 from lib.log_text import read_log
-from lib.metrics import scrape
+from lib.metrics import scrape, scrape_again
 from lib.places import LIB
 from lib.relay import Relay, Session, StartFault
 from lib.served import Served
@@ -51,15 +51,15 @@ def hows(path, count):
     return sorted((it["rule"], it["how"]) for it in lines) + ([("lost or strange", (lost, others))] if lost or others else [])
 
 
-def figure(address, name):
+def figure(address, name, ask=scrape):
     """A figure of the relay's metrics."""
-    found = [it for it in scrape(address)[1].splitlines() if it.startswith(f"{name} ")]
+    found = [it for it in ask(address)[1].splitlines() if it.startswith(f"{name} ")]
     return int(found[0].rsplit(" ", 1)[1]) if found else None
 
 
-def tells(checks, address, name, want):
-    wait_until(lambda: figure(address, name) == want, 10)
-    checks.expect(name, want, figure(address, name))
+def tells(checks, address, name, want, ask=scrape):
+    wait_until(lambda: figure(address, name, ask) == want, 10)
+    checks.expect(name, want, figure(address, name, ask))
 
 
 def dead_target(checks, folder):
@@ -236,27 +236,28 @@ def accept_faults(checks, folder):
     log, metrics = f"{folder}/faults.log", f"tcp:127.0.0.1:{free_port()}"
     with Served("never", options=("--log", log, "--metrics", metrics), env={"LD_PRELOAD": shim, "FAST": "200"}) as served:
         relay, rows = served.relay, 'pollrelay_rule_accept_faults_total{rule="r0"}'
-        checks.expect("faults: well before", (200, "ok\n"), scrape(metrics, "/healthz"))
-        tells(checks, metrics, 'pollrelay_rule_listening{rule="r0"}', 1)
+        checks.expect("faults: well before", (200, "ok\n"), scrape_again(metrics, "/healthz"))
+        tells(checks, metrics, 'pollrelay_rule_listening{rule="r0"}', 1, scrape_again)
         checks.expect("faults: a deadline of the listener", "ok", relay.ask("deadline 1 0"))
-        tells(checks, metrics, 'pollrelay_rule_listening{rule="r0"}', 0)
-        checks.expect("faults: ill meanwhile", (503, "not listening\n"), scrape(metrics, "/healthz"))
+        tells(checks, metrics, 'pollrelay_rule_listening{rule="r0"}', 0, scrape_again)
+        checks.expect("faults: ill meanwhile", (503, "not listening\n"), scrape_again(metrics, "/healthz"))
         # 1,025 faults take 17 minutes of the relay's clock, and then a second row begins. Each reload ends a wait of the system,
         # which takes as long as ever.
-        checks.holds("faults: a second row", wait_until(lambda: reloaded(relay) and (figure(metrics, rows) or 0) >= 2, 60), figure(metrics, rows))
+        has_two = wait_until(lambda: reloaded(relay) and (figure(metrics, rows, scrape_again) or 0) >= 2, 60)
+        checks.holds("faults: a second row", has_two, figure(metrics, rows, scrape_again))
         checks.expect("faults: lifted", "ok", relay.ask("deadline 1 never"))
         began = time.monotonic()
         checks.holds("faults: the rule serves", both_ways(*served.open()), "no byte came back")
         checks.holds("faults: after one pause", time.monotonic() - began < SOON, f"{time.monotonic() - began:.1f} s")
-        tells(checks, metrics, 'pollrelay_rule_listening{rule="r0"}', 1)
-        checks.expect("faults: well again", (200, "ok\n"), scrape(metrics, "/healthz"))
-        rest = figure(metrics, rows)
+        tells(checks, metrics, 'pollrelay_rule_listening{rule="r0"}', 1, scrape_again)
+        checks.expect("faults: well again", (200, "ok\n"), scrape_again(metrics, "/healthz"))
+        rest = figure(metrics, rows, scrape_again)
         lines = [how for _, how in hows(log, rest) if how.startswith("accept ")]
         checks.expect("faults: a line for each row", ["accept other"] * rest, lines)
         checks.expect("faults: a close", "ok", relay.ask("close 1"))
-        checks.expect("faults: a closed rule is ill", (503, "not listening\n"), scrape(metrics, "/healthz"))
+        checks.expect("faults: a closed rule is ill", (503, "not listening\n"), scrape_again(metrics, "/healthz"))
         checks.expect("faults: a reload", "rules 1", relay.ask("reload"))
-        checks.expect("faults: well after it", (200, "ok\n"), scrape(metrics, "/healthz"))
+        checks.expect("faults: well after it", (200, "ok\n"), scrape_again(metrics, "/healthz"))
 
 
 REFUSED = 'pollrelay_rule_refused_total{{rule="r0",cause="{}"}}'

@@ -403,7 +403,7 @@ class Relay:
     def end(self):
         for id in list(self.sides):
             self.close_side(id)
-        time.sleep(3 if FAULT == "stops_late" else 0.3)
+        time.sleep(12 if FAULT == "stops_late" else 0.3)
         if FAULT != "leaves_its_paths":
             for path in self.paths:
                 os.remove(path)

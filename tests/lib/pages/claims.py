@@ -12,6 +12,7 @@ last cell that it is tested. Calls are found by name, so that a name which two f
 functions of `NAMESAKES`. One that stands there with its type is a library call by both names, as `Lines::read`.
 """
 
+import functools
 import os
 import re
 
@@ -39,16 +40,15 @@ FACT = re.compile(r"^(?: *(?:pub )?(?:abbrev|data|record) (?:pub )?|pub |)([A-Za
 
 
 class Crate:
-    """The functions of a crate, each with the names of its clauses, and its other names."""
+    """The functions of a crate, each with the names of its clauses, and its other names: by its sources, each with whether it is of laws,
+    and its definitions."""
 
-    def __init__(self, tree, name):
+    def __init__(self, name, sources, specs):
         self.name, self.functions, self.names, self.laws, self.calls = name, {}, set(), set(), {}
-        for path in tree.paths(rf"crates/{name}/src/.*\.rt"):
-            stem = os.path.basename(path)[:-3]
-            if "tests" not in path.split("/")[3:-1] and stem != "tests":
-                self.read_source(tree.text(path), stem == "laws")
-        for path in tree.paths(rf"crates/{name}/specs/.*\.antt"):
-            self.names |= set(FACT.findall(tree.text(path)))
+        for text, are_laws in sources:
+            self.read_source(text, are_laws)
+        for text in specs:
+            self.names |= set(FACT.findall(text))
 
     def read_source(self, text, are_laws=False):
         self.names |= set(ITEM.findall(text))
@@ -258,8 +258,21 @@ def quoted_promises(tree, told):
             told.holds(said in readme, page, f"README.md doesn't say: {it[1]}", tree.text(page).count("\n", 0, it.start()) + 1)
 
 
+# (a crate of the same texts is read once)
+read_crate = functools.cache(Crate)
+
+
+def crate_of(tree, name):
+    sources = []
+    for path in tree.paths(rf"crates/{name}/src/.*\.rt"):
+        stem = os.path.basename(path)[:-3]
+        if "tests" not in path.split("/")[3:-1] and stem != "tests":
+            sources.append((tree.text(path), stem == "laws"))
+    return read_crate(name, tuple(sources), tuple(tree.text(it) for it in tree.paths(rf"crates/{name}/specs/.*\.antt")))
+
+
 def crates_of(tree):
-    return {it: Crate(tree, it) for it in sorted({path.split("/")[1] for path in tree.paths(r"crates/\w+/src/.*\.rt")})}
+    return {it: crate_of(tree, it) for it in sorted({path.split("/")[1] for path in tree.paths(r"crates/\w+/src/.*\.rt")})}
 
 
 def check(tree, told):

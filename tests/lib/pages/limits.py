@@ -1,6 +1,7 @@
 """The limits, as constants of the code have them: the guide has each among its own, and wherever a page says one by the words
 below it is the code's."""
 
+import functools
 import re
 
 from lib.pages.limit_words import N, SAID, value_of
@@ -113,17 +114,24 @@ def in_cells(told, text, known):
                 told.holds(grouped(known[name]) in said, GUIDE, f"the {head} of {row} isn't {grouped(known[name])}, as `{name}` is")
 
 
+@functools.cache
+def said_in(text):
+    """Each number that a text says by the words of a limit: the constant's name, the number, the words and the line."""
+    found = []
+    for pattern, *names in SAID:
+        for it in re.finditer(pattern.replace(" ", r"\s+"), text):
+            line = text.count("\n", 0, it.start()) + 1
+            found += [(name, value_of(said), " ".join(it[0].split()), line) for name, said in zip(names, it.groups())]
+    return found
+
+
 def in_sentences(tree, told, known):
     """Each number that is said by the words of a limit, and that each constant is said so somewhere."""
     seen = set()
     for page in (*tree.pages(), *tree.samples(), HELP):
-        text = tree.text(page)
-        for pattern, *names in SAID:
-            for it in re.finditer(pattern.replace(" ", r"\s+"), text):
-                line = text.count("\n", 0, it.start()) + 1
-                for name, said in zip(names, it.groups()):
-                    seen.add(name)
-                    told.holds(value_of(said) == known[name], page, f"“{' '.join(it[0].split())}”: {grouped(known[name])}, as `{name}` is", line)
+        for name, value, words, line in said_in(tree.text(page)):
+            seen.add(name)
+            told.holds(value == known[name], page, f"“{words}”: {grouped(known[name])}, as `{name}` is", line)
     for name in known:
         told.holds(name in seen, GUIDE, f"no page says the limit `{name}` by words that tests/lib/pages/limit_words.py has")
 

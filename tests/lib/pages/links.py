@@ -26,6 +26,13 @@ OF_GO = {"internal/poll", "net/http", "net/netip"}
 
 
 @functools.cache
+def is_matched(pattern, files):
+    """Whether a path with `*` in it names a file or a folder."""
+    whole = re.compile(re.escape(pattern).replace(r"\*", r"[\w.-]*"))
+    return any(whole.fullmatch(it) for it in tails(files))
+
+
+@functools.cache
 def tails(files):
     """What names a file or a folder: some names of its path that follow one another, the last also without its ending."""
     found = set()
@@ -40,14 +47,14 @@ class Names:
     """What names a file or a folder of a tree."""
 
     def __init__(self, tree):
-        self.tree, self.tails = tree, tails(tuple(tree.files))
+        self.tree, self.files = tree, tuple(tree.files)
+        self.tails = tails(self.files)
 
     def is_there(self, path):
         path = re.sub(r"^(?:\.\.?/)+", "", path.rstrip("/."))
         pattern = ANY.sub("*", path)
         if "*" in pattern:
-            whole = re.compile(re.escape(pattern).replace(r"\*", r"[\w.-]*"))
-            return any(whole.fullmatch(it) for it in self.tails)
+            return is_matched(pattern, self.files)
         return path in self.tails or self.tree.has(path)
 
 
@@ -58,12 +65,11 @@ def is_path(span, page):
     return bool(PATH.fullmatch(span)) and is_own and span not in OF_GO and not MADE.search(span)
 
 
+@functools.cache
 def named_files(text):
     """The paths that a page names, alone or in a line of shell in code's letters, each with its line; but for a file that the page
     itself gives, below a line with its path alone."""
-    for line, span in spans(FILE.sub("", text)):
-        for word in span.split(" "):
-            yield line, word.strip("'\",:")
+    return [(line, word.strip("'\",:")) for line, span in spans(FILE.sub("", text)) for word in span.split(" ")]
 
 
 def named_sections(text):

@@ -1,6 +1,7 @@
 """The lines of shell in pages, samples and heads of scripts: what each calls is there and takes the words that it is given. A line
 that this script can't try itself is tried by the part of the tests that the tables below name, or says there why none can."""
 
+import functools
 import json
 import re
 import shlex
@@ -37,6 +38,7 @@ BARE = re.compile(rf"(?:{options.PROGRAM} (?:serve|ctl|check|trace)|python3|sh|s
 PLACE = re.compile(r"[A-Z][A-Z_]*(?:\.\.)?|\d+|never|[<$/{].*|.*/.*")
 
 
+@functools.cache
 def simple_commands(text):
     """The words of each simple command of a line."""
     lexer = shlex.shlex(JOINED.sub("", REMARK.sub("", PROMPT.sub("", text))), posix=True, punctuation_chars="();<>|&")
@@ -58,24 +60,37 @@ def simple_commands(text):
     return [it for it in found if it]
 
 
+@functools.cache
+def texts_of_page(text):
+    """Each line of a page that may be one of shell, and whether it stands in running text."""
+    found = []
+    for line, kind, block in fences(text):
+        if kind in SHELL:
+            found += [(line + at, it, False) for at, it in enumerate(re.sub(r"\\\n *", " ", block).splitlines())]
+    found += [(line, it, False) for line, it in indented(text)]
+    return found + [(line, it, True) for line, it in spans(text)]
+
+
+@functools.cache
+def texts_of_sample(text):
+    """The same of a sample or of a script's head, which have no running text."""
+    head = HEAD.match(text)
+    found = [(line, it, False) for line, it in indented(head[1] if head else "")]
+    for line, said in enumerate(text.splitlines(), 1):
+        given = UNIT.match(said) or GIVEN.match(said)
+        if given:
+            found.append((line, re.sub(r",? (?:with|\(as) .*$", "", next(it for it in given.groups() if it)), False))
+        elif RECIPE.match(said):
+            found.append((line, " ".join(json.loads(RECIPE.match(said)[1])), False))
+    return found
+
+
 def texts(tree):
     """Each line that may be one of shell, with its page and whether it stands in running text."""
     for page in tree.pages():
-        text = tree.text(page)
-        for line, kind, block in fences(text):
-            if kind in SHELL:
-                yield from ((page, line + at, it, False) for at, it in enumerate(re.sub(r"\\\n *", " ", block).splitlines()))
-        yield from ((page, line, it, False) for line, it in indented(text))
-        yield from ((page, line, it, True) for line, it in spans(text))
+        yield from ((page, *it) for it in texts_of_page(tree.text(page)))
     for page in tree.paths(SAMPLES):
-        head = HEAD.match(tree.text(page))
-        yield from ((page, line, it, False) for line, it in indented(head[1] if head else ""))
-        for line, said in enumerate(tree.text(page).splitlines(), 1):
-            given = UNIT.match(said) or GIVEN.match(said)
-            if given:
-                yield page, line, re.sub(r",? (?:with|\(as) .*$", "", next(it for it in given.groups() if it)), False
-            elif RECIPE.match(said):
-                yield page, line, " ".join(json.loads(RECIPE.match(said)[1])), False
+        yield from ((page, *it) for it in texts_of_sample(tree.text(page)))
 
 
 def lines(tree):

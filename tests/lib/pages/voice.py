@@ -1,6 +1,7 @@
 """Turns of phrase that strangers stumbled over, each with the plain one: no page has them again. A page of docs/ says first for whom it is,
 and what words mean that are ours alone."""
 
+import functools
 import re
 
 from lib.pages.markdown import SPAN, paragraphs
@@ -37,13 +38,18 @@ TERMS = {
 WITHOUT_TERMS = {"docs/glossary.md", "docs/DECISIONS.md"}
 
 
+@functools.cache
+def turns_in(text):
+    """The turns of phrase of a text, each with the plain one and its line."""
+    lines = enumerate(text.splitlines(), 1)
+    return [(it[0].strip(), plain, line) for line, said in lines for words, plain in ROWS for it in re.finditer(words, said)]
+
+
 def check(tree, told):
     for page in tree.pages():
         told.passed += 1
-        for line, said in enumerate(tree.text(page).splitlines(), 1):
-            for words, plain in ROWS:
-                for it in re.finditer(words, said):
-                    told.holds(False, page, f"“{it[0].strip()}”: {plain}", line)
+        for said, plain, line in turns_in(tree.text(page)):
+            told.holds(False, page, f"“{said}”: {plain}", line)
     for page in set(tree.paths(r"docs/[\w-]+\.md")) - {INDEX}:
         first = next((it for _, it in paragraphs(tree.text(page)) if not it.startswith("#")), "")
         told.holds(first.startswith("For "), page, "doesn't say in its first line for whom it is")
