@@ -2,7 +2,7 @@
 //! test is one straight line.
 
 /// Ends the test's process where this doesn't hold, and says what should. A call costs the proof
-/// of a test less than a branch does. `relay_tests` and others have one too: no crate uses
+/// of a test less than a branch does. `workers_tests` and others have one too: no crate uses
 /// another's tests.
 macro_rules! holds {
     ($rt:expr; $is:expr) => {

@@ -2,7 +2,7 @@
 //! descriptors with its poller, its timers and its event loops.
 
 /// Ends the test's process where this doesn't hold, and says what should. A call costs the proof
-/// of a test less than a branch does. `descriptor_tests` and `relay_tests` have one too: no crate
+/// of a test less than a branch does. `metrics_tests` and others have one too: no crate
 /// uses another's tests.
 macro_rules! holds {
     ($rt:expr; $is:expr) => {

@@ -1,5 +1,5 @@
 //! A watch over a test that joins threads: it ends the test as failed where that takes too long.
-//! `readiness_tests` and `relay_tests` have one too: no crate uses another's tests.
+//! `readiness_tests` has one too: no crate uses another's tests.
 
 use super::comes_to;
 use std::alloc::Global;

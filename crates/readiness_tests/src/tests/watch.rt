@@ -1,6 +1,6 @@
 //! A watch over a test that waits for calls or threads: it ends the test as failed where that takes
 //! too long.
-//! `descriptor_tests` and `relay_tests` have one too: no crate uses another's tests.
+//! `descriptor_tests` has one too: no crate uses another's tests.
 
 use super::comes_to;
 use std::alloc::Global;
