@@ -42,7 +42,7 @@ ROWS = (
     ("metrics", "crates/relay_metrics/src/figures.rt", r"pollrelay_loops", "pollrelay_event_loops", "the figure `pollrelay_event_loops`"),
     ("metrics", "crates/relay_log/src/ended.rt", r'b"drained",', 'b"emptied",', "`pollrelay_rule_ends_total` has the labels"),
     ("metrics", "crates/relay_log/src/ended.rt", r'\n *b"no_target",', "", "`pollrelay_rule_ends_total` has the labels"),
-    ("metrics", "crates/relay_log/src/ended.rt", r'b"unreachable", ', "", "`pollrelay_rule_no_target_total` has the labels"),
+    ("metrics", "crates/relay_log/src/ended.rt", r'\n *b"unreachable",', "", "`pollrelay_rule_no_target_total` has the labels"),
     ("faults", GUIDE, r"\n\| `cannot reach admin` ", "\n| `no such relay` | | |\n\\g<0>", "has a message `no such relay`"),
     ("metrics", README, END, "\n`pollrelay_turns`\n", "`pollrelay_turns` is no figure"),
     ("metrics", "examples/prometheus/alerts.yml", r"pollrelay_up_seconds <", "pollrelay_uptime_seconds <", "`pollrelay_uptime_seconds` is no figure"),

@@ -42,6 +42,7 @@ ENDS = 'listen = ["unix:/a"]\ntarget = [{ at = "unix:/b" }]\n'
 TIME = "is no time (as 500ms, 30s, 5m, 2h, at most a day; or never)"
 LISTEN = "is no address to listen at (as tcp:0.0.0.0:443, tcp:[::]:443, unix:/run/x.sock)"
 ADDRESS = "is no address (as tcp:10.0.0.1:443, tcp:[::1]:443, tcp:app.internal:443, unix:/run/x.sock)"
+CHECKS = "is not a table ({ every = .., timeout = .., fall = .., rise = .. })"
 NETWORK = "is no network (as 10.0.0.0/8, 2001:db8::/32, 10.0.0.1)"
 NAME = 'is no name (a letter, then letters, digits and "-", all small, at most 16)'
 # Lists that let the clients of these tests in.
@@ -83,6 +84,10 @@ FAULTS = (
     (RULE.replace('"unix:/b"', '"unix:/b", weight = 65536'), 'rule "web": target 1: weight: 65536 is not from 0 to 65535'),
     (RULE.replace('"unix:/b"', '"unix:/b", backup = "yes"'), 'rule "web": target 1: backup: "yes" is not true or false'),
     (HEAD + 'balance = "random"\n' + ENDS, 'rule "web": balance: "random" is none of "round-robin", "least-connections", "first", "source"'),
+    (HEAD + 'health = "2s"\n' + ENDS, f'rule "web": health: "2s" {CHECKS}'),
+    (HEAD + "health = { every = 2 }\n" + ENDS, 'rule "web": health: every: 2 is not a text in quotes'),
+    (HEAD + "health = { fall = 101 }\n" + ENDS, 'rule "web": health: fall: 101 is not from 1 to 100'),
+    (HEAD + "health = { raise = 2 }\n" + ENDS, 'rule "web": health: unknown key "raise"; "rise" is meant?'),
     (HEAD + 'allow = "10.0.0.0/8"\n' + ENDS, 'rule "web": allow: "10.0.0.0/8" is not a list of texts'),
     (HEAD + "allow = []\n" + ENDS, 'rule "web": allow: the list is empty'),
     (HEAD + 'allow = ["10.0.0.0/8", "10.0.0/8"]\n' + ENDS, f'rule "web": allow 2: "10.0.0/8" {NETWORK}'),
@@ -99,7 +104,7 @@ UNSERVED = (
     *((HEAD + f"{key} = {value}\n" + ENDS, f'rule "web": {key}') for key, value in (
         ("connections", "5"), ("connections_per_source", "5"), ("accepts_per_source", '"5/s"'), ("keepalive", '"30s"'),
         ("user_timeout", '"30s"'), ("backlog", "5"), ("source", '"127.0.0.1"'), ("resolve", '"5s"'), ("resolve", '"never"'),
-        ("proxy_protocol", '{ to_target = "v2" }'), ("health", "{}"),
+        ("proxy_protocol", '{ to_target = "v2" }'),
     )),
     (RULE.replace('["unix:/a"]', '["unix:/a", "unix:/c"]'), 'rule "web": listen 2'),
     (RULE.replace("unix:/a", "tcp:[::1]:80"), 'rule "web": listen 1'),
@@ -111,11 +116,12 @@ UNSERVED = (
     (RULE.replace('{ at = "unix:/b" }', 63 * '{ at = "unix:/b" }, ' + '{ at = "tcp:app.internal:80" }'), 'rule "web": target 64: at'),
     ("".join(RULE.replace("web", f"r{n}").replace("/a", f"/{n}") for n in range(65)), "rule 65"),
     # Of several the first: keys of the whole ahead of rules, and the text's own faults ahead of all.
-    (HEAD + "health = {}\nbacklog = 5\n" + ENDS, 'rule "web": backlog'),
-    ('log = { file = "-", format = "json" }\n' + HEAD + "health = {}\n" + ENDS, "log: format"),
+    (HEAD + 'source = "127.0.0.1"\nbacklog = 5\n' + ENDS, 'rule "web": backlog'),
+    ('log = { file = "-", format = "json" }\n' + HEAD + "backlog = 5\n" + ENDS, "log: format"),
 )
-# Rules of several targets.
+# Rules of several targets, and of such that are checked.
 TARGETS = (
+    *(HEAD + f"health = {keys}\n" + ENDS for keys in ("{}", '{ every = "1ms", timeout = "24h", fall = 1, rise = 100 }', "{ rise = 1 }")),
     RULE.replace('{ at = "unix:/b" }', '{ at = "unix:/b", weight = 2 }, { at = "unix:/b" }, { at = "unix:/c", backup = true }'),
     RULE.replace('"unix:/b"', '"unix:/b", weight = 0'), RULE.replace('"unix:/b"', '"unix:/b", backup = true'),
     RULE.replace('{ at = "unix:/b" }', ", ".join(64 * ['{ at = "unix:/b", weight = 65535 }'])),
@@ -164,7 +170,7 @@ def verdicts(checks, folder):
 def unserved(checks, folder):
     for text, place in UNSERVED:
         refused(checks, folder, text, f"{place}: this version doesn't serve it")
-    faulty = HEAD + 'health = {}\nidle = "30x"\n' + ENDS
+    faulty = HEAD + 'backlog = 5\nidle = "30x"\n' + ENDS
     refused(checks, folder, faulty, f'rule "web": idle: "30x" {TIME}')
 
 
@@ -262,7 +268,7 @@ def reloads(checks, folder):
         checks.holds("the new target", reaches(port, second), "no bytes pass")
         for text, reply in (
             (config(port, one, "", "zone = 1\n"), 'bad config: rule "web": unknown key "zone"'),
-            (config(port, one, "", "health = {}\n"), 'bad config: rule "web": health: this version doesn\'t serve it'),
+            (config(port, one, "", "backlog = 5\n"), 'bad config: rule "web": backlog: this version doesn\'t serve it'),
             (config(port, one, "loops = 0\n"), "bad config: loops: 0 is not from 1 to 64"),
         ):
             relay.write(text)

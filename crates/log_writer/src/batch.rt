@@ -83,6 +83,7 @@ impl<A: Allocator> Batch<A> {
         ensures interrupted { result ≡ Err AttemptError.Interrupted → 0 < K.interruptions sink.new }
         ensures failed { result ≡ Err AttemptError.Failed
             → TookNoMore (K.failed sink.new) (K.took_nothing sink.new) }
+        ensures same { K.stays sink.old sink.new }
     {
         let (count, wrote) = write_front(sink, &self.taken.as_slice()[self.written..]);
         self.written += count;
@@ -100,6 +101,7 @@ fn write_front<K: Sink>(sink: &mut K, text: &[u8]) -> (usize, Result<(), Attempt
     ensures interrupted { result.1 ≡ Err AttemptError.Interrupted → 0 < K.interruptions sink.new }
     ensures failed { result.1 ≡ Err AttemptError.Failed
         → TookNoMore (K.failed sink.new) (K.took_nothing sink.new) }
+    ensures same { K.stays sink.old sink.new }
 {
     let mut at = 0;
     while at < text.len() {

@@ -6,7 +6,9 @@
 //! the thread takes them with the first. Where a device fails, it is tried again after `PAUSE_MS`,
 //! or sooner.
 
-ghost use Rattle.std.specs.Prelude.{◌≡◌, ◌⊎◌, IsTrue};
+ghost use Rattle.std.specs.Prelude.{◌≡◌, ◌↔◌, []};
+ghost use Rattle.log_writer.specs.Batch.{WritesFront};
+ghost use Rattle.log_writer.specs.declared.turn.Turn.{Turn};
 
 use crate::batch::Batch;
 use crate::counts::Counts;
@@ -111,7 +113,11 @@ impl<A: Allocator + Copy> Log<A> {
 }
 
 // Writes a batch as far as its device takes it.
-fn write<A: Allocator, W: Write>(batch: &mut Batch<A>, writer: &mut W) -> Turn {
+fn write<A: Allocator, W: Write>(batch: &mut Batch<A>, writer: &mut W) -> Turn
+    ensures empty { (result ≡ Turn.Empty) ↔ (batch.old ≡ []) }
+    ensures front { WritesFront batch.old batch.new (W.contents writer.old) (W.contents writer.new) }
+    ensures whole { result ≡ Turn.Written → batch.new ≡ [] }
+{
     if batch.is_empty() {
         return Turn::Empty;
     }

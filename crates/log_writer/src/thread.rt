@@ -1,5 +1,7 @@
 //! The log's thread, from its start to its end.
 
+ghost use Rattle.std.specs.Prelude.{◌≡◌, None, false};
+
 use crate::log::Log;
 use base_types::OutOfMemory;
 use std::io::Write;
@@ -80,7 +82,9 @@ impl LogThread {
 
 // Whether `FINISH_MS` have passed: on a busy machine a turn takes longer than it should. Where the
 // clock can't be read, the number of turns alone decides.
-fn is_late<R: Clock>(rt: &R, began: Option<Instant>) -> bool {
+fn is_late<R: Clock>(rt: &R, began: Option<Instant>) -> bool
+    ensures { began ≡ None → result ≡ false }
+{
     let Some(began) = began else {
         return false;
     };

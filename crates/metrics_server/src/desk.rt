@@ -1,7 +1,8 @@
 //! What the tasks of a server need, and what they leave.
 
-ghost use Rattle.std.specs.Prelude.{◌≡◌, ◌<◌, ◌≤◌, ◌++◌, ◌∷◌, [], length, true, false, None};
-ghost use Rattle.metrics_server.specs.Desk.{IsFirstOf};
+ghost use Rattle.std.specs.Prelude.{◌≡◌, ◌≢◌, ◌<◌, ◌≤◌, ◌++◌, ◌∷◌, [], length, true, false, None};
+ghost use Rattle.metrics_server.specs.Desk.{IsFirstOf, StandsBehind};
+ghost use Rattle.readiness.specs.declared.tasks.Turn.{Turn};
 ghost use Rattle.metrics_server.specs.declared.TheConstants.{MOST_CLIENTS};
 
 use crate::MOST_CLIENTS;
@@ -90,7 +91,11 @@ impl<R: Wait + Clock + Copy + Drop, M: Metered + Drop> Desk<R, M> {
 
     // Accepts until nobody waits: only after that a turn is told of the next who comes. Where the
     // system refuses, it rests.
-    fn accept(&mut self, listener: &mut TaskReader<ListenRes, R>) -> Turn {
+    fn accept(&mut self, listener: &mut TaskReader<ListenRes, R>) -> Turn
+        ensures goes_on { result ≢ Turn.Over }
+        ensures kept { StandsBehind self.old.accepted.items self.new.accepted.items }
+        ensures clients { self.new.standing ≡ self.old.standing }
+    {
         for _ in 0..MOST_ACCEPTED {
             match listener.poll_accept() {
                 Some(Ok(sock)) => {
@@ -113,6 +118,7 @@ impl<R: Wait + Clock + Copy + Drop, M: Metered + Drop> Desk<R, M> {
         ensures begun { result ≡ true
             → self.new.standing.items ≡ self.old.standing.items ++ client.old.token ∷ [] }
         ensures refused { result ≡ false → self.new.standing.items ≡ self.old.standing.items }
+        ensures accepted { self.new.accepted ≡ self.old.accepted }
     {
         let (now, token) = (self.now(), client.token);
         let until = now.saturating_add(self.limit_ns);
@@ -162,7 +168,9 @@ impl<R: Wait + Clock + Copy + Drop, M: Metered + Drop> Host for Desk<R, M> {
         None
     }
 
-    fn over(&mut self, task: Task<R>) {
+    fn over(&mut self, task: Task<R>)
+        ensures accepted { self.new.accepted ≡ self.old.accepted }
+    {
         if let Task::Client(client) = task {
             let token = client.token;
             self.standing.retain(|it| *it != token);

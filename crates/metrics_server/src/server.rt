@@ -3,7 +3,10 @@
 //! A fault of the poller and want of memory end no more than the client that they hit: the relay
 //! goes on without its figures, and they come back with the next turn.
 
-ghost use Rattle.std.specs.Prelude.{◌≡◌, IfOk, IfErr};
+ghost use Rattle.std.specs.Prelude.{◌≡◌, ◌<◌, ◌≤◌, ◌∷◌, [], ℕ, List, None, length, IfOk, IfErr};
+ghost use Rattle.readiness.specs.EventLoop.{tasks_of};
+ghost use Rattle.readiness.specs.Tasks.{task_in};
+ghost use Rattle.metrics_server.specs.declared.TheConstants.{MOST_CLIENTS};
 ghost use Rattle.readiness.specs.Sockets.{is_tcp_addr, is_tcp_listener};
 ghost use Rattle.rwloops.specs.declared.fault.Fault.{Fault};
 ghost use Rattle.rwloops.specs.declared.outcome.DevKind.{DevKind};
@@ -136,7 +139,14 @@ where
     }
 
     // Ends the client that came first, where as many stand as may.
-    fn make_room(&mut self) {
+    fn make_room(&mut self)
+        ensures room { length self.old.desk.standing.items < MOST_CLIENTS → self.new ≡ self.old }
+        ensures first { (first : ℕ) (others : List ℕ)
+            → MOST_CLIENTS ≤ length self.old.desk.standing.items
+            → self.old.desk.standing.items ≡ first ∷ others
+            → task_in (tasks_of self.new.tasks) first ≡ None }
+        ensures accepted { self.new.desk.accepted ≡ self.old.desk.accepted }
+    {
         if let Some(first) = self.desk.gives_way() {
             if let Some(task) = self.tasks.take(first) {
                 self.desk.over(task);
@@ -151,7 +161,9 @@ where
     M: Metered + Drop,
 {
     // Takes a connection in. Where anything is refused it is closed.
-    fn take_in(&mut self, sock: Sock) -> Option<()> {
+    fn take_in(&mut self, sock: Sock) -> Option<()>
+        ensures { self.new.desk.accepted ≡ self.old.desk.accepted }
+    {
         self.make_room();
         let rt = self.desk.rt;
         let keys = RandomState::new(&rt).ok()?;
@@ -167,7 +179,10 @@ where
         Some(())
     }
 
-    fn turn(&mut self) {
+    // Has its tasks go on, and takes in who was accepted.
+    fn turn(&mut self)
+        ensures { self.new.desk.accepted.items ≡ [] }
+    {
         let (rt, now) = (self.desk.rt, self.desk.now());
         if self.tasks.turn(&rt, now, &mut self.desk).is_err() {
             sleep(&rt, Duration::from_millis(REST_MS));

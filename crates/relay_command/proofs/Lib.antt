@@ -1,1 +1,2 @@
 mod SoftLimitLemmas
+mod ReplyLemmas

@@ -26,6 +26,7 @@ pub fn reply_status<R: Read, W: Write>(
     reader: &mut R,
     writer: &mut W,
 ) -> Result<u8, Fault>
+    ensures known { IfOk result (λ status. (status ≡ 0) ⊎ (status ≡ 1)) }
     ensures told { IfOk result (λ status. IfSome (R.remaining reader.old) (λ reply.
         (refusal.reply_is_whole command.now reply ≡ true) × (status ≡ status_of_reply reply)
         × Appends (W.contents writer.old) (W.contents writer.new) reply)) }

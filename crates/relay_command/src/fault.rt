@@ -1,8 +1,11 @@
 //! What the program says on standard error, and its exit status for it.
 
-ghost use Rattle.std.specs.Prelude.{◌≡◌};
+ghost use Rattle.std.specs.Prelude.{◌≡◌, ◌≤◌};
 ghost use Rattle.relay_command.specs.ExitStatus.{status_of_fault, fault_of_trace};
+ghost use Rattle.relay_command.specs.declared.fault.Fault.TheVariants.{Relay};
+ghost use Rattle.relay_admin.specs.declared.serve_fault.ServeFault.TheVariants.{Memory};
 
+use base_types::OutOfMemory;
 use lockword_script::TraceFault;
 use relay_admin::ServeFault;
 use thiserror::Error;
@@ -32,10 +35,27 @@ pub enum Fault {
 /// Memory was refused while the command line was read.
 pub const NO_MEMORY: Fault = Fault::Relay(ServeFault::Memory);
 
+impl From<ServeFault> for Fault {
+    ghost from_gives = { λ why fault. fault ≡ Relay why };
+
+    fn from(why: ServeFault) -> Fault {
+        Fault::Relay(why)
+    }
+}
+
+impl From<OutOfMemory> for Fault {
+    ghost from_gives = { λ _ fault. fault ≡ Relay Memory };
+
+    fn from(_: OutOfMemory) -> Fault {
+        NO_MEMORY
+    }
+}
+
 impl Fault {
     /// The exit status: 2 for a command line, 3 for a device or memory.
     pub fn status(self) -> u8
-        ensures { result ≡ status_of_fault self }
+        ensures status { result ≡ status_of_fault self }
+        ensures known { result ≤ 3 }
     {
         match self {
             Fault::BadCommandLine => 2,

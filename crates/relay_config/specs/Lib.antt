@@ -11,3 +11,7 @@ pub mod Health
 pub mod Rule
 pub mod Service
 pub mod Config
+pub mod Fronts
+pub mod LookedUp
+pub mod Wanted
+pub mod Line

@@ -1,12 +1,13 @@
 //! The configuration that a text is.
 
-ghost use Rattle.std.specs.Prelude.{◌≡◌, ◌≢◌, ◌≤◌, Some, None, map, length, IfOk, IfErr, MatchResult};
+ghost use Rattle.std.specs.Prelude.{◌≡◌, ◌≢◌, ◌≤◌, Some, None, map, length, take, IfOk, IfErr, MatchResult};
 ghost use Rattle.std.specs.Str.{IsUtf8};
 ghost use Rattle.toml.specs.Parse.{parse_document};
 ghost use Rattle.toml.specs.View.{table_view};
 ghost use Rattle.relay_config.specs.Config.{SaysConfig, SaysFault, config_in, limits_in, rules_of};
 ghost use Rattle.relay_config.specs.Entries.{config_entry, limits_entry, rule_entry};
 ghost use Rattle.relay_config.specs.Fault.{Answers, IsNoToml, Reads};
+ghost use Rattle.relay_config.specs.Fronts.{IsInColumn, IsInLine};
 
 use crate::fault::{Fault, Key, Place};
 use crate::items::items_in;
@@ -104,10 +105,13 @@ fn table_of(alloc: Global, text: &[u8]) -> Result<Table, Fault>
 }
 
 /// The line and the column of a byte, both from 1. A column counts characters.
-fn place_of(text: &[u8], at: usize) -> (usize, usize) {
+fn place_of(text: &[u8], at: usize) -> (usize, usize)
+    ensures line { IsInLine (take at text.now) result.0 }
+    ensures column { IsInColumn (take at text.now) result.1 }
+{
     let mut line = 1usize;
     let mut column = 1usize;
-    for byte in text.iter().take(at) {
+    for byte in &text[..at.min(text.len())] {
         if *byte == b'\n' {
             line = line.saturating_add(1);
             column = 1;

@@ -1,5 +1,10 @@
 //! What stands at a spot of a table, for the words of a fault.
 
+ghost use Rattle.std.specs.Prelude.{◌≡◌, IfOk, option_map};
+ghost use Rattle.toml.specs.View.{table_view, view};
+ghost use Rattle.relay_config.specs.LookedUp.{AreNearest, item_of, table_of_key, table_of_item};
+ghost use Rattle.relay_config.specs.LookedUp as spec;
+
 use crate::fault::{Key, Place, Spot};
 use crate::table::value_at;
 use crate::{admin, config, health, log, proxy, rule, target};
@@ -14,56 +19,78 @@ const MAX_NEAR_BYTES: usize = 40;
 const MAX_EDITS: usize = 2;
 
 /// The table at a place.
-pub(crate) fn table_at(table: &Table, place: Place) -> Option<&Table> {
+pub(crate) fn table_at(table: &Table, place: Place) -> Option<&Table>
+    ensures { option_map (λ here. table_view here.now) result
+        ≡ spec.table_at (table_view table.now) place }
+{
     match place {
         Place::Top => Some(table),
-        Place::Admin => value_at(table, Key::Admin)?.as_table(),
-        Place::Log => value_at(table, Key::Log)?.as_table(),
-        Place::Rule(rule) => item_at(table, Key::Rule, rule)?.as_table(),
-        Place::Proxy(rule) => table_of_rule(table, rule, Key::ProxyProtocol),
-        Place::Health(rule) => table_of_rule(table, rule, Key::Health),
+        Place::Admin => table_of_key(table, Key::Admin),
+        Place::Log => table_of_key(table, Key::Log),
+        Place::Rule(rule) => table_of_item(table, Key::Rule, rule),
+        Place::Proxy(rule) => table_of_key(
+            table_of_item(table, Key::Rule, rule)?,
+            Key::ProxyProtocol,
+        ),
+        Place::Health(rule) => table_of_key(table_of_item(table, Key::Rule, rule)?, Key::Health),
         Place::Target(rule, target) => {
-            let rule = item_at(table, Key::Rule, rule)?.as_table()?;
-            item_at(rule, Key::Target, target)?.as_table()
+            table_of_item(table_of_item(table, Key::Rule, rule)?, Key::Target, target)
         }
     }
 }
 
-/// The table at a key of a rule.
-fn table_of_rule(table: &Table, rule: usize, key: Key) -> Option<&Table> {
-    let rule = item_at(table, Key::Rule, rule)?.as_table()?;
-    value_at(rule, key)?.as_table()
+/// The table at a key.
+fn table_of_key(table: &Table, key: Key) -> Option<&Table>
+    ensures { option_map (λ found. table_view found.now) result
+        ≡ table_of_key key (table_view table.now) }
+{
+    value_at(table, key)?.as_table()
 }
 
 /// The item of this number in the list at a key.
-fn item_at(table: &Table, key: Key, number: usize) -> Option<&Value> {
+fn item_of(table: &Table, key: Key, number: usize) -> Option<&Value>
+    ensures { option_map (λ item. view item.now) result ≡ item_of key number (table_view table.now) }
+{
     value_at(table, key)?.as_array()?.get(number)
 }
 
+/// The table of this number in the list at a key.
+fn table_of_item(table: &Table, key: Key, number: usize) -> Option<&Table>
+    ensures { option_map (λ found. table_view found.now) result
+        ≡ table_of_item key number (table_view table.now) }
+{
+    item_of(table, key, number)?.as_table()
+}
+
 /// The value of a key or an item.
-pub(crate) fn value_of(table: &Table, spot: Spot) -> Option<&Value> {
+pub(crate) fn value_of(table: &Table, spot: Spot) -> Option<&Value>
+    ensures { option_map (λ value. view value.now) result
+        ≡ spec.value_at_spot (table_view table.now) spot }
+{
     let here = table_at(table, spot.place)?;
     match spot.item {
-        Some(number) => item_at(here, spot.key, number),
+        Some(number) => item_of(here, spot.key, number),
         None => value_at(here, spot.key),
     }
 }
 
 /// The key of this number of a place's table, in the order of keys.
-pub(crate) fn key_number(table: &Table, place: Place, number: usize) -> &str {
+pub(crate) fn key_number(table: &Table, place: Place, number: usize) -> &str
+    ensures { result.now ≡ spec.key_number (table_view table.now) place number }
+{
     let Some(here) = table_at(table, place) else {
         return "";
     };
-    for (at, word) in here.keys().enumerate() {
-        if at == number {
-            return word.as_str();
-        }
+    match here.keys().nth(number) {
+        Some(word) => word.as_str(),
+        None => "",
     }
-    ""
 }
 
 /// The keys that a table at a place may have.
-pub(crate) fn keys_of(place: Place) -> &'static [Key] {
+pub(crate) fn keys_of(place: Place) -> &'static [Key]
+    ensures { result.now ≡ spec.keys_of place }
+{
     match place {
         Place::Top => config::KEYS,
         Place::Admin => admin::KEYS,
@@ -76,7 +103,9 @@ pub(crate) fn keys_of(place: Place) -> &'static [Key] {
 }
 
 /// The first of the keys that are the fewest edits from a word, where these are at most two.
-pub(crate) fn nearest(alloc: Global, known: &[Key], word: &str) -> Result<Option<Key>, AllocError> {
+pub(crate) fn nearest(alloc: Global, known: &[Key], word: &str) -> Result<Option<Key>, AllocError>
+    ensures { IfOk result (AreNearest known.now word.now) }
+{
     if word.len() > MAX_NEAR_BYTES {
         return Ok(None);
     }

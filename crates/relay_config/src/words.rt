@@ -1,9 +1,14 @@
 //! What is wanted of each key, in words.
 
+ghost use Rattle.std.specs.Prelude.{◌≡◌};
+ghost use Rattle.relay_config.specs.Wanted.{wanted, wanted_type};
+
 use crate::fault::{Key, Spot};
 
 /// What a value isn't, which is of the key's type.
-pub(crate) fn wanted(key: Key) -> &'static str {
+pub(crate) fn wanted(key: Key) -> &'static str
+    ensures { result.now ≡ wanted key }
+{
     match key {
         Key::ConnectTimeout | Key::Idle | Key::UserTimeout | Key::Resolve =>
             "no time (as 500ms, 30s, 5m, 2h, at most a day; or never)",
@@ -35,7 +40,9 @@ pub(crate) fn wanted(key: Key) -> &'static str {
 }
 
 /// The type that a key or an item has to have.
-pub(crate) fn wanted_type(spot: Spot) -> &'static str {
+pub(crate) fn wanted_type(spot: Spot) -> &'static str
+    ensures { result.now ≡ wanted_type spot }
+{
     match (spot.key, spot.item) {
         (Key::Rule, None) => "a list of tables ([[rule]])",
         (Key::Target, None) => "a list of tables ([[rule.target]])",

@@ -2,6 +2,7 @@ pub mod Asked
 pub mod Cause
 pub mod Connection
 pub mod Deadlines
+pub mod DialOutcome
 pub mod Dialing
 pub mod Dialled
 pub mod Flow

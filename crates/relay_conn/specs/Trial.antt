@@ -1,12 +1,13 @@
 -- The walk over a rule's targets.
-use Rattle.std.specs.Prelude.{◌≡◌, ◌⊎◌, ℕ, Option, IfSome, IsSomeAnd, unwrap_or}
+use Rattle.std.specs.Prelude.{◌≡◌, ◌⊎◌, ℕ, Bool, true, false, Option, IfSome, IsSomeAnd, unwrap_or}
 use Rattle.relay_conn.specs.Dialled.{dialled_to}
 use Rattle.relay_conn.specs.declared.trial.NoTrial.{NoTrial}
 use Rattle.relay_conn.specs.declared.trial.Trial.{Trial}
 use Rattle.relay_conn.specs.declared.trial.Unreached.{Unreached}
-use Rattle.relay_facts.specs.Acceptance.{IsPicked, list_in, source_of, targets_in}
+use Rattle.relay_facts.specs.Acceptance.{IsPicked, checked_in, list_in, source_of, targets_in}
 use Rattle.relay_facts.specs.Targets.{IsNext, IsNoneLeft}
 use Rattle.relay_facts.specs.declared.connection_facts.Acceptance.{Acceptance}
+use Rattle.relay_log.specs.declared.ended.Cause.{Cause}
 use Rattle.relay_log.specs.declared.ended.Cause.TheVariants as cause
 use Rattle.target_pick.specs.Tried.{KeepsTried}
 use Rattle.target_pick.specs.declared.tried.Tried.{Tried}
@@ -20,7 +21,7 @@ place_tried trial = trial.picked.place
 pub record IsTrial (client : Acceptance) (tried : Tried) (trial : Trial) : Type 0 where
   pub before : Tried
   pub kept : KeepsTried tried before
-  pub next : IsNext (targets_in client) before trial.picked
+  pub next : IsNext (checked_in client) (targets_in client) before trial.picked
   pub picked : IfSome (list_in client) (λ list.
       IsPicked list before (source_of client.client) (place_tried trial))
   pub dialled : dialled_to trial.dialled ≡ trial.picked.at
@@ -33,10 +34,16 @@ IsSomeTrial client trial = (tried : Tried) × IsTrial client tried trial
 abbrev pub LacksDescriptors : Option Unreached → Type 0
 LacksDescriptors last = IsSomeAnd last (λ (unreached : Unreached). unreached.cause ≡ cause.Descriptors)
 
--- the target that was dialled last; of a rule whose targets get nobody its first one
-abbrev pub last_of : NoTrial → Unreached
-last_of none = unwrap_or none.last (record { place = 0; cause = cause.Unreachable })
+-- why none was dialled: one is down, or they get nobody
+abbrev pub cause_of_none : Bool → Cause
+cause_of_none true = cause.Down
+cause_of_none false = cause.Unreachable
 
--- none was begun: no target is left, or there was no descriptor
+-- the target that was dialled last; of a rule whose targets are down or get nobody its first one
+abbrev pub last_of : NoTrial → Unreached
+last_of none = unwrap_or none.last (record { place = 0; cause = cause_of_none none.down })
+
+-- none was begun: no target is left that is up, or there was no descriptor
 abbrev pub IsNoTrial : Acceptance → NoTrial → Type 0
-IsNoTrial client none = IsNoneLeft (targets_in client) none.tried ⊎ LacksDescriptors none.last
+IsNoTrial client none =
+    IsNoneLeft (checked_in client) (targets_in client) none.tried none.down ⊎ LacksDescriptors none.last

@@ -22,6 +22,7 @@ use relay_shared::standing::RelayIndex;
 use std::sync::ledger::Ledger;
 use std::sync::{Arc, Mutex, Wait};
 use std::time::Clock;
+use target_pick::Outcome;
 
 /// How far a connection is.
 #[derive(Drop)]
@@ -62,6 +63,18 @@ fn note_ended<R: Wait + Clock>(
     }
     if let Some(log) = log {
         tell_end(rt, log, facts, ids, now, how);
+    }
+}
+
+// Notes what came of a dial, if anything that its target has done.
+fn note_step<R: Wait + Clock>(
+    rt: &R,
+    log: &Option<Arc<Log>>,
+    facts: &ConnectionFacts,
+    outcome: Option<Outcome>,
+) {
+    if let Some(outcome) = outcome {
+        facts.note_outcome(rt, log, outcome);
     }
 }
 
@@ -106,11 +119,13 @@ impl<U: Ledger, D: Ledger, R: Wait + Clock + Copy> Connection<U, D, R> {
     }
 
     /// Goes on by what its loop heard, and says what follows. Once its target is connected its ways
-    /// begin. Where another target is to be tried, its loop finds its token among the dials.
+    /// begin. Where another target is to be tried, its loop finds its token among the dials. What came
+    /// of a dial is noted, and the log is told of what that changes.
     pub fn go_on(
         &mut self,
         dials: &mut Dials<R>,
         books: &mut LoopBooks<U, D>,
+        log: &Option<Arc<Log>>,
         why: Why,
         memory: &mut LoopMemory,
     ) -> PairNext
@@ -134,7 +149,11 @@ impl<U: Ledger, D: Ledger, R: Wait + Clock + Copy> Connection<U, D, R> {
     {
         let step = match &mut self.phase {
             Some(Phase::Relaying(relaying)) => return relaying.go_on(books, why, memory),
-            Some(Phase::Dialing(dialing)) => dialing.go_on(dials, why),
+            Some(Phase::Dialing(dialing)) => {
+                let step = dialing.go_on(dials, why);
+                note_step(&dials.rt, log, &self.facts, dialing.outcome(step, why));
+                step
+            }
             Some(Phase::Seeking(seeking)) => {
                 seeking.hear(why);
                 return PairNext::Waits;

@@ -10,6 +10,7 @@ use readiness::{Sock, connect_io};
 use relay_admin::Addr;
 use relay_log::ended::Cause;
 use relay_shared::address::socket_address;
+use relay_shared::shortage::is_shortage;
 use std::io;
 use std::io::ErrorKind;
 use std::net::Net;
@@ -29,8 +30,16 @@ impl Dialled {
     }
 }
 
+/// Why a connection to a target couldn't be begun.
+#[derive(Clone, Copy, Debug, PartialEq, Eq, Drop)]
+pub struct NotDialled {
+    pub cause: Cause,
+    /// It was for want of what the relay's own system gives, and by no fault of the target.
+    pub is_shortage: bool,
+}
+
 /// Begins a connection to this target. Over TCP it is made later, over a Unix socket at once.
-pub fn dial<R: Net>(rt: &R, target: &Addr) -> Result<Dialled, Cause>
+pub fn dial<R: Net>(rt: &R, target: &Addr) -> Result<Dialled, NotDialled>
     ensures target { IfOk result (λ dialled. dialled_to dialled ≡ target.now) }
 {
     match connect_io(rt, &socket_address(target)) {
@@ -38,7 +47,10 @@ pub fn dial<R: Net>(rt: &R, target: &Addr) -> Result<Dialled, Cause>
             target: *target,
             sock,
         }),
-        Err(error) => Err(cause_of_connect(&error)),
+        Err(error) => Err(NotDialled {
+            cause: cause_of_connect(&error),
+            is_shortage: is_shortage(&error),
+        }),
     }
 }
 

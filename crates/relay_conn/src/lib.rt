@@ -6,6 +6,7 @@ mod asked;
 mod asked_dialing;
 mod cause;
 pub mod connection;
+mod dial_outcome;
 mod dialing;
 pub mod dialled;
 mod flow;

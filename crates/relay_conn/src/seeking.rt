@@ -18,6 +18,7 @@ use crate::side::{LeftSide, OpenSide, drain_side, takes_deadline};
 use crate::trial::{NoTrial, Trial, Unreached, next_trial};
 use base_types::Dir;
 use deadline_core::{Deadline, earlier};
+use log_writer::Log;
 use readiness::{Side, Why};
 use relay_core::{Ended, FlowState, PairTasks, Way};
 use relay_facts::connection_facts::ConnectionFacts;
@@ -26,8 +27,8 @@ use relay_facts::target_list::Picked;
 use relay_log::ended::{Cause, Ended as How};
 use rwloops::{DevKind, Fault};
 use std::net::Net;
-use std::sync::Wait;
 use std::sync::ledger::Ledger;
+use std::sync::{Arc, Wait};
 use std::time::Clock;
 
 /// A connection whose target before was let go.
@@ -132,7 +133,12 @@ impl<U: Ledger, D: Ledger, R: Wait + Clock + Copy> Seeking<U, D, R> {
 
     /// Begins a connection to the next target, which its facts name from then on; or says how it
     /// ends, where its client has gone, no target is left, or there is no descriptor.
-    pub(crate) fn next_trial(&mut self, rt: &R, facts: &ConnectionFacts) -> Result<Trial, How>
+    pub(crate) fn next_trial(
+        &mut self,
+        rt: &R,
+        log: &Option<Arc<Log>>,
+        facts: &ConnectionFacts,
+    ) -> Result<Trial, How>
     where
         R: Net,
         ensures kept { self.new ≡ record self.old {
@@ -147,7 +153,7 @@ impl<U: Ledger, D: Ledger, R: Wait + Clock + Copy> Seeking<U, D, R> {
         let Some(others) = self.others else {
             return Err(how_untried(None, self.last));
         };
-        match next_trial(rt, &facts.acceptance, others.tried) {
+        match next_trial(rt, log, &facts.acceptance, others.tried) {
             Ok(trial) => {
                 facts.try_target(trial.place());
                 Ok(trial)

@@ -14,15 +14,16 @@ use crate::refused::Refused;
 use crate::seeking::NextTarget;
 use crate::set_up::SetUp;
 use crate::trial::Trial;
+use log_writer::Log;
 use relay_log::ended::Ended as How;
 use std::net::Net;
-use std::sync::Wait;
 use std::sync::ledger::Ledger;
+use std::sync::{Arc, Wait};
 use std::time::Clock;
 
 impl<U: Ledger, D: Ledger, R: Wait + Clock + Copy> Connection<U, D, R> {
     /// Begins a connection to its next target, or says how it ends; none where it seeks no target.
-    pub fn next_trial(&mut self, rt: &R) -> Option<Result<Trial, How>>
+    pub fn next_trial(&mut self, rt: &R, log: &Option<Arc<Log>>) -> Option<Result<Trial, How>>
     where
         R: Net,
         ensures seeks { IfNone result (IsSeeking self.old.phase → ⊥) }
@@ -34,7 +35,7 @@ impl<U: Ledger, D: Ledger, R: Wait + Clock + Copy> Connection<U, D, R> {
         ensures kept { KeepsConnection self.old self.new }
     {
         match &mut self.phase {
-            Some(Phase::Seeking(seeking)) => Some(seeking.next_trial(rt, &self.facts)),
+            Some(Phase::Seeking(seeking)) => Some(seeking.next_trial(rt, log, &self.facts)),
             _ => None,
         }
     }

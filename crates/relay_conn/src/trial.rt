@@ -1,16 +1,21 @@
 //! The walk over a rule's targets: the next one is dialled, and the one after it where that fails at
 //! once, until a connection is begun.
 
-ghost use Rattle.std.specs.Prelude.{◌≡◌, ◌↔◌, true, Some, IfOk, IfErr};
-ghost use Rattle.relay_conn.specs.Trial.{IsNoTrial, IsTrial, LacksDescriptors, last_of};
+ghost use Rattle.std.specs.Prelude.{◌≡◌, ◌↔◌, true, Some, IfOk, IfErr, IfSome, IfNone};
+ghost use Rattle.relay_conn.specs.Trial.{IsNoTrial, IsTrial, LacksDescriptors, cause_of_none, last_of};
 ghost use Rattle.relay_conn.specs.Trial.{place_tried};
+ghost use Rattle.relay_facts.specs.Acceptance.{IsPicked, checked_in, list_in, source_of, targets_in};
+ghost use Rattle.relay_facts.specs.Targets.{IsNext, IsNoneLeft};
 
-use crate::dialled::{Dialled, dial};
+use crate::dialled::{Dialled, NotDialled, dial};
+use log_writer::Log;
 use relay_facts::connection_facts::Acceptance;
 use relay_facts::target_list::Picked;
 use relay_log::ended::Cause;
 use std::net::Net;
-use target_pick::Tried;
+use std::sync::{Arc, Wait};
+use std::time::Clock;
+use target_pick::{Outcome, Tried};
 
 /// A connection that was begun to a target of a client's rule. `next_trial` alone makes it.
 #[derive(Drop)]
@@ -35,24 +40,39 @@ pub struct Unreached {
     pub cause: Cause,
 }
 
-/// No connection is begun: the target that was dialled last, if one was, and all that were tried.
+/// No connection is begun: the target that was dialled last, if one was, all that were tried, and
+/// whether one that wasn't is down.
 #[derive(Clone, Copy, Debug, PartialEq, Eq, Drop)]
 pub struct NoTrial {
     pub last: Option<Unreached>,
     pub tried: Tried,
+    pub down: bool,
 }
 
 /// Begins a connection for this client, for whom those targets were tried before. None is begun
-/// where no target is left, or where there is no descriptor: that is no target's fault.
-pub fn next_trial<R: Net>(rt: &R, acceptance: &Acceptance, tried: Tried) -> Result<Trial, NoTrial>
+/// where no target is left that is up, or where there is no descriptor: that is no target's fault.
+/// One that fails at once is noted as failed.
+pub fn next_trial<R: Wait + Net + Clock>(
+    rt: &R,
+    log: &Option<Arc<Log>>,
+    acceptance: &Acceptance,
+    tried: Tried,
+) -> Result<Trial, NoTrial>
     ensures trial { IfOk result (IsTrial acceptance.now tried) }
     ensures none { IfErr result (IsNoTrial acceptance.now) }
 {
-    let mut walk = NoTrial { last: None, tried };
-    while let Some(picked) = acceptance.next_target(walk.tried) {
+    let mut walk = NoTrial {
+        last: None,
+        tried,
+        down: false,
+    };
+    while let Some(picked) = walk.next(acceptance) {
         match dial(rt, &picked.at) {
             Ok(dialled) => return Ok(Trial { dialled, picked }),
-            Err(cause) => walk = walk.without(&picked, cause),
+            Err(why) => {
+                note_failure(rt, log, acceptance, &picked, &why);
+                walk = walk.without(&picked, why.cause);
+            }
         }
         if walk.lacks_descriptors() {
             return Err(walk);
@@ -61,15 +81,60 @@ pub fn next_trial<R: Net>(rt: &R, acceptance: &Acceptance, tried: Tried) -> Resu
     Err(walk)
 }
 
+// Notes that a target failed at once, where that was its fault.
+fn note_failure<R: Wait + Clock>(
+    rt: &R,
+    log: &Option<Arc<Log>>,
+    acceptance: &Acceptance,
+    picked: &Picked,
+    why: &NotDialled,
+) {
+    if !why.is_shortage {
+        acceptance.note_outcome(rt, log, picked.place, Outcome::Failed);
+    }
+}
+
+// Why no target of a rule is dialled: one is down, or they get nobody.
+fn cause_of_none(down: bool) -> Cause
+    ensures { result ≡ cause_of_none down }
+{
+    if down {
+        Cause::Down
+    } else {
+        Cause::Unreachable
+    }
+}
+
 impl NoTrial {
-    /// The target that was dialled last; of a rule whose targets get nobody its first one.
+    /// The target that was dialled last; of a rule whose targets are down or get nobody its first
+    /// one.
     pub fn last(&self) -> Unreached
         ensures { result ≡ last_of self.now }
     {
         self.last.unwrap_or(Unreached {
             place: 0,
-            cause: Cause::Unreachable,
+            cause: cause_of_none(self.down),
         })
+    }
+
+    // The next target for the client, for whom its own were tried. Where none is left it knows
+    // whether one is down.
+    fn next(&mut self, acceptance: &Acceptance) -> Option<Picked>
+        ensures none { IfNone result (IsNoneLeft (checked_in acceptance.now)
+            (targets_in acceptance.now) self.old.tried self.new.down) }
+        ensures next { IfSome result
+            (IsNext (checked_in acceptance.now) (targets_in acceptance.now) self.old.tried) }
+        ensures picked { IfSome (list_in acceptance.now) (λ list. IfSome result (λ picked.
+            IsPicked list self.old.tried (source_of acceptance.now.client) picked.place)) }
+        ensures kept { self.new ≡ record self.old { down = self.new.down } }
+    {
+        match acceptance.next_target(self.tried) {
+            Ok(picked) => Some(picked),
+            Err(none) => {
+                self.down = none.down;
+                None
+            }
+        }
     }
 
     // The same after one more that can't be dialled.
@@ -83,6 +148,7 @@ impl NoTrial {
                 cause,
             }),
             tried: picked.tried,
+            down: self.down,
         }
     }
 

@@ -1,3 +1,4 @@
 pub mod FileFaults
+pub mod HealthLemmas
 pub mod SourceLemmas
 pub mod TargetsLemmas

@@ -1,11 +1,13 @@
 -- What is said of a rule that has its own target alone, and of what a file asks for.
-use Rattle.std.proofs.Common.{◌≡◌, ◌∙◌, List, [], ◌∷◌, Result, Ok, Err, ap, subst}
-use Rattle.std.specs.Prelude.{IfOk, map}
+use Rattle.std.proofs.Common.{◌≡◌, ◌∙◌, List, [], ◌∷◌, Option, None, Result, Ok, Err, ap, subst}
+use Rattle.std.specs.Prelude.{IfOk, map, option_map}
 use Rattle.client_nets.specs.Net.{network_of}
 use Rattle.client_nets.specs.declared.net.Net.{Net}
 use Rattle.relay_admin.specs.declared.rules.rule.Rule.{Rule}
 use Rattle.relay_admin.specs.declared.serve_fault.ServeFault.{ServeFault}
 use Rattle.relay_admin.specs.rules.Grammar.{entry_of}
+use Rattle.relay_config.specs.Entries.{checks_entry}
+use Rattle.relay_config.specs.declared.health.Checks.{Checks}
 use Rattle.relay_facts.specs.Config.{AreServed, IsOfFile}
 use Rattle.relay_facts.specs.Source.{FileSays, entry_alone}
 use Rattle.relay_facts.specs.declared.config.Config.{Config}
@@ -19,23 +21,25 @@ use Rattle.relay_settings.specs.declared.targets.Target.{Target}
 use Rattle.target_pick.specs.declared.picking.Balance.{Balance}
 use Rattle.target_pick.specs.declared.picking.Balance.TheVariants.{RoundRobin}
 
-abbrev entry_with : Rule → Balance → List Net → List Net → List Target → SaidRuleEntry
-entry_with rule balance allow deny targets = record {
+abbrev entry_with : Rule → Balance → List Net → List Net → Option Checks → List Target → SaidRuleEntry
+entry_with rule balance allow deny checks targets = record {
   rule = entry_of rule;
   balance = balance;
   access = record { allow = map network_of allow; deny = map network_of deny };
+  checks = option_map checks_entry checks;
   targets = map said_target_entry targets;
 }
 
 pub alone_entry : (said : SaidRule) (rule : Rule) → said.rule ≡ rule → said.balance ≡ RoundRobin
     → said.access.allow.items ≡ [] → said.access.deny.items ≡ []
-    → said.targets.items ≡ own_target rule ∷ [] → said_rule_entry said ≡ entry_alone rule
-alone_entry said rule same balance allow deny targets =
-    ap (λ r. entry_with r said.balance said.access.allow.items said.access.deny.items said.targets.items) same
-    ∙ ap (λ b. entry_with rule b said.access.allow.items said.access.deny.items said.targets.items) balance
-    ∙ ap (λ nets. entry_with rule RoundRobin nets said.access.deny.items said.targets.items) allow
-    ∙ ap (λ nets. entry_with rule RoundRobin [] nets said.targets.items) deny
-    ∙ ap (λ ts. entry_with rule RoundRobin [] [] ts) targets
+    → said.checks ≡ None → said.targets.items ≡ own_target rule ∷ [] → said_rule_entry said ≡ entry_alone rule
+alone_entry said rule same balance allow deny checks targets =
+    ap (λ r. entry_with r said.balance said.access.allow.items said.access.deny.items said.checks said.targets.items) same
+    ∙ ap (λ b. entry_with rule b said.access.allow.items said.access.deny.items said.checks said.targets.items) balance
+    ∙ ap (λ nets. entry_with rule RoundRobin nets said.access.deny.items said.checks said.targets.items) allow
+    ∙ ap (λ nets. entry_with rule RoundRobin [] nets said.checks said.targets.items) deny
+    ∙ ap (λ c. entry_with rule RoundRobin [] [] c said.targets.items) checks
+    ∙ ap (λ ts. entry_with rule RoundRobin [] [] None ts) targets
 
 -- a start by what a file says, whose rules are served, is one of that file
 pub of_file : (made : Result Config ServeFault) (source : Source) (said : Said) (start : Start) (rules : List SaidRule)

@@ -1,11 +1,12 @@
 -- What a client that was accepted has of its rule.
-use Rattle.std.specs.Prelude.{◌≡◌, ℕ, true, false, List, Option, Some, None, [], ◌∷◌, option_map, slice_get}
+use Rattle.std.specs.Prelude.{◌≡◌, ℕ, Bool, true, false, List, Option, Some, None, [], ◌∷◌, option_map, slice_get}
 use Rattle.std.specs.Option.{option_map_or}
 use Rattle.std.specs.Arc.{arc_value}
 use Rattle.relay_admin.specs.declared.rules.addr.Addr.{Addr}
 use Rattle.relay_admin.specs.declared.rules.addr.Addr.TheVariants as addr
 use Rattle.relay_admin.specs.declared.rules.rule.Rule.{Rule}
-use Rattle.relay_facts.specs.Targets.{IsPick, targets_of}
+use Rattle.relay_config.specs.declared.health.Checks.{Checks}
+use Rattle.relay_facts.specs.Targets.{IsPick, are_checked, targets_of}
 use Rattle.relay_facts.specs.declared.connection_facts.Acceptance.{Acceptance}
 use Rattle.relay_settings.specs.Targets.{own_target}
 use Rattle.relay_settings.specs.declared.targets.Target.{Target}
@@ -21,6 +22,20 @@ list_in acceptance = option_map arc_value acceptance.targets
 abbrev pub targets_with : Option Targets → Rule → List Target
 targets_with None rule = own_target rule ∷ []
 targets_with (Some list) rule = targets_of list
+
+-- how the targets of a list are checked; a rule without a list isn't
+abbrev pub checks_with : Option Targets → Option Checks
+checks_with None = None
+checks_with (Some list) = list.checks
+
+-- they are checked, if there is a list
+abbrev pub checked_with : Option Targets → Bool
+checked_with None = false
+checked_with (Some list) = are_checked list
+
+-- the targets of its rule are checked
+abbrev pub checked_in : Acceptance → Bool
+checked_in acceptance = checked_with (list_in acceptance)
 
 -- the targets of its rule
 abbrev pub targets_in : Acceptance → List Target

@@ -1,5 +1,5 @@
 -- The rules that a relay is asked to serve, and how large it is.
-use Rattle.std.specs.Prelude.{◌≡◌, ◌≤◌, ℕ, List, Some, IfNone, IfSome, length, option_map, slice_get}
+use Rattle.std.specs.Prelude.{◌≡◌, ◌≤◌, ℕ, List, None, Some, IfNone, IfSome, length, option_map, slice_get}
 use Rattle.std.specs.Arc.{arc_value}
 use Rattle.std.specs.declared.alloc.Global.{Global}
 use Rattle.std.specs.declared.sync.Arc.{Arc}
@@ -9,7 +9,7 @@ use Rattle.relay_settings.specs.declared.asked.Source.{Source}
 use Rattle.relay_settings.specs.declared.said.Said as file
 use Rattle.relay_settings.specs.declared.settings.Settings.{Settings}
 use Rattle.relay_settings.specs.declared.targets.SaidRule.{SaidRule}
-use Rattle.relay_facts.specs.Acceptance.{targets_with}
+use Rattle.relay_facts.specs.Acceptance.{checks_with, targets_with}
 use Rattle.relay_facts.specs.Admission.{allowed_by, denied_by}
 use Rattle.relay_facts.specs.Counts.{loops_of}
 use Rattle.relay_facts.specs.Source.{FileSays}
@@ -17,12 +17,13 @@ use Rattle.relay_facts.specs.declared.config.Config.{Config}
 use Rattle.relay_facts.specs.declared.served_rule.Said.{Said}
 use Rattle.relay_facts.specs.declared.served_rule.ServedRule.{ServedRule}
 
--- what an account says is this rule, with its targets, of which one is picked as it says, and with
--- its lists of clients
+-- what an account says is this rule, with its targets, of which one is picked and which are checked
+-- as it says, and with its lists of clients
 pub record SaysRule (given : SaidRule) (said : Said) : Type 0 where
   pub rule : said.rule ≡ given.rule
   pub targets : targets_with (option_map arc_value said.targets) said.rule ≡ given.targets.items
   pub balance : IfSome said.targets (λ list. (arc_value list).balance ≡ given.balance)
+  pub checks : checks_with (option_map arc_value said.targets) ≡ given.checks
   pub allow : allowed_by (option_map arc_value said.access) ≡ given.access.allow.items
   pub deny : denied_by (option_map arc_value said.access) ≡ given.access.deny.items
 
@@ -42,6 +43,10 @@ abbrev pub IsOfFile : Source → Config → Type 0
 IsOfFile source config = (said : file.Said) × FileSays source said
     × (config.start.file ≡ said.settings)
     × AreServed said.rules.items config.capacity.loops.count config.rules.items
+
+-- neither the words of the command line nor the file name an admin socket
+abbrev pub NamesNoAdmin : (words file : Settings) → Type 0
+NamesNoAdmin words file = (words.admin ≡ None) × (file.admin ≡ None)
 
 -- as many loops and connections as the settings say, else at most 8 loops, and 512 connections
 pub record IsCapacity (settings : Settings) (capacity : Capacity) : Type 0 where

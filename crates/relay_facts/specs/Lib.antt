@@ -10,4 +10,5 @@ pub mod RulesFile
 pub mod Safeguards
 pub mod Shown
 pub mod Source
+pub mod TargetHealth
 pub mod Targets

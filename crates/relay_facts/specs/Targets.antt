@@ -1,11 +1,13 @@
 -- The targets of a rule, and which of them is a client's next.
-use Rattle.std.specs.Prelude.{◌≡◌, ◌≢◌, ◌⊎◌, ◌<◌, ℕ, Bool, true, false, List, Some, map, length}
-use Rattle.std.specs.Prelude.{IsSomeAnd, slice_get}
+use Rattle.std.specs.Prelude.{◌≡◌, ◌≢◌, ◌&&◌, ◌<◌, ℕ, Bool, true, false, not, List, Some, map, length}
+use Rattle.std.specs.Prelude.{All, IsSomeAnd, is_some, nat_lt, slice_get}
+use Rattle.std.specs.List.{list_any}
 use Rattle.relay_facts.specs.declared.target_list.CountedTarget.{CountedTarget}
 use Rattle.relay_facts.specs.declared.target_list.Picked.{Picked}
 use Rattle.relay_settings.specs.declared.targets.Target.{Target}
 use Rattle.relay_facts.specs.declared.target_list.Targets.{Targets}
 use Rattle.target_pick.specs.Pick.{HasTurn, IsLeastOf, MayTakeAt, MustBeBackup}
+use Rattle.target_pick.specs.Seen.{may_take}
 use Rattle.target_pick.specs.Tried.{untried, was_tried}
 use Rattle.target_pick.specs.declared.picking.Balance.TheVariants.{First, LeastConnections, RoundRobin, Source}
 use Rattle.target_pick.specs.declared.seen.Seen.{Seen}
@@ -18,29 +20,43 @@ target_of counted = counted.target
 abbrev pub targets_of : Targets → List Target
 targets_of targets = map target_of targets.all.items
 
--- what is known of a target when one is picked: all are up
-pub record IsSeenAs (before : Bool) (target : Target) (seen : Seen) : Type 0 where
+-- they are checked, so that one may be down
+abbrev pub are_checked : Targets → Bool
+are_checked targets = is_some targets.checks
+
+-- what is known of a target when one is picked: one that isn't checked is up; whether another is, an
+-- atomic says, of which a proof knows no value
+pub record IsSeenAs (checked before : Bool) (target : Target) (seen : Seen) : Type 0 where
   pub weight : seen.weight ≡ target.weight
   pub is_backup : seen.is_backup ≡ target.is_backup
-  pub is_up : seen.is_up ≡ true
+  pub is_up : checked ≡ false → seen.is_up ≡ true
   pub is_drained : seen.is_drained ≡ false
   pub was_tried : seen.was_tried ≡ before
 
 -- the same of each, by its place
-pub record AreSeen (targets : List CountedTarget) (tried : Tried) (seen : List Seen) : Type 0 where
+pub record AreSeen (checked : Bool) (targets : List Target) (tried : Tried) (seen : List Seen)
+    : Type 0 where
   pub count : length seen ≡ length targets
-  pub each : (place : ℕ) (counted : CountedTarget) (one : Seen) → slice_get targets place ≡ Some counted
-      → slice_get seen place ≡ Some one → IsSeenAs (was_tried tried place) counted.target one
+  pub each : (place : ℕ) (target : Target) (one : Seen) → slice_get targets place ≡ Some target
+      → slice_get seen place ≡ Some one → IsSeenAs checked (was_tried tried place) target one
 
--- each target that has a weight was tried
-abbrev pub IsNoneLeft : List Target → Tried → Type 0
-IsNoneLeft targets tried = (place : ℕ) (target : Target) → slice_get targets place ≡ Some target
-    → (target.weight ≡ 0) ⊎ (was_tried tried place ≡ true)
+-- it is down, and would take the client otherwise
+abbrev pub is_seen_down : Seen → Bool
+is_seen_down seen = not seen.is_up && (not seen.was_tried && nat_lt 0 seen.weight)
+
+-- no target may take the client, by what was known of each at that moment, and it is told whether one
+-- of them was down that would have taken the client otherwise
+pub record IsNoneLeft (checked : Bool) (targets : List Target) (tried : Tried) (down : Bool) : Type 0
+  where
+    pub seen : List Seen
+    pub are_seen : AreSeen checked targets tried seen
+    pub none_takes : All (λ (one : Seen). may_take one ≡ false) seen
+    pub told : down ≡ list_any is_seen_down seen
 
 -- the place is the pick of the list's balance, over what is known of its targets
 pub record IsPick (list : Targets) (tried : Tried) (turn source place : ℕ) : Type 0 where
   pub seen : List Seen
-  pub are_seen : AreSeen list.all.items tried seen
+  pub are_seen : AreSeen (are_checked list) (targets_of list) tried seen
   pub takes : MayTakeAt seen place
   pub backups : MustBeBackup seen place
   pub round_robin : list.balance ≡ RoundRobin → HasTurn seen turn place
@@ -50,10 +66,11 @@ pub record IsPick (list : Targets) (tried : Tried) (turn source place : ℕ) : T
 
 -- a target that wasn't tried is the next one, and is counted as tried; it is the last where no other
 -- is left
-pub record IsNext (targets : List Target) (tried : Tried) (picked : Picked) : Type 0 where
-  pub address : IsSomeAnd (slice_get targets picked.place) (λ target. target.at ≡ picked.at)
-  pub fresh : was_tried tried picked.place ≡ false
-  pub marked : was_tried picked.tried picked.place ≡ true
-  pub others : (other : ℕ) → other ≢ picked.place → was_tried picked.tried other ≡ was_tried tried other
-  pub fewer : untried picked.tried < untried tried
-  pub last : picked.others ≡ 0 → IsNoneLeft targets picked.tried
+pub record IsNext (checked : Bool) (targets : List Target) (tried : Tried) (picked : Picked) : Type 0
+  where
+    pub address : IsSomeAnd (slice_get targets picked.place) (λ target. target.at ≡ picked.at)
+    pub fresh : was_tried tried picked.place ≡ false
+    pub marked : was_tried picked.tried picked.place ≡ true
+    pub others : (other : ℕ) → other ≢ picked.place → was_tried picked.tried other ≡ was_tried tried other
+    pub fewer : untried picked.tried < untried tried
+    pub last : picked.others ≡ 0 → (down : Bool) × IsNoneLeft checked targets picked.tried down

@@ -1,9 +1,10 @@
 //! What a relay is asked to be.
 
-ghost use Rattle.std.specs.Prelude.{◌≡◌, IfOk, IfErr, is_some, true};
+ghost use Rattle.std.specs.Prelude.{◌≡◌, ◌≢◌, IfOk, IfErr, codes, is_some, true};
 ghost use Rattle.relay_admin.specs.ServeFault.{IsFileFault};
 ghost use Rattle.std.specs.Arc.{arc_value};
-ghost use Rattle.relay_facts.specs.Config.{AreServed, IsCapacity, IsOfFile, ServesRule};
+ghost use Rattle.relay_admin.specs.rules.Verdict.{verdict_line};
+ghost use Rattle.relay_facts.specs.Config.{AreServed, IsCapacity, IsOfFile, NamesNoAdmin, ServesRule};
 ghost use Rattle.relay_facts.specs.Safeguards.{safeguards_of};
 ghost use Rattle.relay_facts.specs.Source.{SaysNoSettings};
 ghost use Rattle.relay_settings.specs.Settings.{AreInForce};
@@ -76,6 +77,8 @@ fn served_rules(
 fn settings_in_force(alloc: Global, asked: &Asked, file: &Settings) -> Result<Settings, ServeFault>
     ensures in_force { IfOk result (AreInForce asked.now.words file.now) }
     ensures admin { IfOk result (λ settings. is_some settings.admin ≡ true) }
+    ensures missing { IfErr result (λ fault. fault ≢ ServeFault.Memory
+        → NamesNoAdmin asked.now.words file.now) }
     ensures faults { IfErr result (λ fault. IsFileFault fault) }
 {
     let Ok(settings) = in_force(alloc, &asked.words, file) else {
@@ -88,7 +91,10 @@ fn settings_in_force(alloc: Global, asked: &Asked, file: &Settings) -> Result<Se
 }
 
 // The verdict on a configuration that names no admin socket, where no option does.
-fn no_admin() -> Verdict {
+fn no_admin() -> Verdict
+    ensures { verdict_line result
+        ≡ codes "bad config: admin is missing, and no --admin is given\n" }
+{
     match ArrayString::from("admin is missing, and no --admin is given") {
         Ok(why) => Verdict::BadConfig(why),
         Err(_) => Verdict::BadConfig(ArrayString::new()),

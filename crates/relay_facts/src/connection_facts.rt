@@ -1,16 +1,16 @@
 //! A client that was accepted, and the connection that comes of it.
 
-ghost use Rattle.std.specs.Prelude.{◌≡◌, ◌-◌, ◌/◌, None, IfSome, IfNone, option_copied};
+ghost use Rattle.std.specs.Prelude.{◌≡◌, ◌-◌, ◌/◌, None, IfSome, IfOk, IfErr, option_copied};
 ghost use Rattle.std.specs.Arc.{arc_value};
 ghost use Rattle.relay_facts.specs.Counts.{counts_of_loop};
 ghost use Rattle.relay_facts.specs.Acceptance.{IsPicked, IsTargetOf, address_in, list_in, source_of};
-ghost use Rattle.relay_facts.specs.Acceptance.{targets_in};
+ghost use Rattle.relay_facts.specs.Acceptance.{checked_in, targets_in};
 ghost use Rattle.relay_facts.specs.Admission.{lists_in};
 ghost use Rattle.relay_facts.specs.Targets.{IsNext, IsNoneLeft};
 
 use crate::counts::LoopCounts;
 use crate::served_rule::ServedRule;
-use crate::target_list::{Picked, Targets};
+use crate::target_list::{NoneLeft, Picked, Targets};
 use relay_admin::{Addr, Rule, Shown, ShownSide};
 use relay_settings::Access;
 use std::sync::Arc;
@@ -83,11 +83,13 @@ fn source_of(client: &Option<Addr>) -> u64
 }
 
 impl Acceptance {
-    /// The next target for this client, for whom these were tried; none where no other is left.
-    pub fn next_target(&self, tried: Tried) -> Option<Picked>
-        ensures none { IfNone result (IsNoneLeft (targets_in self.now) tried) }
-        ensures next { IfSome result (IsNext (targets_in self.now) tried) }
-        ensures picked { IfSome (list_in self.now) (λ list. IfSome result (λ picked.
+    /// The next target for this client, for whom these were tried; none where no other is left that
+    /// is up.
+    pub fn next_target(&self, tried: Tried) -> Result<Picked, NoneLeft>
+        ensures none { IfErr result (λ none.
+            IsNoneLeft (checked_in self.now) (targets_in self.now) tried none.down) }
+        ensures next { IfOk result (IsNext (checked_in self.now) (targets_in self.now) tried) }
+        ensures picked { IfSome (list_in self.now) (λ list. IfOk result (λ picked.
             IsPicked list tried (source_of self.now.client) picked.place)) }
     {
         match &self.targets {
@@ -99,15 +101,16 @@ impl Acceptance {
     }
 
     // The rule's own target, unless that was tried.
-    fn only_target(&self, tried: Tried) -> Option<Picked>
+    fn only_target(&self, tried: Tried) -> Result<Picked, NoneLeft>
         requires { list_in self.now ≡ None }
-        ensures none { IfNone result (IsNoneLeft (targets_in self.now) tried) }
-        ensures next { IfSome result (IsNext (targets_in self.now) tried) }
+        ensures none { IfErr result (λ none.
+            IsNoneLeft (checked_in self.now) (targets_in self.now) tried none.down) }
+        ensures next { IfOk result (IsNext (checked_in self.now) (targets_in self.now) tried) }
     {
         if tried.has(0) {
-            return None;
+            return Err(NoneLeft { down: false });
         }
-        Some(Picked {
+        Ok(Picked {
             place: 0,
             at: self.rule.target,
             tried: tried.with(0),
@@ -180,7 +183,12 @@ impl ConnectionFacts {
     pub fn target(&self) -> Addr
         ensures { IsTargetOf self.now.acceptance result }
     {
-        self.acceptance.address(self.target.load(Ordering::SeqCst))
+        self.acceptance.address(self.target_place())
+    }
+
+    /// The place of its target, or of the one that is tried.
+    pub(crate) fn target_place(&self) -> usize {
+        self.target.load(Ordering::SeqCst)
     }
 
     /// From now on the target at this place is tried.

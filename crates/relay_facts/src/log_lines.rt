@@ -1,16 +1,18 @@
-//! The lines that a connection's end and a refused client bring to the log.
+//! The lines that a connection's end, a refused client and a target that goes down or comes up bring to
+//! the log.
 
 ghost use Rattle.std.specs.Prelude.{◌≡◌, ◌/◌, Option, Some, None, IfOk, OnErr, option_map};
 ghost use Rattle.std.specs.Duration.{as_nanos};
-ghost use Rattle.relay_facts.specs.LogLines.{IsMsOfDay};
+ghost use Rattle.relay_facts.specs.LogLines.{IsMsOfDay, ended_of};
 ghost use Rattle.relay_admin.specs.rules.Addr.{address_of, address_text};
 ghost use Rattle.relay_admin.specs.admin.Shown.{peer_of, peer_text};
 
 use crate::connection_facts::{Acceptance, ConnectionFacts};
 use crate::served_rule::ServedRule;
+use crate::target_health::Change;
 use arrayvec::ArrayString;
 use log_writer::Log;
-use relay_admin::{Addr, MAX_ADDR_BYTES, peer_name};
+use relay_admin::{Addr, MAX_ADDR_BYTES, Rule, peer_name};
 use relay_log::ended::{Ended, Reason};
 use relay_log::line::LogLine;
 use relay_log::moment::Moment;
@@ -179,11 +181,10 @@ pub fn tell_end<R: Wait + Clock>(
     tell(rt, log, &facts.acceptance, &facts.target(), now, &outcome);
 }
 
-/// Tells that an accept of a rule failed: its listening address stands in place of a client's.
-pub fn tell_accept_fault<R: Wait + Clock>(rt: &R, log: &Log, served: &ServedRule, why: Reason) {
-    let rule = served.rule(rt);
-    let (listen, target) = (served.listen.text(), rule.target.text());
-    let line = Outcome::refused(Ended::Accept(why)).line(
+// Tells what is of no client: the rule's listening address stands in place of a client's.
+fn tell_of_rule<R: Wait + Clock>(rt: &R, log: &Log, rule: &Rule, target: &Addr, how: Ended) {
+    let (listen, target) = (rule.listen.text(), target.text());
+    let line = Outcome::refused(how).line(
         moment_of(rt.since_1970()),
         rule.name.as_str(),
         listen.as_str(),
@@ -191,4 +192,31 @@ pub fn tell_accept_fault<R: Wait + Clock>(rt: &R, log: &Log, served: &ServedRule
         0,
     );
     log.push(rt, &line);
+}
+
+/// Tells that an accept of a rule failed.
+pub fn tell_accept_fault<R: Wait + Clock>(rt: &R, log: &Log, served: &ServedRule, why: Reason) {
+    let rule = served.rule(rt);
+    tell_of_rule(rt, log, &rule, &rule.target, Ended::Accept(why));
+}
+
+// The log's word for such a change.
+fn ended_of(change: Change) -> Ended
+    ensures { result ≡ ended_of change }
+{
+    match change {
+        Change::Down => Ended::TargetDown,
+        Change::Up => Ended::TargetUp,
+    }
+}
+
+/// Tells that a target of a rule has gone down or come up.
+pub(crate) fn tell_change<R: Wait + Clock>(
+    rt: &R,
+    log: &Log,
+    rule: &Rule,
+    target: &Addr,
+    change: Change,
+) {
+    tell_of_rule(rt, log, rule, target, ended_of(change));
 }

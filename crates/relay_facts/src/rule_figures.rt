@@ -1,11 +1,12 @@
-//! What the metrics tell of a rule: the sums of what all loops count.
+//! What the metrics tell of a rule: the sums of what all loops count, and which of its targets are up.
 
 ghost use Rattle.std.specs.Prelude.{◌≡◌, ◌+◌, ◌-◌, ◌^◌, min};
 
 use crate::counts::{Counter, RuleCounts};
 use crate::served_rule::ServedRule;
+use base_types::OutOfMemory;
 use relay_log::ended::{CAUSES, ENDS};
-use relay_metrics::{CarriedBytes, Refusals, RuleFigures};
+use relay_metrics::{CarriedBytes, Refusals, RuleFigures, TargetFigures};
 use std::sync::Wait;
 
 // A sum past the greatest `u64` stays that.
@@ -67,5 +68,20 @@ pub fn rule_figures<R: Wait>(rt: &R, served: &ServedRule) -> RuleFigures {
         unreached,
         accept_faults: served.counts.accept_faults.get(),
         is_listening: served.is_listening(),
+    }
+}
+
+/// Puts what is told of the targets of a rule at this moment behind these, where they are checked.
+pub fn add_target_figures<R: Wait>(
+    rt: &R,
+    served: &ServedRule,
+    figures: &mut Vec<TargetFigures>,
+) -> Result<(), OutOfMemory> {
+    let Some(said) = served.said(rt) else {
+        return Err(OutOfMemory);
+    };
+    match &said.targets {
+        Some(targets) => targets.add_figures(said.rule.name, figures),
+        None => Ok(()),
     }
 }

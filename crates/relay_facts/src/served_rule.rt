@@ -2,7 +2,7 @@
 
 ghost use Rattle.std.specs.Prelude.{◌≡◌, None, IfOk, IfSome, option_map};
 ghost use Rattle.std.specs.Arc.{arc_value};
-ghost use Rattle.relay_facts.specs.Acceptance.{targets_with};
+ghost use Rattle.relay_facts.specs.Acceptance.{checks_with, targets_with};
 ghost use Rattle.relay_facts.specs.Admission.{allowed_by, denied_by};
 ghost use Rattle.relay_facts.specs.Config.{SaysRule};
 ghost use Rattle.relay_facts.specs.Counts.{loops_of};
@@ -26,8 +26,8 @@ pub struct Said {
     pub access: Option<Arc<Access>>,
 }
 
-// The list of these targets, where a rule needs one: a client of a rule that is alone with its target
-// is picked none. Connections that are counted by the list of before still are.
+// The list of these targets, where a rule needs one: a client of a rule that is alone with a target
+// which isn't checked is picked none. What the list of before counts and knows of a target stays.
 fn list_of(
     alloc: Global,
     said: &SaidRule,
@@ -37,12 +37,14 @@ fn list_of(
         targets_with (option_map arc_value list) said.now.rule ≡ said.now.targets.items) }
     ensures balance { IfOk result (λ list.
         IfSome list (λ list. (arc_value list).balance ≡ said.now.balance)) }
+    ensures checks { IfOk result (λ list.
+        checks_with (option_map arc_value list) ≡ said.now.checks) }
 {
-    if said.is_alone() {
+    if said.is_alone() && said.checks.is_none() {
         return Ok(None);
     }
     let targets = said.targets.as_slice();
-    let list = Targets::new(alloc, said.balance, targets, before)?;
+    let list = Targets::new(alloc, said.balance, said.checks, targets, before)?;
     Ok(Some(list))
 }
 

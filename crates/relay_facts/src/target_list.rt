@@ -2,27 +2,40 @@
 
 ghost use Rattle.std.specs.Prelude.{◌≤◌, ◌<◌, length};
 
+use crate::target_health::TargetHealth;
 use relay_admin::Addr;
-use relay_settings::Target;
+use relay_settings::{Checks, Target};
 use std::sync::Arc;
 use std::sync::atomic::AtomicU64;
 use target_pick::{Balance, Tried};
 
-/// A target, and how many connections stand at it. A later list with the same address goes on with
-/// its count.
+/// A target, how many connections stand at it, and its health. A later list with the same address
+/// goes on with both.
 #[derive(Drop)]
 pub(crate) struct CountedTarget {
     pub(crate) target: Target,
     pub(crate) standing: Arc<AtomicU64>,
+    /// One that isn't checked has none, and is up.
+    pub(crate) health: Option<Arc<TargetHealth>>,
 }
 
-/// The targets of a rule, and by what a client's is picked. There is one at least.
+/// The targets of a rule, by what a client's is picked, and how they are checked. There is one at
+/// least.
 #[derive(Drop)]
 pub struct Targets {
     pub(crate) balance: Balance,
+    /// Without checks all of them are up.
+    pub(crate) checks: Option<Checks>,
     pub(crate) all: Vec<CountedTarget>,
     ghost some: { 0 < length all.items },
     ghost few: { length all.items ≤ 64 },
+}
+
+/// That no target may take a client.
+#[derive(Clone, Copy, Debug, PartialEq, Eq, Drop)]
+pub struct NoneLeft {
+    /// Whether one that wasn't tried for the client was seen down.
+    pub down: bool,
 }
 
 /// The target that was picked for a client.

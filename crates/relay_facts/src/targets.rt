@@ -1,115 +1,168 @@
-//! A rule's targets: how many connections stand at each, and which one is a client's next.
+//! A rule's targets: how many connections stand at each, which are up, and which one is a client's
+//! next.
 
-ghost use Rattle.std.specs.Prelude.{◌≡◌, ◌≤◌, ◌<◌, false, length, slice_get, IfOk, IfSome, IfNone, option_map};
+ghost use Rattle.std.specs.Prelude.{◌≡◌, ◌≤◌, ◌<◌, Bool, false, length, slice_get};
+ghost use Rattle.std.specs.Prelude.{IfOk, IfErr, option_map};
+ghost use Rattle.std.specs.List.{list_any};
 ghost use Rattle.std.specs.Arc.{arc_value};
 ghost use Rattle.relay_facts.specs.Targets.{AreSeen, IsNext, IsNoneLeft, IsPick, IsSeenAs};
-ghost use Rattle.relay_facts.specs.Targets.{targets_of};
+ghost use Rattle.relay_facts.specs.Targets.{are_checked, is_seen_down, targets_of};
 ghost use Rattle.target_pick.specs.Tried.{was_tried};
 
-use crate::target_list::{CountedTarget, Picked, Targets};
-use arrayvec::ArrayVec;
+use crate::known_targets::{count_at, health_at};
+use crate::target_health::Change;
+use crate::target_list::{CountedTarget, NoneLeft, Picked, Targets};
+use arrayvec::{ArrayString, ArrayVec};
 use base_types::OutOfMemory;
 use relay_admin::{Addr, is_same_addr};
-use relay_settings::{MAX_TARGETS, Target};
+use relay_metrics::TargetFigures;
+use relay_settings::{Checks, MAX_TARGETS, Target};
 use std::alloc::Global;
 use std::sync::Arc;
-use std::sync::atomic::{AtomicU64, Ordering};
-use target_pick::{Balance, Seen, Tried, pick, takers};
+use std::sync::atomic::Ordering;
+use target_pick::{Balance, Outcome, Seen, Tried, pick, takers};
 
-// What is counted at this address from now on: what those targets count there, if one has it.
-fn count_at(
-    alloc: Global,
-    at: &Addr,
-    before: Option<&Targets>,
-) -> Result<Arc<AtomicU64>, OutOfMemory> {
-    if let Some(before) = before {
-        for counted in before.all.iter() {
-            if is_same_addr(&counted.target.at, at) {
-                return Ok(Arc::try_clone(&counted.standing)?);
-            }
-        }
+// Whether a target is up by its health.
+fn is_up(counted: &CountedTarget) -> bool {
+    match &counted.health {
+        Some(health) => health.is_up(),
+        None => true,
     }
-    Ok(Arc::new(alloc, AtomicU64::new(0))?)
 }
 
-// What is known of a target. All are up.
-fn seen_as(counted: &CountedTarget, was_tried: bool) -> Seen
-    ensures { IsSeenAs was_tried counted.now.target result }
+// What is known of a target, of a rule whose targets are checked or not.
+fn seen_as(counted: &CountedTarget, is_checked: bool, was_tried: bool) -> Seen
+    ensures { IsSeenAs is_checked was_tried counted.now.target result }
 {
     let standing = counted.standing.load(Ordering::SeqCst);
     Seen {
         weight: counted.target.weight,
         is_backup: counted.target.is_backup,
-        is_up: true,
+        is_up: !is_checked || is_up(counted),
         is_drained: false,
         was_tried,
         connections: u32::try_from(standing).unwrap_or(u32::MAX),
     }
 }
 
+// Whether a target would take a client if it weren't down.
+fn is_seen_down(target: &Seen) -> bool
+    ensures { result ≡ is_seen_down target.now }
+{
+    !target.is_up && !target.was_tried && target.weight > 0
+}
+
+// Whether one of these would.
+fn some_down(seen: &[Seen]) -> bool
+    ensures { result ≡ list_any is_seen_down seen.now }
+{
+    seen.iter().any(|one| is_seen_down(one))
+}
+
 impl Targets {
-    /// These targets, in this order. One at whose address connections stand by a list before has
-    /// them still.
+    /// These targets, in this order, which are checked so. One at whose address connections stand by
+    /// a list before has them still, and the health that it had.
     pub fn new(
         alloc: Global,
         balance: Balance,
+        checks: Option<Checks>,
         said: &[Target],
         before: Option<&Targets>,
     ) -> Result<Arc<Targets>, OutOfMemory>
         requires some { 0 < length said.now }
         requires few { length said.now ≤ MAX_TARGETS }
         ensures balance { IfOk result (λ made. (arc_value made).balance ≡ balance) }
+        ensures checks { IfOk result (λ made. (arc_value made).checks ≡ checks) }
         ensures targets { IfOk result (λ made. targets_of (arc_value made) ≡ said.now) }
     {
         let mut all = Vec::new(alloc);
         for target in said {
             let standing = count_at(alloc, &target.at, before)?;
+            let health = health_at(alloc, &target.at, checks, all.as_slice(), before)?;
             all.push(CountedTarget {
                 target: *target,
                 standing,
+                health,
             })?;
         }
-        Ok(Arc::new(alloc, Targets { balance, all })?)
+        Ok(Arc::new(
+            alloc,
+            Targets {
+                balance,
+                checks,
+                all,
+            },
+        )?)
+    }
+
+    /// How they are checked, if they are.
+    pub fn checks(&self) -> Option<Checks>
+        ensures { result ≡ self.now.checks }
+    {
+        self.checks
+    }
+
+    /// How many there are.
+    pub fn len(&self) -> usize
+        ensures { result ≡ length (targets_of self.now) }
+    {
+        self.all.len()
+    }
+
+    fn is_checked(&self) -> bool
+        ensures { result ≡ are_checked self.now }
+    {
+        self.checks.is_some()
     }
 
     // What is known of each, by its place.
     fn seen(&self, tried: Tried) -> ArrayVec<Seen, MAX_TARGETS>
-        ensures { AreSeen self.now.all.items tried result.items }
+        ensures { AreSeen (are_checked self.now) (targets_of self.now) tried result.items }
     {
+        let is_checked = self.is_checked();
         let mut seen = ArrayVec::new();
         for place in 0..self.all.len() {
-            seen.push(seen_as(&self.all[place], tried.has(place)));
+            seen.push(seen_as(&self.all[place], is_checked, tried.has(place)));
         }
         seen
     }
 
     // The place of the next target, as `next` picks it.
-    fn place(&self, tried: Tried, turn: u64, source: u64) -> Option<usize>
-        ensures none { IfNone result (IsNoneLeft (targets_of self.now) tried) }
-        ensures picked { IfSome result (IsPick self.now tried turn source) }
-        ensures within { IfSome result (λ place. place < length self.now.all.items) }
-        ensures untried { IfSome result (λ place. was_tried tried place ≡ false) }
+    fn place(&self, tried: Tried, turn: u64, source: u64) -> Result<usize, NoneLeft>
+        ensures none { IfErr result (λ none.
+            IsNoneLeft (are_checked self.now) (targets_of self.now) tried none.down) }
+        ensures picked { IfOk result (IsPick self.now tried turn source) }
+        ensures within { IfOk result (λ place. place < length self.now.all.items) }
+        ensures untried { IfOk result (λ place. was_tried tried place ≡ false) }
     {
-        pick(self.balance, self.seen(tried).as_slice(), turn, source)
+        let seen = self.seen(tried);
+        match pick(self.balance, seen.as_slice(), turn, source) {
+            Some(place) => Ok(place),
+            None => Err(NoneLeft {
+                down: some_down(seen.as_slice()),
+            }),
+        }
     }
 
     // How many targets may take a client for whom these were tried.
     fn takers(&self, tried: Tried) -> u32
-        ensures { result ≡ 0 → IsNoneLeft (targets_of self.now) tried }
+        ensures { result ≡ 0 → (down : Bool)
+            × IsNoneLeft (are_checked self.now) (targets_of self.now) tried down }
     {
         takers(self.seen(tried).as_slice()) as u32
     }
 
     /// The next target for a client of this number, for whom these were tried, by the turn with this
     /// number.
-    pub fn next(&self, tried: Tried, turn: u64, source: u64) -> Option<Picked>
-        ensures none { IfNone result (IsNoneLeft (targets_of self.now) tried) }
-        ensures next { IfSome result (IsNext (targets_of self.now) tried) }
-        ensures picked { IfSome result (λ picked. IsPick self.now tried turn source picked.place) }
+    pub fn next(&self, tried: Tried, turn: u64, source: u64) -> Result<Picked, NoneLeft>
+        ensures none { IfErr result (λ none.
+            IsNoneLeft (are_checked self.now) (targets_of self.now) tried none.down) }
+        ensures next { IfOk result (IsNext (are_checked self.now) (targets_of self.now) tried) }
+        ensures picked { IfOk result (λ picked. IsPick self.now tried turn source picked.place) }
     {
         let place = self.place(tried, turn, source)?;
         let tried = tried.with(place);
-        Some(Picked {
+        Ok(Picked {
             place,
             at: self.all[place].target.at,
             tried,
@@ -118,10 +171,49 @@ impl Targets {
     }
 
     /// The address of the target at this place.
-    pub(crate) fn address(&self, place: usize) -> Option<Addr>
+    pub fn address(&self, place: usize) -> Option<Addr>
         ensures { result ≡ option_map (λ target. target.at) (slice_get (targets_of self.now) place) }
     {
         Some(self.all.get(place)?.target.at)
+    }
+
+    /// Whether a target ahead of this place has this address.
+    pub fn stands_before(&self, place: usize, at: &Addr) -> bool {
+        for before in 0..place.min(self.all.len()) {
+            if is_same_addr(&self.all[before].target.at, at) {
+                return true;
+            }
+        }
+        false
+    }
+
+    // The target at this place as figures tell of it, of a rule with this name. One that isn't
+    // checked, and one whose address stands before it, have none.
+    fn figures(&self, rule: ArrayString<16>, place: usize) -> Option<TargetFigures> {
+        let counted = self.all.get(place)?;
+        let health = counted.health.as_ref()?;
+        if self.stands_before(place, &counted.target.at) {
+            return None;
+        }
+        Some(TargetFigures {
+            rule,
+            target: counted.target.at.text(),
+            is_up: health.is_up(),
+        })
+    }
+
+    /// Puts what figures tell of these targets, of a rule with this name, behind others.
+    pub(crate) fn add_figures(
+        &self,
+        rule: ArrayString<16>,
+        figures: &mut Vec<TargetFigures>,
+    ) -> Result<(), OutOfMemory> {
+        for place in 0..self.all.len() {
+            if let Some(one) = self.figures(rule, place) {
+                figures.push(one)?;
+            }
+        }
+        Ok(())
     }
 
     /// One connection more stands at the target of this place. Each is left once.
@@ -135,6 +227,16 @@ impl Targets {
     pub(crate) fn leave(&self, place: usize) {
         if let Some(counted) = self.all.get(place) {
             counted.standing.fetch_sub(1, Ordering::SeqCst);
+        }
+    }
+
+    /// Notes what came of a check of the target at this place, or of a client's connect, and says how
+    /// that has changed its state, if it has. Of a target that isn't checked nothing is noted.
+    pub(crate) fn note(&self, place: usize, outcome: Outcome) -> Option<Change> {
+        let counted = self.all.get(place)?;
+        match &counted.health {
+            Some(health) => health.note(outcome),
+            None => None,
         }
     }
 }

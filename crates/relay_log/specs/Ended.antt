@@ -22,6 +22,7 @@ cause_text cause.Refused = codes "refused"
 cause_text cause.Unreachable = codes "unreachable"
 cause_text cause.Timeout = codes "timeout"
 cause_text cause.Descriptors = codes "descriptors"
+cause_text cause.Down = codes "down"
 
 -- the words of an end, with its reason or its cause where it has one
 abbrev pub ended_text : Ended → List ℕ
@@ -38,6 +39,8 @@ ended_text ended.NoMemory = codes "no memory"
 ended_text ended.Descriptors = codes "descriptors"
 ended_text (ended.NoTarget why) = codes "no target " ++ cause_text why
 ended_text (ended.Accept why) = codes "accept " ++ reason_text why
+ended_text ended.TargetDown = codes "target down"
+ended_text ended.TargetUp = codes "target up"
 
 -- the place of a cause among the counts of causes
 abbrev pub cause_place : Cause → ℕ
@@ -45,9 +48,10 @@ cause_place cause.Refused = 0
 cause_place cause.Unreachable = 1
 cause_place cause.Timeout = 2
 cause_place cause.Descriptors = 3
+cause_place cause.Down = 4
 
 -- the place of an end among the counts of connections that ended; one that was set up never ends as
--- denied or full, and is no failed accept
+-- denied or full, and is no failed accept and no target
 abbrev pub end_place : Ended → ℕ
 end_place ended.Eof = 0
 end_place ended.Idle = 1

@@ -24,10 +24,16 @@ pub const END_LABELS: [&[u8]; ENDS] = [
 ];
 
 /// The causes for which a target isn't reached.
-pub const CAUSES: usize = 4;
+pub const CAUSES: usize = 5;
 
 /// Their words, by their places.
-pub const CAUSE_WORDS: [&[u8]; CAUSES] = [b"refused", b"unreachable", b"timeout", b"descriptors"];
+pub const CAUSE_WORDS: [&[u8]; CAUSES] = [
+    b"refused",
+    b"unreachable",
+    b"timeout",
+    b"descriptors",
+    b"down",
+];
 
 /// What a device said of a read or a write that failed. One for each kind of `rwloops::DevKind`,
 /// on which this crate doesn't stand, since a log needs none of its loops.
@@ -71,6 +77,8 @@ pub enum Cause {
     Timeout,
     /// The relay, or the system, has no descriptor left for it.
     Descriptors,
+    /// Each that might take the client is down.
+    Down,
 }
 
 impl Cause {
@@ -90,6 +98,7 @@ impl Cause {
             Cause::Unreachable => 1,
             Cause::Timeout => 2,
             Cause::Descriptors => 3,
+            Cause::Down => 4,
         }
     }
 }
@@ -125,11 +134,15 @@ pub enum Ended {
     NoTarget(Cause),
     /// No connection: an accept failed, the first in a row.
     Accept(Reason),
+    /// No connection: a target that was up is down.
+    TargetDown,
+    /// No connection: a target that was down is up.
+    TargetUp,
 }
 
 impl Ended {
     /// Its place among the counts of connections that ended. A connection that was set up was never
-    /// refused as it came, and is no failed accept: those would be counted as closed.
+    /// refused as it came, is no failed accept and no target: those would be counted as closed.
     pub fn place(self) -> usize
         ensures { result ≡ end_place self }
     {
@@ -138,6 +151,7 @@ impl Ended {
             Ended::Idle => 1,
             Ended::Closed | Ended::Denied | Ended::Full | Ended::RuleFull => 2,
             Ended::NoMemory | Ended::Descriptors | Ended::Accept(_) => 2,
+            Ended::TargetDown | Ended::TargetUp => 2,
             Ended::Drained => 3,
             Ended::Read(_) => 4,
             Ended::Write(_) => 5,
@@ -171,6 +185,8 @@ impl Ended {
             Ended::Descriptors => into.extend_from_slice(b"descriptors"),
             Ended::NoTarget(cause) => write_both(into, b"no target ", cause.word()),
             Ended::Accept(why) => write_failed(into, b"accept ", why),
+            Ended::TargetDown => into.extend_from_slice(b"target down"),
+            Ended::TargetUp => into.extend_from_slice(b"target up"),
         }
     }
 }

@@ -17,7 +17,7 @@ use Rattle.relay_conn.specs.declared.refused.Refused.{Refused}
 use Rattle.relay_conn.specs.declared.trial.Trial.{Trial}
 use Rattle.relay_admin.specs.declared.rules.addr.Addr.{Addr}
 use Rattle.relay_admin.specs.declared.rules.rule.Rule.{Rule}
-use Rattle.relay_facts.specs.Acceptance.{IsPicked, list_in, source_of, targets_in, targets_with}
+use Rattle.relay_facts.specs.Acceptance.{IsPicked, checked_in, checked_with, list_in, source_of, targets_in, targets_with}
 use Rattle.relay_facts.specs.Targets.{IsNext}
 use Rattle.relay_facts.specs.declared.target_list.Targets.{Targets}
 use Rattle.relay_facts.specs.declared.connection_facts.Acceptance.{Acceptance}
@@ -43,13 +43,15 @@ trial_for one other trial rule list client first =
     let targets : targets_in one ≡ targets_in other =
     ap (λ (l : Option Targets). targets_with l one.rule) (sym list)
     ∙ ap (λ (r : Rule). targets_with (list_in other) r) (sym rule) in
+    let checked : checked_in one ≡ checked_in other = ap checked_with (sym list) in
     record {
       none = first.none;
       untried = first.untried;
       begun = record {
         before = its.before;
         kept = its.kept;
-        next = subst (λ ts. IsNext ts its.before trial.picked) targets its.next;
+        next = subst (λ ts. IsNext (checked_in other) ts its.before trial.picked) targets
+            (subst (λ b. IsNext b (targets_in one) its.before trial.picked) checked its.next);
         picked = subst (λ (l : Option Targets). IfSome l (λ list. IsPicked list its.before (source_of other.client) (place_tried trial)))
             (sym list)
             (subst (λ (c : Option Addr). IfSome (list_in one) (λ list. IsPicked list its.before (source_of c) (place_tried trial)))

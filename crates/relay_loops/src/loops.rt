@@ -127,7 +127,8 @@ impl<U: Ledger, D: Ledger, R: Wait + Clock + Copy> LoopHost<U, D, R> {
     pub(crate) fn go_on_with(&mut self, task: &mut Connection<U, D, R>, why: Why) -> Turn
         ensures { IsTurnOf task.old task.new self.old.dials self.new.dials why result }
     {
-        let next = task.go_on(&mut self.dials, &mut self.books, why, &mut self.memory);
+        let log = &self.context.shared.log;
+        let next = task.go_on(&mut self.dials, &mut self.books, log, why, &mut self.memory);
         task.tell_bytes(&self.context.clock);
         follows_of(next)
     }

@@ -65,7 +65,7 @@ impl<U: Ledger, D: Ledger, R: Wait + Net + Clock + Copy> LoopHost<U, D, R> {
         ensures armed { StayArmed (tasks_of tasks.old) (tasks_of tasks.new) }
     {
         match tasks.task_mut(token) {
-            Some(task) => task.next_trial(&self.context.rt),
+            Some(task) => task.next_trial(&self.context.rt, &self.context.shared.log),
             None => None,
         }
     }

@@ -83,7 +83,7 @@ impl<R: Wait + Net + Clock + Copy> LoopContext<R> {
             IsIdleEnd (arc_value self.now.shared).safeguards.connect_ms begins.connect_by) }
         ensures refused { IfErr result (IsRefusedFor acceptance.now) }
     {
-        match next_trial(&self.rt, acceptance, Tried::none()) {
+        match next_trial(&self.rt, &self.shared.log, acceptance, Tried::none()) {
             Ok(target) => self.begins_with(sock, acceptance, counted, target),
             Err(none) => Err(Refused::Target(none.last())),
         }

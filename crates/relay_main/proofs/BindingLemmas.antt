@@ -8,6 +8,7 @@ use Rattle.std.specs.declared.sync.Arc.{Arc}
 use Rattle.readiness.specs.LoopToken.{place_in, token_of}
 use Rattle.readiness.specs.Tasks.{task_in, SameTasks, IsPut, next_place}
 use Rattle.readiness.specs.declared.tasks.Tasks.{Tasks}
+use Rattle.readiness.specs.declared.loop_token.Place.{Place}
 use Rattle.relay_admin.specs.declared.rules.rule.Rule.{Rule}
 use Rattle.relay_admin.specs.rules.Addr.{address_of, same_address}
 use Rattle.relay_facts.specs.declared.served_rule.ServedRule.{ServedRule}
@@ -37,6 +38,16 @@ module _ {T A : Type 0} where
       (λ e. absurd (let none = unused token (ap place_in e) in cc))
       (λ e. absurd (let none = unused token (ap place_in e ∙ same_place _ _) in cc))
       ∙ is
+
+  -- the same from before a place was looked for until its task goes on
+  pub stand_put : (old mid placed new : Tasks T A) (place given : Place) (task : T) → SameTasks old mid → place ≡ next_place mid
+      → ((token : ℕ) → place_in token ≡ place_in place.first → task_in mid token ≡ None)
+      → given ≡ next_place mid → IsPut mid placed given task → SameTasks placed new → StillStand old new
+  stand_put old mid placed new place given task kept is unused given_is put again =
+      let none : (token : ℕ) → place_in token ≡ place_in (next_place mid).first → task_in mid token ≡ None = rw is at unused in
+      let here : IsPut mid placed (next_place mid) task = rw given_is at put in
+      stand_on old placed new (stand_on old mid placed (stand_same old mid kept) (stand_beside mid placed task none here))
+      (stand_same placed new again)
 
   -- and where that place has been emptied again
   pub stand_undone : (old mid new : Tasks T A) (token : ℕ)

@@ -4,3 +4,4 @@ pub mod DrainedLemmas
 pub mod EndingLemmas
 pub mod ListeningLemmas
 pub mod ReloadLemmas
+pub mod SeatLemmas

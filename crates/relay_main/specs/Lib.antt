@@ -1,6 +1,7 @@
 pub mod AcceptTurns
 pub mod Accounts
 pub mod Binding
+pub mod Checks
 pub mod Closing
 pub mod Deadlines
 pub mod Finishing

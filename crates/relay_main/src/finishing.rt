@@ -1,5 +1,6 @@
-//! A relay that finishes: it takes nobody more, lets its connections go on to their own ends, and
-//! ends once none stands and no session waits for the answer of a loop, or a moment has come.
+//! A relay that finishes: it takes nobody more, checks no target, lets its connections go on to their
+//! own ends, and ends once none stands and no session waits for the answer of a loop, or a moment has
+//! come.
 
 ghost use Rattle.std.specs.Prelude.{◌≡◌, ◌↔◌, true, [], IsSome};
 ghost use Rattle.readiness.specs.EventLoop.{tasks_of};
@@ -53,6 +54,7 @@ impl<R: Wait + Net + Files + Clock + Copy> MainLoop<R> {
     {
         if !self.host.shared.is_finishing.swap(true, Ordering::SeqCst) {
             self.listen_no_more();
+            self.end_checks();
         }
         let at = pause_end(self.host.clock.now(), after_ms);
         // Where that is refused, it is looked at once a second.

@@ -6,6 +6,8 @@ mod accept_turns;
 mod accounts;
 mod admin_socket;
 mod binding;
+mod check_task;
+mod checks;
 mod finishing;
 mod listeners_end;
 mod listening;
@@ -21,6 +23,7 @@ mod session;
 mod session_desk;
 mod session_state;
 mod sessions;
+mod wanted_checks;
 
 pub use listeners_end::AcceptsEnded;
 pub use listening::GivenListener;

@@ -40,10 +40,12 @@ pub struct MainHost<R: Wait + Copy, C: Moments> {
     pub(crate) callers: Vec<Caller>,
     /// Which places have sessions that may go on between two turns.
     pub(crate) named: [bool; MAX_SESSIONS],
+    /// The tokens of the checks that are to be dialled between two turns.
+    pub(crate) due: Vec<u64>,
 }
 
 impl<R: Wait + Copy, C: Moments> MainHost<R, C> {
-    /// Nobody pauses, and no session stands.
+    /// Nobody pauses, no session stands, and no check is due.
     pub(crate) fn new(rt: R, alloc: Global, clock: C, shared: Arc<Shared>) -> MainHost<R, C>
         ensures shared { result.shared ≡ shared }
         ensures unarmed { result.unarmed ≡ None }
@@ -55,6 +57,7 @@ impl<R: Wait + Copy, C: Moments> MainHost<R, C> {
             unarmed: None,
             callers: Vec::new(alloc),
             named: [false; MAX_SESSIONS],
+            due: Vec::new(alloc),
         }
     }
 
@@ -142,12 +145,12 @@ where
     R: Wait + Clock + Copy,
     C: Moments,
 {
-    ghost use Rattle.std.specs.Prelude.{None};
+    ghost use Rattle.relay_main.specs.Checks.{awaited_by};
 
     type Task = MainTask<R>;
 
-    // A task awaits no moment of its own.
-    ghost awaited = { λ _. None };
+    // Of its tasks a check alone awaits a moment so. (a pause has a timer)
+    ghost awaited = { awaited_by };
 
     fn cell<'a>(&self, task: &'a MainTask<R>, side: Side) -> Option<&'a PollCell> {
         match (task, side) {
@@ -156,10 +159,11 @@ where
         }
     }
 
-    fn resume(&mut self, task: &mut MainTask<R>, _why: Why) -> Turn {
+    fn resume(&mut self, task: &mut MainTask<R>, why: Why) -> Turn {
         match task {
             MainTask::Rule(task) => self.resume_rule(task),
             MainTask::Admin(task) => self.accept_sessions(task),
+            MainTask::Check(task) => self.resume_check(task, why),
             MainTask::Session(place) => {
                 if *place < MAX_SESSIONS {
                     self.named[*place] = true;
@@ -169,8 +173,11 @@ where
         }
     }
 
-    fn until(&self, _task: &MainTask<R>) -> Option<u64> {
-        None
+    fn until(&self, task: &MainTask<R>) -> Option<u64> {
+        match task {
+            MainTask::Check(task) => Some(task.until()),
+            _ => None,
+        }
     }
 
     fn over(&mut self, task: MainTask<R>) {
@@ -179,6 +186,7 @@ where
                 let _ = self.close_rule(task);
             }
             MainTask::Admin(task) => drop(task),
+            MainTask::Check(task) => drop(task),
             MainTask::Session(_) => {}
         }
     }

@@ -1,5 +1,5 @@
-//! The main thread's loop: it accepts by all rules, and serves the admin sessions, until the relay
-//! stops or has finished.
+//! The main thread's loop: it accepts by all rules, checks targets, and serves the admin sessions,
+//! until the relay stops or has finished.
 
 ghost use Rattle.std.specs.Prelude.{◌≡◌, ◌↔◌, ℕ, true, false, Some, None, [], IfOk, IfErr, OnOk};
 ghost use Rattle.std.specs.Prelude.{length};
@@ -45,6 +45,10 @@ pub struct MainLoop<R: Wait + Clock + Copy> {
     pub(crate) paths: BoundPaths,
     /// The accounts of rules that a reload left out, and of which connections stood then.
     pub(crate) gone: Vec<Arc<ServedRule>>,
+    /// The tokens of the tasks that check targets.
+    pub(crate) checking: Vec<u64>,
+    /// When these are to follow the rules, if they are.
+    pub(crate) follow_at: Option<u64>,
     /// The token of the admin socket's task; 0 before there is one.
     pub(crate) admin: u64,
     /// The moment at which the relay ends at the latest, where it finishes.
@@ -79,6 +83,8 @@ impl<R: Wait + Clock + Copy> MainLoop<R> {
             listening: Vec::new(alloc),
             paths: BoundPaths::none(alloc),
             gone: Vec::new(alloc),
+            checking: Vec::new(alloc),
+            follow_at: Some(0),
             admin: 0,
             finish_at: None,
         }
@@ -97,6 +103,8 @@ impl<R: Wait + Clock + Copy> MainLoop<R> {
             listening: _,
             paths,
             gone: _,
+            checking: _,
+            follow_at: _,
             admin: _,
             finish_at: _,
         } = self;
@@ -181,9 +189,11 @@ impl<R: Wait + Net + Files + Clock + Eprint + Copy> MainLoop<R> {
         let rt = self.host.rt;
         for _ in rt.forever() {
             let now = self.host.clock.now();
+            self.follow_checks(now);
             if let Err(fault) = self.tasks.turn(&rt, now, &mut self.host) {
                 return Err(of_poller(fault));
             }
+            self.dial_checks();
             sessions.serve(self);
             if self.is_over(self.host.shared.is_stopped(), sessions.are_held()) {
                 return Ok(());

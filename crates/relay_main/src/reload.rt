@@ -216,6 +216,7 @@ impl<R: Wait + Net + Files + Clock + Eprint + Copy> MainLoop<R> {
         let mut gone = end;
         gone.retain(|served| served.standing() > 0);
         self.gone = gone;
+        self.follow_at = Some(0);
         self.host.shared.reloads.add(1);
     }
 

@@ -162,19 +162,17 @@ impl<'a, R: Wait + Clock + Copy> RelayDesk<'a, R> {
         shown_of_side(&*index, id, now)
     }
 
-    fn whereabouts(&self, id: u64) -> Option<Whereabouts> {
-        let rt = self.main.host.rt;
-        let index = self.main.host.shared.index.lock(&rt);
-        find_side(&*index, id)
-    }
-
     // Asks the loop of the connection with this id: the session waits for its answer from then on.
     fn ask(&self, id: u64, asks: Asks) -> Result<Woken, NotAsked> {
-        let Some(Whereabouts { loop_place, token }) = self.whereabouts(id) else {
+        let host = &self.main.host;
+        let found = {
+            let index = host.shared.index.lock(&host.rt);
+            find_side(&*index, id)
+        };
+        let Some(Whereabouts { loop_place, token }) = found else {
             return Err(NotAsked::Unknown);
         };
         let question = Question { id, token, asks };
-        let host = &self.main.host;
         match host.shared.ask(&host.rt, self.place, loop_place, question) {
             Ok(woken) => Ok(woken),
             Err(_) => Err(NotAsked::NoMemory),

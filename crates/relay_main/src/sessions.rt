@@ -2,17 +2,20 @@
 //! command may do what only that thread does, and no session waits for another: each has a few lines
 //! answered in a turn.
 
-ghost use Rattle.std.specs.Prelude.{◌≡◌, ◌≢◌, ◌<◌, ◌↔◌, ℕ, true, false, Some, None, length};
-ghost use Rattle.std.specs.Prelude.{slice_get, slice_set};
-ghost use Rattle.std.specs.Prelude.{IfErr, IfSome, IfNone};
+ghost use Rattle.std.specs.Prelude.{◌≡◌, ◌≢◌, ◌<◌, ◌↔◌, ℕ, [], true, false, Some, None, length};
+ghost use Rattle.std.specs.Prelude.{replicate, slice_get, slice_set};
+ghost use Rattle.std.specs.Prelude.{IfErr, IfOk, IfSome, IfNone, OnSome};
 ghost use Rattle.std.specs.Box.{box_value};
 ghost use Rattle.readiness.specs.EventLoop.{tasks_of};
 ghost use Rattle.readiness.specs.LoopToken.{place_in};
 ghost use Rattle.readiness.specs.Tasks.{task_in};
 ghost use Rattle.relay_main.specs.Binding.{StillStand};
-ghost use Rattle.relay_main.specs.Sessions.{IsFreeAt, IsNobodyAt, IsQuietest, NoneMayLeave, are_held};
-ghost use Rattle.relay_main.specs.Sessions.{is_held_at, patience};
+ghost use Rattle.relay_main.specs.Session.{is_busy};
+ghost use Rattle.relay_main.specs.Sessions.{HasSeated, IsFreeAt, IsNobodyAt, IsQuietest, NoneMayLeave};
+ghost use Rattle.relay_main.specs.Sessions.{StayButOne, are_held, is_held_at, patience};
+ghost use Rattle.relay_main.specs.Sessions.{seats_in, timed_step};
 ghost use Rattle.relay_main.specs.declared.main_task.MainTask.{MainTask};
+ghost use Rattle.relay_main.specs.declared.session.SessionStep.{SessionStep};
 ghost use Rattle.relay_admin.specs.declared.serve_fault.ServeFault.{ServeFault};
 
 use crate::main_loop::MainLoop;
@@ -50,11 +53,23 @@ pub struct Sessions {
     places: Vec<Option<Box<Seated>>>,
 }
 
+// What follows for a session that came to this step. One that doesn't get on for too long has ended,
+// unless it waits for an answer.
+fn timed_step(step: SessionStep, is_held: bool, until: u64, now: u64) -> SessionStep
+    ensures { result ≡ timed_step step is_held until now }
+{
+    if step == SessionStep::Waits && !is_held && has_come(Some(until), now) {
+        return SessionStep::Over;
+    }
+    step
+}
+
 impl Seated {
-    // Goes on for some lines. One that doesn't get on for too long has ended.
+    // Goes on for some lines.
     fn go_on<R>(&mut self, main: &mut MainLoop<R>, place: usize) -> SessionStep
     where
         R: Wait + Net + Files + Clock + Eprint + Copy,
+        ensures token { self.new.token ≡ self.old.token }
     {
         let mut step = self.session.pay();
         for _ in 0..LINES_A_TURN {
@@ -67,19 +82,18 @@ impl Seated {
             self.until = silence_end(now);
             main.host.arm(self.token, self.until);
         }
-        if step == SessionStep::Waits
-            && !self.session.is_held()
-            && has_come(Some(self.until), now)
-        {
-            return SessionStep::Over;
-        }
-        step
+        timed_step(step, self.session.is_held(), self.until, now)
     }
 
     // Has the next line answered, and its reply written, unless its answer comes later.
     fn ask<R>(&mut self, main: &mut MainLoop<R>, place: usize) -> SessionStep
     where
         R: Wait + Net + Files + Clock + Eprint + Copy,
+        ensures token { self.new.token ≡ self.old.token }
+        ensures until { self.new.until ≡ self.old.until }
+        ensures free { result ≡ SessionStep.Again → is_busy self.new.session.state ≡ false }
+        ensures busy { is_busy self.old.session.state ≡ true
+            → (result ≡ SessionStep.Waits) × (self.new.session ≡ self.old.session) }
     {
         let alloc = main.alloc;
         let mut desk = RelayDesk::of(main, place);
@@ -115,6 +129,7 @@ fn is_held(seat: &Option<Box<Seated>>) -> bool
 impl Sessions {
     /// None, with room for as many as may be.
     pub fn none(alloc: Global) -> Result<Sessions, ServeFault>
+        ensures nobody { IfOk result (λ sessions. seats_in sessions ≡ replicate MAX_SESSIONS None) }
         ensures faults { IfErr result (λ fault. fault ≡ ServeFault.Memory) }
     {
         let mut places = Vec::new(alloc);
@@ -160,6 +175,8 @@ impl Sessions {
     where
         R: Wait + Net + Files + Clock + Eprint + Copy,
         ensures free { IfSome result (λ place. slice_get self.new.places.items place ≡ Some None) }
+        ensures seat { IfSome result (λ place.
+            self.new.places.items ≡ slice_set self.old.places.items place None) }
         ensures none { IfNone result (NoneMayLeave self.old.places.items
             (length self.old.places.items)) }
         ensures kept { IfNone result (self.new.places.items ≡ self.old.places.items) }
@@ -178,6 +195,10 @@ impl Sessions {
     fn begin<R>(&mut self, main: &mut MainLoop<R>, sock: Sock) -> Option<()>
     where
         R: Wait + Net + Files + Clock + Eprint + Copy,
+        ensures begun { OnSome result (HasSeated self.old.places.items self.new.places.items
+            (tasks_of main.new.tasks)) }
+        ensures refused { IfNone result
+            (StayButOne self.old.places.items self.new.places.items) }
     {
         let place = self.make_room(main)?;
         let seated = main.seat(sock, place)?;
@@ -189,6 +210,7 @@ impl Sessions {
     fn begin_all<R>(&mut self, main: &mut MainLoop<R>)
     where
         R: Wait + Net + Files + Clock + Eprint + Copy,
+        ensures none_waits { main.new.host.callers.items ≡ [] }
     {
         let mut came = mem::replace(&mut main.host.callers, Vec::new(main.alloc));
         for caller in came.drain(..) {
@@ -288,7 +310,10 @@ impl<R: Wait + Net + Files + Clock + Eprint + Copy> MainLoop<R> {
             task_in (tasks_of self.new.tasks) (box_value seated).token ≡ Some (MainTask.Session place)) }
         ensures stand { StillStand (tasks_of self.old.tasks) (tasks_of self.new.tasks) }
     {
-        let token = self.tasks.vacant().ok()?.first;
+        let Ok(held) = self.tasks.vacant() else {
+            return None;
+        };
+        let token = held.first;
         let mut sock = sock;
         self.tasks.poller().register(&mut sock, token).ok()?;
         let until = silence_end(self.host.clock.now());
@@ -301,7 +326,9 @@ impl<R: Wait + Net + Files + Clock + Eprint + Copy> MainLoop<R> {
         if !self.host.arm(token, until) {
             return None;
         }
-        self.tasks.put(MainTask::Session(place)).ok()?;
+        let Ok(_) = self.tasks.put(MainTask::Session(place)) else {
+            return None;
+        };
         self.tasks.again(token);
         Some(seated)
     }

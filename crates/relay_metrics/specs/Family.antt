@@ -23,6 +23,7 @@ name_text family.RuleEnds = codes "pollrelay_rule_ends_total"
 name_text family.RuleNoTarget = codes "pollrelay_rule_no_target_total"
 name_text family.RuleAcceptFaults = codes "pollrelay_rule_accept_faults_total"
 name_text family.RuleListening = codes "pollrelay_rule_listening"
+name_text family.TargetUp = codes "pollrelay_target_up"
 
 -- what a reader is told that its figures are
 unfoldable pub help_text : Family → List ℕ
@@ -45,6 +46,7 @@ help_text family.RuleEnds = codes "Connections that ended, by cause."
 help_text family.RuleNoTarget = codes "Clients whose target wasn't reached, by cause."
 help_text family.RuleAcceptFaults = codes "Rows of accepts that failed."
 help_text family.RuleListening = codes "Whether clients are accepted: 1, or 0."
+help_text family.TargetUp = codes "Whether a checked target is up: 1, or 0."
 
 -- a gauge may fall, a counter never does
 unfoldable pub kind_text : Family → List ℕ
@@ -53,6 +55,7 @@ kind_text family.Loops = codes "gauge"
 kind_text family.ConnectionsLimit = codes "gauge"
 kind_text family.RuleConnections = codes "gauge"
 kind_text family.RuleListening = codes "gauge"
+kind_text family.TargetUp = codes "gauge"
 kind_text _ = codes "counter"
 
 -- a line that says something of a name: a word, the name, a space, the text and a line feed

@@ -8,7 +8,7 @@ use Rattle.relay_metrics.specs.declared.figures.Figures.{Figures}
 abbrev pub IsNone : CarriedBytes → Type 0
 IsNone bytes = (bytes.up ≡ 0) × (bytes.down ≡ 0)
 
--- each figure is 0, and there is no loop and no rule
+-- each figure is 0, and there is no loop, no rule and no target
 pub record IsBlank (f : Figures) : Type 0 where
   pub up_ms : f.up_ms ≡ 0
   pub turns : f.turns.items ≡ []
@@ -20,6 +20,7 @@ pub record IsBlank (f : Figures) : Type 0 where
   pub log_lines : f.log_lines ≡ 0
   pub log_lost_lines : f.log_lost_lines ≡ 0
   pub rules : f.rules.items ≡ []
+  pub targets : f.targets.items ≡ []
 
 -- all rules accept clients
 abbrev pub all_listen : Figures → Bool

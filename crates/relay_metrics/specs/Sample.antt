@@ -1,5 +1,6 @@
 -- How one figure is spelled: its name, its labels, its value.
-use Rattle.std.specs.Prelude.{ℕ, ◌+◌, ◌/◌, ◌%◌, List, [], ◌∷◌, ◌++◌, codes}
+use Rattle.std.specs.Prelude.{ℕ, ◌+◌, ◌/◌, ◌%◌, ◌==◌, ◌||◌, List, [], ◌∷◌, ◌++◌, codes, if◌then◌else◌}
+use Rattle.std.specs.List.{flat_map}
 use Rattle.std.specs.Fmt.{decimal}
 use Rattle.relay_metrics.specs.declared.figures.Family.{Family}
 use Rattle.relay_metrics.specs.Family.{name_text, head_text}
@@ -24,6 +25,14 @@ sample_text f key value n = labelled_text f (label_text key value) n
 unfoldable pub rule_sample_text : Family → List ℕ → List ℕ → List ℕ → ℕ → List ℕ
 rule_sample_text f rule key value n =
     labelled_text f (label_text (codes "rule") rule ++ 44 ∷ label_text key value) n
+
+-- a byte of a label's value: a backslash stands before a quotation mark and before another backslash
+abbrev pub escaped_byte : ℕ → List ℕ
+escaped_byte byte = if byte == 34 || byte == 92 then 92 ∷ byte ∷ [] else byte ∷ []
+
+-- a label's value
+abbrev pub escaped : List ℕ → List ℕ
+escaped value = flat_map escaped_byte value
 
 -- a family of one figure, which has no label
 unfoldable pub single_text : Family → ℕ → List ℕ

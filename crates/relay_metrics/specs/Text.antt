@@ -10,8 +10,9 @@ use Rattle.relay_metrics.specs.declared.figures.CarriedBytes.{CarriedBytes}
 use Rattle.relay_metrics.specs.declared.figures.Figures.{Figures}
 use Rattle.relay_metrics.specs.declared.figures.Refusals.{Refusals}
 use Rattle.relay_metrics.specs.declared.figures.RuleFigures.{RuleFigures}
+use Rattle.relay_metrics.specs.declared.figures.TargetFigures.{TargetFigures}
 use Rattle.relay_metrics.specs.Family.{head_text, name_text}
-use Rattle.relay_metrics.specs.Sample.{rule_sample_text, sample_text, seconds_text}
+use Rattle.relay_metrics.specs.Sample.{escaped, rule_sample_text, sample_text, seconds_text}
 use Rattle.relay_metrics.specs.Sample.{single_text, value_text}
 
 -- how long the relay stands, in seconds
@@ -117,6 +118,15 @@ rules_text rules = rule_family_text family.RuleConnections rules
     ++ (rule_family_text family.RuleRefused rules
     ++ (rule_family_text family.RuleEnds rules ++ defence_text rules))))
 
+-- whether a target is up that is checked
+unfoldable pub target_text : TargetFigures → List ℕ
+target_text t =
+    rule_sample_text family.TargetUp t.rule.bytes (codes "target") (escaped t.target.bytes) (flag t.is_up)
+
+-- the family of targets, in their order
+unfoldable pub targets_text : List TargetFigures → List ℕ
+targets_text targets = head_text family.TargetUp ++ flat_map target_text targets
+
 -- the whole text
 unfoldable pub metrics_text : Figures → List ℕ
-metrics_text f = relay_text f ++ (totals_text f ++ rules_text f.rules.items)
+metrics_text f = relay_text f ++ (totals_text f ++ (rules_text f.rules.items ++ targets_text f.targets.items))

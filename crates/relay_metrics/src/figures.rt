@@ -57,6 +57,18 @@ pub struct RuleFigures {
     pub is_listening: bool,
 }
 
+/// The most bytes of a target's address, as a configuration spells it.
+pub const MAX_TARGET_BYTES: usize = 105;
+
+/// What is told of a target that is checked. No two have one rule and one address.
+#[derive(Clone, Copy, Debug, PartialEq, Eq, Drop)]
+pub struct TargetFigures {
+    /// The name of its rule.
+    pub rule: ArrayString<16>,
+    pub target: ArrayString<MAX_TARGET_BYTES>,
+    pub is_up: bool,
+}
+
 /// What is told of a relay. It is made once, and filled anew for each reader, in the same memory.
 #[derive(Drop)]
 pub struct Figures {
@@ -76,10 +88,12 @@ pub struct Figures {
     pub log_lost_lines: u64,
     /// One for each rule, in the order of the text; no name stands there twice.
     pub rules: Vec<RuleFigures>,
+    /// One for each target that is checked, rule by rule.
+    pub targets: Vec<TargetFigures>,
 }
 
 impl Figures {
-    /// All figures at 0, with no loop and no rule. It takes no memory.
+    /// All figures at 0, with no loop, no rule and no target. It takes no memory.
     pub fn new(alloc: Global) -> Figures
         ensures { IsBlank result }
     {
@@ -94,6 +108,7 @@ impl Figures {
             log_lines: 0,
             log_lost_lines: 0,
             rules: Vec::new(alloc),
+            targets: Vec::new(alloc),
         }
     }
 
@@ -105,7 +120,7 @@ impl Figures {
     }
 }
 
-/// A family of figures: all that have one name. What is of a rule comes last.
+/// A family of figures: all that have one name. What is of a rule or of a target comes last.
 #[derive(Clone, Copy, Debug, PartialEq, Eq, Drop)]
 pub(crate) enum Family {
     Up,
@@ -126,6 +141,7 @@ pub(crate) enum Family {
     RuleNoTarget,
     RuleAcceptFaults,
     RuleListening,
+    TargetUp,
 }
 
 impl Family {
@@ -152,6 +168,7 @@ impl Family {
             Family::RuleNoTarget => b"pollrelay_rule_no_target_total",
             Family::RuleAcceptFaults => b"pollrelay_rule_accept_faults_total",
             Family::RuleListening => b"pollrelay_rule_listening",
+            Family::TargetUp => b"pollrelay_target_up",
         }
     }
 
@@ -180,6 +197,7 @@ impl Family {
             Family::RuleNoTarget => b"Clients whose target wasn't reached, by cause.",
             Family::RuleAcceptFaults => b"Rows of accepts that failed.",
             Family::RuleListening => b"Whether clients are accepted: 1, or 0.",
+            Family::TargetUp => b"Whether a checked target is up: 1, or 0.",
         }
     }
 
@@ -193,6 +211,7 @@ impl Family {
             Family::ConnectionsLimit => b"gauge",
             Family::RuleConnections => b"gauge",
             Family::RuleListening => b"gauge",
+            Family::TargetUp => b"gauge",
             _ => b"counter",
         }
     }

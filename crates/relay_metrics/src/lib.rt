@@ -8,7 +8,8 @@ mod figures;
 mod metered;
 mod rule_text;
 mod sample;
+mod target_text;
 mod text;
 
-pub use figures::{CarriedBytes, Figures, Refusals, RuleFigures};
+pub use figures::{CarriedBytes, Figures, MAX_TARGET_BYTES, Refusals, RuleFigures, TargetFigures};
 pub use metered::Metered;

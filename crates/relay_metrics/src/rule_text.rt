@@ -40,8 +40,8 @@ fn write_defence<A: Allocator>(
     write_family(into, Family::RuleListening, rules)
 }
 
-// 1 for what holds, and 0 for what doesn't.
-fn flag(holds: bool) -> u64
+/// 1 for what holds, and 0 for what doesn't.
+pub(crate) fn flag(holds: bool) -> u64
     ensures { result ≡ flag holds }
 {
     if holds { 1 } else { 0 }

@@ -4,7 +4,8 @@ ghost use Rattle.std.specs.Prelude.{◌≡◌, ◌+◌, ◌%◌, ◌∷◌, ◌+
 ghost use Rattle.std.specs.Fmt.{decimal};
 ghost use Rattle.relay_metrics.specs.Family.{name_text};
 ghost use Rattle.relay_metrics.specs.Sample.{label_text, rule_sample_text, sample_text};
-ghost use Rattle.relay_metrics.specs.Sample.{seconds_text, single_text, value_text};
+ghost use Rattle.relay_metrics.specs.Sample.{escaped, escaped_byte, seconds_text, single_text};
+ghost use Rattle.relay_metrics.specs.Sample.{value_text};
 
 use crate::figures::Family;
 use base_types::OutOfMemory;
@@ -86,6 +87,64 @@ pub(crate) fn write_rule_sample<A: Allocator>(
     write_label(into, b"rule", rule)?;
     into.extend_from_slice(b",")?;
     write_label(into, key, value)?;
+    into.extend_from_slice(b"}")?;
+    write_value(into, n)
+}
+
+// A byte of a label's value.
+fn write_escaped_byte<A: Allocator>(into: &mut Vec<u8, A>, byte: u8) -> Result<(), OutOfMemory>
+    ensures { OnOk result (into.new.items ≡ into.old.items ++ escaped_byte byte) }
+{
+    if byte == b'"' || byte == b'\\' {
+        into.push(b'\\')?;
+    }
+    into.push(byte)?;
+    Ok(())
+}
+
+// A label's value in which any byte but a line feed may stand.
+fn write_escaped<A: Allocator>(into: &mut Vec<u8, A>, value: &[u8]) -> Result<(), OutOfMemory>
+    ensures { OnOk result (into.new.items ≡ into.old.items ++ escaped value.now) }
+{
+    for byte in value {
+        write_escaped_byte(into, *byte)?;
+    }
+    Ok(())
+}
+
+#[tactic(auto, unfolding(crate::specs::Sample::label_text))]
+fn write_escaped_label<A: Allocator>(
+    into: &mut Vec<u8, A>,
+    key: &[u8],
+    value: &[u8],
+) -> Result<(), OutOfMemory>
+    ensures { OnOk result
+        (into.new.items ≡ into.old.items ++ label_text key.now (escaped value.now)) }
+{
+    into.extend_from_slice(key)?;
+    into.extend_from_slice(b"=\"")?;
+    write_escaped(into, value)?;
+    into.extend_from_slice(b"\"")
+}
+
+/// A figure of a rule with one label more, in whose value any byte but a line feed may stand.
+#[tactic(auto, unfolding(crate::specs::Sample::rule_sample_text, crate::specs::Sample::labelled_text))]
+pub(crate) fn write_escaped_sample<A: Allocator>(
+    into: &mut Vec<u8, A>,
+    family: Family,
+    rule: &[u8],
+    key: &[u8],
+    value: &[u8],
+    n: u64,
+) -> Result<(), OutOfMemory>
+    ensures { OnOk result (into.new.items
+        ≡ into.old.items ++ rule_sample_text family rule.now key.now (escaped value.now) n) }
+{
+    into.extend_from_slice(family.name())?;
+    into.extend_from_slice(b"{")?;
+    write_label(into, b"rule", rule)?;
+    into.extend_from_slice(b",")?;
+    write_escaped_label(into, key, value)?;
     into.extend_from_slice(b"}")?;
     write_value(into, n)
 }

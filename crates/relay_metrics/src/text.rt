@@ -7,12 +7,14 @@ ghost use Rattle.relay_metrics.specs.Text.{turns_text, up_text};
 use crate::figures::{CarriedBytes, Family, Figures};
 use crate::rule_text::write_rules;
 use crate::sample::{write_sample, write_seconds, write_single};
+use crate::target_text::write_targets;
 use base_types::OutOfMemory;
 use itoa::Buffer;
 use std::alloc::Allocator;
 
 impl Figures {
-    /// The whole text. All families stand in it, also those of rules where there is none.
+    /// The whole text. All families stand in it, also those of rules and of targets where there is
+    /// none.
     #[tactic(auto, unfolding(crate::specs::Text::metrics_text))]
     pub fn text<A: Allocator>(&self, alloc: A) -> Result<Vec<u8, A>, OutOfMemory>
         ensures { IfOk result (λ text. text.items ≡ metrics_text self.now) }
@@ -21,6 +23,7 @@ impl Figures {
         self.write_relay(&mut text)?;
         self.write_totals(&mut text)?;
         write_rules(&mut text, self.rules.as_slice())?;
+        write_targets(&mut text, self.targets.as_slice())?;
         Ok(text)
     }
 

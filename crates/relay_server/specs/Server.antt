@@ -1,14 +1,21 @@
 -- A relay, as its callers see it.
-use Rattle.std.specs.Prelude.{◌⊎◌, Bool, List}
+use Rattle.std.specs.Prelude.{◌⊎◌, ℕ, Bool, List, []}
+use Rattle.std.specs.Option.{option_map_or}
+use Rattle.std.specs.String.{string_bytes}
 use Rattle.relay_admin.specs.declared.serve_fault.ServeFault.{ServeFault}
 use Rattle.relay_main.specs.Binding.{IsBindFault}
 use Rattle.relay_main.specs.Opening.{IsAdminFault}
 use Rattle.relay_main.specs.declared.listening.GivenListener.{GivenListener}
 use Rattle.relay_server.specs.declared.server.Server.{Server}
+use Rattle.relay_settings.specs.declared.settings.Settings.{Settings}
 
 -- why its sockets aren't opened: the rules, or the admin socket
 abbrev pub IsSocketsFault : ServeFault → Type 0
 IsSocketsFault fault = IsBindFault fault ⊎ IsAdminFault fault
+
+-- the path of the admin socket that settings name; no byte where they name none
+abbrev pub admin_path : Settings → List ℕ
+admin_path settings = option_map_or string_bytes settings.admin []
 
 module _ {R : Type 0} where
   -- the listeners that it was given and that nobody has taken

@@ -5,7 +5,7 @@ ghost use Rattle.std.specs.Arc.{arc_value};
 
 use base_types::OutOfMemory;
 use relay_facts::clock::{Moments, RelayClock};
-use relay_facts::rule_figures::rule_figures;
+use relay_facts::rule_figures::{add_target_figures, rule_figures};
 use relay_metrics::{CarriedBytes, Figures, Metered};
 use relay_shared::loop_handle::totals_of;
 use relay_shared::shared::Shared;
@@ -21,10 +21,11 @@ pub(crate) struct RelayFigures<R: Wait + Clock + Copy> {
 }
 
 impl<R: Wait + Clock + Copy> RelayFigures<R> {
-    // What is told of the whole relay; rules and turns are as they were.
+    // What is told of the whole relay; rules, targets and turns are as they were.
     fn read_whole(&self, figures: &mut Figures)
         ensures limit { figures.new.connections_limit ≡ (arc_value self.now.shared).limit.count }
         ensures rules { figures.new.rules ≡ figures.old.rules }
+        ensures targets { figures.new.targets ≡ figures.old.targets }
         ensures turns { figures.new.turns ≡ figures.old.turns }
     {
         let shared = &self.shared;
@@ -54,8 +55,10 @@ impl<R: Wait + Clock + Copy> Metered for RelayFigures<R> {
             figures.turns.push(handle.turns.get())?;
         }
         figures.rules.clear();
+        figures.targets.clear();
         for served in self.shared.rules.lock(&self.rt).iter() {
             figures.rules.push(rule_figures(&self.rt, served))?;
+            add_target_figures(&self.rt, served, &mut figures.targets)?;
         }
         Ok(())
     }

@@ -2,6 +2,7 @@
 
 ghost use Rattle.std.specs.Prelude.{◌≡◌, ◌⊎◌, OnOk, IfErr};
 ghost use Rattle.relay_server.specs.Output.{SaysItListens, WritesBothLines};
+ghost use Rattle.relay_server.specs.Server.{admin_path};
 ghost use Rattle.relay_admin.specs.ServeFault.{IsRunFault};
 
 use crate::bounds::ServeRuntime;
@@ -24,7 +25,9 @@ use std::time::Clock;
 
 // Where admin sessions are served. `Config::read` refuses settings that say it nowhere (`admin`), and
 // no socket is opened at the path without a byte.
-fn admin_of(settings: &Settings) -> &str {
+fn admin_of(settings: &Settings) -> &str
+    ensures { result.now ≡ admin_path settings.now }
+{
     match &settings.admin {
         Some(admin) => admin.as_str(),
         None => "",

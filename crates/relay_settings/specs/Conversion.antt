@@ -1,5 +1,5 @@
 -- A rules file as a configuration.
-use Rattle.std.specs.Prelude.{◌≡◌, ℕ, List, [], ◌∷◌, None, map, false}
+use Rattle.std.specs.Prelude.{ℕ, List, [], ◌∷◌, None, map, false}
 use Rattle.relay_admin.specs.rules.Fault.{SaysRules}
 use Rattle.relay_admin.specs.rules.Grammar.{Entry}
 use Rattle.relay_config.specs.Entries.{AccessEntry}
@@ -23,12 +23,13 @@ nothing_said = record {
 abbrev pub no_lists : AccessEntry
 no_lists = record { allow = []; deny = [] }
 
--- a rule whose own target is its only one, and which lets all clients in
+-- a rule whose own target is its only one and isn't checked, and which lets all clients in
 abbrev pub rule_alone : Entry → SaidRuleEntry
 rule_alone rule = record {
   rule = rule;
   balance = RoundRobin;
   access = no_lists;
+  checks = None;
   targets = record { at = rule.target; weight = 1; backup = false } ∷ [];
 }
 

@@ -1,4 +1,5 @@
 pub mod Conversion
+pub mod ConvertedText
 pub mod Meaning
 pub mod Settings
 pub mod Targets

@@ -1,16 +1,15 @@
 -- What a configuration means to a relay: its settings and its rules, or the first place that isn't
 -- carried out.
-use Rattle.std.specs.Prelude.{◌≡◌, ◌==◌, ◌<◌, ◌⊎◌, ℕ, Bool, true, false, ◌&&◌, List, [], ◌∷◌, ◌++◌, length, map}
+use Rattle.std.specs.Prelude.{◌≡◌, ◌==◌, ◌⊎◌, ℕ, Bool, true, false, ◌&&◌, List, [], ◌∷◌, ◌++◌, length, map}
 use Rattle.std.specs.Prelude.{nat_le, slice_index, Option, Some, None, is_none, option_map, Result, Ok, Err, if◌then◌else◌}
 use Rattle.std.specs.String.{string_bytes}
 use Rattle.config_values.specs.Addr as config
 use Rattle.relay_admin.specs.rules.Addr.{Address, address_of, tcp, unix}
 use Rattle.relay_admin.specs.rules.Grammar.{Entry, entry_of}
-use Rattle.relay_admin.specs.declared.rules.rule.TheConstants as admin
 use Rattle.relay_config.specs.Config.{SaysConfig, SaysFault}
-use Rattle.relay_config.specs.Entries.{AccessEntry, AdminEntry, ClientsEntry, ConfigEntry, HeadEntry, LimitsEntry, LogEntry}
-use Rattle.relay_config.specs.Entries.{access_entry}
-use Rattle.relay_config.specs.Entries.{RuleEntry, ServiceEntry, SocketsEntry, TargetEntry}
+use Rattle.relay_config.specs.Entries.{AccessEntry, AdminEntry, ChecksEntry, ClientsEntry, ConfigEntry, HeadEntry, LogEntry}
+use Rattle.relay_config.specs.Entries.{access_entry, checks_entry}
+use Rattle.relay_config.specs.Entries.{RuleEntry, SocketsEntry, TargetEntry}
 use Rattle.relay_config.specs.Fault.{item_spot, spot}
 use Rattle.relay_config.specs.Reading.{◌>>=◌, or_fault}
 use Rattle.relay_config.specs.declared.fault.Fault.{Fault}
@@ -152,23 +151,25 @@ pub record SaidTargetEntry : Type 0 where
   pub weight : ℕ
   pub backup : Bool
 
--- a rule, its targets, and who may connect to it
+-- a rule, its targets, how these are checked, and who may connect to it
 pub record SaidRuleEntry : Type 0 where
   pub rule : Entry
   pub balance : Balance
   pub access : AccessEntry
+  pub checks : Option ChecksEntry
   pub targets : List SaidTargetEntry
 
 -- what values of the program say
 abbrev pub said_target_entry : Target → SaidTargetEntry
 said_target_entry target = record { at = address_of target.at; weight = target.weight; backup = target.is_backup }
 
--- a rule, its targets, and who may connect to it
+-- a rule, its targets, how these are checked, and who may connect to it
 abbrev pub said_rule_entry : SaidRule → SaidRuleEntry
 said_rule_entry said = record {
   rule = entry_of said.rule;
   balance = said.balance;
   access = access_entry said.access;
+  checks = option_map checks_entry said.checks;
   targets = map said_target_entry said.targets.items;
 }
 
@@ -192,13 +193,13 @@ sockets_alone here sockets = do
   waiting ← served_if (spot here key.Backlog) (is_none sockets.backlog)
   served_if (spot here key.Source) (is_none sockets.source)
 
--- what a rule says beside its lists, its name, its idle time and how a target is picked
+-- what a rule says beside its lists, its name, its idle time, how a target is picked and how targets are
+-- checked
 unfoldable pub head_alone : Place → HeadEntry → Result (Unit {0}) Fault
 head_alone here head = do
   names ← served_if (spot here key.Resolve) (is_default_resolve head.resolve)
   clients ← clients_alone here head.clients
-  sockets ← sockets_alone here head.sockets
-  served_if (spot here key.Health) (is_none head.health)
+  sockets_alone here head.sockets
 
 -- the one listener of a rule
 unfoldable pub listen_in : ℕ → List config.Address → Result Address Fault
@@ -242,6 +243,7 @@ rule_in n rule = do
     rule = record { name = rule.head.name; listen = listen; target = target; idle = idle };
     balance = rule.head.balance;
     access = rule.access;
+    checks = rule.head.health;
     targets = targets;
   })
 

@@ -1,11 +1,33 @@
 -- Which settings an operator is told of.
-use Rattle.std.specs.Prelude.{◌≡◌, ◌==◌, Bool, true, false, ◌&&◌, ◌||◌, not, Option, Some, None, is_some, option_map, codes, ℕ, List}
+use Rattle.std.specs.Prelude.{◌==◌, Bool, true, false, not, Option, Some, None, is_some, map, option_map, if◌then◌else◌, ℕ, List}
 use Rattle.std.specs.Str.{bytes_eq}
 use Rattle.std.specs.String.{string_bytes}
-use Rattle.relay_admin.specs.rules.Addr.{Address, address_of, same_address}
+use Rattle.relay_admin.specs.rules.Addr.{address_of, same_address}
+use Rattle.relay_config.specs.Fault.{key_word}
+use Rattle.relay_config.specs.declared.fault.Key.{Key}
+use Rattle.relay_config.specs.declared.fault.Key.TheVariants as key
 use Rattle.relay_settings.specs.declared.settings.Settings.{Settings}
 use Rattle.relay_settings.specs.declared.telling.Setting.{Setting}
 use Rattle.relay_settings.specs.declared.telling.Setting.TheVariants as setting
+
+-- the key of each setting
+abbrev pub key_of_setting : Setting → Key
+key_of_setting setting.Admin = key.Admin
+key_of_setting setting.Loops = key.Loops
+key_of_setting setting.Connections = key.Connections
+key_of_setting setting.ConnectionsPerRule = key.ConnectionsPerRule
+key_of_setting setting.ConnectTimeout = key.ConnectTimeout
+key_of_setting setting.ReplaceStale = key.ReplaceStale
+key_of_setting setting.Log = key.Log
+key_of_setting setting.Metrics = key.Metrics
+
+-- a letter of an option, by that of its key: a hyphen for "_"
+abbrev pub option_letter : ℕ → ℕ
+option_letter letter = if letter == 95 then 45 else letter
+
+-- the option of each setting: the word of its key, with hyphens
+abbrev pub option_word : Setting → List ℕ
+option_word setting = map option_letter (key_word (key_of_setting setting))
 
 -- the settings say this one
 abbrev pub says : Settings → Setting → Bool

@@ -4,6 +4,7 @@ ghost use Rattle.std.specs.Prelude.{◌≡◌, ◌≢◌, ◌⊎◌, ◌-◌, �
 ghost use Rattle.std.specs.Io.KnownBytes.{Appends};
 ghost use Rattle.relay_admin.specs.declared.rules.verdict.Verdict.{Verdict};
 ghost use Rattle.relay_admin.specs.rules.Verdict.{verdict_line, verdict_status};
+ghost use Rattle.relay_config.specs.Fronts.{IsLongestFront};
 ghost use Rattle.relay_config.specs.declared.fault.Fault.{Fault};
 ghost use Rattle.relay_settings.specs.Verdict.{IsConfigVerdict, IsOfConfig};
 
@@ -27,15 +28,14 @@ pub fn rule_count(rules: &[SaidRule]) -> u32
 }
 
 // A text in a value of its own: as many whole characters of its front as fit.
-fn held(text: &str) -> ArrayString<MAX_WHY_BYTES> {
-    for size in (0..=MAX_WHY_BYTES.min(text.len())).rev() {
-        if let Some(front) = text.get(..size) {
-            if let Ok(held) = ArrayString::from(front) {
-                return held;
-            }
-        }
+fn held(text: &str) -> ArrayString<MAX_WHY_BYTES>
+    ensures { IsLongestFront MAX_WHY_BYTES text.now result.bytes }
+{
+    let front = &text[..text.floor_char_boundary(MAX_WHY_BYTES)];
+    match ArrayString::from(front) {
+        Ok(held) => held,
+        Err(_) => ArrayString::new(),
     }
-    ArrayString::new()
 }
 
 /// The verdict that says a fault of this text. Memory that is refused for its words is told as that.

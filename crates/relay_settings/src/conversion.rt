@@ -15,6 +15,7 @@ ghost use Rattle.relay_admin.specs.rules.Addr.{address_of};
 ghost use Rattle.relay_admin.specs.rules.Grammar.{entries_of, entry_of};
 ghost use Rattle.relay_admin.specs.rules.Verdict.{IsVerdict, verdict_line};
 ghost use Rattle.relay_settings.specs.Conversion.{MeansRules, nothing_said, rule_alone, rules_alone};
+ghost use Rattle.relay_settings.specs.ConvertedText.{converted_text, idle_line, rule_table, short_time};
 ghost use Rattle.relay_settings.specs.Meaning.{SaysAll, said_entry, said_rule_entry, settings_entry};
 
 use crate::said::{Said, read_config};
@@ -30,7 +31,9 @@ use stream_base::writer_sink::WriterSink;
 use target_pick::Balance;
 
 // The text of a time, in the largest unit of which it is so many.
-fn time_text(alloc: Global, ms: u32) -> Result<String, OutOfMemory> {
+fn time_text(alloc: Global, ms: u32) -> Result<String, OutOfMemory>
+    ensures { IfOk result (λ text. string_bytes text ≡ short_time ms) }
+{
     let (count, unit) = if ms % 3_600_000 == 0 {
         (ms / 3_600_000, "h")
     } else if ms % 60_000 == 0 {
@@ -44,7 +47,9 @@ fn time_text(alloc: Global, ms: u32) -> Result<String, OutOfMemory> {
 }
 
 // The line of an idle time; a rule that has none has no line.
-fn idle_line(alloc: Global, idle_ms: Option<u32>) -> Result<String, OutOfMemory> {
+fn idle_line(alloc: Global, idle_ms: Option<u32>) -> Result<String, OutOfMemory>
+    ensures { IfOk result (λ line. string_bytes line ≡ idle_line idle_ms) }
+{
     let Some(ms) = idle_ms else {
         return Ok(String::new(alloc));
     };
@@ -54,7 +59,10 @@ fn idle_line(alloc: Global, idle_ms: Option<u32>) -> Result<String, OutOfMemory>
 }
 
 // The table of a rule, with an empty line before it.
-fn table_of(alloc: Global, rule: &Rule) -> Result<String, OutOfMemory> {
+fn table_of(alloc: Global, rule: &Rule) -> Result<String, OutOfMemory>
+    ensures { IfOk result (λ table. IfSome (rule_table (entry_of rule.now)) (λ text.
+        string_bytes table ≡ text)) }
+{
     let (listen, target) = (rule.listen.text(), rule.target.text());
     let (name, listen, target) = (rule.name.as_str(), listen.as_str(), target.as_str());
     let idle = idle_line(alloc, rule.idle_ms)?;
@@ -65,7 +73,10 @@ fn table_of(alloc: Global, rule: &Rule) -> Result<String, OutOfMemory> {
 }
 
 // What is to say these rules.
-fn written(alloc: Global, rules: &[Rule]) -> Result<String, OutOfMemory> {
+fn written(alloc: Global, rules: &[Rule]) -> Result<String, OutOfMemory>
+    ensures { IfOk result (λ written. IfSome (converted_text (entries_of rules.now)) (λ text.
+        string_bytes written ≡ text)) }
+{
     let mut text = String::from_str(
         alloc,
         "# The rules of a rules file. Options of serve have keys too.\n",
@@ -101,6 +112,7 @@ fn says_rule(said: &SaidRule, rule: &Rule) -> bool
 {
     said.is_alone()
         && said.has_no_lists()
+        && said.checks.is_none()
         && said.balance == Balance::RoundRobin
         && is_same_rule(&said.rule, rule)
 }

@@ -17,7 +17,7 @@ mod telling;
 pub use asked::{Asked, Source};
 pub use check::{bad_config, check_config, rule_count};
 pub use conversion::convert;
-pub use relay_config::Access;
+pub use relay_config::{Access, Checks};
 pub use said::{MAX_CONFIG_BYTES, Said, read_config};
 pub use settings::{MAX_CONNECT_MS, Settings, in_force};
 pub use targets::{MAX_TARGETS, SaidRule, Target};

@@ -35,6 +35,7 @@ pub(crate) fn rule_of(alloc: Global, number: usize, rule: &config::Rule) -> Resu
     let targets = targets_of(alloc, number, rule.targets.as_slice())?;
     let target = first_address(number, targets.as_slice())?;
     let name = rule.head.name;
+    let checks = rule.head.health;
     Ok(SaidRule {
         rule: Rule {
             name,
@@ -44,6 +45,7 @@ pub(crate) fn rule_of(alloc: Global, number: usize, rule: &config::Rule) -> Resu
         },
         balance: rule.head.balance,
         access,
+        checks,
         targets,
     })
 }
@@ -55,8 +57,7 @@ fn head_alone(place: Place, head: &Head) -> Result<(), Fault>
     let resolves = is_default_resolve(head.resolve_ms);
     served_if(Spot::of(place, Key::Resolve), resolves)?;
     clients_alone(place, &head.clients)?;
-    sockets_alone(place, &head.sockets)?;
-    served_if(Spot::of(place, Key::Health), head.health.is_none())
+    sockets_alone(place, &head.sockets)
 }
 
 fn is_default_resolve(resolve_ms: Option<u64>) -> bool

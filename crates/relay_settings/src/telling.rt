@@ -5,6 +5,8 @@ ghost use Rattle.std.specs.Prelude.{◌≡◌, ◌==◌, ◌&&◌, not, option_m
 ghost use Rattle.std.specs.Str.{bytes_eq};
 ghost use Rattle.std.specs.String.{string_bytes};
 ghost use Rattle.relay_admin.specs.rules.Addr.{address_of, same_address};
+ghost use Rattle.relay_config.specs.Fault.{key_word};
+ghost use Rattle.relay_settings.specs.Telling.{key_of_setting, option_word};
 ghost use Rattle.relay_settings.specs.Telling.{same_said, same_truth, say_same, says};
 
 use crate::settings::Settings;
@@ -39,7 +41,9 @@ pub const SETTINGS: [Setting; 8] = [
 
 impl Setting {
     /// The option of the command line, without its dashes.
-    pub fn option(self) -> &'static str {
+    pub fn option(self) -> &'static str
+        ensures { result.now ≡ option_word self }
+    {
         match self {
             Setting::Admin => "admin",
             Setting::Loops => "loops",
@@ -53,7 +57,9 @@ impl Setting {
     }
 
     /// The key of the configuration.
-    pub fn key(self) -> &'static str {
+    pub fn key(self) -> &'static str
+        ensures { result.now ≡ key_word (key_of_setting self) }
+    {
         match self {
             Setting::Admin => Key::Admin.word(),
             Setting::Loops => Key::Loops.word(),

@@ -9,5 +9,6 @@ pub mod Laws
 pub mod Placing
 pub mod PollerFault
 pub mod Requests
+pub mod Shortage
 pub mod StalePath
 pub mod Standing

@@ -11,6 +11,7 @@ pub mod loop_handle;
 pub mod poller_fault;
 pub mod requests;
 pub mod shared;
+pub mod shortage;
 pub mod stale_path;
 pub mod standing;
 pub mod stopping;

@@ -11,7 +11,9 @@ from lib.pages.tree import GUIDE
 
 FAMILIES = "crates/relay_metrics/src/figures.rt"
 ENDED = "crates/relay_log/src/ended.rt"
-TEXTS = ("crates/relay_metrics/src/text.rt", "crates/relay_metrics/src/rule_text.rt")
+TEXTS = ("crates/relay_metrics/src/text.rt", "crates/relay_metrics/src/rule_text.rt", "crates/relay_metrics/src/target_text.rt")
+# The calls that write a figure of a rule with one label more.
+OF_RULES = ("write_rule_sample", "write_escaped_sample")
 PLACES = "crates/relay_metrics/src/place.rt"
 # A family, with the values of each label; of a label whose values are names or numbers there are none.
 Family = namedtuple("Family", "name kind labels")
@@ -42,9 +44,9 @@ def labels(tree):
         said = re.findall(r'b"(\w+)"', rest)
         if call in key_of:
             found.setdefault(family, {}).setdefault(key_of[call], []).extend(said)
-        elif call in ("write_sample", "write_rule_sample") and said:
+        elif call in ("write_sample", *OF_RULES) and said:
             found.setdefault(family, {}).setdefault(said[0], []).extend(said[1:])
-        if call in key_of or call == "write_rule_sample":
+        if call in key_of or call in OF_RULES:
             found[family].setdefault("rule", [])
     for family, table in re.findall(r"Family::(\w+) => \{?\s*write_causes\(into, family, name, &(\w+)", code):
         found[family] = {"rule": [], key_of["write_cause"]: rows_of(tree, table)}

@@ -233,8 +233,8 @@ fn a_fault_names_the_rule_the_key_the_value_and_what_is_wanted(rt: HostRuntime) 
 #[test]
 fn a_key_that_the_reader_doesnt_carry_out_is_named_like_others(rt: HostRuntime) {
     let text =
-        "[[rule]]\nname = \"web\"\nhealth = {}\nlisten = [\"unix:/a\"]\ntarget = [{ at = \"unix:/b\" }]\n";
-    let fault = Fault::At(Spot::of(Place::Rule(0), Key::Health), Wrong::Unserved);
-    let want = "bad config: rule \"web\": health: this version doesn't serve it";
+        "[[rule]]\nname = \"web\"\nbacklog = 5\nlisten = [\"unix:/a\"]\ntarget = [{ at = \"unix:/b\" }]\n";
+    let fault = Fault::At(Spot::of(Place::Rule(0), Key::Backlog), Wrong::Unserved);
+    let want = "bad config: rule \"web\": backlog: this version doesn't serve it";
     assert!(rt; is_line(rt.alloc(), text, fault, want), "{want}");
 }

@@ -3,7 +3,7 @@
 use arrayvec::ArrayString;
 use base_types::OutOfMemory;
 use relay_log::ended::{CAUSES, ENDS};
-use relay_metrics::{CarriedBytes, Figures, Metered, Refusals, RuleFigures};
+use relay_metrics::{CarriedBytes, Figures, Metered, Refusals, RuleFigures, TargetFigures};
 use std::alloc::Global;
 use std::sync::atomic::{AtomicU64, Ordering};
 
@@ -26,7 +26,7 @@ fn web() -> Option<RuleFigures> {
             descriptors: 9,
         },
         ends: [20, 21, 22, 23, 24, 25, 26],
-        unreached: [30, 31, 32, 33],
+        unreached: [30, 31, 32, 33, 35],
         accept_faults: 34,
         is_listening: true,
     })
@@ -47,6 +47,17 @@ fn unused() -> Option<RuleFigures> {
     })
 }
 
+/// Targets of the first rule, and whether they are up.
+const TARGETS: &[(&str, bool)] = &[("tcp:127.0.0.1:80", true), ("unix:/run/a\"b\\c", false)];
+
+fn target_of(target: &str, is_up: bool) -> Option<TargetFigures> {
+    Some(TargetFigures {
+        rule: ArrayString::from("web").ok()?,
+        target: ArrayString::from(target).ok()?,
+        is_up,
+    })
+}
+
 fn fill(figures: &mut Figures) -> Option<()> {
     figures.up_ms = 83_045;
     figures.turns.push(1_000).ok()?;
@@ -59,7 +70,11 @@ fn fill(figures: &mut Figures) -> Option<()> {
     figures.log_lines = 40;
     figures.log_lost_lines = 4;
     figures.rules.push(web()?).ok()?;
-    figures.rules.push(unused()?).ok()
+    figures.rules.push(unused()?).ok()?;
+    for (target, is_up) in TARGETS {
+        figures.targets.push(target_of(target, *is_up)?).ok()?;
+    }
+    Some(())
 }
 
 /// A snapshot of two loops and two rules.

@@ -88,10 +88,12 @@ pollrelay_rule_no_target_total{rule=\"web\",cause=\"refused\"} 30\n\
 pollrelay_rule_no_target_total{rule=\"web\",cause=\"unreachable\"} 31\n\
 pollrelay_rule_no_target_total{rule=\"web\",cause=\"timeout\"} 32\n\
 pollrelay_rule_no_target_total{rule=\"web\",cause=\"descriptors\"} 33\n\
+pollrelay_rule_no_target_total{rule=\"web\",cause=\"down\"} 35\n\
 pollrelay_rule_no_target_total{rule=\"db-0123456789abc\",cause=\"refused\"} 0\n\
 pollrelay_rule_no_target_total{rule=\"db-0123456789abc\",cause=\"unreachable\"} 0\n\
 pollrelay_rule_no_target_total{rule=\"db-0123456789abc\",cause=\"timeout\"} 0\n\
 pollrelay_rule_no_target_total{rule=\"db-0123456789abc\",cause=\"descriptors\"} 0\n\
+pollrelay_rule_no_target_total{rule=\"db-0123456789abc\",cause=\"down\"} 0\n\
 # HELP pollrelay_rule_accept_faults_total Rows of accepts that failed.\n\
 # TYPE pollrelay_rule_accept_faults_total counter\n\
 pollrelay_rule_accept_faults_total{rule=\"web\"} 34\n\
@@ -99,7 +101,11 @@ pollrelay_rule_accept_faults_total{rule=\"db-0123456789abc\"} 0\n\
 # HELP pollrelay_rule_listening Whether clients are accepted: 1, or 0.\n\
 # TYPE pollrelay_rule_listening gauge\n\
 pollrelay_rule_listening{rule=\"web\"} 1\n\
-pollrelay_rule_listening{rule=\"db-0123456789abc\"} 0\n";
+pollrelay_rule_listening{rule=\"db-0123456789abc\"} 0\n\
+# HELP pollrelay_target_up Whether a checked target is up: 1, or 0.\n\
+# TYPE pollrelay_target_up gauge\n\
+pollrelay_target_up{rule=\"web\",target=\"tcp:127.0.0.1:80\"} 1\n\
+pollrelay_target_up{rule=\"web\",target=\"unix:/run/a\\\"b\\\\c\"} 0\n";
 
 /// What stands in the text of a snapshot without a loop and without a rule: lines that say what the
 /// figures are, and those figures that have neither loop nor rule.

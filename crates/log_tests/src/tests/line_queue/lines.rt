@@ -81,7 +81,10 @@ const ENDS: &[(Ended, &str)] = &[
         Ended::NoTarget(Cause::Descriptors),
         "no target descriptors\n",
     ),
+    (Ended::NoTarget(Cause::Down), "no target down\n"),
     (Ended::Accept(Reason::Other), "accept other\n"),
+    (Ended::TargetDown, "target down\n"),
+    (Ended::TargetUp, "target up\n"),
 ];
 
 #[test]

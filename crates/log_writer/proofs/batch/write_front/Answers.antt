@@ -23,4 +23,5 @@ loop-at-preserved g c =
           (appends_then_appends _ _ _ (take c.loop-at.at text) (take c.in-Ok.count rest) c.loop-at.invariant.written
           (subst (λ (l : List ℕ). Appends (g.K.Sink.contents c.loop-at.sink) (g.K.Sink.contents c.try_write.new.self)
           (take c.in-Ok.count l)) all_the_rest c.in-Ok.ensures.bytes));
+      same = g.met.K.Sink.stays_on _ _ _ c.loop-at.invariant.same c.try_write.ensures.same;
     }

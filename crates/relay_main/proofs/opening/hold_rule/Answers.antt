@@ -3,7 +3,7 @@ use Rattle.std.specs.Prelude.{Some}
 use Rattle.std.specs.Arc.{arc_value}
 use Rattle.readiness.specs.EventLoop.{tasks_of}
 use Rattle.readiness.specs.Tasks.{task_in}
-use Rattle.relay_main.proofs.BindingLemmas.{has_come}
+use Rattle.relay_main.proofs.BindingLemmas.{has_come, stand_on, stand_put, stand_same}
 use Rattle.relay_main.proofs.opening.hold_rule.Goals.{in-Ok-put, in-Err}
 use Rattle.relay_main.proofs.opening.hold_rule.Goals as goal
 
@@ -19,4 +19,17 @@ returns-clause-come g c = elim c.match-put.branch [
       c.in_ok-task_served.task_served (arc_value c.args.served.now) c.in-Ok.ensures.kept c.in-Ok.ensures.unused
       put (ap Some c.new.ensures.served) w.again.ensures.kept same)
   | in-Err w ↦ rw w.result-is tt
+]
+
+-- what stood stands, whether the task was put or not
+pub returns-clause-stand : goal.returns-clause-stand
+returns-clause-stand g c = elim c.match-put.branch [
+  | in-Ok-put w ↦
+      rw w.tasks-is (stand_put (tasks_of c.args.tasks.now) (tasks_of c.vacant.new.self) (tasks_of c.put.new.self) (tasks_of w.again.new.self)
+      c.in-Ok.place _ _ c.in-Ok.ensures.kept c.in-Ok.ensures.place c.in-Ok.ensures.unused w.in-Ok-put.ensures.given w.in-Ok-put.ensures.put
+      w.again.ensures.kept)
+  | in-Err w ↦
+      rw w.tasks-is (stand_on (tasks_of c.args.tasks.now) (tasks_of c.vacant.new.self) (tasks_of c.put.new.self)
+      (stand_same (tasks_of c.args.tasks.now) (tasks_of c.vacant.new.self) c.in-Ok.ensures.kept)
+      (stand_same (tasks_of c.vacant.new.self) (tasks_of c.put.new.self) w.in-Err.ensures.kept))
 ]

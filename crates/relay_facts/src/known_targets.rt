@@ -1,0 +1,83 @@
+//! What the targets of a new list have of the list before: connections stand there still, and a
+//! target that was down is.
+
+ghost use Rattle.std.specs.Prelude.{◌≡◌, is_some, IfOk};
+
+use crate::target_health::TargetHealth;
+use crate::target_list::{CountedTarget, Targets};
+use base_types::OutOfMemory;
+use relay_admin::{Addr, is_same_addr};
+use relay_settings::Checks;
+use std::alloc::Global;
+use std::sync::Arc;
+use std::sync::atomic::AtomicU64;
+
+// The first of these at this address.
+fn target_at<'a>(all: &'a [CountedTarget], at: &Addr) -> Option<&'a CountedTarget> {
+    for counted in all {
+        if is_same_addr(&counted.target.at, at) {
+            return Some(counted);
+        }
+    }
+    None
+}
+
+/// What is counted at this address from now on: what those targets count there, if one has it.
+pub(crate) fn count_at(
+    alloc: Global,
+    at: &Addr,
+    before: Option<&Targets>,
+) -> Result<Arc<AtomicU64>, OutOfMemory> {
+    if let Some(before) = before {
+        if let Some(counted) = target_at(before.all.as_slice(), at) {
+            return Ok(Arc::try_clone(&counted.standing)?);
+        }
+    }
+    Ok(Arc::new(alloc, AtomicU64::new(0))?)
+}
+
+// The health that is known at this address: of these targets, or of those of the list before.
+fn known_at<'a>(
+    made: &'a [CountedTarget],
+    before: Option<&'a Targets>,
+    at: &Addr,
+) -> Option<&'a Arc<TargetHealth>> {
+    if let Some(counted) = target_at(made, at) {
+        return counted.health.as_ref();
+    }
+    target_at(before?.all.as_slice(), at)?.health.as_ref()
+}
+
+// The same health, where these checks have its limits. Else its state stays, and outcomes are counted
+// anew.
+fn kept(
+    alloc: Global,
+    known: &Arc<TargetHealth>,
+    checks: &Checks,
+) -> Result<Arc<TargetHealth>, OutOfMemory> {
+    if known.has_limits_of(checks) {
+        return Ok(Arc::try_clone(known)?);
+    }
+    Ok(Arc::new(alloc, known.anew(checks))?)
+}
+
+/// The health of a target at this address from now on, where it is checked: the one that is known
+/// there, else a new one, by which it is up.
+pub(crate) fn health_at(
+    alloc: Global,
+    at: &Addr,
+    checks: Option<Checks>,
+    made: &[CountedTarget],
+    before: Option<&Targets>,
+) -> Result<Option<Arc<TargetHealth>>, OutOfMemory>
+    ensures { IfOk result (λ health. is_some health ≡ is_some checks) }
+{
+    let Some(checks) = checks else {
+        return Ok(None);
+    };
+    let health = match known_at(made, before, at) {
+        Some(known) => kept(alloc, known, &checks)?,
+        None => Arc::new(alloc, TargetHealth::new(&checks))?,
+    };
+    Ok(Some(health))
+}

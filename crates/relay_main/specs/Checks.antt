@@ -1,0 +1,56 @@
+-- The checks of targets, as tasks of the main thread's loop.
+use Rattle.std.specs.Prelude.{◌≡◌, ◌+◌, ◌*◌, ◌-◌, ◌^◌, ℕ, Bool, true, min, Option, Some, None, Result, Ok, Err}
+use Rattle.std.specs.Arc.{arc_value}
+use Rattle.std.specs.declared.alloc.Global.{Global}
+use Rattle.readiness.specs.declared.resources.WriteHalf.{WriteHalf}
+use Rattle.readiness.specs.declared.tasks.Turn.{Turn}
+use Rattle.readiness.specs.declared.tasks.Turn.TheVariants as turn
+use Rattle.relay_admin.specs.rules.Addr.{address_of}
+use Rattle.relay_main.specs.declared.check_task.CheckStep.{CheckStep}
+use Rattle.relay_main.specs.declared.check_task.CheckStep.TheVariants as step
+use Rattle.relay_main.specs.declared.check_task.CheckTask.{CheckTask}
+use Rattle.relay_main.specs.declared.check_task.Checked.{Checked}
+use Rattle.relay_main.specs.declared.main_task.MainTask.{MainTask}
+use Rattle.relay_main.specs.declared.main_task.MainTask.TheVariants as task
+use Rattle.rwloops.specs.declared.outcome.DevKind.{DevKind}
+use Rattle.target_pick.specs.declared.health.Outcome.{Outcome}
+use Rattle.target_pick.specs.declared.health.Outcome.TheVariants.{Passed, Failed}
+
+-- the connection of the check that is under way
+abbrev pub dial_in : CheckTask → Option (WriteHalf Global)
+dial_in check = check.dial
+
+-- no check is under way
+abbrev pub Rests : CheckTask → Type 0
+Rests check = check.dial ≡ None
+
+-- what a connection came to, as the outcome of a check
+abbrev pub outcome_of : Result (Unit {0}) DevKind → Outcome
+outcome_of (Ok made) = Passed
+outcome_of (Err kind) = Failed
+
+-- so many milliseconds after a moment
+abbrev pub moment_behind : ℕ → ℕ → ℕ
+moment_behind now ms = min (now + ms * 1000000) (2 ^ 64 - 1)
+
+-- a check is to be dialled now: it has its time from then on, and the next one comes at its own
+pub record IsDue (check : CheckTask) (now : ℕ) : Type 0 where
+  pub until : check.until ≡ moment_behind now check.checked.checks.timeout_ms
+  pub next : check.next_at ≡ moment_behind now check.checked.checks.every_ms
+
+-- what the loop does with a check's task after this step: where one is to be dialled it doesn't sleep
+-- before that
+abbrev pub turn_of : CheckStep → Turn
+turn_of step.IsDue = turn.Again
+turn_of other = turn.Waits
+
+-- the moment that a task awaits: that of a check alone does
+abbrev pub awaited_by : {R : Type 0} → MainTask R → Option ℕ
+awaited_by (task.Check check) = Some check.until
+awaited_by other = None
+
+-- where both are told to be one check, they are of one rule's address and of one target's, alike
+abbrev pub IsSameCheck : Checked → Checked → Bool → Type 0
+IsSameCheck one other same = same ≡ true
+    → (address_of (arc_value one.served).listen ≡ address_of (arc_value other.served).listen)
+    × ((address_of one.at ≡ address_of other.at) × (one.checks ≡ other.checks))

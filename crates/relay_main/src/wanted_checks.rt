@@ -1,0 +1,89 @@
+//! The targets that are to be checked: of each rule that has checks, each address once.
+
+ghost use Rattle.std.specs.Prelude.{◌≡◌, ◌<◌, IfSome, IfErr, length};
+ghost use Rattle.relay_admin.specs.declared.serve_fault.ServeFault.{ServeFault};
+ghost use Rattle.relay_main.specs.Checks.{IsSameCheck};
+
+use crate::check_task::Checked;
+use relay_admin::{ServeFault, is_same_addr};
+use relay_facts::served_rule::ServedRule;
+use relay_facts::target_list::Targets;
+use std::sync::{Arc, Wait};
+
+// Whether both are one check: of the same rule, by its address, and of the same target, alike.
+fn is_same_check(one: &Checked, other: &Checked) -> bool
+    ensures { IsSameCheck one.now other.now result }
+{
+    is_same_addr(&one.served.listen, &other.served.listen)
+        && is_same_addr(&one.at, &other.at)
+        && one.checks == other.checks
+}
+
+/// The place of the same check among these.
+pub(crate) fn place_among(all: &[Checked], one: &Checked) -> Option<usize>
+    ensures { IfSome result (λ place. place < length all.now) }
+{
+    for place in 0..all.len() {
+        if is_same_check(&all[place], one) {
+            return Some(place);
+        }
+    }
+    None
+}
+
+// Puts the target at this place of a rule's list behind these, where it is to be checked. None says
+// that memory was refused.
+fn add_target(
+    all: &mut Vec<Checked>,
+    served: &Arc<ServedRule>,
+    targets: &Arc<Targets>,
+    place: usize,
+) -> Option<()> {
+    let (Some(checks), Some(at)) = (targets.checks(), targets.address(place)) else {
+        return Some(());
+    };
+    if targets.stands_before(place, &at) {
+        return Some(());
+    }
+    let checked = Checked {
+        served: Arc::try_clone(served).ok()?,
+        targets: Arc::try_clone(targets).ok()?,
+        place,
+        at,
+        checks,
+    };
+    all.push(checked).ok()
+}
+
+// Puts all of a list that are to be checked behind these, each address once. None says that memory was
+// refused.
+fn add_each(
+    all: &mut Vec<Checked>,
+    served: &Arc<ServedRule>,
+    targets: &Arc<Targets>,
+) -> Option<()> {
+    for place in 0..targets.len() {
+        add_target(all, served, targets, place)?;
+    }
+    Some(())
+}
+
+/// Puts all of a rule's that are to be checked behind these.
+pub(crate) fn add_targets<R: Wait>(
+    rt: &R,
+    all: &mut Vec<Checked>,
+    served: &Arc<ServedRule>,
+) -> Result<(), ServeFault>
+    ensures { IfErr result (λ fault. fault ≡ ServeFault.Memory) }
+{
+    let Some(said) = served.said(rt) else {
+        return Err(ServeFault::Memory);
+    };
+    let Some(targets) = &said.targets else {
+        return Ok(());
+    };
+    match add_each(all, served, targets) {
+        Some(()) => Ok(()),
+        None => Err(ServeFault::Memory),
+    }
+}
