@@ -1,2 +1,3 @@
 mod OutputLemmas
 pub mod LineLemmas
+mod SharedCrosses

@@ -10,13 +10,14 @@ use relay_metrics::{CarriedBytes, Figures, Metered};
 use relay_shared::loop_handle::totals_of;
 use relay_shared::shared::Shared;
 use std::sync::{Arc, Wait};
-use std::time::Clock;
+use std::time::{Clock, Instant};
 
 /// What reads a relay's figures, from any thread, as long as the relay stands and after it.
 #[derive(Drop)]
 pub(crate) struct RelayFigures<R: Wait + Clock + Copy> {
     pub(crate) rt: R,
-    pub(crate) clock: RelayClock<R>,
+    // The relay's clock tells what has passed since then.
+    pub(crate) start: Instant,
     pub(crate) shared: Arc<Shared>,
 }
 
@@ -29,7 +30,7 @@ impl<R: Wait + Clock + Copy> RelayFigures<R> {
         ensures turns { figures.new.turns ≡ figures.old.turns }
     {
         let shared = &self.shared;
-        figures.up_ms = self.clock.now() / 1_000_000;
+        figures.up_ms = RelayClock::new(self.rt, self.start).now() / 1_000_000;
         figures.admin_sessions = shared.sessions.get();
         figures.admin_dropped_sessions = shared.dropped_sessions.get();
         figures.connections_limit = shared.limit.count as u64;

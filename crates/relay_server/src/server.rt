@@ -29,6 +29,8 @@ use std::time::{Clock, Instant};
 /// A relay. It isn't `Drop`: `end` alone lets it go, so that a way out which leaves a thread, a
 /// socket or a bound path doesn't compile.
 pub(crate) struct Server<R: Wait + Clock + Copy> {
+    /// When it began, by which each clock of it tells the time.
+    start: Instant,
     pub(crate) main: MainLoop<R>,
     sessions: Sessions,
     /// What its loops are started with, by their places, until they are.
@@ -71,6 +73,7 @@ where
         let clock = RelayClock::new(rt, start);
         let sessions = Sessions::none(alloc)?;
         Ok(Server {
+            start,
             main: MainLoop::new(rt, alloc, clock, shared, main),
             sessions,
             loops,
@@ -110,7 +113,7 @@ where
         ensures faults { IfErr result (λ fault. fault ≡ ServeFault.Memory) }
     {
         let loops = mem::replace(&mut self.loops, Vec::new(self.main.alloc));
-        self.threads.start_loops(&self.main, loops)
+        self.threads.start_loops(&self.main, self.start, loops)
     }
 
     /// Turns until an admin session says stop, until the relay has finished, or until something
@@ -149,7 +152,7 @@ where
     {
         Ok(RelayFigures {
             rt: self.main.host.rt,
-            clock: self.main.host.clock,
+            start: self.start,
             shared: Arc::try_clone(&self.main.host.shared)?,
         })
     }
@@ -160,6 +163,7 @@ where
         ensures faults { IfErr result (λ fault. IsRunFault fault) }
     {
         let Server {
+            start: _,
             main,
             sessions,
             loops: _,

@@ -9,15 +9,17 @@ use crate::bounds::RelayRuntime;
 use crate::stacks::LOOP_STACK_BYTES;
 use relay_admin::ServeFault;
 use relay_core::LoopMemory;
+use relay_facts::clock::RelayClock;
 use relay_facts::totals::Totals;
 use relay_loops::{LoopContext, run_loop};
 use relay_main::{AcceptsEnded, MainLoop};
 use relay_shared::loop_handle::LoopParts;
+use relay_shared::shared::Shared;
 use relay_shared::stopping::Stopped;
 use std::alloc::Global;
 use std::sync::{Arc, Wait};
 use std::thread::{Builder, JoinHandle, Threads};
-use std::time::Clock;
+use std::time::{Clock, Instant};
 
 /// The threads beside the main one, as far as they were started. It isn't `Drop`: `join` alone lets
 /// it go, so that no thread is left.
@@ -98,31 +100,71 @@ fn sum_of(all: Option<Totals>, one: Option<Totals>) -> Option<Totals>
     }
 }
 
-// What the thread of the loop at this place knows of the relay.
-fn context_of<R: Wait + Clock + Copy>(
-    main: &MainLoop<R>,
+// What goes to the thread of the loop at this place, beside the runtime, of which the thread makes the
+// relay's clock again. The runtime's type stands in none of it, so that its proof of `Send` can be
+// given part by part (`SharedCrosses`).
+#[derive(Drop)]
+struct LoopStart {
+    alloc: Global,
+    start: Instant,
     place: usize,
-) -> Result<LoopContext<R>, ServeFault>
-    ensures faults { IfErr result (λ fault. fault ≡ ServeFault.Memory) }
-{
-    Ok(LoopContext {
-        rt: main.host.rt,
-        alloc: main.alloc,
-        clock: main.host.clock,
-        place,
-        shared: Arc::try_clone(&main.host.shared)?,
-    })
+    shared: Arc<Shared>,
+    parts: LoopParts,
+    memory: LoopMemory,
+}
+
+impl LoopStart {
+    // What the loop with these parts starts with, at this place.
+    fn new<R: Wait + Clock + Copy>(
+        main: &MainLoop<R>,
+        start: Instant,
+        place: usize,
+        parts: LoopParts,
+    ) -> Result<LoopStart, ServeFault>
+        ensures faults { IfErr result (λ fault. fault ≡ ServeFault.Memory) }
+        ensures start { IfOk result (λ loop. loop.start ≡ start) }
+        ensures place { IfOk result (λ loop. loop.place ≡ place) }
+        ensures parts { IfOk result (λ loop. loop.parts ≡ parts) }
+    {
+        let memory = LoopMemory::new(main.alloc)?;
+        Ok(LoopStart {
+            alloc: main.alloc,
+            start,
+            place,
+            shared: Arc::try_clone(&main.host.shared)?,
+            parts,
+            memory,
+        })
+    }
+
+    // Runs the loop to its end.
+    fn run<R: RelayRuntime>(self, rt: R) -> Result<Option<Totals>, ServeFault> {
+        let LoopStart {
+            alloc,
+            start,
+            place,
+            shared,
+            parts,
+            memory,
+        } = self;
+        let context = LoopContext {
+            rt,
+            alloc,
+            clock: RelayClock::new(rt, start),
+            place,
+            shared,
+        };
+        run_loop(context, parts, memory)
+    }
 }
 
 fn spawn_loop<R: RelayRuntime>(
-    context: LoopContext<R>,
-    parts: LoopParts,
-    memory: LoopMemory,
+    rt: R,
+    started: LoopStart,
 ) -> Result<JoinHandle<Result<Option<Totals>, ServeFault>>, ServeFault>
     ensures faults { IfErr result (λ fault. fault ≡ ServeFault.Memory) }
 {
-    let rt = context.rt;
-    let job = move || run_loop(context, parts, memory);
+    let job = move || started.run(rt);
     match Builder::new().stack_size(LOOP_STACK_BYTES).spawn(&rt, job) {
         Ok(join) => Ok(join),
         Err(_) => Err(ServeFault::Memory),
@@ -139,19 +181,19 @@ impl StartedThreads {
         }
     }
 
-    /// Starts the loops beside the main thread's. After a fault those that were started run on.
+    /// Starts the loops beside the main thread's, for a relay that began then. After a fault those that were started run on.
     pub(crate) fn start_loops<R: RelayRuntime>(
         &mut self,
         main: &MainLoop<R>,
+        start: Instant,
         loops: Vec<LoopParts>,
     ) -> Result<(), ServeFault>
         ensures faults { IfErr result (λ fault. fault ≡ ServeFault.Memory) }
     {
         self.loops.reserve(loops.len())?;
         for parts in loops {
-            let context = context_of(main, self.loops.len())?;
-            let memory = LoopMemory::new(main.alloc)?;
-            let _ = self.loops.push(spawn_loop(context, parts, memory)?);
+            let started = LoopStart::new(main, start, self.loops.len(), parts)?;
+            let _ = self.loops.push(spawn_loop(main.host.rt, started)?);
         }
         Ok(())
     }

@@ -1,0 +1,156 @@
+-- What the threads of a relay share may go from one to another. A search over the whole of it stops at a
+-- limit, so each part that stands in it more than once is searched for alone.
+use denote.Param.Send.{IsSend, IsSync, sendable}
+use denote.Param.SendFields.{declared_send, declared_sync}
+use Rattle.std.proofs.Crossing.{crosses}
+use Rattle.std.proofs.MapsCrossing as maps
+use Rattle.readiness.specs.contracts.sock.Sock as sock
+use Rattle.relay_facts.specs.contracts.served_rule.ServedRule as rule
+use Rattle.relay_facts.specs.contracts.connection_facts.Acceptance as acceptance
+use Rattle.relay_facts.specs.contracts.connection_facts.ConnectionFacts as conn_facts
+use Rattle.relay_shared.specs.contracts.inbox.Counted as counted
+use Rattle.relay_shared.specs.contracts.inbox.Accepted as accepted
+use Rattle.relay_shared.specs.contracts.inbox.Inbox as inbox
+use Rattle.std.specs.contracts.alloc.Global as global
+use Rattle.std.specs.contracts.impls.GlobalAllocator.TheImpl as heap
+use Rattle.relay_core.specs.contracts.LoopMemory as memory
+use Rattle.relay_shared.specs.contracts.loop_handle.LoopHandle as handle
+use Rattle.relay_shared.specs.contracts.loop_handle.LoopParts as loop_parts
+use Rattle.relay_shared.specs.contracts.shared.Shared as shared
+use Rattle.relay_server.specs.contracts.threads.LoopStart as loop_start
+
+sock_send : IsSend sock.the_row
+sock_send = search (sendable, crosses) depth 60 fits 100000
+
+rule_send : IsSend rule.the_row
+rule_send = search (sendable, crosses) depth 60 fits 100000
+
+rule_sync : IsSync rule.the_row
+rule_sync = search (sendable, crosses) depth 60 fits 100000
+
+acceptance_send : IsSend acceptance.the_row
+acceptance_send = search (rule_send, rule_sync, sendable, crosses) depth 60 fits 100000
+
+counted_send : IsSend counted.the_row
+counted_send = search (rule_send, rule_sync, sendable, crosses) depth 60 fits 100000
+
+accepted_send : IsSend accepted.the_row
+accepted_send = declared_send accepted.the_type (sock_send, (acceptance_send, (counted_send, tt)))
+
+inbox_send : IsSend inbox.the_row
+inbox_send = search (accepted_send, sendable, crosses) depth 60 fits 100000
+
+facts_send : IsSend conn_facts.the_row
+facts_send = search (sendable, crosses) depth 60 fits 100000
+
+facts_sync : IsSync conn_facts.the_row
+facts_sync = search (sendable, crosses) depth 60 fits 100000
+
+handle_send : IsSend handle.the_row
+handle_send = search (inbox_send, sendable, crosses, maps.crosses) depth 60 fits 100000
+
+handle_sync : IsSync handle.the_row
+handle_sync = search (inbox_send, sendable, crosses, maps.crosses) depth 60 fits 100000
+
+ruleset parts = (rule_send, rule_sync, facts_send, facts_sync, handle_send, handle_sync, sendable, crosses, maps.crosses)
+
+-- one search for each field of `Shared`, in its order
+pub shared_send : IsSend shared.the_row
+shared_send = declared_send shared.the_type (
+  search parts depth 60 fits 100000,
+  (
+    search parts depth 60 fits 100000,
+    (
+      search parts depth 60 fits 100000,
+      (
+        search parts depth 60 fits 100000,
+        (
+          search parts depth 60 fits 100000,
+          (
+            search parts depth 60 fits 100000,
+            (
+              search parts depth 60 fits 100000,
+              (
+                search parts depth 60 fits 100000,
+                (
+                  search parts depth 60 fits 100000,
+                  (
+                    search parts depth 60 fits 100000,
+                    (
+                      search parts depth 60 fits 100000,
+                      (
+                        search parts depth 60 fits 100000,
+                        (search parts depth 60 fits 100000, (search parts depth 60 fits 100000, tt)),
+                      ),
+                    ),
+                  ),
+                ),
+              ),
+            ),
+          ),
+        ),
+      ),
+    ),
+  ),
+)
+
+pub shared_sync : IsSync shared.the_row
+shared_sync = declared_sync shared.the_type (
+  search parts depth 60 fits 100000,
+  (
+    search parts depth 60 fits 100000,
+    (
+      search parts depth 60 fits 100000,
+      (
+        search parts depth 60 fits 100000,
+        (
+          search parts depth 60 fits 100000,
+          (
+            search parts depth 60 fits 100000,
+            (
+              search parts depth 60 fits 100000,
+              (
+                search parts depth 60 fits 100000,
+                (
+                  search parts depth 60 fits 100000,
+                  (
+                    search parts depth 60 fits 100000,
+                    (
+                      search parts depth 60 fits 100000,
+                      (
+                        search parts depth 60 fits 100000,
+                        (search parts depth 60 fits 100000, (search parts depth 60 fits 100000, tt)),
+                      ),
+                    ),
+                  ),
+                ),
+              ),
+            ),
+          ),
+        ),
+      ),
+    ),
+  ),
+)
+
+parts_send : IsSend loop_parts.the_row
+parts_send = search (sendable, crosses, maps.crosses) depth 60 fits 100000
+
+memory_send : IsSend (memory.the_row global.the_row heap.ghosts)
+memory_send = search (sendable, crosses, maps.crosses) depth 60 fits 100000
+
+-- one search for each field of `LoopStart`, in its order
+pub start_send : IsSend loop_start.the_row
+start_send = declared_send loop_start.the_type (
+  search (sendable, crosses) depth 20,
+  (
+    search (sendable, crosses) depth 20,
+    (
+      search (sendable, crosses) depth 20,
+      (
+        search (shared_send, shared_sync, sendable, crosses) depth 20 fits 10000,
+        (search (parts_send, sendable) depth 20, (search (memory_send, sendable) depth 20, tt)),
+      ),
+    ),
+  ),
+)
