@@ -367,11 +367,11 @@ def reloads(checks, folder):
     with Checked((target, second), once, "first") as it:
         checks.holds("reloads: it is down", it.comes_to(target, "down"), it.lines())
         target.open()
-        probes = second.probes
+        checks.holds("reloads: the other is checked once", comes(lambda: second.probes == 1), second.probes)
         checks.expect("reloads: a new list", "rules 1", it.reload((third, target, second), once, "first"))
         checks.expect("reloads: it has the clients", "CC", it.names(2))
         checks.expect("reloads: the new one is checked", True, comes(lambda: third.probes == 1))
-        checks.expect("reloads: those that stay aren't checked anew", (0, probes), (target.probes, second.probes))
+        checks.expect("reloads: those that stay aren't checked anew", (0, 1), (target.probes, second.probes))
         it.reload((target, second), once, "first")
         checks.expect("reloads: it is down still", "BBB", it.names(3))
         checks.expect("reloads: with other limits", "rules 1", it.reload((target, second), health(ONCE, "fall = 4", "rise = 2"), "first"))
@@ -386,9 +386,10 @@ def reloads(checks, folder):
         # (before the reload two more checks could find it up)
         target.open()
         checks.expect("reloads: all are up", "AA", it.names(2))
+        # (one that was made before the reload may be counted late)
         probes = target.probes
         time.sleep(0.3)
-        checks.expect("reloads: no check is made", probes, target.probes)
+        checks.holds("reloads: no check is made", target.probes <= probes + 1, target.probes - probes)
         target.close()
         checks.expect("reloads: a target that refuses is tried each time", "BBB", it.names(3))
         checks.expect("reloads: nothing is told", ["down", "up", "down"], it.changes(target))
