@@ -4,10 +4,12 @@
     python3 tests/system/shown.py [STAGE]..
 
 peers   each id is shown with its rule, side, peer and bytes.
+paths   a client of a Unix socket is shown with its own path, where it has one of at most 100 bytes.
 times   each id is shown since when it stands and is quiet.
 lines   a line of the log has all that is known of its connection.
 """
 import re
+import socket
 import sys
 import time
 
@@ -50,6 +52,19 @@ def peers(checks, _):
             comes_to_show(it, id, f"show {id} rule a side {side} peer {peer} up 5 down 2 age ")
         it.answers("show 4\n", "error 404 no such connection\n")
         it.stop("listening 1\nup 5 down 2\n")
+
+
+def paths(checks, _):
+    with Tried(checks, "paths", rules="relay a unix:{folder}/a {target} never\n") as it:
+        folder = it.relay.folder
+        for id, length in ((2, 0), (4, 100), (6, 101)):
+            own = f"{folder}/{'x' * (length - len(folder) - 1)}" if length else ""
+            with socket.socket(socket.AF_UNIX) as client:
+                if own:
+                    client.bind(own)
+                client.connect(f"{folder}/a")
+                it.peer()
+                comes_to_show(it, id, f"show {id} rule a side client peer unix:{own if length == 100 else ''} up 0 down 0 age ")
 
 
 class Marks:
@@ -138,7 +153,7 @@ def lines(checks, folder):
         it.expect("its lines", wanted, [{name: line.get(name) for name in wanted[0]} for line in found])
 
 
-STAGES = {it.__name__: it for it in (peers, times, lines)}
+STAGES = {it.__name__: it for it in (peers, paths, times, lines)}
 
 
 if __name__ == "__main__":

@@ -1,5 +1,6 @@
 //! What no clause says: that a handle hands its half to the loops, that waiting calls end, that the
-//! halves are destroyed once, which alarms are asked for, and refused memory.
+//! halves are destroyed once, which alarms are asked for, and refused memory. What can't be set up
+//! ends the test's process there.
 
 mod alarms;
 mod calls;
@@ -10,7 +11,6 @@ mod memory;
 mod outcome_lists;
 mod playing;
 mod processor_time;
-mod rows;
 mod scene;
 mod scripted;
 mod scripts;
@@ -27,9 +27,9 @@ use fd_descriptor::{Alarms, FdHandle};
 use rwloops::DevKind;
 use scripted::{Pair, Script, ScriptedHalf, Told};
 use std::alloc::Global;
+use std::process::Abort;
 use std::sync::atomic::{AtomicU64, Ordering};
 use std::sync::{Arc, Wait};
-use std::test::Fail;
 use std::thread;
 use std::time::{Clock, Duration};
 
@@ -38,6 +38,12 @@ const TURNS: u32 = 10_000;
 
 /// The key that descriptors are opened with.
 const KEY: u64 = 7;
+
+/// Ends the test's process where this doesn't hold, and says what should. A call costs the proof
+/// of a test less than a branch does.
+fn holds<T: Abort>(rt: &T, is: bool, what: &str) {
+    assert!(rt; is, "{what}");
+}
 
 /// Alarms that nobody hears.
 #[derive(Drop)]
@@ -66,25 +72,21 @@ fn comes_to<C: Clock>(clock: &C, count: &AtomicU64, least: u64) -> bool {
 }
 
 /// A descriptor over halves that both play this script, and whose destruction has this fault.
-fn open<T: Wait + Clock + Copy + Drop>(
+fn open<T: Wait + Clock + Abort + Copy + Drop>(
     rt: T,
     alloc: Global,
-    told: &Arc<Told, Global>,
+    told: &Arc<Told>,
     script: Script,
     fault: Option<DevKind>,
-) -> Result<Plain<T>, Fail> {
-    let mut read = ScriptedHalf::new(script, told, rt)?;
-    read.fault = fault;
-    let write = ScriptedHalf::new(script, told, rt)?;
-    let handle = FdHandle::open(alloc, read, write, KEY)?;
-    *told.cell.lock(&rt) = Some(handle.cell()?);
-    Ok(handle)
+) -> Plain<T> {
+    let read = ScriptedHalf::new(rt, told, script, fault);
+    let write = ScriptedHalf::new(rt, told, script, None);
+    let handle = FdHandle::open(alloc, read, write, KEY).expect(&rt, "a descriptor");
+    *told.cell.lock(&rt) = Some(handle.cell().expect(&rt, "its cell"));
+    handle
 }
 
-/// Another handle, or the test fails.
-fn share<T: Wait + Clock + Drop>(handle: &mut Plain<T>) -> Result<Plain<T>, Fail> {
-    match handle.share() {
-        Ok(other) => Ok(other),
-        Err(_) => Err(Fail::new("share")),
-    }
+/// Another handle.
+fn share<T: Wait + Clock + Abort + Drop>(rt: &T, handle: &mut Plain<T>) -> Plain<T> {
+    handle.share().expect(rt, "a share")
 }

@@ -1,8 +1,8 @@
 //! A watch over a test that waits for calls or threads: it ends the test as failed where that takes
 //! too long.
-//! `descriptor_tests` and `readiness_tests` have one too: no crate uses another's tests.
+//! `descriptor_tests` has one too: no crate uses another's tests.
 
-use super::{TURNS, pause};
+use super::{comes_to, holds};
 use std::alloc::Global;
 use std::process::Abort;
 use std::sync::Arc;
@@ -18,20 +18,6 @@ pub(super) struct Watch {
     ended: Arc<AtomicU64>,
 }
 
-fn is_ended<R: Clock>(rt: &R, ended: &AtomicU64) -> bool {
-    for _ in 0..TURNS {
-        if ended.load(Ordering::SeqCst) > 0 {
-            return true;
-        }
-        pause(rt, 1);
-    }
-    false
-}
-
-fn in_time<R: Clock + Abort>(rt: &R, ended: &AtomicU64, part: &str) {
-    assert!(rt; is_ended(rt, ended), "{part}: somebody waits for good");
-}
-
 impl Watch {
     /// A watch over a part of a test, which says its name where it ends the test.
     pub(super) fn over<R: Threads + Clock + Abort + Copy + Send + Drop + 'static>(
@@ -42,7 +28,7 @@ impl Watch {
         let ended = Arc::new(alloc, AtomicU64::new(0)).expect(&rt, "watch");
         let seen = Arc::try_clone(&ended).expect(&rt, "watch");
         let thread = thread::spawn(&rt, move || {
-            in_time(&rt, &seen, part);
+            holds(&rt, comes_to(&rt, &seen, 1), part);
         });
         Watch {
             thread: thread.expect(&rt, "watch"),

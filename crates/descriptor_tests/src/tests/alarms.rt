@@ -3,16 +3,13 @@
 use super::scripted::{Notice, Told};
 use super::scripts::ALWAYS_BLOCKS;
 use super::watch::Watch;
-use super::{comes_to, open};
+use super::{comes_to, holds, open};
 use base_types::{Dir, OutOfMemory};
 use deadline_core::{Deadline, Dirs};
 use fd_descriptor::Alarms;
-use std::alloc::Global;
 use std::sync::atomic::{AtomicU64, Ordering};
 use std::sync::{Arc, Wait};
-use std::test::Fail;
 use std::thread;
-use std::thread::Threads;
 use std::time::{Clock, Duration};
 
 /// Alarms that take their time, and note whether a tick came through meanwhile.
@@ -37,42 +34,34 @@ impl<C: Clock + Drop> Alarms for Slow<C> {
 }
 
 /// Ticks the descriptor's cell once an alarm is armed.
-fn ticks<T: Wait + Clock + Copy + Drop>(rt: T, told: &Told, slow: &Slow<T>) -> bool {
-    let armed = comes_to(&rt, &slow.armed, 1);
-    told.tell(&rt, Notice::Clock(0), Dir::Read);
+fn ticks<T: Wait + Clock + Copy + Drop>(rt: &T, told: &Told, slow: &Slow<T>) -> bool {
+    let armed = comes_to(rt, &slow.armed, 1);
+    told.tell(rt, Notice::Clock(0), Dir::Read);
     slow.ticked.store(1, Ordering::SeqCst);
     armed
 }
 
-/// Sets a deadline while another thread ticks, and says whether both came to their end.
-fn set_beside_a_tick<T: Threads + Wait + Clock + Copy + Send + Sync + Drop + 'static>(
-    rt: T,
-    alloc: Global,
-    slow: &Arc<Slow<T>, Global>,
-) -> Result<bool, Fail> {
-    let told = Told::shared(alloc)?;
-    let mut handle = open(rt, alloc, &told, ALWAYS_BLOCKS, None)?;
-    let theirs = Arc::try_clone(slow)?;
-    let ticking = thread::spawn(&rt, move || ticks(rt, &told, &theirs))?;
-    let set = handle.set_deadline(&rt, Deadline::At(100), 0, &**slow);
-    Ok(ticking.join(&rt) && set.is_ok())
-}
-
 #[test]
-fn an_alarm_is_armed_once_and_under_the_lock(rt: HostRuntime) -> Result<(), Fail> {
-    let watch = Watch::start(rt, rt.alloc(), "an alarm")?;
+fn an_alarm_is_armed_once_and_under_the_lock(rt: HostRuntime) {
+    let watch = Watch::start(rt, rt.alloc(), "an alarm");
     let slow = Slow {
         clock: rt,
         armed: AtomicU64::new(0),
         ticked: AtomicU64::new(0),
         ticked_meanwhile: AtomicU64::new(0),
     };
-    let slow = Arc::new(rt.alloc(), slow)?;
-    let ended = set_beside_a_tick(rt, rt.alloc(), &slow)?;
-    assert!(rt; ended, "an alarm was armed");
-    assert!(rt; slow.armed.load(Ordering::SeqCst) == 1, "once");
+    let slow = Arc::new(rt.alloc(), slow).expect(&rt, "alarms");
+    let theirs = Arc::try_clone(&slow).expect(&rt, "alarms");
+    let told = Told::shared(&rt, rt.alloc());
+    let mut handle = open(rt, rt.alloc(), &told, ALWAYS_BLOCKS, None);
+    let ticking = thread::spawn(&rt, move || ticks(&rt, &told, &theirs));
+    let is_set = handle
+        .set_deadline(&rt, Deadline::At(100), 0, &*slow)
+        .is_ok();
+    let is_armed = ticking.expect(&rt, "a thread").join(&rt);
+    holds(&rt, is_set && is_armed, "an alarm was armed");
+    holds(&rt, slow.armed.load(Ordering::SeqCst) == 1, "once");
     let meanwhile = slow.ticked_meanwhile.load(Ordering::SeqCst);
-    assert!(rt; meanwhile == 0, "no tick came between");
+    holds(&rt, meanwhile == 0, "no tick came between");
     watch.end(&rt);
-    Ok(())
 }

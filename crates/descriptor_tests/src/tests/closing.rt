@@ -3,12 +3,12 @@
 
 use super::playing::play_all;
 use super::scene::{
-    ABC, Answer, CLOSED, CLOSED_UNDER_READ, Call, Count, Event, NONE_READ, NONE_WRITTEN, OK,
-    READ_4, Scene, Step,
+    ABC, Answer, CLOSED, CLOSED_UNDER_READ, Call, Count, Event, NONE_READ, NONE_WRITTEN, OK, Scene,
+    Step,
 };
-use super::scripts::{ALWAYS_BLOCKS, GATED};
+use super::scripts::{ALWAYS_BLOCKS, CONNECTS, GATED};
+use base_types::Dir;
 use rwloops::{DevKind, Fault};
-use std::test::Fail;
 
 const BROKEN_PIPE: Answer = Answer::Done(Err(Fault::Device(DevKind::BrokenPipe)));
 
@@ -20,7 +20,7 @@ const SCENES: &[Scene] = &[
         ALWAYS_BLOCKS,
         None,
         &[
-            Step::Start(READ_4),
+            Step::Start(Call::Read),
             Step::Start(ABC),
             Step::Comes(Count::Tries, 2),
             Step::By(0, Call::Close, OK),
@@ -39,7 +39,7 @@ const SCENES: &[Scene] = &[
         GATED,
         Some(DevKind::Reset),
         &[
-            Step::Start(READ_4),
+            Step::Start(Call::Read),
             Step::Comes(Count::Tries, 1),
             Step::Start(Call::Close),
             Step::Becomes(CLOSED_UNDER_READ),
@@ -70,9 +70,23 @@ const SCENES: &[Scene] = &[
         &[
             Step::Share,
             Step::Leave,
-            Step::By(0, Call::Read(0), Answer::Took(Ok(0))),
+            Step::By(0, Call::Write(b""), Answer::Wrote(0)),
             Step::Leave,
             Step::Counts(Count::Destroys, 0),
+        ],
+    ),
+    Scene(
+        "a shut waits until its connection is made",
+        CONNECTS,
+        None,
+        &[
+            Step::Start(Call::Shut),
+            Step::Comes(Count::Tries, 1),
+            Step::Has(Event::Pause(20)),
+            Step::Counts(Count::Tries, 1),
+            Step::Has(Event::Ready(Dir::Write)),
+            Step::End(0, BROKEN_PIPE),
+            Step::Counts(Count::Tries, 2),
         ],
     ),
     Scene(
@@ -81,7 +95,7 @@ const SCENES: &[Scene] = &[
         None,
         &[
             Step::Has(Event::Hold),
-            Step::Start(READ_4),
+            Step::Start(Call::Read),
             Step::Comes(Count::Tries, 1),
             Step::Start(Call::Close),
             Step::Becomes(CLOSED_UNDER_READ),
@@ -97,6 +111,6 @@ const SCENES: &[Scene] = &[
 ];
 
 #[test]
-fn a_close_ends_who_waits_and_destroys_once(rt: HostRuntime) -> Result<(), Fail> {
-    play_all(rt, rt.alloc(), SCENES)
+fn a_close_ends_who_waits_and_destroys_once(rt: HostRuntime) {
+    play_all(rt, rt.alloc(), SCENES);
 }

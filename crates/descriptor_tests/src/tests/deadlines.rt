@@ -2,20 +2,17 @@
 
 use super::KEY;
 use super::playing::play_all;
-use super::scene::{Answer, CLOSED, Call, Count, Event, OK, READ_4, Scene, Step};
-use super::scripts::{ALWAYS_BLOCKS, THEN_THREE};
+use super::scene::{ABC, Answer, CLOSED, Call, Count, Event, OK, Scene, Step};
+use super::scripts::{ALWAYS_BLOCKS, THEN_THREE, TWO_AND_LATE};
 use base_types::Dir;
 use deadline_core::{Deadline, Dirs};
 use rwloops::Fault;
-use std::test::Fail;
 
 const AT_100: Deadline = Deadline::At(100);
 
 const AT_200: Deadline = Deadline::At(200);
 
-const LATE: Result<usize, Fault> = Err(Fault::DeadlineExceeded);
-
-const READ_LATE: Answer = Answer::Took(LATE);
+const READ_LATE: Answer = Answer::Took(Err(Fault::DeadlineExceeded));
 
 const WROTE_LATE: Answer = Answer::Cut(Fault::DeadlineExceeded, 0);
 
@@ -32,12 +29,15 @@ const SCENES: &[Scene] = &[
         ALWAYS_BLOCKS,
         None,
         &[
-            Step::Start(Call::ReadTwice(4)),
+            Step::Start(Call::Read),
             Step::Comes(Count::Tries, 1),
             Step::By(0, Call::Set(Dirs::Read, AT_100, 0), OK),
             Step::Has(Event::Clock(99)),
             Step::Has(Event::Clock(100)),
-            Step::End(0, Answer::TookTwice(LATE, LATE)),
+            Step::End(0, READ_LATE),
+            Step::By(0, Call::Read, READ_LATE),
+            Step::By(0, Call::Accept, READ_LATE),
+            Step::Counts(Count::Tries, 1),
         ],
     ),
     Scene(
@@ -45,7 +45,7 @@ const SCENES: &[Scene] = &[
         ALWAYS_BLOCKS,
         None,
         &[
-            Step::Start(READ_4),
+            Step::Start(Call::Read),
             Step::Comes(Count::Tries, 1),
             Step::By(0, Call::Set(Dirs::Both, AT_200, 99), OK),
             Step::By(0, Call::Set(Dirs::Both, AT_100, 100), OK),
@@ -58,15 +58,27 @@ const SCENES: &[Scene] = &[
         THEN_THREE,
         None,
         &[
-            Step::Start(Call::ReadTwice(4)),
+            Step::Start(Call::Read),
             Step::Comes(Count::Tries, 1),
             Step::By(0, Call::Set(Dirs::Both, AT_100, 0), OK),
             Step::By(0, Call::Set(Dirs::Both, AT_200, 0), OK),
             Step::Has(Event::Clock(100)),
             Step::Has(Event::Ready(Dir::Read)),
+            Step::End(0, Answer::Took(Ok(3))),
+            Step::Start(Call::Read),
             Step::Comes(Count::Tries, 3),
             Step::Has(Event::Clock(200)),
-            Step::End(0, Answer::TookTwice(Ok(3), LATE)),
+            Step::End(0, READ_LATE),
+        ],
+    ),
+    Scene(
+        "a deadline that passes in mid try cuts off a write after what was taken",
+        TWO_AND_LATE,
+        None,
+        &[
+            Step::By(0, Call::Set(Dirs::Both, AT_100, 99), OK),
+            Step::By(0, ABC, Answer::Cut(Fault::DeadlineExceeded, 2)),
+            Step::Counts(Count::Tries, 2),
         ],
     ),
     Scene(
@@ -74,7 +86,7 @@ const SCENES: &[Scene] = &[
         THEN_THREE,
         None,
         &[
-            Step::Start(READ_4),
+            Step::Start(Call::Read),
             Step::Comes(Count::Tries, 1),
             Step::By(0, Call::Set(Dirs::Read, AT_100, 0), OK),
             Step::By(0, Call::Set(Dirs::Read, Deadline::Never, 0), OK),
@@ -94,7 +106,7 @@ const SCENES: &[Scene] = &[
             Step::By(0, Call::Set(Dirs::Write, AT_200, 0), OK),
             Step::Alarm(Some((KEY, Dirs::Write, Some(200)))),
             Step::Has(Event::Clock(100)),
-            Step::By(0, READ_4, READ_LATE),
+            Step::By(0, Call::Read, READ_LATE),
             Step::By(0, NOTHING, NOT_LATE),
             Step::Has(Event::Clock(200)),
             Step::By(0, NOTHING, WROTE_LATE),
@@ -124,7 +136,7 @@ const SCENES: &[Scene] = &[
         &[
             Step::By(0, Call::Set(Dirs::Both, AT_100, 0), OK),
             Step::Alarm(Some((KEY, Dirs::Both, Some(100)))),
-            Step::Start(READ_4),
+            Step::Start(Call::Read),
             Step::Comes(Count::Tries, 1),
             Step::By(0, Call::Drain, OK),
             Step::By(0, Call::Set(Dirs::Both, Deadline::At(50), 0), DRAINING),
@@ -142,18 +154,18 @@ const SCENES: &[Scene] = &[
             Step::By(0, Call::Set(Dirs::Both, AT_100, 0), OK),
             Step::By(
                 0,
-                Call::SetInVain(Dirs::Both, Deadline::At(50), 0),
+                Call::SetInVain(Deadline::At(50)),
                 Answer::Done(Err(Fault::OutOfMemory)),
             ),
             Step::Has(Event::Clock(99)),
             Step::By(0, NOTHING, NOT_LATE),
             Step::Has(Event::Clock(100)),
-            Step::By(0, READ_4, READ_LATE),
+            Step::By(0, Call::Read, READ_LATE),
         ],
     ),
 ];
 
 #[test]
-fn a_deadline_ends_calls_of_others_and_its_alarm_goes_with_it(rt: HostRuntime) -> Result<(), Fail> {
-    play_all(rt, rt.alloc(), SCENES)
+fn a_deadline_ends_calls_of_others_and_its_alarm_goes_with_it(rt: HostRuntime) {
+    play_all(rt, rt.alloc(), SCENES);
 }

@@ -2,20 +2,19 @@
 //! size; the three blocks of the lock word come from the global heap, and `tests/refused_memory.sh`
 //! refuses those. A descriptor that is opened works on with no memory left.
 
-use super::{KEY, Silent};
+use super::{KEY, Silent, holds};
 use deadline_core::Deadline;
 use fd_descriptor::{FdHandle, Progress, Resource, TaskReader, TaskWriter};
 use linked_list_allocator::LocalHeap;
-use rwloops::{DevKind, Fault, Outcome, TryRead, TryWrite};
-use std::alloc::{AllocError, Global};
+use rwloops::{DevKind, Outcome, TryRead, TryWrite};
+use std::alloc::Global;
 use std::process::Abort;
 use std::sync::atomic::{AtomicU64, Ordering};
 use std::sync::{Arc, Wait};
-use std::test::Fail;
 
 /// A half that counts its drops, and gives or takes three bytes at each try.
 struct Counted {
-    drops: Arc<AtomicU64, Global>,
+    drops: Arc<AtomicU64>,
 }
 
 impl Drop for Counted {
@@ -61,208 +60,91 @@ const DROPPED: u64 = 2;
 const DESTROYED: u64 = 102;
 
 /// Two halves that count together.
-fn halves(drops: &Arc<AtomicU64, Global>) -> Result<(Counted, Counted), AllocError> {
-    let read = Arc::try_clone(drops)?;
-    let write = Arc::try_clone(drops)?;
-    Ok((Counted { drops: read }, Counted { drops: write }))
+fn halves<T: Abort>(rt: &T, drops: &Arc<AtomicU64>) -> (Counted, Counted) {
+    let read = Arc::try_clone(drops).expect(rt, "a count");
+    let write = Arc::try_clone(drops).expect(rt, "a count");
+    (Counted { drops: read }, Counted { drops: write })
 }
-
-/// Takes what is left of a heap. `core_tests` has its own: no crate uses another's tests, and one
-/// for this alone would be proved in each gate.
-fn fill<'a>(alloc: Global, heap: &'a LocalHeap) -> Result<Vec<Vec<u8, &'a LocalHeap>>, AllocError> {
-    let mut blocks = Vec::new(alloc);
-    for size in [1024usize, 256, 64, 16] {
-        for _ in 0..64 {
-            match Vec::with_capacity(heap, size) {
-                Ok(block) => blocks.push(block)?,
-                Err(AllocError) => break,
-            }
-        }
-    }
-    Ok(blocks)
-}
-
-/// A call that takes no memory.
-#[derive(Clone, Copy)]
-enum Call {
-    Read,
-    Write,
-    PollRead,
-    PollWrite,
-    Tick,
-    SetDeadline,
-    Share,
-    Drain,
-    /// Is refused, once the descriptor is drained.
-    DrainAgain,
-    Close,
-}
-
-const CALLS: [(&str, Call); 10] = [
-    ("a read", Call::Read),
-    ("a write", Call::Write),
-    ("a task's read", Call::PollRead),
-    ("a task's write", Call::PollWrite),
-    ("a tick", Call::Tick),
-    ("a deadline", Call::SetDeadline),
-    ("a share of a share", Call::Share),
-    ("a drain", Call::Drain),
-    ("a second drain", Call::DrainAgain),
-    ("a close", Call::Close),
-];
 
 type OnHeap<'a> = FdHandle<Pair, &'a LocalHeap>;
 
-fn polls_read<T: Wait + Copy>(rt: T, handle: OnHeap<'_>) -> bool {
-    let mut reader = TaskReader::new(rt, handle);
-    let read = reader.poll_read(&mut [0; 3]);
-    let _handle = reader.into_handle();
-    read == Some(Ok(3))
+/// A task's read and write, and a tick, by handles of their own.
+fn polls<T: Wait + Abort + Copy>(rt: T, handle: &mut OnHeap<'_>) -> bool {
+    let mut reader = TaskReader::new(rt, handle.share().expect(&rt, "a share"));
+    let is_read = reader.poll_read(&mut [0; 3]) == Some(Ok(3));
+    let mut writer = TaskWriter::new(rt, reader.into_handle());
+    handle.cell().expect(&rt, "its cell").tick(&rt, 5);
+    writer.poll_write(b"abc") == Progress::Whole && is_read
 }
 
-fn polls_write<T: Wait + Copy>(rt: T, handle: OnHeap<'_>) -> bool {
-    let mut writer = TaskWriter::new(rt, handle);
-    writer.poll_write(b"abc") == Progress::Whole
-}
-
-fn ticks<T: Wait>(rt: &T, handle: &OnHeap<'_>) -> bool {
-    match handle.cell() {
-        Ok(cell) => {
-            cell.tick(rt, 5);
-            true
-        }
-        Err(_) => false,
-    }
-}
-
-/// Whether a call by a handle of its own does what it is for.
-fn does<T: Wait + Copy>(rt: T, handle: OnHeap<'_>, call: Call) -> bool {
-    let mut handle = handle;
-    match call {
-        Call::Read => handle.read(&rt, &mut [0; 3]) == Ok(3),
-        Call::Write => handle.write(&rt, b"abc") == Ok(3),
-        Call::PollRead => polls_read(rt, handle),
-        Call::PollWrite => polls_write(rt, handle),
-        Call::Tick => ticks(&rt, &handle),
-        Call::SetDeadline => handle
+/// Whether each call does what it is for; the last closes.
+fn does_all<T: Wait + Abort + Copy>(rt: T, handle: &mut OnHeap<'_>) -> bool {
+    handle.read(&rt, &mut [0; 3]) == Ok(3)
+        && handle.write(&rt, b"abc") == Ok(3)
+        && polls(rt, handle)
+        && handle
             .set_deadline(&rt, Deadline::At(10), 5, &Silent)
-            .is_ok(),
-        Call::Share => handle.share().is_ok(),
-        Call::Drain => handle.drain(&rt).is_ok(),
-        Call::DrainAgain => handle.drain(&rt) == Err(Fault::Draining),
-        Call::Close => handle.close(&rt).is_ok(),
-    }
+            .is_ok()
+        && handle.drain(&rt).is_ok()
+        && handle.close(&rt).is_ok()
 }
 
-/// Each call by a handle of its own does what it is for.
-fn does_all<T: Wait + Abort + Copy>(rt: T, handle: &mut OnHeap<'_>) {
-    for (name, call) in CALLS {
-        let done = match handle.share() {
-            Ok(mine) => does(rt, mine, call),
-            Err(_) => false,
-        };
-        assert!(rt; done, "{name}, with no memory left");
-    }
-}
-
-/// The same with no memory left, of which none is taken.
-fn does_all_on_full_heap<T: Wait + Abort + Copy>(
-    rt: T,
-    alloc: Global,
-    heap: &LocalHeap,
-    handle: OnHeap<'_>,
-) -> Result<(), AllocError> {
-    let mut handle = handle;
-    let _blocks = fill(alloc, heap)?;
-    let full = heap.used();
-    does_all(rt, &mut handle);
-    assert!(rt; heap.used() == full, "a call took memory");
-    Ok(())
-}
-
-/// A descriptor on this heap, if there is room for it.
-fn open_on<'a>(
-    heap: &'a LocalHeap,
-    alloc: Global,
-    drops: &Arc<AtomicU64, Global>,
-) -> Result<Option<OnHeap<'a>>, AllocError> {
-    let (read, write) = halves(drops)?;
-    Ok(FdHandle::open_in(heap, alloc, read, write, KEY).ok())
-}
-
-/// A row: its name, and whether a descriptor that is opened is used before it goes.
-type Row = (&'static str, bool);
-
-const ROWS: [Row; 2] = [
-    (
-        "a refused open drops the halves and destroys nothing",
-        false,
-    ),
-    (
-        "every call works on with no memory left once a descriptor is open",
-        true,
-    ),
-];
-
-/// Whether a descriptor is opened on a heap of this size. Its halves are dropped once each, after
-/// they were destroyed where it was closed, and nothing is left on the heap.
-fn opens<T: Wait + Abort + Copy>(
-    rt: T,
-    alloc: Global,
-    size: usize,
-    row: Row,
-) -> Result<bool, Fail> {
-    let heap = LocalHeap::new(alloc, size)?;
-    let drops = Arc::new(alloc, AtomicU64::new(0))?;
-    let opened = open_on(&heap, alloc, &drops)?;
-    let is_open = opened.is_some();
-    let at_home = is_open == (drops.load(Ordering::SeqCst) == 0);
-    let want = match opened {
-        Some(handle) if row.1 => {
-            does_all_on_full_heap(rt, alloc, &heap, handle)?;
-            DESTROYED
-        }
-        opened => {
-            drop(opened);
-            DROPPED
-        }
+/// Whether a descriptor is opened on a heap of this size, whose calls then take no memory, and the
+/// last of which closes it. Its halves are dropped once each, and nothing is left on the heap.
+fn opens<T: Wait + Abort + Copy>(rt: T, alloc: Global, heap: &LocalHeap) -> bool {
+    let drops = Arc::new(alloc, AtomicU64::new(0)).expect(&rt, "a count");
+    let (read, write) = halves(&rt, &drops);
+    let opened = FdHandle::<Pair, &LocalHeap>::open_in(heap, alloc, read, write, KEY);
+    let Ok(handle) = opened else {
+        holds(
+            &rt,
+            drops.load(Ordering::SeqCst) == DROPPED,
+            "dropped, as none is opened",
+        );
+        return false;
     };
-    let (counted, left) = (drops.load(Ordering::SeqCst), heap.used());
-    assert!(rt;
-        at_home && counted == want && left == 0,
-        "{} at {size}: {counted} counted, {left} left",
-        row.0
+    let mut handle = handle;
+    let full = heap.used();
+    holds(&rt, does_all(rt, &mut handle), "each call works on");
+    holds(&rt, heap.used() == full, "no call takes memory");
+    drop(handle);
+    holds(
+        &rt,
+        drops.load(Ordering::SeqCst) == DESTROYED,
+        "destroyed, and dropped once",
     );
-    Ok(is_open)
+    true
 }
 
+// On the smallest heap that a descriptor is opened on there is no memory left.
 #[test]
-fn a_descriptor_is_opened_or_drops_its_halves_on_each_heap(rt: HostRuntime) -> Result<(), Fail> {
-    for row in ROWS {
-        let (mut refused, mut opened) = (0u32, 0u32);
-        for units in 2..64usize {
-            if opens(rt, rt.alloc(), units.saturating_mul(16), row)? {
-                opened = opened.saturating_add(1);
-            } else {
-                refused = refused.saturating_add(1);
-            }
+fn a_descriptor_is_opened_or_drops_its_halves_on_each_heap(rt: HostRuntime) {
+    let (mut refused, mut opened) = (0u32, 0u32);
+    for units in 2..64usize {
+        let heap = LocalHeap::new(rt.alloc(), units.saturating_mul(16)).expect(&rt, "heap");
+        if opens(rt, rt.alloc(), &heap) {
+            opened = opened.saturating_add(1);
+        } else {
+            refused = refused.saturating_add(1);
         }
-        let some = refused >= 2 && opened >= 2;
-        assert!(rt; some, "{}: {refused} and {opened}", row.0);
+        assert!(rt; heap.used() == 0, "nothing is left of {units} units");
     }
-    Ok(())
+    assert!(rt; refused >= 2 && opened >= 2, "{refused} and {opened}");
 }
 
 /// Holds where memory is refused as well: `tests/refused_memory.sh` refuses each allocation in
 /// turn. A descriptor that was opened is then drained, since a drain takes no memory.
 #[test]
-fn a_refused_word_drops_the_halves(rt: HostRuntime) -> Result<(), Fail> {
-    let drops = Arc::new(rt.alloc(), AtomicU64::new(0))?;
-    let (read, write) = halves(&drops)?;
+fn a_refused_word_drops_the_halves(rt: HostRuntime) {
+    let drops = Arc::new(rt.alloc(), AtomicU64::new(0)).expect(&rt, "a count");
+    let (read, write) = halves(&rt, &drops);
     if let Ok(mut handle) = FdHandle::<Pair>::open(rt.alloc(), read, write, KEY) {
         let drained = handle.drain(&rt).is_ok() && drops.load(Ordering::SeqCst) == 0;
-        assert!(rt; drained, "drained, with its halves at home");
+        holds(&rt, drained, "drained, with its halves at home");
     }
-    assert_eq!(rt; drops.load(Ordering::SeqCst), DROPPED, "dropped once each");
-    Ok(())
+    holds(
+        &rt,
+        drops.load(Ordering::SeqCst) == DROPPED,
+        "dropped once each",
+    );
 }

@@ -5,50 +5,34 @@ use super::scene::READ;
 use super::scripted::Told;
 use super::scripts::ALWAYS_BLOCKS;
 use super::watch::Watch;
-use super::{Plain, TURNS, comes_to, open, share};
+use super::{Plain, TURNS, comes_to, holds, open, share};
 use fd_descriptor::Word;
 use rwloops::Fault;
 use std::alloc::Global;
 use std::fs::Files;
 use std::sync::Wait;
-use std::test::Fail;
 use std::time::{Clock, Duration};
 use std::{fs, io, thread};
 
-/// The most hundredths of a second that a call may take in one that it waits.
-const MOST_TICKS: u64 = 5;
+/// The most nanoseconds that a call may take in a second that it waits.
+const MOST_NANOS: u64 = 50_000_000;
 
-/// The hundredths of a second of processor time that this thread has taken.
-fn own_ticks<T: Files>(rt: &T, alloc: Global) -> Option<u64> {
-    let file = fs::open(rt, "/proc/thread-self/stat").ok()?;
+/// The nanoseconds of processor time that this thread has taken.
+fn own_nanos<T: Files>(rt: &T, alloc: Global) -> Option<u64> {
+    let file = fs::open(rt, "/proc/thread-self/schedstat").ok()?;
     let told = io::read_to_string(alloc, file).ok()?;
-    ticks_of(told.as_str())
+    told.as_str().split_whitespace().next()?.parse().ok()
 }
 
-/// The ticks in such a file: of the user and of the system, the twelfth field and the next behind
-/// the program's name, which may have spaces in it.
-fn ticks_of(told: &str) -> Option<u64> {
-    let (_, fields) = told.split_once(") ")?;
-    let (mut found, mut ticks) = (0u32, 0u64);
-    for (at, field) in fields.split_whitespace().enumerate() {
-        if at == 11 || at == 12 {
-            if let Ok(more) = field.parse::<u64>() {
-                found = found.saturating_add(1);
-                ticks = ticks.saturating_add(more);
-            }
-        }
-    }
-    if found == 2 { Some(ticks) } else { None }
-}
-
-/// Whether a read that a close ends took next to nothing.
+/// Whether a read that a close ends took next to nothing. It takes something: a system that doesn't
+/// count tells the same before and after.
 fn parks<T: Wait + Files + Clock + Drop>(rt: &T, alloc: Global, reader: Plain<T>) -> bool {
     let mut reader = reader;
-    let before = own_ticks(rt, alloc);
+    let before = own_nanos(rt, alloc);
     let is_closed = reader.read(rt, &mut [0; 4]) == Err(Fault::Closed);
-    match (own_ticks(rt, alloc), before) {
-        (Some(after), Some(before)) if before <= after => {
-            is_closed && after - before <= MOST_TICKS
+    match (own_nanos(rt, alloc), before) {
+        (Some(after), Some(before)) => {
+            is_closed && before < after && after.saturating_sub(before) <= MOST_NANOS
         }
         _ => false,
     }
@@ -66,23 +50,19 @@ fn is_queued<T: Wait + Clock + Drop>(rt: &T, handle: &mut Plain<T>) -> bool {
 }
 
 #[test]
-fn a_read_and_one_that_is_queued_take_no_processor_time(rt: HostRuntime) -> Result<(), Fail> {
-    let watch = Watch::start(rt, rt.alloc(), "a read and one that is queued")?;
+fn a_read_and_one_that_is_queued_take_no_processor_time(rt: HostRuntime) {
     let alloc = rt.alloc();
-    let told = Told::shared(alloc)?;
-    let mut handle = open(rt, alloc, &told, ALWAYS_BLOCKS, None)?;
-    let reader = share(&mut handle)?;
-    let first = thread::spawn(&rt, move || parks(&rt, alloc, reader))?;
-    let tried = comes_to(&rt, &told.tries, 1);
-    let reader = share(&mut handle)?;
-    let second = thread::spawn(&rt, move || parks(&rt, alloc, reader))?;
-    let queued = is_queued(&rt, &mut handle);
+    let watch = Watch::start(rt, alloc, "a read and one that is queued");
+    let told = Told::shared(&rt, alloc);
+    let mut handle = open(rt, alloc, &told, ALWAYS_BLOCKS, None);
+    let (reader, next) = (share(&rt, &mut handle), share(&rt, &mut handle));
+    let first = thread::spawn(&rt, move || parks(&rt, alloc, reader)).expect(&rt, "a thread");
+    holds(&rt, comes_to(&rt, &told.tries, 1), "one reads");
+    let second = thread::spawn(&rt, move || parks(&rt, alloc, next)).expect(&rt, "a thread");
+    holds(&rt, is_queued(&rt, &mut handle), "one is queued");
     thread::sleep(&rt, Duration::from_millis(1_000));
-    let closed = handle.close(&rt).is_ok();
-    let (second, first) = (second.join(&rt), first.join(&rt));
-    assert!(rt; tried && queued && closed, "one reads, one is queued");
-    assert!(rt; second, "who is queued parks");
-    assert!(rt; first, "who reads parks");
+    holds(&rt, handle.close(&rt).is_ok(), "a close");
+    holds(&rt, second.join(&rt), "who is queued parks");
+    holds(&rt, first.join(&rt), "who reads parks");
     watch.end(&rt);
-    Ok(())
 }

@@ -10,34 +10,29 @@ use rwloops::{DevKind, Fault};
 /// A call of a handle.
 #[derive(Clone, Copy)]
 pub(super) enum Call {
-    /// With so much room, of eight bytes at most.
-    Read(usize),
-    /// Two of them, one after the other.
-    ReadTwice(usize),
+    /// Into four bytes.
+    Read,
     Write(&'static [u8]),
     Accept,
     Shut,
     /// A deadline for these directions, at this moment.
     Set(Dirs, Deadline, u64),
-    /// The same, over alarms that are refused memory.
-    SetInVain(Dirs, Deadline, u64),
+    /// One for both, at the first moment, over alarms that are refused memory.
+    SetInVain(Deadline),
     Drain,
     Close,
     /// A close that tells.
     Tell,
 }
 
-/// What it answers. The bytes of a read or a write are compared too.
+/// What it answers.
 #[derive(Clone, Copy, PartialEq)]
 pub(super) enum Answer {
     Took(Result<usize, Fault>),
-    TookTwice(Result<usize, Fault>, Result<usize, Fault>),
     Wrote(usize),
     /// A write that failed, after so many bytes.
     Cut(Fault, usize),
     Done(Result<(), Fault>),
-    /// Not those bytes that the half gave, or that it took.
-    OtherBytes,
 }
 
 /// What happens to the descriptor beside its calls.
@@ -72,19 +67,13 @@ pub(super) enum Count {
 pub(super) enum Task {
     /// Makes one of a handle of its own, and begins a call.
     Begin(Dir),
-    /// One of the last handle can't begin a call, for this fault, and the handle comes back.
-    Refuse(Dir, Fault),
-    /// With so much room.
-    Read(usize, Option<Result<usize, Fault>>),
-    Accept(Option<Result<usize, Fault>>),
+    /// Into four bytes.
+    Read(Option<Result<usize, Fault>>),
     Write(&'static [u8], Progress),
-    Shut(Option<Result<(), Fault>>),
-    /// Of what is read: a deadline for these directions, at this moment.
-    Set(Dirs, Deadline, u64, Result<(), Fault>),
-    /// Has one share a handle; it is the last then.
-    Share(Dir),
-    /// Makes a handle of one; it is the last then.
-    End(Dir),
+    /// Has the half that is read share a handle; it is the last then.
+    Share,
+    /// Ends the call under way, and makes a handle of the half; it is the last then.
+    End,
     /// Lets go of one.
     Drop(Dir),
 }
@@ -155,8 +144,6 @@ pub(super) const CLOSED_UNDER_READ: Word = Word {
     closed: true,
     ..READ
 };
-
-pub(super) const READ_4: Call = Call::Read(4);
 
 pub(super) const ABC: Call = Call::Write(b"abc");
 

@@ -4,13 +4,13 @@ ghost use Rattle.rwloops.specs.Outcome.{IsCountWithin};
 
 use super::comes_to;
 use base_types::Dir;
-use fd_descriptor::{HalfClose, PollCell, Resource};
+use fd_descriptor::{AtEviction, HalfClose, PollCell, Resource};
 use rwloops::{AcceptOutcome, DevKind, Outcome, TryAccept, TryRead, TryWrite};
 use std::alloc::Global;
 use std::marker::PhantomData;
+use std::process::Abort;
 use std::sync::atomic::{AtomicU64, Ordering};
 use std::sync::{Arc, Mutex, Wait};
-use std::test::Fail;
 use std::time::Clock;
 
 /// What a half says to its cell at a try.
@@ -29,6 +29,8 @@ pub(super) enum Try {
     Tells(Notice),
     /// `WouldBlock`, once the gate is open.
     Gated,
+    /// The connection is still being made, for who would shut it.
+    Connects,
 }
 
 /// A try, so many times in a row.
@@ -42,12 +44,9 @@ pub(super) const RESET: Try = Try::Gives(Outcome::Broken(DevKind::Reset));
 /// The end of a script: from here on each try is a reset.
 pub(super) const END: Tries = (RESET, 0);
 
-/// The bytes that a half gives, in order, a next one each time; after them it gives zeros.
-pub(super) const GIVEN: &[u8] = b"abcdefghijkl";
-
 /// One number for these bytes after those that were folded before: another byte, another order or a
 /// byte more or less gives another number.
-pub(super) fn folded(before: u64, bytes: &[u8]) -> u64 {
+fn folded(before: u64, bytes: &[u8]) -> u64 {
     let mut sum = before;
     for byte in bytes {
         sum = sum
@@ -60,12 +59,11 @@ pub(super) fn folded(before: u64, bytes: &[u8]) -> u64 {
 
 /// What halves and their destruction tell, the gates that they wait for, and the cell of the
 /// descriptor, once it is open. `offered` has the bytes of all tries to write and the room of all
-/// tries to read, `given` how many bytes were read, `taken` the bytes that were counted as written.
+/// tries to read, `taken` the bytes that were counted as written.
 #[derive(Drop)]
 pub(super) struct Told {
     pub(super) tries: AtomicU64,
     pub(super) offered: AtomicU64,
-    pub(super) given: AtomicU64,
     pub(super) taken: AtomicU64,
     pub(super) destroys: AtomicU64,
     /// A gated try goes on once this is 1.
@@ -77,15 +75,20 @@ pub(super) struct Told {
     pub(super) heard: AtomicU64,
     /// How many of the calls that have a thread of their own have ended.
     pub(super) answered: AtomicU64,
-    pub(super) cell: Mutex<Option<Arc<PollCell, Global>>>,
+    pub(super) cell: Mutex<Option<Arc<PollCell>>>,
+}
+
+impl AtEviction for Told {
+    fn evicted(&self) {
+        self.heard.fetch_add(1, Ordering::SeqCst);
+    }
 }
 
 impl Told {
-    pub(super) fn shared(alloc: Global) -> Result<Arc<Told, Global>, Fail> {
+    pub(super) fn shared<T: Abort>(rt: &T, alloc: Global) -> Arc<Told> {
         let told = Told {
             tries: AtomicU64::new(0),
             offered: AtomicU64::new(0),
-            given: AtomicU64::new(0),
             taken: AtomicU64::new(0),
             destroys: AtomicU64::new(0),
             gate: AtomicU64::new(0),
@@ -95,36 +98,7 @@ impl Told {
             answered: AtomicU64::new(0),
             cell: Mutex::new(None),
         };
-        Ok(Arc::new(alloc, told)?)
-    }
-
-    /// A try was offered so many bytes of room.
-    fn offer_room(&self, room: usize) {
-        let before = self.offered.load(Ordering::SeqCst);
-        self.offered.store(
-            before.wrapping_mul(257).wrapping_add(room as u64),
-            Ordering::SeqCst,
-        );
-    }
-
-    /// A try was offered these bytes, and counted so many of them.
-    fn offer_bytes(&self, bytes: &[u8], outcome: Outcome) {
-        let before = self.offered.load(Ordering::SeqCst);
-        self.offered.store(folded(before, bytes), Ordering::SeqCst);
-        if let Outcome::Count(count) = outcome {
-            let before = self.taken.load(Ordering::SeqCst);
-            let counted = &bytes[..count.min(bytes.len())];
-            self.taken.store(folded(before, counted), Ordering::SeqCst);
-        }
-    }
-
-    /// The next byte that is given.
-    fn next_given(&self) -> u8 {
-        let at = self.given.fetch_add(1, Ordering::SeqCst);
-        match GIVEN.get(at as usize) {
-            Some(byte) => *byte,
-            None => 0,
-        }
+        Arc::new(alloc, told).expect(rt, "what is told")
     }
 
     /// Tells the descriptor's cell.
@@ -145,25 +119,29 @@ pub(super) struct ScriptedHalf<T: Wait + Clock + Drop> {
     script: Script,
     step: usize,
     repeats: u32,
-    pub(super) fault: Option<DevKind>,
-    told: Arc<Told, Global>,
+    fault: Option<DevKind>,
+    told: Arc<Told>,
     rt: T,
 }
 
 impl<T: Wait + Clock + Drop> ScriptedHalf<T> {
     pub(super) fn new(
-        script: Script,
-        told: &Arc<Told, Global>,
         rt: T,
-    ) -> Result<ScriptedHalf<T>, Fail> {
-        Ok(ScriptedHalf {
+        told: &Arc<Told>,
+        script: Script,
+        fault: Option<DevKind>,
+    ) -> ScriptedHalf<T>
+    where
+        T: Abort,
+    {
+        ScriptedHalf {
             script,
             step: 0,
             repeats: 0,
-            fault: None,
-            told: Arc::try_clone(told)?,
+            fault,
+            told: Arc::try_clone(told).expect(&rt, "what is told"),
             rt,
-        })
+        }
     }
 
     fn next_try(&mut self) -> Try {
@@ -191,7 +169,7 @@ impl<T: Wait + Clock + Drop> ScriptedHalf<T> {
             Try::Gives(Outcome::Interrupted) => Outcome::Interrupted,
             Try::Gives(Outcome::Aborted) => Outcome::Aborted,
             Try::Gives(Outcome::Broken(kind)) => Outcome::Broken(kind),
-            Try::Gives(Outcome::WouldBlock) => Outcome::WouldBlock,
+            Try::Gives(Outcome::WouldBlock) | Try::Connects => Outcome::WouldBlock,
             Try::Tells(notice) => {
                 self.told.tell(&self.rt, notice, dir);
                 Outcome::WouldBlock
@@ -207,12 +185,17 @@ impl<T: Wait + Clock + Drop> ScriptedHalf<T> {
 impl<T: Wait + Clock + Drop> TryRead for ScriptedHalf<T> {
     ghost tells = { λ _ _. ⊥ };
 
+    // Each byte that it gives is one more than the one before, from the first of each try on.
     fn try_read(&mut self, buf: &mut [u8]) -> Outcome {
         let outcome = self.outcome(Dir::Read, buf.len());
-        self.told.offer_room(buf.len());
+        let before = self.told.offered.load(Ordering::SeqCst);
+        let room = before.wrapping_mul(257).wrapping_add(buf.len() as u64);
+        self.told.offered.store(room, Ordering::SeqCst);
         if let Outcome::Count(count) = outcome {
+            let mut next = b'a';
             for byte in &mut buf[..count] {
-                *byte = self.told.next_given();
+                *byte = next;
+                next = next.wrapping_add(1);
             }
         }
         outcome
@@ -224,7 +207,16 @@ impl<T: Wait + Clock + Drop> TryWrite for ScriptedHalf<T> {
 
     fn try_write(&mut self, bytes: &[u8]) -> Outcome {
         let outcome = self.outcome(Dir::Write, bytes.len());
-        self.told.offer_bytes(bytes, outcome);
+        let before = self.told.offered.load(Ordering::SeqCst);
+        self.told
+            .offered
+            .store(folded(before, bytes), Ordering::SeqCst);
+        if let Outcome::Count(count) = outcome {
+            let before = self.told.taken.load(Ordering::SeqCst);
+            self.told
+                .taken
+                .store(folded(before, &bytes[..count]), Ordering::SeqCst);
+        }
         outcome
     }
 }
@@ -246,6 +238,14 @@ impl<T: Wait + Clock + Drop> TryAccept for ScriptedHalf<T> {
 }
 
 impl<T: Wait + Clock + Drop> HalfClose for ScriptedHalf<T> {
+    // It is made once the script's tries of a connection are over.
+    fn is_connecting(&mut self) -> bool {
+        match self.script.get(self.step) {
+            Some((Try::Connects, _)) => matches!(self.next_try(), Try::Connects),
+            _ => false,
+        }
+    }
+
     fn shut(&mut self) -> Result<(), DevKind> {
         self.told.tries.fetch_add(1, Ordering::SeqCst);
         Err(DevKind::BrokenPipe)

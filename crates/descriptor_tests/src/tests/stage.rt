@@ -1,16 +1,17 @@
 //! The stage of a scene, and what is done and seen on it.
 
-use super::calls::{Noted, answer};
-use super::scene::{Answer, Asked, Call, Count, Event};
+use super::calls::{Noted, answer, start};
+use super::scene::{Answer, Call, Count, Event, Step};
 use super::scripted::{Notice, Told};
+use super::tasks::{Tasks, does};
 use super::{Plain, TURNS, comes_to};
 use base_types::Dir;
 use deadline_core::{Deadline, Dirs};
 use fd_descriptor::Word;
 use rwloops::Fault;
-use std::alloc::Global;
+use std::process::Abort;
 use std::sync::atomic::{AtomicU64, Ordering};
-use std::sync::{Arc, Mutex, Wait};
+use std::sync::{Arc, Wait};
 use std::thread;
 use std::thread::{JoinHandle, Threads};
 use std::time::{Clock, Duration};
@@ -19,77 +20,43 @@ use std::time::{Clock, Duration};
 #[derive(Drop)]
 pub(super) struct Stage<T: Wait + Clock + Copy + Drop> {
     pub(super) rt: T,
-    pub(super) told: Arc<Told, Global>,
+    pub(super) told: Arc<Told>,
     pub(super) alarms: Noted<T>,
     pub(super) handles: Vec<Plain<T>>,
     pub(super) started: Vec<JoinHandle<Answer>>,
 }
 
-/// All calls that take a lock or a reference.
-const ALL: [Call; 12] = [
+/// Calls that take a lock or a reference.
+const ALL: [Call; 6] = [
     Call::Drain,
-    Call::Read(4),
-    Call::Read(0),
+    Call::Read,
     Call::Accept,
     Call::Write(b"abc"),
     Call::Shut,
     Call::Set(Dirs::Both, Deadline::At(9), 5),
-    Call::Set(Dirs::Read, Deadline::At(9), 5),
-    Call::Set(Dirs::Write, Deadline::At(9), 5),
-    Call::Set(Dirs::Both, Deadline::Never, 5),
-    Call::Set(Dirs::Read, Deadline::Never, 5),
-    Call::Set(Dirs::Write, Deadline::Never, 5),
 ];
 
 /// Whether this is the answer of a call that was refused.
-fn is_refused(answer: Answer, fault: Fault) -> bool {
+fn is_refused(answer: Option<Answer>, fault: Fault) -> bool {
     match answer {
-        Answer::Took(Err(why)) | Answer::Done(Err(why)) => why == fault,
-        Answer::Cut(why, 0) => why == fault,
+        Some(Answer::Took(Err(why)) | Answer::Done(Err(why)) | Answer::Cut(why, 0)) => why == fault,
         _ => false,
     }
 }
 
 impl<T: Wait + Clock + Copy + Drop> Stage<T> {
-    /// A stage without a handle.
-    pub(super) fn empty(rt: T, alloc: Global, told: Arc<Told, Global>) -> Stage<T> {
-        let last = Mutex::new(None);
-        Stage {
-            rt,
-            told,
-            alarms: Noted { rt, last },
-            handles: Vec::new(alloc),
-            started: Vec::new(alloc),
-        }
+    fn by(&mut self, at: usize, call: Call) -> Option<Answer> {
+        let handle = self.handles.get_mut(at)?;
+        Some(answer(&self.rt, handle, &self.told, &self.alarms, call))
     }
 
-    pub(super) fn by(&mut self, at: usize, call: Call) -> Option<Answer> {
-        match self.handles.get_mut(at) {
-            Some(handle) => Some(answer(&self.rt, handle, &self.told, &self.alarms, call)),
-            None => None,
-        }
-    }
-
-    pub(super) fn none_by(&mut self, at: usize, fault: Fault) -> bool {
+    fn none_by(&mut self, at: usize, fault: Fault) -> bool {
         for call in ALL {
-            match self.by(at, call) {
-                Some(answer) if is_refused(answer, fault) => {}
-                _ => return false,
+            if !is_refused(self.by(at, call), fault) {
+                return false;
             }
         }
         true
-    }
-
-    pub(super) fn share(&mut self) -> Option<Plain<T>> {
-        match self.handles.first_mut() {
-            Some(handle) => handle.share().ok(),
-            None => None,
-        }
-    }
-
-    pub(super) fn share_one(&mut self) -> bool {
-        let handle = self.share();
-        self.keep(handle)
     }
 
     pub(super) fn keep(&mut self, handle: Option<Plain<T>>) -> bool {
@@ -99,7 +66,22 @@ impl<T: Wait + Clock + Copy + Drop> Stage<T> {
         }
     }
 
-    pub(super) fn end(&mut self, at: usize) -> Option<Answer>
+    pub(super) fn share(&mut self) -> Option<Plain<T>> {
+        self.handles.first_mut()?.share().ok()
+    }
+
+    fn start(&mut self, call: Call) -> bool
+    where
+        T: Threads + Abort + Send + 'static,
+    {
+        let Some(handle) = self.share() else {
+            return false;
+        };
+        let started = start(self.rt, handle, &self.told, call);
+        self.started.push(started).is_ok()
+    }
+
+    fn end(&mut self, at: usize) -> Option<Answer>
     where
         T: Threads,
     {
@@ -110,8 +92,8 @@ impl<T: Wait + Clock + Copy + Drop> Stage<T> {
         }
     }
 
-    /// It happens.
-    pub(super) fn has(&self, event: Event) -> bool {
+    // It happens.
+    fn has(&self, event: Event) -> bool {
         match event {
             Event::Ready(dir) => self.told.tell(&self.rt, Notice::Ready, dir),
             Event::Clock(now) => self.told.tell(&self.rt, Notice::Clock(now), Dir::Read),
@@ -132,22 +114,14 @@ impl<T: Wait + Clock + Copy + Drop> Stage<T> {
         }
     }
 
-    pub(super) fn counts(&self, count: Count) -> u64 {
-        self.counter(count).load(Ordering::SeqCst)
-    }
-
-    pub(super) fn asked(&self) -> Option<Asked> {
-        self.alarms.last.lock(&self.rt).take()
-    }
-
-    pub(super) fn comes(&self, count: Count, least: u64) -> bool {
+    fn comes(&self, count: Count, least: u64) -> bool {
         comes_to(&self.rt, self.counter(count), least)
     }
 
-    /// The notice comes at a moment when the caller is parked, unless it was late.
-    pub(super) fn ready_after_each(&self, dir: Dir, tries: u64) -> bool {
-        for tried in 0..tries {
-            if !self.comes(Count::Tries, tried.saturating_add(1)) {
+    // The notice comes at a moment when the caller is parked, unless it was late.
+    fn ready_after_each(&self, dir: Dir, tries: u64) -> bool {
+        for tried in 1..tries.saturating_add(1) {
+            if !comes_to(&self.rt, &self.told.tries, tried) {
                 return false;
             }
             self.has(Event::Pause(1));
@@ -156,14 +130,14 @@ impl<T: Wait + Clock + Copy + Drop> Stage<T> {
         true
     }
 
-    pub(super) fn shows(&mut self, word: Word) -> bool {
+    fn shows(&mut self, word: Word) -> bool {
         match self.handles.first_mut() {
             Some(handle) => handle.look() == word,
             None => false,
         }
     }
 
-    pub(super) fn becomes(&mut self, word: Word) -> bool {
+    fn becomes(&mut self, word: Word) -> bool {
         for _ in 0..TURNS {
             if self.shows(word) {
                 return true;
@@ -171,5 +145,31 @@ impl<T: Wait + Clock + Copy + Drop> Stage<T> {
             self.has(Event::Pause(1));
         }
         false
+    }
+
+    /// Whether a step comes to what it says.
+    pub(super) fn goes(&mut self, tasks: &mut Tasks<T>, step: Step) -> bool
+    where
+        T: Threads + Abort + Send + 'static,
+    {
+        match step {
+            Step::By(at, call, want) => self.by(at, call) == Some(want),
+            Step::NoneBy(at, fault) => self.none_by(at, fault),
+            Step::Start(call) => self.start(call),
+            Step::End(at, want) => self.end(at) == Some(want),
+            Step::Share => {
+                let handle = self.share();
+                self.keep(handle)
+            }
+            Step::Leave => self.handles.pop().is_some(),
+            Step::Has(event) => self.has(event),
+            Step::ReadyAfterEach(dir, tries) => self.ready_after_each(dir, tries),
+            Step::Comes(count, least) => self.comes(count, least),
+            Step::Counts(count, want) => self.counter(count).load(Ordering::SeqCst) == want,
+            Step::Alarm(want) => self.alarms.last.lock(&self.rt).take() == want,
+            Step::Shows(word) => self.shows(word),
+            Step::Becomes(word) => self.becomes(word),
+            Step::Runs(task) => does(self, tasks, task),
+        }
     }
 }

@@ -2,10 +2,9 @@
 //! once a close has woken it.
 
 use super::playing::play_all;
-use super::scene::{ABC, Answer, Call, Count, Event, NONE_READ, OK, READ_4, Scene, Step};
+use super::scene::{ABC, Answer, Call, Count, Event, NONE_READ, OK, Scene, Step};
 use super::scripts::{ALWAYS_BLOCKS, AT_LAST_THREE};
 use base_types::Dir;
-use std::test::Fail;
 
 const SCENES: &[Scene] = &[
     Scene(
@@ -13,7 +12,7 @@ const SCENES: &[Scene] = &[
         AT_LAST_THREE,
         None,
         &[
-            Step::Start(READ_4),
+            Step::Start(Call::Read),
             Step::ReadyAfterEach(Dir::Read, 20),
             Step::End(0, Answer::Took(Ok(3))),
         ],
@@ -33,7 +32,7 @@ const SCENES: &[Scene] = &[
         ALWAYS_BLOCKS,
         None,
         &[
-            Step::Start(READ_4),
+            Step::Start(Call::Read),
             Step::Comes(Count::Tries, 1),
             Step::Has(Event::Pause(1)),
             Step::By(0, Call::Close, OK),
@@ -44,8 +43,6 @@ const SCENES: &[Scene] = &[
 ];
 
 #[test]
-fn who_is_parked_is_woken_by_a_notice_alone_and_a_close_ends_it(
-    rt: HostRuntime,
-) -> Result<(), Fail> {
-    play_all(rt, rt.alloc(), SCENES)
+fn who_is_parked_is_woken_by_a_notice_alone_and_a_close_ends_it(rt: HostRuntime) {
+    play_all(rt, rt.alloc(), SCENES);
 }

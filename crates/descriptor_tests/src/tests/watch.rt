@@ -1,12 +1,12 @@
-//! A watch over a test that joins threads: it ends the test as failed where that takes too long.
-//! `readiness_tests` has one too: no crate uses another's tests.
+//! A watch over a test that waits for calls or threads: it ends the test as failed where that takes
+//! too long.
+//! `conn_tests` has one too: no crate uses another's tests.
 
-use super::comes_to;
+use super::{comes_to, holds};
 use std::alloc::Global;
 use std::process::Abort;
 use std::sync::Arc;
 use std::sync::atomic::{AtomicU64, Ordering};
-use std::test::Fail;
 use std::thread;
 use std::thread::{JoinHandle, Threads};
 use std::time::Clock;
@@ -15,21 +15,25 @@ use std::time::Clock;
 #[derive(Drop)]
 pub(super) struct Watch {
     thread: JoinHandle<()>,
-    ended: Arc<AtomicU64, Global>,
+    ended: Arc<AtomicU64>,
 }
 
 impl Watch {
+    /// A watch over a part of a test, which says its name where it ends the test.
     pub(super) fn start<T: Threads + Clock + Abort + Copy + Send + Drop + 'static>(
         rt: T,
         alloc: Global,
-        what: &'static str,
-    ) -> Result<Watch, Fail> {
-        let ended = Arc::new(alloc, AtomicU64::new(0))?;
-        let seen = Arc::try_clone(&ended)?;
+        part: &'static str,
+    ) -> Watch {
+        let ended = Arc::new(alloc, AtomicU64::new(0)).expect(&rt, "watch");
+        let seen = Arc::try_clone(&ended).expect(&rt, "watch");
         let thread = thread::spawn(&rt, move || {
-            assert!(rt; comes_to(&rt, &seen, 1), "somebody waits for good: {what}");
-        })?;
-        Ok(Watch { thread, ended })
+            holds(&rt, comes_to(&rt, &seen, 1), part);
+        });
+        Watch {
+            thread: thread.expect(&rt, "watch"),
+            ended,
+        }
     }
 
     /// The test has ended.

@@ -46,20 +46,6 @@ fn a_gentle_close_ends_with_its_time(rt: HostRuntime) {
 }
 
 #[test]
-fn a_task_that_closes_gently_hears_its_client_out(rt: HostRuntime) {
-    let both = served_by(rt, rt.alloc(), Does::ClosesGently(600_000));
-    let mut conn = both.client(&rt);
-    holds!(rt; says(&mut conn).is_ok(), "it is served");
-    holds!(rt; conn.read(&mut [0; 8]).ok() == Some(0), "the task says no more");
-    for _ in 0..20u8 {
-        pause(&rt, 1);
-        holds!(rt; conn.write_all(b"more").is_ok(), "it hears on");
-    }
-    holds!(rt; conn.close_write().is_ok(), "the client's end");
-    drop(both);
-}
-
-#[test]
 fn a_task_that_closes_gently_is_over_with_its_time(rt: HostRuntime) {
     let mut both = served_by(rt, rt.alloc(), Does::ClosesGently(20));
     let mut conn = both.client(&rt);

@@ -1,5 +1,5 @@
 //! Memory that is refused. It holds where all is given as well: `tests/refused_memory.sh` refuses
-//! each allocation in turn.
+//! each allocation in turn, until each test here says that the one refused came behind its round.
 
 use super::line_tasks::line_round;
 use super::tasks::{Does, task_that};
@@ -28,59 +28,36 @@ fn both<R: Runs + Threads + Sockets + Files>(net: &Net<R>) -> io::Result<(Conn<R
     Ok((near, far))
 }
 
-/// A net, a listener and a connection, with times set, and a round trip.
-fn round<R>(rt: R, alloc: Global) -> io::Result<()>
-where
-    R: Runs + Threads + Sockets + Files + Send + Sync + 'static,
-{
-    let net = Net::start(rt, alloc)?;
-    let (mut near, mut far) = both(&net)?;
+/// A round trip of a connection with a time.
+fn round_trip<R: Runs>(near: &mut Conn<R>, far: &mut Conn<R>) -> io::Result<()> {
     far.set_read_timeout(millis(10_000))?;
     near.write_all(b"hello")?;
     far.read_exact(&mut [0; 5])
 }
 
-/// A group of one connection, which is ended, and a handle that closes it.
-fn grouped<R>(rt: R, alloc: Global) -> io::Result<()>
+/// A group of this connection, which is ended, and a handle that closes it.
+fn ends_group<R>(net: &Net<R>, near: &Conn<R>) -> io::Result<()>
 where
     R: Runs + Threads + Sockets + Files + Send + Sync + 'static,
 {
-    let net = Net::start(rt, alloc)?;
-    let (near, _far) = both(&net)?;
-    let group = ConnGroup::new(&net)?;
-    let _member = group.join(&near)?;
-    let other = group.try_clone()?;
-    let closer = near.socket_closer()?.try_clone()?;
-    other.end();
-    closer.close();
+    let group = ConnGroup::new(net)?;
+    let _member = group.join(near)?;
+    group.try_clone()?.end();
+    near.socket_closer()?.try_clone()?.close();
     Ok(())
 }
 
-/// A close whose peer ends at once.
-fn gently<R>(rt: R, alloc: Global) -> io::Result<()>
+/// A net, a listener and a connection, which goes round, is ended by its group, and is closed gently
+/// at the other end.
+fn connected<R>(rt: R, alloc: Global) -> io::Result<()>
 where
     R: Runs + Threads + Sockets + Files + Send + Sync + 'static,
 {
     let net = Net::start(rt, alloc)?;
     let (mut near, mut far) = both(&net)?;
-    far.close_write()?;
-    near.close_gently(Duration::from_secs(10))?;
-    Ok(())
-}
-
-/// A service with a client, which is shut down.
-fn served<R>(rt: R, alloc: Global) -> io::Result<()>
-where
-    R: Runs + Threads + Sockets + Files + Send + Sync + 'static,
-{
-    let net = Net::start(rt, alloc)?;
-    let listener = Listener::bind(&net, &tcp(0))?;
-    let addr = addr_of(&listener)?;
-    let service = net.serve(listener, 1, task_that(Does::Echoes(0)))?;
-    let closer = service.closer()?;
-    let _conn = Conn::connect(&net, &addr, millis(10_000))?;
-    closer.shutdown(Duration::from_millis(10));
-    service.wait();
+    round_trip(&mut near, &mut far)?;
+    ends_group(&net, &near)?;
+    far.close_gently(Duration::from_secs(10))?;
     Ok(())
 }
 
@@ -113,44 +90,38 @@ fn is_fine(told: io::Result<()>) -> bool {
     }
 }
 
-#[test]
-fn a_refused_round_is_told_and_leaves_nothing_open(rt: HostRuntime) {
-    let before = looked(&rt);
-    holds!(rt; is_fine(round(rt, rt.alloc())), "done, or told as want of memory");
-    holds!(rt; before.is_some() && looked(&rt) == before, "nothing is left open");
+/// Whether it was done, or told as want of memory, and nothing is left open.
+fn is_well(rt: &HostRuntime, before: Option<usize>, told: io::Result<()>) -> bool {
+    is_fine(told) && before.is_some() && looked(rt) == before
+}
+
+/// Whether none of many allocations is refused.
+fn none_is_refused(alloc: Global) -> bool {
+    for _ in 0..1_000u32 {
+        if Vec::<u64>::with_capacity(alloc, 1).is_err() {
+            return false;
+        }
+    }
+    true
 }
 
 #[test]
-fn a_refused_group_is_told_and_leaves_nothing_open(rt: HostRuntime) {
+fn a_refused_connection_is_told_and_leaves_nothing_open(rt: HostRuntime) {
     let before = looked(&rt);
-    holds!(rt; is_fine(grouped(rt, rt.alloc())), "done, or told as want of memory");
-    holds!(rt; before.is_some() && looked(&rt) == before, "nothing is left open");
-}
-
-#[test]
-fn a_refused_gentle_close_is_told_and_leaves_nothing_open(rt: HostRuntime) {
-    let before = looked(&rt);
-    holds!(rt; is_fine(gently(rt, rt.alloc())), "done, or told as want of memory");
-    holds!(rt; before.is_some() && looked(&rt) == before, "nothing is left open");
-}
-
-#[test]
-fn a_refused_service_is_told_and_leaves_nothing_open(rt: HostRuntime) {
-    let before = looked(&rt);
-    holds!(rt; is_fine(served(rt, rt.alloc())), "done, or told as want of memory");
-    holds!(rt; before.is_some() && looked(&rt) == before, "nothing is left open");
+    holds!(rt; is_well(&rt, before, connected(rt, rt.alloc())), "told, and nothing is left");
+    holds!(rt; none_is_refused(rt.alloc()), "refused behind the round");
 }
 
 #[test]
 fn a_refused_server_at_an_address_that_is_taken_leaves_nothing_open(rt: HostRuntime) {
     let before = looked(&rt);
-    holds!(rt; is_fine(at_taken(rt, rt.alloc())), "taken, or told as want of memory");
-    holds!(rt; before.is_some() && looked(&rt) == before, "nothing is left open");
+    holds!(rt; is_well(&rt, before, at_taken(rt, rt.alloc())), "told, and nothing is left");
+    holds!(rt; none_is_refused(rt.alloc()), "refused behind the round");
 }
 
 #[test]
 fn a_refused_service_of_lines_is_told_and_leaves_nothing_open(rt: HostRuntime) {
     let before = looked(&rt);
-    holds!(rt; is_fine(line_round(rt, rt.alloc())), "done, or told as want of memory");
-    holds!(rt; before.is_some() && looked(&rt) == before, "nothing is left open");
+    holds!(rt; is_well(&rt, before, line_round(rt, rt.alloc())), "told, and nothing is left");
+    holds!(rt; none_is_refused(rt.alloc()), "refused behind the round");
 }

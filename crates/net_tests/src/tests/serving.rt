@@ -66,24 +66,10 @@ const ROWS: &[(&str, Does, bool, Ends, u64)] = &[
         0,
     ),
     (
-        "a half-close is heard",
-        Does::Echoes(0),
-        true,
-        Ends::CloseWrite,
-        0,
-    ),
-    (
         "a stop ends tasks that wait",
         Does::Echoes(600_000),
         true,
         Ends::Stop,
-        0,
-    ),
-    (
-        "a shutdown ends a task that is idle",
-        Does::Echoes(600_000),
-        true,
-        Ends::Shutdown(600_000),
         0,
     ),
     (
@@ -92,13 +78,6 @@ const ROWS: &[(&str, Does, bool, Ends, u64)] = &[
         true,
         Ends::Shutdown(40),
         40,
-    ),
-    (
-        "a task that asks for the end answers before",
-        Does::Closes,
-        true,
-        Ends::Itself,
-        0,
     ),
     (
         "a stop of the net ends tasks that wait",

@@ -18,11 +18,6 @@ pub enum Does {
     LooksEach(u64),
     /// It is over with the first bytes that come.
     Fails,
-    /// It gives each lump that comes back after so many milliseconds, and is over once an end is asked
-    /// for and nothing is under way.
-    Late(u64),
-    /// It gives back what comes first, asks for the end of its service, and is over.
-    Closes,
     /// It gives back what comes first, and closes gently, in so many milliseconds at most.
     ClosesGently(u64),
     /// None is begun: the loops have one, which begins none.
@@ -117,34 +112,6 @@ impl Worker {
         }
     }
 
-    fn late<R: Runs>(&mut self, conn: &mut Conn<R>, cause: Cause, ms: u64) -> Next {
-        if self.from < self.to {
-            return match self.gives(conn) {
-                Came::Bytes => Next::Again,
-                _ => Next::Over,
-            };
-        }
-        match self.takes(conn) {
-            Came::Bytes => Next::After(Duration::from_millis(ms)),
-            Came::WaitsToRead => Next::Read(cause.idle(Duration::from_millis(LONG_MS))),
-            _ => Next::Over,
-        }
-    }
-
-    // The end is asked for before the answer goes out.
-    fn closes<R: Runs>(&mut self, conn: &mut Conn<R>) -> Next {
-        match self.takes(conn) {
-            Came::WaitsToRead => return Next::Read(Waits::Forever),
-            Came::Bytes => {}
-            _ => return Next::Over,
-        }
-        if let Some(closer) = conn.closer() {
-            closer.shutdown(Duration::from_millis(LONG_MS));
-        }
-        self.gives(conn);
-        Next::Over
-    }
-
     fn closes_gently<R: Runs>(&mut self, conn: &mut Conn<R>, ms: u64) -> Next {
         if self.close.is_none() {
             match self.takes(conn) {
@@ -192,8 +159,6 @@ impl<R: Runs> Task<R> for Worker {
                 Came::WaitsToRead => Next::ReadOrWrite(Waits::Forever),
                 _ => Next::Over,
             },
-            Does::Late(ms) => self.late(conn, cause, ms),
-            Does::Closes => self.closes(conn),
             Does::ClosesGently(ms) => self.closes_gently(conn, ms),
             Does::BeginsNone | Does::IsRefused => Next::Over,
         }

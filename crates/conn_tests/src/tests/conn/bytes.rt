@@ -1,8 +1,8 @@
 //! Bytes, and the end after them.
 
-use super::playing::{By, plays};
+use super::playing::plays;
 use super::scene::{Call, Part, Scene, Step};
-use super::world::on;
+use super::world::addrs;
 use fd_descriptor::Fault;
 
 const MEBIBYTE: u64 = 1 << 20;
@@ -13,7 +13,6 @@ const SCENES: &[Scene] = &[
         name: "what is written before a close is read whole, and then the end",
         is_whole: true,
         near: &[Part(1, &[Step::Write(MEBIBYTE), Step::Do(Call::Close)])],
-        steers: &[],
         far: &[Part(
             1,
             &[
@@ -36,7 +35,6 @@ const SCENES: &[Scene] = &[
                 Step::Do(Call::Close),
             ],
         )],
-        steers: &[],
         far: &[Part(
             1,
             &[
@@ -52,10 +50,5 @@ const SCENES: &[Scene] = &[
 
 #[test]
 fn bytes_pass_and_end(rt: HostRuntime) {
-    plays(on(rt), By::Waiting, SCENES);
-}
-
-#[test]
-fn bytes_pass_and_end_on_a_loop(rt: HostRuntime) {
-    plays(on(rt), By::Loop, SCENES);
+    plays(rt, rt.alloc(), addrs(&rt), SCENES);
 }

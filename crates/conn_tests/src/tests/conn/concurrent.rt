@@ -1,8 +1,8 @@
 //! All calls at once.
 
-use super::playing::{By, plays};
+use super::playing::plays;
 use super::scene::{Call, Part, Scene, Step, When};
-use super::world::on;
+use super::world::addrs;
 use fd_descriptor::{Dirs, Fault};
 
 const CALLERS: u64 = 8;
@@ -35,7 +35,6 @@ const SCENES: &[Scene] = &[Scene {
             ],
         ),
     ],
-    steers: &[],
     far: &[
         Part(1, &[Step::ReadUntil(Fault::EndOfFile)]),
         Part(
@@ -51,10 +50,5 @@ const SCENES: &[Scene] = &[Scene {
 
 #[test]
 fn calls_of_every_kind_go_on_at_once(rt: HostRuntime) {
-    plays(on(rt), By::Waiting, SCENES);
-}
-
-#[test]
-fn calls_of_every_kind_go_on_at_once_on_a_loop(rt: HostRuntime) {
-    plays(on(rt), By::Loop, SCENES);
+    plays(rt, rt.alloc(), addrs(&rt), SCENES);
 }

@@ -1,9 +1,9 @@
 //! Deadlines that have passed, that pass, and that are set while calls wait. A call that is late
 //! has passed no byte, and the next one works once the deadline is lifted.
 
-use super::playing::{By, plays};
+use super::playing::plays;
 use super::scene::{Call, Part, Scene, Step, When};
-use super::world::on;
+use super::world::addrs;
 use fd_descriptor::{Dirs, Fault};
 
 const LATE: Fault = Fault::DeadlineExceeded;
@@ -32,7 +32,6 @@ const SCENES: &[Scene] = &[
                 Step::Refused(Call::Read, END),
             ],
         )],
-        steers: &[],
         far: &[Part(
             1,
             &[
@@ -60,7 +59,6 @@ const SCENES: &[Scene] = &[
                 Step::Refused(Call::Read, END),
             ],
         )],
-        steers: &[],
         far: &[Part(
             1,
             &[
@@ -90,7 +88,6 @@ const SCENES: &[Scene] = &[
                 Step::Refused(Call::Read, END),
             ],
         )],
-        steers: &[],
         far: &[Part(
             1,
             &[
@@ -122,18 +119,18 @@ const SCENES: &[Scene] = &[
                     Step::Refused(Call::Read, END),
                 ],
             ),
+            Part(
+                1,
+                &[
+                    Step::Await(2),
+                    Step::Pause(100),
+                    Step::Do(Call::Set(Dirs::Both, When::LongAgo)),
+                    Step::Await(4),
+                    Step::Do(Call::Set(Dirs::Both, When::Never)),
+                    Step::Mark,
+                ],
+            ),
         ],
-        steers: &[Part(
-            1,
-            &[
-                Step::Await(2),
-                Step::Pause(100),
-                Step::Do(Call::Set(Dirs::Both, When::LongAgo)),
-                Step::Await(4),
-                Step::Do(Call::Set(Dirs::Both, When::Never)),
-                Step::Mark,
-            ],
-        )],
         far: &[Part(
             1,
             &[
@@ -171,7 +168,6 @@ const SCENES: &[Scene] = &[
                 ],
             ),
         ],
-        steers: &[],
         far: &[Part(
             1,
             &[
@@ -209,7 +205,6 @@ const SCENES: &[Scene] = &[
                 Step::Refused(Call::Read, END),
             ],
         )],
-        steers: &[],
         far: &[Part(
             1,
             &[
@@ -224,10 +219,5 @@ const SCENES: &[Scene] = &[
 
 #[test]
 fn late_calls_pass_nothing_and_work_once_their_deadline_is_lifted(rt: HostRuntime) {
-    plays(on(rt), By::Waiting, SCENES);
-}
-
-#[test]
-fn late_calls_pass_nothing_and_work_once_their_deadline_is_lifted_on_a_loop(rt: HostRuntime) {
-    plays(on(rt), By::Loop, SCENES);
+    plays(rt, rt.alloc(), addrs(&rt), SCENES);
 }

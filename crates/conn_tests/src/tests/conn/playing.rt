@@ -1,63 +1,67 @@
-//! How a scene is played: by which calls, and over which sockets.
+//! How a scene is played: over which sockets, and by which threads.
 
-use super::scene::Scene;
+use super::acting::start;
+use super::holds;
+use super::scene::{Part, Scene};
+use super::stage::Stage;
 use super::watch::Watch;
-use super::world::{Room, socks};
-use super::{looping, waiting};
+use super::world::{HeldEnd, open};
 use readiness::Addr;
 use std::alloc::Global;
 use std::fs::Files;
 use std::net::Net;
 use std::process::Abort;
-use std::sync::Wait;
-use std::thread::Threads;
+use std::sync::{Arc, Wait};
+use std::thread::{JoinHandle, Threads};
 use std::time::Clock;
 
-/// Whose calls they are.
-#[derive(Clone, Copy)]
-pub(super) enum By {
-    /// Threads, whose calls wait.
-    Waiting,
-    /// A loop, whose calls don't.
-    Loop,
+/// Starts all roles of these parts at an end.
+fn start_all<R>(
+    rt: R,
+    stage: &Arc<Stage<R>>,
+    end: &mut HeldEnd,
+    (scene, parts): (&'static str, &[Part]),
+    running: &mut Vec<JoinHandle<()>>,
+)
+where
+    R: Wait + Threads + Clock + Abort + Copy + Drop + Send + Sync + 'static,
+{
+    for part in parts {
+        for _ in 0..part.0 {
+            let role = start(rt, stage, end.share(&rt), (scene, part.1));
+            running.push(role).expect(&rt, "room");
+        }
+    }
 }
 
-fn balanced<R: Abort>(rt: &R, is: bool, scene: &str) {
-    assert!(rt; is, "{scene}: what is written is read");
-}
-
-/// Plays a scene over this connection. A role that is answered otherwise than its step says ends
-/// the test.
-fn play<R>(rt: R, alloc: Global, by: By, addr: &Addr, scene: &Scene)
+/// Plays a scene over a connection at this address.
+fn play<R>(rt: R, alloc: Global, addr: &Addr, scene: &Scene)
 where
     R: Wait + Threads + Net + Files + Clock + Abort + Copy + Drop + Send + Sync + 'static,
 {
     let watch = Watch::over(rt, alloc, scene.name);
-    let socks = socks(&rt, addr);
-    let balances = match by {
-        By::Waiting => waiting::play(rt, alloc, socks, scene),
-        By::Loop => looping::play(rt, alloc, socks, scene),
-    };
-    balanced(&rt, balances, scene.name);
+    let mut world = open(rt, alloc, addr);
+    let mut running = Vec::new(alloc);
+    let (near, far) = ((scene.name, scene.near), (scene.name, scene.far));
+    start_all(rt, &world.stage, &mut world.near, near, &mut running);
+    start_all(rt, &world.stage, &mut world.far, far, &mut running);
+    for role in running {
+        role.join(&rt);
+    }
+    holds(&rt, world.stage.balances(scene.is_whole), scene.name);
+    world.stop(&rt);
     watch.end(&rt);
 }
 
-/// Plays a scene over TCP and over a Unix socket.
-fn play_over_each<R>(on: &Room<R>, by: By, scene: &Scene)
+/// Plays each scene over connections at each of these addresses.
+pub(super) fn plays<R>(rt: R, alloc: Global, addrs: Option<[Addr; 2]>, scenes: &[Scene])
 where
     R: Wait + Threads + Net + Files + Clock + Abort + Copy + Drop + Send + Sync + 'static,
 {
-    for addr in on.addrs() {
-        play(on.rt, on.alloc, by, &addr, scene);
-    }
-}
-
-/// Plays each scene over TCP and over a Unix socket.
-pub(super) fn plays<R>(on: Room<R>, by: By, scenes: &[Scene])
-where
-    R: Wait + Threads + Net + Files + Clock + Abort + Copy + Drop + Send + Sync + 'static,
-{
+    let addrs = addrs.expect(&rt, "a path");
     for scene in scenes {
-        play_over_each(&on, by, scene);
+        for addr in addrs {
+            play(rt, alloc, &addr, scene);
+        }
     }
 }

@@ -1,9 +1,9 @@
 //! Many callers in one direction, each of whom sets the deadline anew. What a call that is late had
 //! passed before isn't lost, and nothing passes twice.
 
-use super::playing::{By, plays};
+use super::playing::plays;
 use super::scene::{Call, Part, Scene, Step, When};
-use super::world::on;
+use super::world::addrs;
 use fd_descriptor::{Dirs, Fault};
 
 const RACERS: u64 = 10;
@@ -44,7 +44,6 @@ const SCENES: &[Scene] = &[
                 ],
             ),
         ],
-        steers: &[],
         far: &[Part(
             1,
             &[
@@ -86,7 +85,6 @@ const SCENES: &[Scene] = &[
                 ],
             ),
         ],
-        steers: &[],
         far: &[Part(
             1,
             &[
@@ -101,10 +99,5 @@ const SCENES: &[Scene] = &[
 
 #[test]
 fn callers_race_in_one_direction(rt: HostRuntime) {
-    plays(on(rt), By::Waiting, SCENES);
-}
-
-#[test]
-fn callers_race_in_one_direction_on_a_loop(rt: HostRuntime) {
-    plays(on(rt), By::Loop, SCENES);
+    plays(rt, rt.alloc(), addrs(&rt), SCENES);
 }

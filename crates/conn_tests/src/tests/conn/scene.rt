@@ -1,17 +1,17 @@
 //! What the roles of a scene do, and the bytes that they say.
 
-use fd_descriptor::{Dir, Dirs, Fault};
+use fd_descriptor::{Dirs, Fault};
 
 /// An end of a connection.
 #[derive(Clone, Copy)]
-pub(in crate::tests) enum End {
+pub(super) enum End {
     Near,
     Far,
 }
 
 /// What a deadline is set to.
 #[derive(Clone, Copy)]
-pub(in crate::tests) enum When {
+pub(super) enum When {
     Never,
     /// The clock's first moment.
     LongAgo,
@@ -27,17 +27,6 @@ pub(super) enum Call {
     Shut,
     Close,
     Set(Dirs, When),
-}
-
-impl Call {
-    /// Whose lock of the descriptor it takes.
-    pub(super) fn dir(self) -> Option<Dir> {
-        match self {
-            Call::Read => Some(Dir::Read),
-            Call::Write | Call::Shut => Some(Dir::Write),
-            Call::Close | Call::Set(_, _) => None,
-        }
-    }
 }
 
 /// What a role does next, and how its calls have to be answered.
@@ -80,9 +69,6 @@ pub(super) struct Scene {
     /// Whether no byte may be lost.
     pub(super) is_whole: bool,
     pub(super) near: &'static [Part],
-    /// Who sets deadlines or closes at the near end while others are under way there: they have
-    /// threads of their own also where a loop has all others.
-    pub(super) steers: &'static [Part],
     pub(super) far: &'static [Part],
 }
 

@@ -1,14 +1,14 @@
-//! What the roles of a scene share: the clock, their marks, books of what passes at each end, and
-//! what drives their calls.
+//! What the roles of a scene share: the clock, the poller's table and timers, their marks, and books
+//! of what passes at each end.
 
-use super::driver::Driver;
 use super::scene::{End, When};
-use fd_descriptor::{Deadline, Dir, Dirs, Fault, FdHandle};
-use readiness::SockRes;
+use super::world::HeldEnd;
+use fd_descriptor::{Deadline, Dir, Dirs, Fault};
+use readiness::{ConnTable, HeldSocket, Poller, SockRes, TimerAlarms, Timers, Waker};
 use std::alloc::Global;
 use std::process::Abort;
 use std::sync::atomic::{AtomicBool, AtomicU64, Ordering};
-use std::sync::{Arc, Wait};
+use std::sync::{Arc, Mutex, Wait};
 use std::time::{Clock, Instant};
 
 const NANOS_IN_A_MILLI: u64 = 1_000_000;
@@ -19,8 +19,6 @@ pub(super) struct Book {
     bytes: AtomicU64,
     sum: AtomicU64,
     due: AtomicU64,
-    /// Whether a role of a loop has a call under way.
-    pub(super) busy: AtomicBool,
 }
 
 impl Book {
@@ -29,7 +27,6 @@ impl Book {
             bytes: AtomicU64::new(0),
             sum: AtomicU64::new(0),
             due: AtomicU64::new(u64::MAX),
-            busy: AtomicBool::new(false),
         }
     }
 
@@ -49,46 +46,48 @@ impl Book {
     }
 }
 
-/// An end, and the key by which a handle is known there: the id of its entry in a table, or the
-/// token of its end's task.
-#[derive(Clone, Copy)]
-pub(in crate::tests) struct Seat {
-    pub(in crate::tests) end: End,
-    pub(in crate::tests) key: u64,
-}
-
 /// The stage of a scene.
 #[derive(Drop)]
 pub(in crate::tests) struct Stage<R: Wait + Drop> {
     start: Instant,
+    pub(super) table: Mutex<ConnTable<HeldSocket<SockRes>>>,
+    pub(super) timers: Arc<Mutex<Timers>>,
+    alarms: TimerAlarms<R>,
+    /// Wakes the poller's thread, and whether it is told to stop.
+    pub(super) waker: Arc<Waker>,
+    pub(super) stop: AtomicBool,
+    pub(super) marks: AtomicU64,
     near_read: Book,
     near_written: Book,
     far_read: Book,
     far_written: Book,
-    marks: AtomicU64,
-    pub(super) driver: Driver<R>,
 }
 
-impl<R: Wait + Drop> Stage<R> {
-    pub(super) fn open<T: Clock + Abort>(
-        rt: &T,
-        alloc: Global,
-        driver: Driver<R>,
-    ) -> Arc<Stage<R>> {
-        let stage = Stage {
-            start: Instant::now(rt).expect(rt, "clock"),
+impl<R: Wait + Clock + Copy + Drop> Stage<R> {
+    pub(super) fn by(rt: R, alloc: Global, poller: &Poller) -> Stage<R>
+    where
+        R: Abort,
+    {
+        let timers = Arc::new(alloc, Mutex::new(Timers::new(alloc))).expect(&rt, "timers");
+        let alarmed = Arc::try_clone(&timers).expect(&rt, "timers");
+        let woken = poller.waker().expect(&rt, "waker");
+        Stage {
+            start: Instant::now(&rt).expect(&rt, "clock"),
+            table: Mutex::new(ConnTable::new(alloc)),
+            timers,
+            alarms: TimerAlarms::new(rt, alarmed, woken),
+            waker: poller.waker().expect(&rt, "waker"),
+            stop: AtomicBool::new(false),
+            marks: AtomicU64::new(0),
             near_read: Book::new(),
             near_written: Book::new(),
             far_read: Book::new(),
             far_written: Book::new(),
-            marks: AtomicU64::new(0),
-            driver,
-        };
-        Arc::new(alloc, stage).expect(rt, "a stage")
+        }
     }
 
     /// The nanoseconds since the start.
-    pub(super) fn now<T: Clock>(&self, rt: &T) -> u64 {
+    pub(super) fn now(&self, rt: &R) -> u64 {
         match self.start.elapsed(rt) {
             Ok(passed) => u64::try_from(passed.as_nanos()).unwrap_or(u64::MAX),
             Err(_) => u64::MAX,
@@ -104,9 +103,15 @@ impl<R: Wait + Drop> Stage<R> {
         }
     }
 
-    /// The deadline that is meant, which is noted before it is set: a call that is late can't be
-    /// seen before that.
-    fn notes(&self, end: End, dirs: Dirs, when: When, now: u64) -> Deadline {
+    /// Sets a deadline, which is noted before: a call that is late can't be seen before that.
+    pub(super) fn sets(
+        &self,
+        rt: &R,
+        end: &mut HeldEnd,
+        dirs: Dirs,
+        when: When,
+    ) -> Result<(), Fault> {
+        let now = self.now(rt);
         let (due, deadline) = match when {
             When::Never => (u64::MAX, Deadline::Never),
             When::LongAgo => (0, Deadline::At(0)),
@@ -116,42 +121,41 @@ impl<R: Wait + Drop> Stage<R> {
             }
         };
         if dirs != Dirs::Write {
-            self.book(end, Dir::Read).due.store(due, Ordering::SeqCst);
+            self.book(end.end, Dir::Read)
+                .due
+                .store(due, Ordering::SeqCst);
         }
         if dirs != Dirs::Read {
-            self.book(end, Dir::Write).due.store(due, Ordering::SeqCst);
+            self.book(end.end, Dir::Write)
+                .due
+                .store(due, Ordering::SeqCst);
         }
-        deadline
+        match dirs {
+            Dirs::Read => end
+                .handle
+                .set_read_deadline(rt, deadline, now, &self.alarms),
+            Dirs::Write => end
+                .handle
+                .set_write_deadline(rt, deadline, now, &self.alarms),
+            Dirs::Both => end.handle.set_deadline(rt, deadline, now, &self.alarms),
+        }
     }
 
-    /// Sets a deadline by this handle.
-    pub(in crate::tests) fn sets<T: Wait + Clock>(
-        &self,
-        rt: &T,
-        seat: Seat,
-        handle: &mut FdHandle<SockRes>,
-        dirs: Dirs,
-        when: When,
-    ) -> Result<(), Fault> {
-        let now = self.now(rt);
-        let deadline = self.notes(seat.end, dirs, when, now);
-        self.driver.sets(rt, handle, dirs, deadline, now)
+    /// Closes an end. Its entry goes before, so that the poller's token names nothing.
+    pub(super) fn closes(&self, rt: &R, end: &mut HeldEnd) -> Result<(), Fault> {
+        let _ = self.table.lock(rt).remove(end.id);
+        end.handle.close(rt)
     }
 
     /// Whether the deadline of this direction has passed.
-    pub(super) fn is_due(&self, end: End, dir: Dir, now: u64) -> bool {
-        self.book(end, dir).due.load(Ordering::SeqCst) <= now
+    pub(super) fn is_due(&self, rt: &R, end: End, dir: Dir) -> bool {
+        self.book(end, dir).due.load(Ordering::SeqCst) <= self.now(rt)
     }
 
     /// A role makes a mark.
-    pub(super) fn mark<T: Wait>(&self, rt: &T) {
+    pub(super) fn mark(&self) -> bool {
         self.marks.fetch_add(1, Ordering::SeqCst);
-        self.driver.marked(rt);
-    }
-
-    /// Whether the roles have made so many marks.
-    pub(super) fn has(&self, marks: u64) -> bool {
-        self.marks.load(Ordering::SeqCst) >= marks
+        true
     }
 
     /// Whether each end has read what the other wrote, all of it where nothing was lost.

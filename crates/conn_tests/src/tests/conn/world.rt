@@ -1,8 +1,7 @@
 //! A connection with both its ends held, and a thread that turns their poller.
 
-use super::driver::{Driver, Polled, Table};
 use super::scene::End;
-use super::stage::{Seat, Stage};
+use super::stage::Stage;
 use super::{TURNS, holds, pause};
 use arrayvec::ArrayString;
 use fd_descriptor::{AcceptOutcome, FdHandle, TryAccept};
@@ -20,14 +19,6 @@ use std::{env, fs, process, thread};
 
 type Path = ArrayString<100>;
 
-/// What a test runs on: its runtime, with memory and a path of its own.
-#[derive(Clone, Copy)]
-pub(in crate::tests) struct Room<R> {
-    pub(in crate::tests) rt: R,
-    pub(in crate::tests) alloc: Global,
-    path: Option<Path>,
-}
-
 /// A path of the process with this number in a folder.
 fn path_in(folder: &str, id: u32) -> Option<Path> {
     let mut path = Path::new();
@@ -43,21 +34,10 @@ fn own_path(rt: &HostRuntime) -> Option<Path> {
     }
 }
 
-/// The room of a test.
-pub(in crate::tests) fn on(rt: HostRuntime) -> Room<HostRuntime> {
-    Room {
-        rt,
-        alloc: rt.alloc(),
-        path: own_path(&rt),
-    }
-}
-
-impl<R: Abort> Room<R> {
-    /// Where connections are made: at any port of loopback that is free, and at the test's path.
-    pub(in crate::tests) fn addrs(&self) -> [Addr; 2] {
-        let path = self.path.expect(&self.rt, "a path");
-        [Addr::Tcp([127, 0, 0, 1], 0), Addr::Unix(path)]
-    }
+/// Where connections are made: at any port of loopback that is free, and at the test's path.
+pub(in crate::tests) fn addrs(rt: &HostRuntime) -> Option<[Addr; 2]> {
+    let path = own_path(rt)?;
+    Some([Addr::Tcp([127, 0, 0, 1], 0), Addr::Unix(path)])
 }
 
 /// Where clients connect to of a listener at this address, which has this port.
@@ -96,56 +76,48 @@ fn removes<R: Files>(rt: &R, addr: &Addr) -> bool {
 }
 
 /// Both ends of a connection at this address.
-pub(in crate::tests) fn socks<R: Net + Files + Clock + Abort>(rt: &R, addr: &Addr) -> (Sock, Sock) {
+fn socks<R: Net + Files + Clock + Abort>(rt: &R, addr: &Addr) -> (Sock, Sock) {
     let listener = listen(rt, addr).expect(rt, "listen");
     let socks = ends(rt, addr, listener);
     holds(rt, removes(rt, addr), "its path goes");
     socks
 }
 
-/// An end that is held.
+/// An end that is held, and the id of its entry in the poller's table.
 #[derive(Drop)]
 pub(in crate::tests) struct HeldEnd {
-    pub(in crate::tests) seat: Seat,
+    pub(super) end: End,
+    pub(super) id: u64,
     pub(in crate::tests) handle: FdHandle<SockRes>,
+}
+
+impl HeldEnd {
+    /// The same by another handle.
+    pub(in crate::tests) fn share<R: Abort>(&mut self, rt: &R) -> HeldEnd {
+        HeldEnd {
+            end: self.end,
+            id: self.id,
+            handle: self.handle.share().expect(rt, "a share"),
+        }
+    }
 }
 
 /// A connection, with a thread that turns its poller.
 #[derive(Drop)]
 pub(in crate::tests) struct World<R: Wait + Drop> {
-    pub(in crate::tests) stage: Arc<Stage<R>>,
+    pub(super) stage: Arc<Stage<R>>,
     pub(in crate::tests) near: HeldEnd,
     pub(in crate::tests) far: HeldEnd,
     turning: JoinHandle<bool>,
 }
 
-/// Holds a socket, which `poller` tells from now on.
-fn hold<R: Wait + Abort>(
-    rt: &R,
-    alloc: Global,
-    poller: &Poller,
-    table: &Table,
-    end: (End, Sock),
-) -> HeldEnd {
-    let (end, sock) = end;
-    let held = poller.hold(alloc, &mut *table.lock(rt), sock);
-    let (key, handle) = held.expect(rt, "held");
-    HeldEnd {
-        seat: Seat { end, key },
-        handle,
-    }
-}
-
 /// Turns until it is told to stop, and says whether every turn was made.
-fn turns<R: Wait + Clock + Drop>(rt: &R, stage: &Stage<R>, poller: &mut Poller) -> bool {
-    let Driver::Poller(polled) = &stage.driver else {
-        return false;
-    };
+fn turns<R: Wait + Clock + Copy + Drop>(rt: &R, stage: &Stage<R>, poller: &mut Poller) -> bool {
     for _ in rt.forever() {
-        if polled.stop.load(Ordering::SeqCst) {
+        if stage.stop.load(Ordering::SeqCst) {
             return true;
         }
-        let turned = poller.turn(rt, stage.now(rt), &polled.table, &*polled.timers);
+        let turned = poller.turn(rt, stage.now(rt), &stage.table, &*stage.timers);
         if turned.is_err() {
             return false;
         }
@@ -163,40 +135,38 @@ where
     thread::spawn(&rt, move || turns(&rt, &turned, &mut poller)).expect(&rt, "a thread")
 }
 
-/// This connection, held by a poller, which gets a thread.
-fn turned<R>(rt: R, alloc: Global, poller: Poller, socks: (Sock, Sock)) -> World<R>
+/// Holds a socket, which `poller` tells from now on.
+fn hold<R>(rt: R, alloc: Global, poller: &Poller, stage: &Stage<R>, end: (End, Sock)) -> HeldEnd
 where
-    R: Wait + Threads + Clock + Abort + Copy + Drop + Send + Sync + 'static,
+    R: Wait + Abort + Copy + Drop,
 {
-    let (near, far) = socks;
-    let polled = Polled::by(rt, alloc, &poller);
-    let near = hold(&rt, alloc, &poller, &polled.table, (End::Near, near));
-    let far = hold(&rt, alloc, &poller, &polled.table, (End::Far, far));
-    let stage = Stage::open(&rt, alloc, Driver::Poller(polled));
+    let (end, sock) = end;
+    let held = poller.hold(alloc, &mut *stage.table.lock(&rt), sock);
+    let (id, handle) = held.expect(&rt, "held");
+    HeldEnd { end, id, handle }
+}
+
+/// A connection at this address, held by a poller, which gets a thread.
+pub(in crate::tests) fn open<R>(rt: R, alloc: Global, addr: &Addr) -> World<R>
+where
+    R: Wait + Threads + Net + Files + Clock + Abort + Copy + Drop + Send + Sync + 'static,
+{
+    let (near, far) = socks(&rt, addr);
+    let poller = Poller::new(&rt, alloc).expect(&rt, "a poller");
+    let stage = Arc::new(alloc, Stage::by(rt, alloc, &poller)).expect(&rt, "a stage");
     World {
-        near,
-        far,
+        near: hold(rt, alloc, &poller, &stage, (End::Near, near)),
+        far: hold(rt, alloc, &poller, &stage, (End::Far, far)),
         turning: start_turning(rt, poller, &stage),
         stage,
     }
 }
 
-/// This connection, with its poller in a thread.
-pub(in crate::tests) fn open<R>(rt: R, alloc: Global, socks: (Sock, Sock)) -> World<R>
-where
-    R: Wait + Threads + Net + Clock + Abort + Copy + Drop + Send + Sync + 'static,
-{
-    let poller = Poller::new(&rt, alloc).expect(&rt, "a poller");
-    turned(rt, alloc, poller, socks)
-}
-
 impl<R: Wait + Drop> World<R> {
     /// Stops the poller's thread, in which every turn has to have been made.
     pub(in crate::tests) fn stop<T: Threads + Abort>(self, rt: &T) {
-        if let Driver::Poller(polled) = &self.stage.driver {
-            polled.stop.store(true, Ordering::SeqCst);
-            let _ = polled.waker.wake();
-        }
+        self.stage.stop.store(true, Ordering::SeqCst);
+        let _ = self.stage.waker.wake();
         holds(rt, self.turning.join(rt), "every turn was made");
     }
 }

@@ -1,32 +1,27 @@
-//! Worked rows of a loop: whom its turns resume, why, in which order and how often, how long they
-//! sleep, and who ends.
+//! Worked rows of a loop: whom its turns resume, why, in which order and how often, and how long they
+//! sleep. Which timers are due and who was named stands under locks, of which no clause tells.
 
 use super::counting::Heard;
-use super::counting::Heard::{Back, Due, Ended, Told};
-use super::loop_steps::Event::{Any, Both, Second};
-use super::loop_steps::Step;
-use super::loop_steps::Step::{
-    Again, Arm, ArmNobody, Change, Comes, EndAll, Leave, Len, Lift, Names, Open, Put, PutEnding,
-    ReadIsLate, Ready, Rests, SamePlace, Set, Sleeps, Take, Tell, TellNobody, Turn, Turns, Wake,
+use super::counting::Heard::{Back, Due, Early, Ended, Late, Told};
+use super::loop_stage::Step;
+use super::loop_stage::Step::{
+    Again, Arm, Await, EndAll, Lift, Nobody, Put, PutEnding, Rests, Sleeps, Take, Tell, Turn, Wake,
 };
-use super::playing::{AHEAD, LATER};
-use fd_descriptor::{Deadline, Dir, Dirs};
+use super::{AHEAD, LATER};
+use fd_descriptor::{Dir, Dirs};
 use readiness::Side;
 
 const NOTHING: &[Heard] = &[];
-
-const DUE_BEHIND: Heard = Due(0, Side::Second, Dir::Read);
 
 /// Each row: its name, and its steps.
 pub(super) const ROWS: &[(&str, &[Step])] = &[
     (
         "a task that gives way comes once a turn, and nobody else",
         &[
-            Put(3),
+            Put(2),
             Put(0),
             Again(0),
             Again(0),
-            Turn(0, &[Back(0)]),
             Turn(0, &[Back(0)]),
             Turn(0, &[Back(0)]),
             Turn(0, &[Back(0)]),
@@ -35,81 +30,31 @@ pub(super) const ROWS: &[(&str, &[Step])] = &[
         ],
     ),
     (
-        "a task that is changed between two turns goes on so, and nobody else",
-        &[
-            Put(0),
-            Put(0),
-            Change(1, Side::Second, 1),
-            Again(0),
-            Again(1),
-            Turn(0, &[Back(0), Back(1)]),
-            Turn(0, &[Back(1)]),
-            Arm(0, Side::First, Dirs::Read, AHEAD),
-            Sleeps(0, AHEAD, NOTHING),
-        ],
-    ),
-    (
-        "a token names its own task on both sides, and none once that has ended",
-        &[
-            PutEnding,
-            Put(0),
-            Names(0, Side::First, Some(0)),
-            Names(0, Side::Second, Some(0)),
-            Names(1, Side::First, Some(1)),
-            Tell(0, Side::First),
-            Turn(0, &[Told(0), Ended(0)]),
-            Names(0, Side::First, None),
-            Names(1, Side::Second, Some(1)),
-            Put(0),
-            SamePlace(0, 2),
-            Names(0, Side::Second, None),
-            Names(2, Side::Second, Some(2)),
-        ],
-    ),
-    (
         "a due timer resumes its task alone, and not before its moment",
         &[
-            Open,
+            Put(0),
             Put(0),
             Arm(0, Side::Second, Dirs::Read, 50),
             Arm(1, Side::First, Dirs::Write, 1_000),
             Again(1),
             Turn(49, &[Back(1)]),
             Again(1),
-            Turn(50, &[DUE_BEHIND, Back(1)]),
+            Turn(50, &[Due(0, Side::Second, Dir::Read), Back(1)]),
             Again(1),
             Turn(1_000, &[Due(1, Side::First, Dir::Write), Back(1)]),
         ],
     ),
     (
-        "a deadline expires by the loop's timers, and its cell is ticked",
-        &[
-            Open,
-            Set(Dirs::Read, Deadline::At(70)),
-            Again(0),
-            Turn(70, &[DUE_BEHIND, Back(0)]),
-            ReadIsLate,
-        ],
-    ),
-    (
-        "an event of both directions names its side",
-        &[Leave, Open, Comes(Both), Ready(Second)],
-    ),
-    (
         "a stale token resumes nobody",
         &[
             PutEnding,
-            Tell(0, Side::Second),
+            Tell(0),
             Turn(0, &[Told(0), Ended(0)]),
-            Len(0),
             Put(0),
-            SamePlace(0, 1),
-            Tell(0, Side::First),
+            Tell(0),
             Again(0),
             Arm(0, Side::First, Dirs::Both, 0),
             Turn(0, NOTHING),
-            Take(0, false),
-            Take(1, true),
         ],
     ),
     (
@@ -117,10 +62,8 @@ pub(super) const ROWS: &[(&str, &[Step])] = &[
         &[
             Put(0),
             Put(0),
-            TellNobody(300),
+            Nobody(300, None),
             Turn(0, &[Told(0), Told(1)]),
-            EndAll(&[Ended(0), Ended(1)]),
-            Len(0),
         ],
     ),
     (
@@ -129,10 +72,9 @@ pub(super) const ROWS: &[(&str, &[Step])] = &[
             Put(0),
             Put(0),
             Put(0),
-            Take(0, true),
-            TellNobody(300),
+            Take(0),
+            Nobody(300, None),
             Turn(0, &[Told(1), Told(2)]),
-            EndAll(&[Ended(1), Ended(2)]),
         ],
     ),
     (
@@ -141,7 +83,7 @@ pub(super) const ROWS: &[(&str, &[Step])] = &[
             Put(0),
             Put(0),
             Again(1),
-            TellNobody(300),
+            Nobody(300, None),
             Turn(0, &[Back(1), Told(0), Told(1)]),
         ],
     ),
@@ -150,8 +92,8 @@ pub(super) const ROWS: &[(&str, &[Step])] = &[
         &[
             Put(0),
             Put(0),
-            TellNobody(255),
-            Tell(1, Side::First),
+            Nobody(255, None),
+            Tell(1),
             Turn(0, &[Told(1)]),
         ],
     ),
@@ -169,8 +111,8 @@ pub(super) const ROWS: &[(&str, &[Step])] = &[
         "a name between two turns ends the next wait, and no other",
         &[
             Put(0),
-            Tell(0, Side::First),
-            Tell(0, Side::First),
+            Tell(0),
+            Tell(0),
             Turn(0, &[Told(0)]),
             Arm(0, Side::First, Dirs::Read, AHEAD),
             Sleeps(0, AHEAD, NOTHING),
@@ -199,21 +141,11 @@ pub(super) const ROWS: &[(&str, &[Step])] = &[
         "more are due than a turn takes, so that the next turn takes the others at once",
         &[
             Put(0),
-            ArmNobody(256, 50),
+            Nobody(256, Some(50)),
             Arm(0, Side::First, Dirs::Read, 51),
             Turn(60, NOTHING),
             Again(0),
             Turn(60, &[Due(0, Side::First, Dir::Read), Back(0)]),
-        ],
-    ),
-    (
-        "a lifted deadline leaves no timer",
-        &[
-            Open,
-            Set(Dirs::Both, Deadline::At(70)),
-            Set(Dirs::Both, Deadline::Never),
-            Again(0),
-            Turn(70, &[Back(0)]),
         ],
     ),
     (
@@ -236,19 +168,11 @@ pub(super) const ROWS: &[(&str, &[Step])] = &[
         ],
     ),
     (
-        "a turn sleeps until the next moment and no longer",
-        &[
-            Put(0),
-            Arm(0, Side::First, Dirs::Read, AHEAD),
-            Arm(0, Side::Second, Dirs::Read, 50 * AHEAD),
-            Sleeps(0, AHEAD, NOTHING),
-        ],
-    ),
-    (
-        "a turn sleeps until the next moment by the clock that it is shown",
+        "a turn sleeps until the next moment and no longer, by the clock that it is shown",
         &[
             Put(0),
             Arm(0, Side::First, Dirs::Read, LATER + AHEAD),
+            Arm(0, Side::Second, Dirs::Read, LATER + 50 * AHEAD),
             Sleeps(LATER, LATER + AHEAD, NOTHING),
             Sleeps(LATER + AHEAD / 2, LATER + AHEAD, NOTHING),
         ],
@@ -263,6 +187,29 @@ pub(super) const ROWS: &[(&str, &[Step])] = &[
         ],
     ),
     (
+        "a turn tells who awaits what has come, what is due, who was named and who gave way",
+        &[
+            Put(0),
+            Put(0),
+            Put(0),
+            Await(2, Some(10)),
+            Await(0, Some(20)),
+            Arm(1, Side::First, Dirs::Read, 5),
+            Tell(0),
+            Again(1),
+            Turn(
+                20,
+                &[
+                    Late(0),
+                    Late(2),
+                    Due(1, Side::First, Dir::Read),
+                    Told(0),
+                    Back(1),
+                ],
+            ),
+        ],
+    ),
+    (
         "a task that gives way when its timer is due comes at once",
         &[
             Put(1),
@@ -272,26 +219,33 @@ pub(super) const ROWS: &[(&str, &[Step])] = &[
         ],
     ),
     (
-        "a turn tells what is due, is ready, was named and gave way",
+        "a moment that moves on keeps its alarm, which comes early, and is kept then",
         &[
-            Open,
             Put(0),
-            Arm(0, Side::Second, Dirs::Read, 50),
-            Tell(0, Side::Second),
-            Again(1),
-            Turn(50, &[DUE_BEHIND, Told(0), Back(1)]),
-            Ready(Any),
+            Await(0, Some(50)),
+            Await(0, Some(80)),
+            Again(0),
+            Turn(50, &[Early(0), Back(0)]),
+            Again(0),
+            Turn(79, &[Back(0)]),
+            Again(0),
+            Turn(80, &[Late(0), Back(0)]),
         ],
     ),
     (
-        "a task that gives way again and again keeps no event back",
-        &[Put(9), Open, Again(0), Turn(0, &[Back(0)]), Ready(Any)],
+        "a turn sleeps until the first of moments and timers",
+        &[
+            Put(0),
+            Await(0, Some(LATER + AHEAD)),
+            Arm(0, Side::First, Dirs::Read, LATER + 50 * AHEAD),
+            Sleeps(LATER, LATER + AHEAD, NOTHING),
+            Again(0),
+            Turn(LATER + AHEAD, &[Late(0), Back(0)]),
+            Await(0, Some(LATER + 99 * AHEAD)),
+            Arm(0, Side::First, Dirs::Read, LATER + 2 * AHEAD),
+            Sleeps(LATER + AHEAD, LATER + 2 * AHEAD, NOTHING),
+        ],
     ),
-    (
-        "a turn doesn't sleep at all where a task gave way",
-        &[Put(1_000), Again(0), Turns(100)],
-    ),
-    ("a loop without tasks and moments rests", &[Rests]),
     (
         "a loop whose tasks wait rests",
         &[
@@ -303,21 +257,17 @@ pub(super) const ROWS: &[(&str, &[Step])] = &[
         ],
     ),
     (
-        "all tasks are handed over at the end, those that gave way or were named too, and then it rests",
+        "all tasks are handed over at the end, those that gave way or were named too",
         &[
             Put(9),
             Put(0),
             Put(0),
             Again(0),
             Turn(0, &[Back(0)]),
-            Take(1, true),
-            Tell(2, Side::First),
+            Take(1),
+            Tell(2),
             EndAll(&[Ended(0), Ended(2)]),
-            Len(0),
             Turn(0, NOTHING),
-            Put(0),
-            Arm(3, Side::First, Dirs::Read, AHEAD),
-            Sleeps(0, AHEAD, NOTHING),
         ],
     ),
 ];
