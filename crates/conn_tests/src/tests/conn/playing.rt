@@ -53,6 +53,16 @@ where
     watch.end(&rt);
 }
 
+/// Plays a scene over connections at each of these addresses.
+fn play_at_each<R>(rt: R, alloc: Global, addrs: &[Addr], scene: &Scene)
+where
+    R: Wait + Threads + Net + Files + Clock + Abort + Copy + Drop + Send + Sync + 'static,
+{
+    for addr in addrs {
+        play(rt, alloc, addr, scene);
+    }
+}
+
 /// Plays each scene over connections at each of these addresses.
 pub(super) fn plays<R>(rt: R, alloc: Global, addrs: Option<[Addr; 2]>, scenes: &[Scene])
 where
@@ -60,8 +70,6 @@ where
 {
     let addrs = addrs.expect(&rt, "a path");
     for scene in scenes {
-        for addr in addrs {
-            play(rt, alloc, &addr, scene);
-        }
+        play_at_each(rt, alloc, addrs.as_slice(), scene);
     }
 }
