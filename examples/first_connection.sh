@@ -3,7 +3,7 @@
 # socket, stops it, and leaves nothing behind.
 #
 #     sh examples/first_connection.sh              builds it with checks in place of proofs, within two minutes
-#     sh examples/first_connection.sh --proved     proves every crate first, which takes half an hour on 4 processors
+#     sh examples/first_connection.sh --proved     proves every crate first, which takes up to an hour on 4 processors
 #
 # It needs the Rattle kit's rt on the path, and python3. What was built of the same text isn't built again, so a later run
 # takes seconds. POLLRELAY names a program that is built already.
