@@ -1,4 +1,5 @@
 """Sockets on the loopback and at Unix paths, by addresses as a rule spells them."""
+import contextlib
 import random
 import socket
 
@@ -30,18 +31,46 @@ def some_address():
     return f"tcp:127.0.0.1:{free_port()}"
 
 
+def has_ipv6():
+    """Whether this machine has ::1."""
+    with contextlib.suppress(OSError), socket.socket(socket.AF_INET6) as probe:
+        probe.bind(("::1", 0))
+        return True
+    return False
+
+
+def dual_stack():
+    """A listener of both families, as systemd has one of `ListenStream=80`, and its port."""
+    sock = socket.socket(socket.AF_INET6)
+    sock.setsockopt(socket.IPPROTO_IPV6, socket.IPV6_V6ONLY, 0)
+    sock.bind(("::", 0))
+    sock.listen(64)
+    return sock, sock.getsockname()[1]
+
+
+def family_of(host):
+    """The family of an address without its port; one of IPv6 has colons."""
+    return socket.AF_INET6 if ":" in host else socket.AF_INET
+
+
+def tcp_address(where):
+    """The address of a socket of TCP, as the system told it, in the words of a rule."""
+    host, port = where[:2]
+    return f"tcp:[{host}]:{port}" if ":" in host else f"tcp:{host}:{port}"
+
+
 def connect(address, timeout=REPLY_SECONDS):
     """A connection to an address."""
     if address.startswith("unix:"):
         sock = socket.socket(socket.AF_UNIX)
         where = address[len("unix:"):]
     else:
-        sock = socket.socket()
-        host, port = address[len("tcp:"):].split(":")
-        where = (host, int(port))
+        host, _, port = address[len("tcp:"):].rpartition(":")
+        sock = socket.socket(family_of(host))
+        where = (host.strip("[]"), int(port))
     sock.settimeout(timeout)
     sock.connect(where)
-    if sock.family == socket.AF_INET:
+    if sock.family != socket.AF_UNIX:
         sock.setsockopt(socket.IPPROTO_TCP, socket.TCP_NODELAY, 1)
     return sock
 
@@ -55,16 +84,16 @@ def is_served(address):
         return False
 
 
-def listener(path=None):
-    """A listening socket with its address: TCP, or a Unix socket at a path."""
+def listener(path=None, host="127.0.0.1"):
+    """A listening socket with its address: TCP at this host, or a Unix socket at a path."""
     if path:
         sock = socket.socket(socket.AF_UNIX)
         sock.bind(path)
         address = f"unix:{path}"
     else:
-        sock = socket.socket()
-        sock.bind(("127.0.0.1", 0))
-        address = f"tcp:127.0.0.1:{sock.getsockname()[1]}"
+        sock = socket.socket(family_of(host))
+        sock.bind((host, 0))
+        address = tcp_address(sock.getsockname())
     sock.listen(1024)
     sock.settimeout(REPLY_SECONDS)
     return sock, address

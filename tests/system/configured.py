@@ -100,33 +100,37 @@ FAULTS = (
 UNSERVED = (
     ('admin = { path = "/a", mode = "0660" }\n', "admin: mode"),
     ('log = { file = "-", format = "json" }\n', "log: format"),
-    ('metrics = "tcp:[::1]:9464"\n', "metrics"),
+    ('metrics = "unix:/' + 100 * "m" + '"\n', "metrics"),
     *((HEAD + f"{key} = {value}\n" + ENDS, f'rule "web": {key}') for key, value in (
         ("connections", "5"), ("connections_per_source", "5"), ("accepts_per_source", '"5/s"'), ("keepalive", '"30s"'),
         ("user_timeout", '"30s"'), ("backlog", "5"), ("source", '"127.0.0.1"'), ("resolve", '"5s"'), ("resolve", '"never"'),
-        ("proxy_protocol", '{ to_target = "v2" }'),
+    )),
+    *((HEAD + f"proxy_protocol = {{ {keys} }}\n" + ENDS, 'rule "web": proxy_protocol: from_client') for keys in (
+        'from_client = ["0.0.0.0/0"]', 'to_target = "v2", from_client = ["::1"]',
     )),
     (RULE.replace('["unix:/a"]', '["unix:/a", "unix:/c"]'), 'rule "web": listen 2'),
-    (RULE.replace("unix:/a", "tcp:[::1]:80"), 'rule "web": listen 1'),
     (RULE.replace("unix:/a", "unix:/" + 100 * "a"), 'rule "web": listen 1'),
-    (RULE.replace("unix:/b", "tcp:[::1]:80"), 'rule "web": target 1: at'),
     (RULE.replace("unix:/b", "tcp:app.internal:80"), 'rule "web": target 1: at'),
     (RULE.replace("unix:/b", "unix:/" + 100 * "b"), 'rule "web": target 1: at'),
-    (RULE.replace('{ at = "unix:/b" }', '{ at = "unix:/b" }, { at = "tcp:[::1]:80" }'), 'rule "web": target 2: at'),
+    (RULE.replace('{ at = "unix:/b" }', '{ at = "unix:/b" }, { at = "tcp:app.internal:80" }'), 'rule "web": target 2: at'),
     (RULE.replace('{ at = "unix:/b" }', 63 * '{ at = "unix:/b" }, ' + '{ at = "tcp:app.internal:80" }'), 'rule "web": target 64: at'),
     ("".join(RULE.replace("web", f"r{n}").replace("/a", f"/{n}") for n in range(65)), "rule 65"),
     # Of several the first: keys of the whole ahead of rules, and the text's own faults ahead of all.
     (HEAD + 'source = "127.0.0.1"\nbacklog = 5\n' + ENDS, 'rule "web": backlog'),
+    (HEAD + 'proxy_protocol = { from_client = ["10.0.0.0/8"] }\nsource = "127.0.0.1"\n' + ENDS, 'rule "web": source'),
     ('log = { file = "-", format = "json" }\n' + HEAD + "backlog = 5\n" + ENDS, "log: format"),
 )
-# Rules of several targets, and of such that are checked.
+# Rules of several targets, of such that are checked, and of such that are sent a header.
 TARGETS = (
     *(HEAD + f"health = {keys}\n" + ENDS for keys in ("{}", '{ every = "1ms", timeout = "24h", fall = 1, rise = 100 }', "{ rise = 1 }")),
     RULE.replace('{ at = "unix:/b" }', '{ at = "unix:/b", weight = 2 }, { at = "unix:/b" }, { at = "unix:/c", backup = true }'),
     RULE.replace('"unix:/b"', '"unix:/b", weight = 0'), RULE.replace('"unix:/b"', '"unix:/b", backup = true'),
     RULE.replace('{ at = "unix:/b" }', ", ".join(64 * ['{ at = "unix:/b", weight = 65535 }'])),
+    *(HEAD + f"proxy_protocol = {keys}\n" + ENDS for keys in ('{ to_target = "v1" }', '{ to_target = "v2" }', "{}")),
     *(HEAD + f'balance = "{word}"\n' + ENDS for word in ("round-robin", "least-connections", "first", "source")),
 )
+# Addresses of IPv6, one with the number of a scope.
+SIX = 'metrics = "tcp:[::1]:9464"\n' + RULE.replace("unix:/a", "tcp:[fe80::1%2]:80").replace("unix:/b", "tcp:[2001:db8::1]:443")
 # What means the same as without the key.
 WITHOUT_MEANING = (
     "admin = { path = \"/a\" }\nlog = { file = \"-\", format = \"text\" }\n" + HEAD
@@ -163,7 +167,7 @@ def verdicts(checks, folder):
     for text, why in FAULTS:
         refused(checks, folder, text, why)
     two = RULE + RULE.replace("web", "ssh").replace("/a", "/c")
-    for text, count in (("", 0), (RULE, 1), (WITHOUT_MEANING, 1), (two, 2), *((text, 1) for text in TARGETS)):
+    for text, count in (("", 0), (RULE, 1), (WITHOUT_MEANING, 1), (two, 2), (SIX, 1), *((text, 1) for text in TARGETS)):
         checks.expect(f"check: {count} rules", (0, f"rules {count}\n", ""), run("check", "--config", written(folder, text)))
 
 
@@ -219,7 +223,7 @@ def served(checks, folder):
         checks.expect("its end", 0, relay.stop()[0])
         with open(f"{relay.folder}/log", encoding="utf-8") as file:
             checks.holds("its log has a line", " web " in file.read(), "it has none")
-    checks.expect("the sample", (0, "rules 3\n", ""), run("check", "--config", SAMPLE))
+    checks.expect("the sample", (0, "rules 4\n", ""), run("check", "--config", SAMPLE))
     target.close()
 
 

@@ -31,8 +31,8 @@ pub enum Unfit {
     /// The number isn't open, or what is there can't listen: a file, a connection, a socket of
     /// datagrams.
     NoListener,
-    /// Its address is none of a rule: it is one of IPv6, or has no port, or a name that is no path
-    /// of at most 100 bytes.
+    /// Its address is none of a rule: it has no port, or a name that is no path of at most 100 bytes,
+    /// or is of another family.
     NoAddress,
 }
 
@@ -59,15 +59,10 @@ fn listens(fd: i32) -> bool {
 fn addr_of(addr: SocketAddr) -> Option<Addr>
     ensures { result ≡ rule_addr addr }
 {
-    match addr {
-        SocketAddr::V4(addr) => {
-            if addr.port() == 0 {
-                None
-            } else {
-                Some(Addr::Tcp(addr.ip().octets(), addr.port()))
-            }
-        }
-        SocketAddr::V6(_) => None,
+    if addr.port() == 0 {
+        None
+    } else {
+        Some(Addr::of(addr))
     }
 }
 
@@ -87,7 +82,8 @@ fn own_path(listener: &unix::UnixListener) -> Option<ArrayString<MAX_PATH_BYTES>
     path_of(addr.as_pathname())
 }
 
-// The listener of TCP with this number, which is a socket of IPv4.
+// The listener of TCP with this number, which is a socket of IPv4 or IPv6. One of IPv6 may take IPv4
+// clients too, as systemd has it if it isn't told otherwise: whoever made it decided that.
 fn tcp_listener(fd: i32) -> Result<(Addr, Listen), Unfit>
     requires { pos 0 ≤ℤ fd }
     ensures family { IfOk result (λ own. is_tcp_listener own.1 ≡ is_tcp_addr own.0) }
@@ -123,14 +119,14 @@ fn unix_listener(fd: i32) -> Result<(Addr, Listen), Unfit>
 }
 
 /// What stands at this number, which is the caller's to take once. What is no listener is closed,
-/// if it is a socket of IPv4 or a Unix one, and else stays.
+/// if it is a socket of IPv4, of IPv6 or a Unix one, and else stays.
 pub(crate) fn given_socket<R: Net>(_rt: &R, number: u8) -> GivenSocket
     ensures number { result.number ≡ number }
     ensures family { IfOk result.listener (λ own. is_tcp_listener own.1 ≡ is_tcp_addr own.0) }
 {
     let fd = i32::from(number);
     let listener = match family_of(fd) {
-        Some(c::AF_INET) => tcp_listener(fd),
+        Some(c::AF_INET | c::AF_INET6) => tcp_listener(fd),
         Some(c::AF_UNIX) => unix_listener(fd),
         Some(_) => Err(Unfit::NoAddress),
         None => Err(Unfit::NoListener),

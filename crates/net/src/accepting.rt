@@ -69,7 +69,7 @@ impl<R: Runs> Listener<R> {
         let local = listen.local();
         let path = match addr {
             Addr::Unix(path) => Some(*path),
-            Addr::Tcp(_, _) => None,
+            Addr::Tcp(_, _) | Addr::Tcp6(_, _, _) => None,
         };
         let shared = Arc::try_clone(shared)?;
         let alloc = shared.alloc;

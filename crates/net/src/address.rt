@@ -9,7 +9,7 @@ use arrayvec::ArrayString;
 use readiness::Addr;
 use std::io;
 use std::io::ErrorKind;
-use std::net::SocketAddrV4;
+use std::net::SocketAddr;
 
 /// What stands before a path.
 pub const UNIX: &str = "unix:";
@@ -26,33 +26,34 @@ fn unix(text: &str) -> Option<Addr>
     Some(Addr::Unix(ArrayString::from(path).ok()?))
 }
 
-// The address of an IPv4 address with a port.
-fn ipv4(text: &str) -> Option<Addr>
+// The address of an IPv4 or IPv6 address with a port.
+#[tactic(auto, using(crate::proofs::Addresses::names_port))]
+fn ip_and_port(text: &str) -> Option<Addr>
     ensures names { IfSome result (Names text.now) }
     ensures none { IfNone result (NamesNoPort text.now) }
 {
-    let Ok(at) = text.parse::<SocketAddrV4>() else {
+    let Ok(at) = text.parse::<SocketAddr>() else {
         return None;
     };
-    let bytes = at.ip().octets();
-    Some(Addr::Tcp(bytes, at.port()))
+    Some(Addr::of(at))
 }
 
-/// The address that a text names: `127.0.0.1:8080`, or `unix:` and a path of 1 to 100 bytes. No
-/// names are looked up. Any other text is `InvalidInput`.
+/// The address that a text names: `127.0.0.1:8080`; `[::1]:8080`, with the number of a scope as
+/// `[fe80::1%2]:8080`; or `unix:` and a path of 1 to 100 bytes. An IPv4-mapped address is the IPv4
+/// address in it. No names are looked up. Any other text is `InvalidInput`.
 #[tactic(auto, using(crate::proofs::Addresses::names_nothing))]
 pub fn address_of(text: &str) -> io::Result<Addr>
     ensures names { IfOk result (Names text.now) }
     ensures refused { IfErr result (λ error. error_kind error ≡ ErrorKind.InvalidInput) }
     ensures nameless { OnErr result (NamesNothing text.now) }
 {
-    match (unix(text), ipv4(text)) {
+    match (unix(text), ip_and_port(text)) {
         (Some(addr), _) | (None, Some(addr)) => Ok(addr),
         (None, None) => Err(ErrorKind::InvalidInput.into()),
     }
 }
 
-/// A port of loopback; 0 is any that is free, for a listener.
+/// A port of IPv4's loopback; 0 is any that is free, for a listener.
 pub fn tcp(port: u16) -> Addr
     ensures own { result ≡ Addr.Tcp (127 ∷ 0 ∷ 0 ∷ 1 ∷ []) port }
 {

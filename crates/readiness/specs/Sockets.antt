@@ -2,15 +2,16 @@
 use Rattle.std.specs.Prelude.{ℕ, Bool, true, false, List, Option, Some, None, Result, Ok, Err}
 use Rattle.std.specs.Option.{option_map}
 use Rattle.std.specs.Arc.{arc_value}
+use Rattle.std.specs.declared.net.socket_addr.SocketAddr.{SocketAddr}
 use Rattle.mio.specs.declared.net.stream.TcpStream.{TcpStream}
 use Rattle.mio.specs.declared.net.uds.stream.UnixStream.{UnixStream}
 use Rattle.readiness.specs.declared.addr.Addr.{Addr}
-use Rattle.readiness.specs.declared.addr.Addr.TheVariants.{Tcp as TcpAddr, Unix as UnixAddr}
+use Rattle.readiness.specs.declared.addr.Addr.TheVariants.{Tcp as TcpAddr, Tcp6 as Tcp6Addr, Unix as UnixAddr}
 use Rattle.readiness.specs.declared.sock.Sock.{Sock}
 use Rattle.readiness.specs.declared.sock.Sock.TheVariants.{Tcp as TcpSock, Unix as UnixSock}
 use Rattle.readiness.specs.declared.sock.Listen.{Listen}
 use Rattle.readiness.specs.declared.sock.Listen.TheVariants.{Tcp as TcpListen, Unix as UnixListen}
-use Rattle.readiness.specs.Peers.{bytes_of}
+use Rattle.readiness.specs.Peers.{bytes_of, tcp_addr}
 use Rattle.readiness.specs.declared.resources.ReadHalf.{ReadHalf}
 use Rattle.readiness.specs.declared.resources.WriteHalf.{WriteHalf}
 use Rattle.rwloops.specs.declared.outcome.DevKind.{DevKind}
@@ -18,6 +19,7 @@ use Rattle.rwloops.specs.declared.outcome.DevKind.{DevKind}
 -- the address is one of TCP
 abbrev pub is_tcp_addr : Addr → Bool
 is_tcp_addr (TcpAddr bytes port) = true
+is_tcp_addr (Tcp6Addr ip scope port) = true
 is_tcp_addr (UnixAddr path) = false
 
 -- the connection is one of TCP
@@ -25,19 +27,14 @@ abbrev pub is_tcp : Sock → Bool
 is_tcp (TcpSock stream) = true
 is_tcp (UnixSock stream) = false
 
--- an address of TCP of its four bytes and its port
-abbrev pub tcp_addr : List ℕ × ℕ → Addr
-tcp_addr from = TcpAddr from.0 from.1
-
 -- the peer's address, where the system's accept gave one
 abbrev pub peer_of : Sock → Option Addr
-peer_of (TcpSock tcp) = option_map (λ from. TcpAddr from.0 from.1) tcp.peer
+peer_of (TcpSock tcp) = option_map tcp_addr tcp.peer
 peer_of (UnixSock unix) = option_map UnixAddr unix.peer
 
--- a connection over this stream of TCP, with what is kept of its peer's address; only private
--- functions cite it
-abbrev pub tcp_sock : TcpStream → Option (List ℕ × ℕ) → Sock
-tcp_sock stream peer = TcpSock (record { stream = stream; peer = peer })
+-- a connection over this stream of TCP, whose peer has this address; only private functions cite it
+abbrev pub tcp_sock : TcpStream → SocketAddr → Sock
+tcp_sock stream peer = TcpSock (record { stream = stream; peer = Some peer })
 
 -- the stream of a connection over a Unix socket; only private functions cite it
 abbrev pub unix_stream_in : Sock → Option UnixStream

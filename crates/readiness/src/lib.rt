@@ -1,7 +1,7 @@
 //! Sockets that never wait, and a poller that tells the descriptors in a table what is ready and
 //! what time it is: Go's network poller, over `epoll`.
 //!
-//! `addr`, `peer`, `local`, `sock` and `open` have the sockets, `resources` what a descriptor makes of
+//! `addr`, `peer`, `local`, `sock`, `open` and `v6_listener` have the sockets, `resources` what a descriptor makes of
 //! them, and `last_codes` and `noted_listen` the numbers of the system's errors. `batch`
 //! and `poll_timeout` decide what a poll's events say and how long a poll waits, `poller` polls,
 //! `holding` puts sockets into its table, and `timer_alarms` has deadlines wake it.
@@ -37,6 +37,7 @@ mod tasks;
 mod telling;
 mod timer_alarms;
 mod turning;
+mod v6_listener;
 
 pub use addr::{Addr, MAX_PATH_BYTES};
 pub use agenda::{Step, Why, step_of_event, step_of_timer};

@@ -1,12 +1,11 @@
 //! This end's address of a socket, as the system has it.
 
-ghost use Rattle.std.specs.Prelude.{◌≡◌, IfOk, IfSome, OnErr, None, true, false};
-ghost use Rattle.std.specs.Option.{option_map};
-ghost use Rattle.readiness.specs.Peers.{ipv4_kept};
-ghost use Rattle.readiness.specs.Sockets.{is_tcp, is_tcp_listener, is_tcp_addr, tcp_addr};
+ghost use Rattle.std.specs.Prelude.{◌≡◌, IfOk, IfSome, OnErr, Some, None, true, false};
+ghost use Rattle.readiness.specs.Peers.{tcp_addr};
+ghost use Rattle.readiness.specs.Sockets.{is_tcp, is_tcp_listener, is_tcp_addr};
 
 use crate::addr::Addr;
-use crate::peer::{ipv4_of, path_of};
+use crate::peer::path_of;
 use crate::sock::{Listen, Sock};
 use std::io;
 use std::net::SocketAddr;
@@ -14,18 +13,12 @@ use std::os::unix::net;
 
 // What is kept of an address of TCP that the system told.
 fn tcp_local(told: io::Result<SocketAddr>) -> Option<Addr>
-    ensures kept { IfOk told (λ addr. result ≡ option_map tcp_addr (ipv4_kept addr)) }
+    ensures kept { IfOk told (λ at. result ≡ Some (tcp_addr at)) }
     ensures unknown { OnErr told (result ≡ None) }
     ensures family { IfSome result (λ addr. is_tcp_addr addr ≡ true) }
 {
     match told {
-        Ok(addr) => match ipv4_of(addr) {
-            Some(at) => {
-                let bytes = at.0;
-                Some(Addr::Tcp(bytes, at.1))
-            }
-            None => None,
-        },
+        Ok(at) => Some(Addr::of(at)),
         Err(_) => None,
     }
 }

@@ -1,6 +1,8 @@
 //! How sockets are opened.
 
-ghost use Rattle.std.specs.Prelude.{◌≡◌, IfOk, IfErr, None};
+ghost use Rattle.std.specs.Prelude.{◌≡◌, IfOk, IfErr, None, true};
+ghost use Rattle.std.specs.Net.Socket.{v6_flowinfo, v6_ip, v6_port, v6_scope_id};
+ghost use Rattle.readiness.specs.Peers.{tcp_addr};
 ghost use Rattle.readiness.specs.Sockets.{is_tcp, is_tcp_listener, is_tcp_addr, peer_of};
 ghost use Rattle.readiness.specs.SystemErrors.{IsConnectKind};
 ghost use Rattle.rwloops.specs.declared.outcome.DevKind.{DevKind};
@@ -9,15 +11,35 @@ use crate::addr::Addr;
 use crate::peer::PeerStream;
 use crate::sock::{Listen, Sock};
 use crate::system_error::connect_kind_of;
+use crate::v6_listener::listen_v6;
 use mio::net::{TcpListener, TcpStream, UnixListener, UnixStream};
 use rwloops::DevKind;
 use std::fs::Files;
 use std::io;
-use std::net::{Ipv4Addr, Net, SocketAddr};
+use std::net::{Ipv4Addr, Ipv6Addr, Net, SocketAddr, SocketAddrV4, SocketAddrV6};
 
-fn socket_address(bytes: [u8; 4], port: u16) -> SocketAddr {
-    let [a, b, c, d] = bytes;
-    SocketAddr::from((Ipv4Addr::new(a, b, c, d), port))
+fn v4_address(bytes: [u8; 4], port: u16) -> SocketAddr
+    ensures { tcp_addr result ≡ Addr.Tcp bytes port }
+{
+    SocketAddr::V4(SocketAddrV4::new(Ipv4Addr::from_octets(bytes), port))
+}
+
+fn v6_address(ip: Ipv6Addr, scope: u32, port: u16) -> SocketAddrV6
+    ensures ip { v6_ip result ≡ ip }
+    ensures scope { v6_scope_id result ≡ scope }
+    ensures port { v6_port result ≡ port }
+    ensures plain { v6_flowinfo result ≡ 0 }
+{
+    SocketAddrV6::new(ip, port, 0, scope)
+}
+
+fn connect_tcp<R: Net>(rt: &R, at: SocketAddr) -> io::Result<Sock>
+    ensures family { IfOk result (λ sock. is_tcp sock ≡ true) }
+    ensures no_peer { IfOk result (λ sock. peer_of sock ≡ None) }
+{
+    let stream = TcpStream::connect(rt, at)?;
+    let _ = stream.set_nodelay(true);
+    Ok(Sock::Tcp(PeerStream { stream, peer: None }))
 }
 
 /// Begins a connection as `connect` does, with the system's own error.
@@ -26,10 +48,9 @@ pub fn connect_io<R: Net>(rt: &R, addr: &Addr) -> io::Result<Sock>
     ensures no_peer { IfOk result (λ sock. peer_of sock ≡ None) }
 {
     match addr {
-        Addr::Tcp(bytes, port) => {
-            let stream = TcpStream::connect(rt, socket_address(*bytes, *port))?;
-            let _ = stream.set_nodelay(true);
-            Ok(Sock::Tcp(PeerStream { stream, peer: None }))
+        Addr::Tcp(bytes, port) => connect_tcp(rt, v4_address(*bytes, *port)),
+        Addr::Tcp6(ip, scope, port) => {
+            connect_tcp(rt, SocketAddr::V6(v6_address(*ip, *scope, *port)))
         }
         Addr::Unix(path) => {
             let stream = UnixStream::connect(rt, path.as_str())?;
@@ -61,8 +82,10 @@ pub fn listen_io<R: Files + Net>(rt: &R, addr: &Addr) -> io::Result<Listen>
 {
     match addr {
         Addr::Tcp(bytes, port) => {
-            let address = socket_address(*bytes, *port);
-            Ok(Listen::Tcp(TcpListener::bind(rt, address)?))
+            Ok(Listen::Tcp(TcpListener::bind(rt, v4_address(*bytes, *port))?))
+        }
+        Addr::Tcp6(ip, scope, port) => {
+            Ok(Listen::Tcp(listen_v6(rt, v6_address(*ip, *scope, *port))?))
         }
         Addr::Unix(path) => Ok(Listen::Unix(UnixListener::bind(rt, path.as_str())?)),
     }

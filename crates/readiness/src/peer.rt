@@ -3,16 +3,15 @@
 ghost use Rattle.std.specs.Prelude.{◌≡◌};
 ghost use Rattle.std.specs.Option.{option_map};
 ghost use Rattle.std.specs.Path.{path_bytes};
-ghost use Rattle.readiness.specs.Peers.{ipv4_kept, path_kept, bytes_of};
+ghost use Rattle.readiness.specs.Peers.{path_kept, bytes_of};
 
 use crate::addr::MAX_PATH_BYTES;
 use arrayvec::ArrayString;
-use std::net::SocketAddr;
 use std::ops::Deref;
 use std::path::Path;
 
-/// A stream of the system's with the address of its peer, where an accept gave one: for TCP the
-/// four bytes of it and the port, for a Unix socket the path.
+/// A stream of the system's with the address of its peer, where an accept gave one: for TCP as the
+/// system has it, for a Unix socket the path.
 #[derive(Drop)]
 pub struct PeerStream<S, P> {
     pub(crate) stream: S,
@@ -26,16 +25,6 @@ impl<S, P> Deref for PeerStream<S, P> {
 
     fn deref(&self) -> &S {
         &self.stream
-    }
-}
-
-/// What is kept of an address that an accept gave: nothing of IPv6, for which nobody listens.
-pub(crate) fn ipv4_of(addr: SocketAddr) -> Option<([u8; 4], u16)>
-    ensures { result ≡ ipv4_kept addr }
-{
-    match addr {
-        SocketAddr::V4(addr) => Some((addr.ip().octets(), addr.port())),
-        SocketAddr::V6(_) => None,
     }
 }
 

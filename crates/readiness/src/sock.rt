@@ -5,13 +5,13 @@ ghost use Rattle.std.specs.Prelude.{◌≡◌, IfErr, IfSome, IfOk, true};
 ghost use Rattle.std.specs.Option.{option_map};
 ghost use Rattle.std.specs.Path.{path_bytes};
 ghost use Rattle.mio.specs.Interest.{is_readable, is_writable, is_priority};
-ghost use Rattle.readiness.specs.Peers.{ipv4_kept, path_kept};
+ghost use Rattle.readiness.specs.Peers.{path_kept};
 ghost use Rattle.readiness.specs.Sockets.{is_tcp, is_tcp_listener, is_tcp_addr, peer_of};
 ghost use Rattle.readiness.specs.Sockets.{tcp_sock, unix_stream_in, path_in};
 ghost use Rattle.rwloops.specs.declared.outcome.DevKind.{DevKind};
 
 use crate::addr::{Addr, MAX_PATH_BYTES};
-use crate::peer::{PeerStream, ipv4_of, path_of};
+use crate::peer::{PeerStream, path_of};
 use arrayvec::ArrayString;
 use mio::net::{TcpListener, TcpStream, UnixListener, UnixStream};
 use mio::{Interest, Registry, Token};
@@ -25,7 +25,7 @@ use std::path::Path;
 #[derive(Drop)]
 pub enum Sock {
     /// Over TCP.
-    Tcp(PeerStream<TcpStream, ([u8; 4], u16)>),
+    Tcp(PeerStream<TcpStream, SocketAddr>),
     /// Over a Unix socket.
     Unix(PeerStream<UnixStream, ArrayString<MAX_PATH_BYTES>>),
 }
@@ -78,10 +78,7 @@ impl Sock {
     {
         match self {
             Sock::Tcp(tcp) => match &tcp.peer {
-                Some(peer) => {
-                    let bytes = peer.0;
-                    Some(Addr::Tcp(bytes, peer.1))
-                }
+                Some(at) => Some(Addr::of(*at)),
                 None => None,
             },
             Sock::Unix(unix) => match &unix.peer {
@@ -111,13 +108,13 @@ impl Sock {
 
 // A connection of what TCP's accept gave: the stream, and the peer's address.
 fn accepted_tcp(accepted: (TcpStream, SocketAddr)) -> Sock
-    ensures { result ≡ tcp_sock accepted.0 (ipv4_kept accepted.1) }
+    ensures { result ≡ tcp_sock accepted.0 accepted.1 }
 {
     let (stream, addr) = accepted;
     let _ = stream.set_nodelay(true);
     Sock::Tcp(PeerStream {
         stream,
-        peer: ipv4_of(addr),
+        peer: Some(addr),
     })
 }
 

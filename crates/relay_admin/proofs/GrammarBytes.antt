@@ -1,7 +1,13 @@
--- The bytes of names, paths and numbers.
-use Rattle.std.proofs.Common.{◌≡◌, ◌≢◌, refl, ℕ, zero, suc, ◌≤◌, ◌<◌, List, [], ◌∷◌, length, Bool, true, false, ◌&&◌}
-use Rattle.std.proofs.Common.{arith}
-use Rattle.std.specs.Prelude.{◌==◌, slice_index, nat_le}
+-- The bytes of names, paths, numbers and IPv6 addresses.
+use Rattle.std.proofs.Common.{◌≡◌, ◌≢◌, refl, ℕ, zero, suc, ◌≤◌, ◌<◌, ◌^◌, ◌++◌, List, [], ◌∷◌, length, All, Bool, true, false, ◌&&◌}
+use Rattle.std.proofs.Common.{arith, inl, inr}
+use Rattle.std.specs.Prelude.{◌==◌, codes, drop, slice_index, nat_le, take, if◌then◌else◌}
+use Rattle.std.specs.Net.Addr.{octets_of}
+use Rattle.std.specs.Net.Text.{hex_groups_text, ipv4_text, ipv6_text}
+use Rattle.std.specs.Str.{bytes_eq}
+use Rattle.std.proofs.lemmas.List.Elements.{All-head, All-tail}
+use Rattle.std.proofs.NetLemmas.Alphabet.{All-hex_groups_text, All-ipv4_text, IsDigitOrDot, IsHexOrColon}
+use Rattle.std.proofs.NetLemmas.Texts.{AllSegments, AllSegments-drop}
 use Rattle.std.specs.Char.{is_ascii_digit}
 use Rattle.std.specs.List.{list_all}
 use Rattle.std.proofs.lemmas.Bool.Decides.{nat_tests}
@@ -67,3 +73,41 @@ pub name_short : (name : List ℕ) → is_name name ≡ true → length name ≤
 name_short name e =
     at_most (length name) MAX_NAME_BYTES (three (first_passes is_letter name) (list_all is_name_byte name)
     (nat_le (length name) MAX_NAME_BYTES) e).2
+
+-- ---- The digits of an IPv6 address
+
+all_visible : (P : ℕ → Type 0) (xs : List ℕ) → ((x : ℕ) → P x → is_visible x ≡ true) → All P xs → list_all is_visible xs ≡ true
+all_visible P [] each all = refl
+all_visible P (x ∷ xs) each all =
+    both_true (is_visible x) (list_all is_visible xs) (each x (All-head P x xs all)) (all_visible P xs each (All-tail P x xs all))
+
+hex_visible : (x : ℕ) → IsHexOrColon x → is_visible x ≡ true
+hex_visible x (inl h) = let low = h.0 in let high = h.1 in grind (arith, nat_tests)
+hex_visible x (inr h) = let low = h.0 in let high = h.1 in grind (arith, nat_tests)
+
+dotted_visible : (x : ℕ) → IsDigitOrDot x → is_visible x ≡ true
+dotted_visible x (inl h) = let low = h.0 in let high = h.1 in grind (arith, nat_tests)
+dotted_visible x (inr h) = grind (arith, nat_tests)
+
+octets_small : (xs : List ℕ) → AllSegments xs → (k : ℕ) → slice_index (octets_of xs) k < 2 ^ 8
+octets_small [] fits k = omega arith
+octets_small (x ∷ xs) fits zero = let small = fits 0 in omega arith
+octets_small (x ∷ xs) fits (suc zero) = omega arith
+octets_small (x ∷ xs) fits (suc (suc k)) = octets_small xs (λ j. fits (suc j)) k
+
+append_visible : (xs ys : List ℕ) → list_all is_visible xs ≡ true → list_all is_visible ys ≡ true → list_all is_visible (xs ++ ys) ≡ true
+append_visible [] ys e f = f
+append_visible (x ∷ xs) ys e f = let p = both (is_visible x) (list_all is_visible xs) e in
+    both_true (is_visible x) (list_all is_visible (xs ++ ys)) p.0 (append_visible xs ys p.1 f)
+
+pub ipv6_visible : (segments : List ℕ) → AllSegments segments → list_all is_visible (ipv6_text segments) ≡ true
+unfolding ipv6_text
+ipv6_visible segments fits = by_test (bytes_eq (take 6 segments) (0 ∷ 0 ∷ 0 ∷ 0 ∷ 0 ∷ 0xffff ∷ []))
+  where
+    last : List ℕ
+    last = ipv4_text (octets_of (drop 6 segments))
+
+    by_test : (mapped : Bool) → list_all is_visible (if mapped then codes "::ffff:" ++ last else hex_groups_text segments) ≡ true
+    by_test true = append_visible (codes "::ffff:") last refl (all_visible IsDigitOrDot last dotted_visible
+        (All-ipv4_text (octets_of (drop 6 segments)) (octets_small (drop 6 segments) (AllSegments-drop 6 segments fits))))
+    by_test false = all_visible IsHexOrColon (hex_groups_text segments) hex_visible (All-hex_groups_text segments fits)

@@ -16,7 +16,7 @@ pub use Rattle.relay_admin.specs.declared.admin.dialogue.TheConstants.{MAX_LINES
 pub use Rattle.relay_admin.specs.declared.admin.end.AdminEnd.{AdminEnd}
 pub use Rattle.relay_admin.specs.declared.rules.file.RulesFault.{RulesFault}
 pub use Rattle.relay_admin.specs.declared.rules.rule.Rule.{Rule}
-pub use Rattle.relay_admin.specs.rules.Addr.{Address, tcp, unix, same_address}
+pub use Rattle.relay_admin.specs.rules.Addr.{Address, tcp, tcp6, unix, same_address}
 pub use Rattle.relay_admin.specs.rules.Fault.{CanStandTogether, HasName, LacksName, HasListen, LacksListen, LineFault}
 pub use Rattle.relay_admin.specs.rules.Fault.{bad_line, too_many, same_name, same_listen, FirstFault, SaysRules}
 pub use Rattle.relay_admin.specs.rules.Fault.{SaysFault}

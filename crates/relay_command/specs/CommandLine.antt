@@ -16,7 +16,7 @@ use Rattle.relay_core.specs.Loops.{loop_count}
 use Rattle.relay_core.specs.PairLimit.{pair_count}
 use Rattle.relay_admin.specs.TextReading.{◌>>=◌}
 use Rattle.relay_admin.specs.rules.Addr.{Address, address_of}
-use Rattle.relay_admin.specs.rules.Reading.{address_at}
+use Rattle.relay_settings.specs.Meaning.{relay_address_at}
 use Rattle.relay_settings.specs.declared.asked.Source.{Source}
 use Rattle.relay_settings.specs.declared.asked.Source.TheVariants as source
 use Rattle.relay_command.specs.declared.job.Job.{Job}
@@ -197,10 +197,11 @@ log_given None = Some None
 log_given (Some []) = None
 log_given (Some (byte ∷ path)) = Some (Some (byte ∷ path))
 
--- the metrics' address that an option asks for, which may be left out; none where its text has none
+-- the metrics' address that an option asks for, as a configuration spells it, which may be left out; none
+-- where its text has none
 abbrev pub metrics_given : Option Text → Option (Option Address)
 metrics_given None = Some None
-metrics_given (Some text) = option_map Some (address_at text)
+metrics_given (Some text) = option_map Some (relay_address_at text)
 
 -- the file that options ask for: one of both
 abbrev pub origin_given : Option Text → Option Text → Option Origin

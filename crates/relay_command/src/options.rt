@@ -8,9 +8,9 @@ ghost use Rattle.relay_command.specs.CommandLine.{pairs_given, pairs_in};
 ghost use Rattle.relay_admin.specs.rules.Addr.{address_of};
 
 use base_types::OutOfMemory;
-use relay_admin::{Addr, addr_of};
+use relay_admin::Addr;
 use relay_core::{Loops, PairLimit};
-use relay_settings::MAX_CONNECT_MS;
+use relay_settings::{MAX_CONNECT_MS, relay_addr_of};
 use std::alloc::Global;
 use stream_base::decimal::parse_decimal;
 
@@ -105,14 +105,15 @@ pub(crate) fn log_asked(
     }
 }
 
-// The address for metrics that an option asks for, if it is there; none where its text spells none.
+// The address for metrics that an option asks for, if it is there, as the key of a configuration has
+// it; none where its text spells none.
 pub(crate) fn metrics_asked(given: Option<&str>) -> Option<Option<Addr>>
     ensures { option_map (option_map address_of) result
         ≡ metrics_given (option_map (λ text. text.now) given.entry) }
 {
     match given {
         None => Some(None),
-        Some(text) => match addr_of(text.as_bytes()) {
+        Some(text) => match relay_addr_of(text.as_bytes()) {
             Some(addr) => Some(Some(addr)),
             None => None,
         },

@@ -15,49 +15,50 @@ use Rattle.relay_conn.specs.declared.others.Dials.{Dials}
 use Rattle.relay_conn.specs.declared.relaying.Relaying.{Relaying}
 use Rattle.relay_core.specs.declared.pair_tasks.PairNext.{PairNext}
 use Rattle.relay_core.specs.declared.pair_tasks.PairNext.TheVariants.{Again}
+use Rattle.relay_facts.specs.declared.connection_facts.Acceptance.{Acceptance}
 
 module _ {U D R : Type 0} where
-  begun_in : (new : Option (Phase U D R)) (dialing : Dialing U D R) (fresh : Relaying U D R) (next : PairNext)
-      → Begins dialing fresh → IfRelaying new (λ relaying. GoneOn fresh relaying why.Again next)
-      → IfRelaying new (λ relaying. WaysBegin dialing relaying next)
-  begun_in None dialing fresh next begins gone = tt
-  begun_in (Some (phase.Dialing d)) dialing fresh next begins gone = tt
-  begun_in (Some (phase.Seeking s)) dialing fresh next begins gone = tt
-  begun_in (Some (phase.Relaying r)) dialing fresh next begins gone = record {
+  begun_in : (client : Acceptance) (new : Option (Phase U D R)) (dialing : Dialing U D R) (fresh : Relaying U D R) (next : PairNext)
+      → Begins client dialing fresh → IfRelaying new (λ relaying. GoneOn fresh relaying why.Again next)
+      → IfRelaying new (λ relaying. WaysBegin client dialing relaying next)
+  begun_in client None dialing fresh next begins gone = tt
+  begun_in client (Some (phase.Dialing d)) dialing fresh next begins gone = tt
+  begun_in client (Some (phase.Seeking s)) dialing fresh next begins gone = tt
+  begun_in client (Some (phase.Relaying r)) dialing fresh next begins gone = record {
     fresh = fresh;
     begins = begins;
     gone_on = gone;
   }
 
   -- the ways of what was dialled have begun
-  pub begun : (old new : Option (Phase U D R)) (dialing : Dialing U D R) (fresh : Relaying U D R) (next : PairNext)
-      → old ≡ Some (phase.Dialing dialing) → Begins dialing fresh
+  pub begun : (client : Acceptance) (old new : Option (Phase U D R)) (dialing : Dialing U D R) (fresh : Relaying U D R) (next : PairNext)
+      → old ≡ Some (phase.Dialing dialing) → Begins client dialing fresh
       → IfRelaying new (λ relaying. GoneOn fresh relaying why.Again next)
-      → IfDialing old (λ d. IfRelaying new (λ relaying. WaysBegin d relaying next))
-  begun old new dialing fresh next is begins gone =
-      subst (λ p. IfDialing p (λ d. IfRelaying new (λ relaying. WaysBegin d relaying next))) (sym is)
-      (begun_in new dialing fresh next begins gone)
+      → IfDialing old (λ d. IfRelaying new (λ relaying. WaysBegin client d relaying next))
+  begun client old new dialing fresh next is begins gone =
+      subst (λ p. IfDialing p (λ d. IfRelaying new (λ relaying. WaysBegin client d relaying next))) (sym is)
+      (begun_in client new dialing fresh next begins gone)
 
-  connected_in : (new : Option (Phase U D R)) (old mid : Dialing U D R) (why : Why) (next : PairNext)
-      → KeepsDial old mid why → IfRelaying new (λ relaying. WaysBegin mid relaying next)
-      → IfRelaying new (λ relaying. Connects old relaying why next)
-  connected_in None old mid why next kept begins = tt
-  connected_in (Some (phase.Dialing d)) old mid why next kept begins = tt
-  connected_in (Some (phase.Seeking s)) old mid why next kept begins = tt
-  connected_in (Some (phase.Relaying r)) old mid why next kept begins = record {
+  connected_in : (client : Acceptance) (new : Option (Phase U D R)) (old mid : Dialing U D R) (why : Why) (next : PairNext)
+      → KeepsDial old mid why → IfRelaying new (λ relaying. WaysBegin client mid relaying next)
+      → IfRelaying new (λ relaying. Connects client old relaying why next)
+  connected_in client None old mid why next kept begins = tt
+  connected_in client (Some (phase.Dialing d)) old mid why next kept begins = tt
+  connected_in client (Some (phase.Seeking s)) old mid why next kept begins = tt
+  connected_in client (Some (phase.Relaying r)) old mid why next kept begins = record {
     dialing = mid;
     kept = kept;
     begun = begins;
   }
 
   -- they have begun by what the dial was told
-  pub connected : (before new : Option (Phase U D R)) (old mid : Dialing U D R) (why : Why) (next : PairNext)
+  pub connected : (client : Acceptance) (before new : Option (Phase U D R)) (old mid : Dialing U D R) (why : Why) (next : PairNext)
       → before ≡ Some (phase.Dialing old) → KeepsDial old mid why
-      → IfRelaying new (λ relaying. WaysBegin mid relaying next)
-      → IfDialing before (λ d. IfRelaying new (λ relaying. Connects d relaying why next))
-  connected before new old mid why next is kept begins =
-      subst (λ p. IfDialing p (λ d. IfRelaying new (λ relaying. Connects d relaying why next))) (sym is)
-      (connected_in new old mid why next kept begins)
+      → IfRelaying new (λ relaying. WaysBegin client mid relaying next)
+      → IfDialing before (λ d. IfRelaying new (λ relaying. Connects client d relaying why next))
+  connected client before new old mid why next is kept begins =
+      subst (λ p. IfDialing p (λ d. IfRelaying new (λ relaying. Connects client d relaying why next))) (sym is)
+      (connected_in client new old mid why next kept begins)
 
   sought_in : (new : Option (Phase U D R)) (old mid : Dialing U D R) (before after : Dials R) (why : Why) (next : PairNext)
       → KeepsDial old mid why → IsSome mid.failure → (IsTime why (given_up_at old) → ⊥)

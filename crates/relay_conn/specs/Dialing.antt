@@ -1,5 +1,5 @@
 -- What becomes of a connection whose target isn't connected yet, and how its ways begin.
-use Rattle.std.specs.Prelude.{◌≡◌, ◌≢◌, ◌⊎◌, ℕ, Bool, true, false, Option, Some, None, IsSome}
+use Rattle.std.specs.Prelude.{◌≡◌, ◌≢◌, ◌<◌, ◌⊎◌, ◌↔◌, ℕ, Bool, true, false, [], Option, Some, None, IsSome, length}
 use Rattle.base_types.specs.declared.direction.Dir.TheVariants.{Read}
 use Rattle.fd_descriptor.specs.TaskHalf.{KeepsHalf}
 use Rattle.readiness.specs.declared.agenda.Why.{Why}
@@ -12,7 +12,10 @@ use Rattle.relay_conn.specs.Connection.{given_up_at}
 use Rattle.relay_conn.specs.Cause.{how_undialled}
 use Rattle.relay_conn.specs.Heard.{IsTime, KeepsWhatIsTold, stop_told}
 use Rattle.relay_conn.specs.Others.{IsNoted, moves_on_in, others_of}
-use Rattle.relay_conn.specs.Relaying.{GoneOn}
+use Rattle.relay_conn.specs.Relaying.{GoneOn, begun_tasks}
+use Rattle.relay_core.specs.Passing.{Bytes}
+use Rattle.relay_facts.specs.Header.{first_bytes}
+use Rattle.relay_facts.specs.declared.connection_facts.Acceptance.{Acceptance}
 use Rattle.relay_conn.specs.declared.dialing.Dialing.{Dialing}
 use Rattle.relay_conn.specs.declared.others.Dials.{Dials}
 use Rattle.relay_conn.specs.declared.seeking.NextTarget.{NextTarget}
@@ -63,9 +66,10 @@ module _ {U D R : Type 0} where
     pub last : next ≡ Closes → (stop_told why Up ≡ true) ⊎ MayFail old why new.failure
     pub rests : next ≢ Again
 
-  -- its ways begin: each side feeds the way from it, and each way the side that it goes to, with the
-  -- time, the share and what was told that it had
-  pub record Begins (dialing : Dialing U D R) (relaying : Relaying U D R) : Type 0 where
+  -- the ways of this client's connection begin: each side feeds the way from it, and each way the side
+  -- that it goes to, with the time, the share and what was told that it had; the way to the target
+  -- begins with what that gets before any byte of the client's, and the way to the client with nothing
+  pub record Begins (client : Acceptance) (dialing : Dialing U D R) (relaying : Relaying U D R) : Type 0 where
     pub client_feeds_up : relaying.up.gate.source ≡ dialing.client.reader
     pub up_feeds_target : KeepsHalf dialing.target.writer relaying.up.gate.target
     pub target_feeds_down : relaying.down.gate.source ≡ dialing.target.reader
@@ -74,26 +78,28 @@ module _ {U D R : Type 0} where
     pub down_state : relaying.down.gate.source_state ≡ dialing.target.state
     pub up_time : relaying.up.gate.time ≡ dialing.up.time
     pub down_time : relaying.down.gate.time ≡ dialing.down.time
-    pub up_copying : relaying.up.copying ≡ dialing.up.copying
-    pub down_copying : relaying.down.copying ≡ dialing.down.copying
+    pub up_first : relaying.up.copying ≡ Bytes (first_bytes client)
+    pub down_first : relaying.down.copying ≡ Bytes []
+    pub heading : relaying.up.heading ≡ true ↔ 0 < length (first_bytes client)
+    pub down_heading : relaying.down.heading ≡ false
     pub up_share : relaying.up.share ≡ dialing.up.share
     pub down_share : relaying.down.share ≡ dialing.down.share
-    pub tasks : relaying.tasks ≡ dialing.tasks
+    pub tasks : relaying.tasks ≡ begun_tasks dialing.tasks relaying.up.heading
     pub unfailed : relaying.failure ≡ None
 
   -- its ways have begun, and gone on at once
-  pub record WaysBegin (dialing : Dialing U D R) (relaying : Relaying U D R) (next : PairNext) :
-      Type 0 where
+  pub record WaysBegin (client : Acceptance) (dialing : Dialing U D R) (relaying : Relaying U D R)
+      (next : PairNext) : Type 0 where
     pub fresh : Relaying U D R
-    pub begins : Begins dialing fresh
+    pub begins : Begins client dialing fresh
     pub gone_on : GoneOn fresh relaying why.Again next
 
   -- its target is connected by now, and its ways have begun, with what was told before
-  pub record Connects (old : Dialing U D R) (new : Relaying U D R) (why : Why) (next : PairNext) :
-      Type 0 where
+  pub record Connects (client : Acceptance) (old : Dialing U D R) (new : Relaying U D R) (why : Why)
+      (next : PairNext) : Type 0 where
     pub dialing : Dialing U D R
     pub kept : KeepsDial old dialing why
-    pub begun : WaysBegin dialing new next
+    pub begun : WaysBegin client dialing new next
 
   -- ---- Another target
 

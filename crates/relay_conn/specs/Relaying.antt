@@ -1,12 +1,13 @@
 -- What becomes of a connection whose target is connected.
-use Rattle.std.specs.Prelude.{◌≡◌, ◌⊎◌, ◌↔◌, ℕ, true}
+use Rattle.std.specs.Prelude.{◌≡◌, ◌⊎◌, ◌↔◌, ℕ, Bool, true, false}
 use Rattle.readiness.specs.declared.agenda.Why.{Why}
 use Rattle.readiness.specs.declared.agenda.Why.TheVariants.{Time}
 use Rattle.relay_core.specs.PairTasks.{flow_state_of, flow_state_after, HasToClose, MayGoOn}
 use Rattle.relay_core.specs.declared.pair_tasks.PairNext.{PairNext}
+use Rattle.relay_core.specs.declared.pair_tasks.PairTasks.{PairTasks}
 use Rattle.relay_core.specs.declared.pair_tasks.PairNext.TheVariants.{Closes, Again}
 use Rattle.relay_core.specs.declared.passing.Step.{Step}
-use Rattle.relay_core.specs.declared.pair_tasks.FlowState.TheVariants.{Over}
+use Rattle.relay_core.specs.declared.pair_tasks.FlowState.TheVariants.{Over, Ready}
 use Rattle.relay_core.specs.declared.ways.Way.{Way}
 use Rattle.relay_core.specs.declared.ways.Way.TheVariants.{Up, Down}
 use Rattle.relay_conn.specs.Connection.{gives_up}
@@ -14,6 +15,12 @@ use Rattle.relay_conn.specs.Deadlines.{HasCome}
 use Rattle.relay_conn.specs.Flow.{heard, Went}
 use Rattle.relay_conn.specs.Heard.{stop_told, GoesOn, IsUntimed}
 use Rattle.relay_conn.specs.declared.relaying.Relaying.{Relaying}
+
+-- how ways stand that begin: the way up goes on at once where it has a header to write, and each else
+-- once its source has something
+abbrev pub begun_tasks : PairTasks → Bool → PairTasks
+begun_tasks tasks true = record tasks { up = Ready }
+begun_tasks tasks false = tasks
 
 module _ {U D R : Type 0} where
   -- the way up, resumed by what a loop heard, went on and stands after its step

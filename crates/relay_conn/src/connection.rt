@@ -79,6 +79,7 @@ fn note_step<R: Wait + Clock>(
 }
 
 impl<U: Ledger, D: Ledger, R: Wait + Clock + Copy> Connection<U, D, R> {
+    ghost use Rattle.std.specs.Arc.{arc_value};
     ghost use Rattle.std.specs.Prelude.{◌⊎◌, Some};
     ghost use Rattle.readiness.specs.declared.agenda.Why.{Why};
     ghost use Rattle.relay_conn.specs.Asked.{KeepsConnection};
@@ -139,7 +140,7 @@ impl<U: Ledger, D: Ledger, R: Wait + Clock + Copy> Connection<U, D, R> {
         ensures dials { IfDialing self.old.phase (λ old. IfDialing self.new.phase (λ new.
             DialsOn old new why result)) }
         ensures connects { IfDialing self.old.phase (λ old. IfRelaying self.new.phase (λ new.
-            Connects old new why result)) }
+            Connects (arc_value self.old.facts).acceptance old new why result)) }
         ensures seeks { IfDialing self.old.phase (λ old. IfSeeking self.new.phase (λ new.
             SeeksOn old new dials.old dials.new why result)) }
         ensures seeks_on { IfSeeking self.old.phase (λ old. IfSeeking self.new.phase (λ new.
@@ -191,12 +192,12 @@ impl<U: Ledger, D: Ledger, R: Wait + Clock + Copy> Connection<U, D, R> {
     fn begin(&mut self, rt: &R, books: &mut LoopBooks<U, D>, memory: &mut LoopMemory) -> PairNext
         ensures relays { IfDialing self.old.phase (λ old. IsRelaying self.new.phase) }
         ensures begun { IfDialing self.old.phase (λ old. IfRelaying self.new.phase (λ new.
-            WaysBegin old new result)) }
+            WaysBegin (arc_value self.old.facts).acceptance old new result)) }
         ensures kept { KeepsConnection self.old self.new }
     {
         match self.phase.take() {
             Some(Phase::Dialing(dialing)) => {
-                let mut relaying = Relaying::of(rt, dialing);
+                let mut relaying = Relaying::of(rt, &self.facts.acceptance, dialing);
                 let next = relaying.go_on(books, Why::Again, memory);
                 self.phase = Some(Phase::Relaying(relaying));
                 next

@@ -45,7 +45,7 @@ pub(crate) struct NewWay<L: Ledger, R: Wait + Clock + Copy> {
 pub struct Dialing<U: Ledger, D: Ledger, R: Wait + Clock + Copy> {
     /// The client, of which nothing is read.
     pub(crate) client: OpenSide<R>,
-    /// The target that is tried. (What it is told first would be kept beside it.)
+    /// The target that is tried. What it gets first is made once it is connected.
     pub(crate) target: OpenSide<R>,
     /// The targets that may be tried in its place, if any is left.
     pub(crate) others: Option<Others>,

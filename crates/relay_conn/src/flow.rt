@@ -2,7 +2,7 @@
 
 ghost use Rattle.std.specs.Prelude.{◌≡◌};
 ghost use Rattle.relay_conn.specs.Deadlines.{gives_up_at};
-ghost use Rattle.relay_conn.specs.Flow.{heard, Went};
+ghost use Rattle.relay_conn.specs.Flow.{Copies, Heads, Went, heard};
 
 use crate::task_gate::TaskGate;
 use relay_core::{Copying, Credits, FlowState, LoopMemory, Step};
@@ -55,11 +55,15 @@ impl<L: Ledger> OwnShare<L> {
     }
 }
 
-/// One way: its gate, how far it came, its share of the book, and how many bytes it has written.
+/// One way: its gate, how far it came, its share of the book, and how many bytes of its source it has
+/// written.
 #[derive(Drop)]
 pub(crate) struct Flow<L: Ledger, R: Wait + Clock + Copy> {
     pub(crate) gate: Gate<R>,
     pub(crate) copying: Copying,
+    /// Whether a header is still to be written, of which the copy has the rest. No byte of its source
+    /// is read before, and no byte of the header counts.
+    pub(crate) heading: bool,
     pub(crate) share: OwnShare<L>,
     pub(crate) passed: u64,
 }
@@ -83,9 +87,39 @@ impl<L: Ledger, R: Wait + Clock + Copy> Flow<L, R> {
         }
     }
 
-    /// Goes on.
+    /// Goes on: with its header, as long as one is to be written, and then with what its source gives.
     pub(crate) fn go_on<C: Credits<L>>(&mut self, book: &mut C, memory: &mut LoopMemory) -> Step
         ensures { Went self.old self.new result }
+    {
+        if self.heading {
+            return self.head();
+        }
+        self.copy_on(book, memory)
+    }
+
+    // Offers what is left of its header, once.
+    fn head(&mut self) -> Step
+        ensures heads { Heads self.old self.new result }
+        ensures share { self.new.share ≡ self.old.share }
+        ensures passed { self.new.passed ≡ self.old.passed }
+    {
+        if !self.copying.has_unwritten() {
+            self.heading = false;
+            return Step::Again;
+        }
+        match self.copying.write_front(&mut self.gate) {
+            Ok(_) => {
+                self.heading = self.copying.has_unwritten();
+                Step::Again
+            }
+            Err(step) => step,
+        }
+    }
+
+    // Copies.
+    fn copy_on<C: Credits<L>>(&mut self, book: &mut C, memory: &mut LoopMemory) -> Step
+        ensures copies { Copies self.old self.new result }
+        ensures kept { self.new.heading ≡ self.old.heading }
     {
         let step = self
             .copying

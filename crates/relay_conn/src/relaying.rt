@@ -1,6 +1,6 @@
 //! A connection whose target is connected: both its ways go on until each is over.
 
-ghost use Rattle.std.specs.Prelude.{◌≡◌, ◌↔◌, ◌⊎◌, ℕ, true, false, None, OnOk, OnErr};
+ghost use Rattle.std.specs.Prelude.{◌≡◌, ◌<◌, ◌↔◌, ◌⊎◌, ℕ, [], true, false, None, OnOk, OnErr, length};
 ghost use Rattle.base_types.specs.declared.direction.Dir.{Dir};
 ghost use Rattle.fd_descriptor.specs.TaskHalf.{KeepsHalf, descriptor_of_half};
 ghost use Rattle.readiness.specs.declared.loop_token.Side.{Side};
@@ -8,7 +8,9 @@ ghost use Rattle.relay_conn.specs.Cause as spec;
 ghost use Rattle.relay_conn.specs.Connection.{gives_up, first_given_up};
 ghost use Rattle.relay_conn.specs.Deadlines.{HasCome, TellsCalls};
 ghost use Rattle.relay_conn.specs.Heard.{stop_told};
-ghost use Rattle.relay_conn.specs.Relaying.{Expires, GoneOn};
+ghost use Rattle.relay_conn.specs.Relaying.{Expires, GoneOn, begun_tasks};
+ghost use Rattle.relay_core.specs.Passing.{Bytes};
+ghost use Rattle.relay_facts.specs.Header.{first_bytes};
 ghost use Rattle.relay_conn.specs.Flow.{heard, Went};
 ghost use Rattle.relay_core.specs.PairTasks.{flow_state_of, flow_state_after, other_way};
 ghost use Rattle.relay_core.specs.PairTasks.{HasToClose, MayGoOn, IsFailure};
@@ -28,6 +30,7 @@ use deadline_core::{Deadline, earlier};
 use readiness::{Side, Why};
 use relay_core::{Credits, FlowState, LoopMemory, PairNext, PairTasks, Step, Way, has_come};
 use relay_facts::books::LoopBooks;
+use relay_facts::connection_facts::Acceptance;
 use relay_log::ended::Ended as How;
 use rwloops::Fault;
 use std::sync::Wait;
@@ -43,9 +46,28 @@ pub struct Relaying<U: Ledger, D: Ledger, R: Wait + Clock + Copy> {
     pub(crate) failure: Option<How>,
 }
 
+// How ways stand that begin, of which the way up has a header to write or not.
+fn begun_tasks(tasks: PairTasks, heading: bool) -> PairTasks
+    ensures { result ≡ begun_tasks tasks heading }
+{
+    if !heading {
+        return tasks;
+    }
+    PairTasks {
+        up: FlowState::Ready,
+        down: tasks.down,
+        failed: tasks.failed,
+    }
+}
+
 impl<U: Ledger, D: Ledger, R: Wait + Clock + Copy> Relaying<U, D, R> {
-    /// The ways of a connection whose target is connected now.
-    pub(crate) fn of(rt: &R, dialing: Dialing<U, D, R>) -> Relaying<U, D, R>
+    /// The ways of the connection of this client, whose target is connected now. What that gets first
+    /// stands before all that is copied to it.
+    pub(crate) fn of(
+        rt: &R,
+        acceptance: &Acceptance,
+        dialing: Dialing<U, D, R>,
+    ) -> Relaying<U, D, R>
         ensures client_feeds_up { result.up.gate.source ≡ dialing.client.reader }
         ensures up_feeds_target { KeepsHalf dialing.target.writer result.up.gate.target }
         ensures target_feeds_down { result.down.gate.source ≡ dialing.target.reader }
@@ -54,36 +76,44 @@ impl<U: Ledger, D: Ledger, R: Wait + Clock + Copy> Relaying<U, D, R> {
         ensures down_state { result.down.gate.source_state ≡ dialing.target.state }
         ensures up_time { result.up.gate.time ≡ dialing.up.time }
         ensures down_time { result.down.gate.time ≡ dialing.down.time }
-        ensures up_copying { result.up.copying ≡ dialing.up.copying }
-        ensures down_copying { result.down.copying ≡ dialing.down.copying }
+        ensures up_first { result.up.copying ≡ Bytes (first_bytes acceptance.now) }
+        ensures down_first { result.down.copying ≡ Bytes [] }
+        ensures heading { result.up.heading ≡ true ↔ 0 < length (first_bytes acceptance.now) }
+        ensures down_heading { result.down.heading ≡ false }
         ensures up_share { result.up.share ≡ dialing.up.share }
         ensures down_share { result.down.share ≡ dialing.down.share }
-        ensures tasks { result.tasks ≡ dialing.tasks }
+        ensures tasks { result.tasks ≡ begun_tasks dialing.tasks result.up.heading }
         ensures unfailed { result.failure ≡ None }
     {
         let Dialing {
             mut client,
             mut target,
             others: _,
-            up,
-            down,
+            mut up,
+            mut down,
             tasks,
             connect_by: _,
             failure: _,
         } = dialing;
         client.begin_writes(rt);
         target.begin_writes(rt);
+        let first = acceptance.first_bytes();
+        let heading = !first.is_empty();
+        up.copying.begin_with(first.as_slice());
+        down.copying.begin_with(&[]);
         Relaying {
-            tasks,
+            tasks: begun_tasks(tasks, heading),
             up: Flow {
                 gate: TaskGate::new(up.time, client.reader, client.state, target.writer),
                 copying: up.copying,
+                heading,
                 share: up.share,
                 passed: 0,
             },
             down: Flow {
                 gate: TaskGate::new(down.time, target.reader, target.state, client.writer),
                 copying: down.copying,
+                heading: false,
                 share: down.share,
                 passed: 0,
             },

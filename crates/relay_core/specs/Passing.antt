@@ -115,7 +115,7 @@ IfEnded (Over ended) P = P ended
 IfEnded _ P = Unit {0}
 
 -- a call stopped a copy: it can't go on before this direction is ready, and the call did nothing,
--- or the copy ended; only private functions cite it
+-- or the copy ended
 pub data IsStop (dir : Dir) (Blocked : Dir → Type 0) (DidNothing : Type 0)
     (HasEnded : Ended → Type 0) : Step → Type 0 where
   ToWait : Blocked dir → DidNothing → IsStop dir Blocked DidNothing HasEnded (Waits dir)

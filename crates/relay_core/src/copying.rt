@@ -41,8 +41,8 @@ pub enum Ended {
 /// into is lent. Contracts see what it has to do next.
 #[derive(Drop)]
 pub struct Copying<A: Allocator = Global> {
-    kept: PendingBytes<A>,
-    at_end: bool,
+    pub(crate) kept: PendingBytes<A>,
+    pub(crate) at_end: bool,
 }
 
 impl<A: Allocator> Model for Copying<A> {

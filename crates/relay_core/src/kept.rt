@@ -78,9 +78,8 @@ impl<A: Allocator> PendingBytes<A> {
         self.bytes.reserve(LOOP_BUFFER_BYTES).is_ok()
     }
 
-    /// Keeps these bytes, where nothing is kept.
+    /// Keeps these bytes, and nothing of what was kept before.
     pub(crate) fn keep(&mut self, bytes: &[u8])
-        requires nothing { self.old.bytes ≡ [] }
         requires fits { length bytes.now ≤ self.old.room }
         ensures kept { self.new.bytes ≡ bytes.now }
         ensures least { self.old.room ≤ self.new.room }

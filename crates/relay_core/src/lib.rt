@@ -10,6 +10,7 @@ mod buffers;
 mod capacity;
 mod copying;
 mod credits;
+mod front;
 mod kept;
 pub mod laws;
 mod lent;

@@ -8,6 +8,7 @@ use Rattle.relay_admin.specs.declared.serve_fault.ServeFault.{ServeFault}
 use Rattle.relay_admin.specs.rules.Grammar.{entry_of}
 use Rattle.relay_config.specs.Entries.{checks_entry}
 use Rattle.relay_config.specs.declared.health.Checks.{Checks}
+use Rattle.relay_config.specs.declared.proxy.Version.{Version}
 use Rattle.relay_facts.specs.Config.{AreServed, IsOfFile}
 use Rattle.relay_facts.specs.Source.{FileSays, entry_alone}
 use Rattle.relay_facts.specs.declared.config.Config.{Config}
@@ -21,25 +22,28 @@ use Rattle.relay_settings.specs.declared.targets.Target.{Target}
 use Rattle.target_pick.specs.declared.picking.Balance.{Balance}
 use Rattle.target_pick.specs.declared.picking.Balance.TheVariants.{RoundRobin}
 
-abbrev entry_with : Rule → Balance → List Net → List Net → Option Checks → List Target → SaidRuleEntry
-entry_with rule balance allow deny checks targets = record {
+abbrev entry_with : Rule → Balance → List Net → List Net → Option Checks → Option Version → List Target → SaidRuleEntry
+entry_with rule balance allow deny checks header targets = record {
   rule = entry_of rule;
   balance = balance;
   access = record { allow = map network_of allow; deny = map network_of deny };
   checks = option_map checks_entry checks;
+  header = header;
   targets = map said_target_entry targets;
 }
 
 pub alone_entry : (said : SaidRule) (rule : Rule) → said.rule ≡ rule → said.balance ≡ RoundRobin
     → said.access.allow.items ≡ [] → said.access.deny.items ≡ []
-    → said.checks ≡ None → said.targets.items ≡ own_target rule ∷ [] → said_rule_entry said ≡ entry_alone rule
-alone_entry said rule same balance allow deny checks targets =
-    ap (λ r. entry_with r said.balance said.access.allow.items said.access.deny.items said.checks said.targets.items) same
-    ∙ ap (λ b. entry_with rule b said.access.allow.items said.access.deny.items said.checks said.targets.items) balance
-    ∙ ap (λ nets. entry_with rule RoundRobin nets said.access.deny.items said.checks said.targets.items) allow
-    ∙ ap (λ nets. entry_with rule RoundRobin [] nets said.checks said.targets.items) deny
-    ∙ ap (λ c. entry_with rule RoundRobin [] [] c said.targets.items) checks
-    ∙ ap (λ ts. entry_with rule RoundRobin [] [] None ts) targets
+    → said.checks ≡ None → said.header ≡ None → said.targets.items ≡ own_target rule ∷ []
+    → said_rule_entry said ≡ entry_alone rule
+alone_entry said rule same balance allow deny checks header targets =
+    ap (λ r. entry_with r said.balance said.access.allow.items said.access.deny.items said.checks said.header said.targets.items) same
+    ∙ ap (λ b. entry_with rule b said.access.allow.items said.access.deny.items said.checks said.header said.targets.items) balance
+    ∙ ap (λ nets. entry_with rule RoundRobin nets said.access.deny.items said.checks said.header said.targets.items) allow
+    ∙ ap (λ nets. entry_with rule RoundRobin [] nets said.checks said.header said.targets.items) deny
+    ∙ ap (λ c. entry_with rule RoundRobin [] [] c said.header said.targets.items) checks
+    ∙ ap (λ h. entry_with rule RoundRobin [] [] None h said.targets.items) header
+    ∙ ap (λ ts. entry_with rule RoundRobin [] [] None None ts) targets
 
 -- a start by what a file says, whose rules are served, is one of that file
 pub of_file : (made : Result Config ServeFault) (source : Source) (said : Said) (start : Start) (rules : List SaidRule)

@@ -2,6 +2,7 @@
 use Rattle.std.specs.Prelude.{◌≡◌, ℕ, Bool, true, false, List, Option, Some, None, [], ◌∷◌, option_map, slice_get}
 use Rattle.std.specs.Option.{option_map_or}
 use Rattle.std.specs.Arc.{arc_value}
+use Rattle.std.specs.Net.Addr.{ipv6_octets}
 use Rattle.relay_admin.specs.declared.rules.addr.Addr.{Addr}
 use Rattle.relay_admin.specs.declared.rules.addr.Addr.TheVariants as addr
 use Rattle.relay_admin.specs.declared.rules.rule.Rule.{Rule}
@@ -51,9 +52,10 @@ address_in acceptance place =
 abbrev pub IsTargetOf : Acceptance → Addr → Type 0
 IsTargetOf acceptance address = (place : ℕ) × (address ≡ address_in acceptance place)
 
--- the number of a client, by its address without the port
+-- the number of a client, by its address without port and scope
 abbrev pub source_of : Option Addr → ℕ
 source_of (Some (addr.Tcp bytes port)) = source_number bytes
+source_of (Some (addr.Tcp6 ip scope port)) = source_number (ipv6_octets ip)
 source_of other = source_number []
 
 -- the place is the pick of the list's balance, by some turn

@@ -26,10 +26,11 @@ abbrev pub AdmitBytes : List Net → List Net → List ℕ → Type 0
 AdmitBytes allow deny bytes =
     (address : Ipv4Addr) × (ipv4_octets address ≡ bytes) × IsAdmitted allow deny (ip.V4 address)
 
--- these lists let the client in: they admit its address, whatever its port; or it came by a Unix
--- socket, of which lists of networks say nothing
+-- these lists let the client in: they admit its address, whatever its port and its scope; or it came by a
+-- Unix socket, of which lists of networks say nothing
 abbrev pub LetIn : List Net → List Net → Option Addr → Type 0
 LetIn allow deny (Some (addr.Tcp bytes port)) = AdmitBytes allow deny bytes
+LetIn allow deny (Some (addr.Tcp6 address scope port)) = IsAdmitted allow deny (ip.V6 address)
 LetIn allow deny other = ⊤
 
 -- the lists that stood at its accept, if its rule had any

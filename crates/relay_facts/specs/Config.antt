@@ -18,12 +18,13 @@ use Rattle.relay_facts.specs.declared.served_rule.Said.{Said}
 use Rattle.relay_facts.specs.declared.served_rule.ServedRule.{ServedRule}
 
 -- what an account says is this rule, with its targets, of which one is picked and which are checked
--- as it says, and with its lists of clients
+-- as it says, with its header for them, and with its lists of clients
 pub record SaysRule (given : SaidRule) (said : Said) : Type 0 where
   pub rule : said.rule ≡ given.rule
   pub targets : targets_with (option_map arc_value said.targets) said.rule ≡ given.targets.items
   pub balance : IfSome said.targets (λ list. (arc_value list).balance ≡ given.balance)
   pub checks : checks_with (option_map arc_value said.targets) ≡ given.checks
+  pub header : said.header ≡ given.header
   pub allow : allowed_by (option_map arc_value said.access) ≡ given.access.allow.items
   pub deny : denied_by (option_map arc_value said.access) ≡ given.access.deny.items
 

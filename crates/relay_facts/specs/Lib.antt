@@ -4,6 +4,7 @@ pub mod Books
 pub mod Clock
 pub mod Config
 pub mod Counts
+pub mod Header
 pub mod HowEnded
 pub mod LogLines
 pub mod RulesFile

@@ -1,6 +1,7 @@
 //! Which clients the lists of a rule let in.
 
 ghost use Rattle.std.specs.Prelude.{◌≡◌, ◌↔◌, IsTrue, IfOk, IfErr};
+ghost use Rattle.client_nets.specs.Net.{IsAdmitted};
 ghost use Rattle.relay_facts.specs.Admission.{AdmitBytes, IsLetIn, LetIn};
 
 use crate::connection_facts::Acceptance;
@@ -9,17 +10,21 @@ use relay_admin::Addr;
 use relay_settings::Access;
 use std::net::{IpAddr, Ipv4Addr};
 
+// Whether these lists admit an address.
+fn admit(access: &Access, address: IpAddr) -> bool
+    ensures { IsTrue result
+        ↔ IsAdmitted access.now.allow.items access.now.deny.items address }
+{
+    admits(access.allow.as_slice(), access.deny.as_slice(), address)
+}
+
 // Whether these lists admit the IPv4 address with these bytes.
 fn admit_bytes(access: &Access, bytes: [u8; 4]) -> bool
     ensures { IsTrue result
         ↔ AdmitBytes access.now.allow.items access.now.deny.items bytes }
 {
     let address = Ipv4Addr::from_octets(bytes);
-    admits(
-        access.allow.as_slice(),
-        access.deny.as_slice(),
-        IpAddr::V4(address),
-    )
+    admit(access, IpAddr::V4(address))
 }
 
 // Whether these lists let a client in.
@@ -29,6 +34,7 @@ fn let_in(access: &Access, client: &Option<Addr>) -> bool
 {
     match client {
         Some(Addr::Tcp(bytes, _)) => admit_bytes(access, *bytes),
+        Some(Addr::Tcp6(ip, _, _)) => admit(access, IpAddr::V6(*ip)),
         _ => true,
     }
 }

@@ -9,10 +9,11 @@ ghost use Rattle.relay_facts.specs.Admission.{lists_in};
 ghost use Rattle.relay_facts.specs.Targets.{IsNext, IsNoneLeft};
 
 use crate::counts::LoopCounts;
+use crate::header::AcceptedAt;
 use crate::served_rule::ServedRule;
 use crate::target_list::{NoneLeft, Picked, Targets};
 use relay_admin::{Addr, Rule, Shown, ShownSide};
-use relay_settings::Access;
+use relay_settings::{Access, Version};
 use std::sync::Arc;
 use std::sync::atomic::{AtomicU64, AtomicUsize, Ordering};
 use target_pick::{Tried, source_number};
@@ -29,6 +30,10 @@ pub struct Acceptance {
     pub access: Option<Arc<Access>>,
     /// The client's address; an unnamed Unix socket has none.
     pub client: Option<Addr>,
+    /// With which header its connection to a target begins, if with one.
+    pub header: Option<Version>,
+    /// Where it was accepted, as far as such a header says it.
+    pub accepted_at: Option<AcceptedAt>,
     /// The moment, in nanoseconds of the relay's clock.
     pub at: u64,
 }
@@ -42,6 +47,8 @@ impl Acceptance {
         ensures targets { IfSome result (λ same. list_in same ≡ list_in self.now) }
         ensures access { IfSome result (λ same. lists_in same ≡ lists_in self.now) }
         ensures client { IfSome result (λ same. same.client ≡ self.now.client) }
+        ensures header { IfSome result (λ same. same.header ≡ self.now.header) }
+        ensures accepted_at { IfSome result (λ same. same.accepted_at ≡ self.now.accepted_at) }
         ensures at { IfSome result (λ same. same.at ≡ self.now.at) }
     {
         let served = Arc::try_clone(&self.served).ok()?;
@@ -59,6 +66,8 @@ impl Acceptance {
             targets,
             access,
             client: self.client,
+            header: self.header,
+            accepted_at: self.accepted_at,
             at: self.at,
         })
     }
@@ -72,12 +81,13 @@ impl Acceptance {
 }
 
 // The number by which `Balance::Source` finds a client's target again: that of its address, without
-// the port, which differs each time.
+// the port, which differs each time, and without the scope.
 fn source_of(client: &Option<Addr>) -> u64
     ensures { result ≡ source_of client.now }
 {
     match client {
         Some(Addr::Tcp(bytes, _)) => source_number(bytes),
+        Some(Addr::Tcp6(ip, _, _)) => source_number(&ip.octets()),
         _ => source_number(&[]),
     }
 }

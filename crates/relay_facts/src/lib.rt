@@ -9,6 +9,7 @@ pub mod clock;
 pub mod config;
 pub mod connection_facts;
 pub mod counts;
+pub mod header;
 pub mod how_ended;
 mod known_targets;
 pub mod log_lines;

@@ -11,7 +11,7 @@ use crate::counts::RuleCounts;
 use crate::target_list::Targets;
 use base_types::OutOfMemory;
 use relay_admin::{Addr, Rule};
-use relay_settings::{Access, SaidRule};
+use relay_settings::{Access, SaidRule, Version};
 use std::alloc::Global;
 use std::sync::atomic::{AtomicBool, AtomicU64, Ordering};
 use std::sync::{Arc, Mutex, Wait};
@@ -22,6 +22,8 @@ pub struct Said {
     pub rule: Rule,
     /// Its targets; without a list the rule's own target is the only one.
     pub targets: Option<Arc<Targets>>,
+    /// With which header a connection to a target begins, if with one.
+    pub header: Option<Version>,
     /// Who may connect to it; without lists all clients may.
     pub access: Option<Arc<Access>>,
 }
@@ -74,27 +76,30 @@ impl Said {
         Ok(Said {
             rule: said.rule,
             targets,
+            header: said.header,
             access,
         })
     }
 
-    /// A rule whose own target is its only one, and which lets all clients in.
+    /// A rule whose own target is its only one and is sent no header, and which lets all clients in.
     pub fn alone(rule: &Rule) -> Said
         ensures rule { result.rule ≡ rule.now }
         ensures targets { result.targets ≡ None }
+        ensures header { result.header ≡ None }
         ensures access { result.access ≡ None }
     {
         Said {
             rule: *rule,
             targets: None,
+            header: None,
             access: None,
         }
     }
 }
 
 /// The account of a rule, by its listening address: what the rule says now, and what was counted. It
-/// outlives the rule's listener, which is the main thread's. The rule's name, targets, idle time and
-/// lists of clients change with a reload; a connection goes on by what they were when it was
+/// outlives the rule's listener, which is the main thread's. The rule's name, targets, header, idle
+/// time and lists of clients change with a reload; a connection goes on by what they were when it was
 /// accepted.
 #[derive(Drop)]
 pub struct ServedRule {
@@ -118,6 +123,7 @@ impl ServedRule {
         let Said {
             rule,
             targets,
+            header,
             access,
         } = said;
         let counts = RuleCounts::new(alloc, loops)?;
@@ -126,6 +132,7 @@ impl ServedRule {
             said: Mutex::new(Said {
                 rule,
                 targets,
+                header,
                 access,
             }),
             picks: AtomicU64::new(0),
@@ -158,6 +165,7 @@ impl ServedRule {
         Some(Said {
             rule: said.rule,
             targets,
+            header: said.header,
             access,
         })
     }

@@ -18,6 +18,7 @@ use Rattle.relay_conn.specs.declared.trial.Trial.{Trial}
 use Rattle.relay_admin.specs.declared.rules.addr.Addr.{Addr}
 use Rattle.relay_admin.specs.declared.rules.rule.Rule.{Rule}
 use Rattle.relay_facts.specs.Acceptance.{IsPicked, checked_in, checked_with, list_in, source_of, targets_in, targets_with}
+use Rattle.relay_facts.specs.Header.{first_bytes}
 use Rattle.relay_facts.specs.Targets.{IsNext}
 use Rattle.relay_facts.specs.declared.target_list.Targets.{Targets}
 use Rattle.relay_facts.specs.declared.connection_facts.Acceptance.{Acceptance}
@@ -68,15 +69,18 @@ module _ {U D R : Type 0} where
       → IfOk made (IsSetUp facts place connect_by) → IfOk made (λ connection. counted_in connection ≡ its)
       → IfOk made (λ connection. IfDialing connection.phase (IsBegunWith trial place))
       → (arc_value facts).acceptance.rule ≡ client.rule
-      → list_in (arc_value facts).acceptance ≡ list_in client → IsFirstTrial (arc_value facts).acceptance trial → its ≡ counted → IsIdleEnd connect_ms connect_by → place ≡ at
+      → list_in (arc_value facts).acceptance ≡ list_in client
+      → first_bytes (arc_value facts).acceptance ≡ first_bytes client
+      → IsFirstTrial (arc_value facts).acceptance trial → its ≡ counted → IsIdleEnd connect_ms connect_by → place ≡ at
       → IfOk made (IsConnectionFor client counted connect_ms at)
   for_client (Err refused) client counted its connect_ms at place facts connect_by trial set_up counts begun rule targets
-      first same time here = tt
+      told first same time here = tt
   for_client (Ok connection) client counted its connect_ms at place facts connect_by trial set_up counts begun rule targets
-      first same time here = record {
+      told first same time here = record {
         facts = facts;
         rule = rule;
         targets = targets;
+        told = told;
         trial = trial;
         first = first;
         begun = subst (λ p. IfDialing connection.phase (IsBegunWith trial p)) here begun;

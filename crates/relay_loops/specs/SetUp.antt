@@ -17,6 +17,7 @@ use Rattle.relay_conn.specs.declared.refused.Refused.TheVariants as refused
 use Rattle.relay_conn.specs.declared.trial.NoTrial.{NoTrial}
 use Rattle.relay_conn.specs.declared.trial.Trial.{Trial}
 use Rattle.relay_facts.specs.Acceptance.{list_in}
+use Rattle.relay_facts.specs.Header.{first_bytes}
 use Rattle.relay_facts.specs.declared.connection_facts.Acceptance.{Acceptance}
 use Rattle.relay_facts.specs.declared.connection_facts.ConnectionFacts.{ConnectionFacts}
 use Rattle.relay_shared.specs.declared.inbox.Counted.{Counted}
@@ -37,12 +38,14 @@ IsRefusedFor client other = Unit {0}
 
 module _ {U D R : Type 0} where
   -- a connection is set up for this client: by what its rule said, with the first of its targets,
-  -- with what counts it, for this place, and with so many milliseconds for its target
+  -- which is told of the client what any is, with what counts it, for this place, and with so many
+  -- milliseconds for its target
   pub record IsConnectionFor (client : Acceptance) (counted : Counted) (connect_ms : Option ℕ)
       (at : Place) (connection : Connection U D R) : Type 0 where
     pub facts : Arc ConnectionFacts Global
     pub rule : (arc_value facts).acceptance.rule ≡ client.rule
     pub targets : list_in (arc_value facts).acceptance ≡ list_in client
+    pub told : first_bytes (arc_value facts).acceptance ≡ first_bytes client
     pub trial : Trial
     pub first : IsFirstTrial (arc_value facts).acceptance trial
     pub begun : IfDialing connection.phase (IsBegunWith trial at)

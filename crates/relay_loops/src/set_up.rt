@@ -6,6 +6,7 @@ ghost use Rattle.readiness.specs.EventLoop.{tasks_of};
 ghost use Rattle.readiness.specs.Tasks.{HasPlace, IsPut, SameTasks, next_place};
 ghost use Rattle.relay_conn.specs.Deadlines.{IsIdleEnd};
 ghost use Rattle.relay_facts.specs.Acceptance.{list_in};
+ghost use Rattle.relay_facts.specs.Header.{first_bytes};
 ghost use Rattle.relay_loops.specs.SetUp.{IsConnectionFor, IsFirstTrial, IsRefusedFor, IsServed};
 ghost use Rattle.relay_ledger.specs.Book.{OpensOne};
 ghost use Rattle.relay_loops.specs.Turns.{StayArmed};
@@ -50,6 +51,8 @@ impl<R: Wait + Net + Clock + Copy> LoopContext<R> {
             list_in (arc_value facts).acceptance ≡ list_in acceptance.now) }
         ensures client { IfSome result (λ facts.
             (arc_value facts).acceptance.client ≡ acceptance.now.client) }
+        ensures first { IfSome result (λ facts.
+            first_bytes (arc_value facts).acceptance ≡ first_bytes acceptance.now) }
         ensures place { IfSome result (λ facts. (arc_value facts).loop_place ≡ self.now.place) }
     {
         let facts = ConnectionFacts::new(acceptance.try_clone()?, self.place, target);
@@ -77,6 +80,8 @@ impl<R: Wait + Net + Clock + Copy> LoopContext<R> {
             (arc_value begins.facts).acceptance.rule ≡ acceptance.now.rule) }
         ensures targets { IfOk result (λ begins.
             list_in (arc_value begins.facts).acceptance ≡ list_in acceptance.now) }
+        ensures first { IfOk result (λ begins.
+            first_bytes (arc_value begins.facts).acceptance ≡ first_bytes acceptance.now) }
         ensures client { IfOk result (λ begins. begins.client ≡ sock) }
         ensures counted { IfOk result (λ begins. begins.counted ≡ counted) }
         ensures time { IfOk result (λ begins.
@@ -104,6 +109,8 @@ impl<R: Wait + Net + Clock + Copy> LoopContext<R> {
             (arc_value begins.facts).acceptance.rule ≡ acceptance.now.rule) }
         ensures targets { IfOk result (λ begins.
             list_in (arc_value begins.facts).acceptance ≡ list_in acceptance.now) }
+        ensures first { IfOk result (λ begins.
+            first_bytes (arc_value begins.facts).acceptance ≡ first_bytes acceptance.now) }
         ensures client { IfOk result (λ begins. begins.client ≡ sock) }
         ensures counted { IfOk result (λ begins. begins.counted ≡ counted) }
         ensures time { IfOk result (λ begins.

@@ -1,5 +1,6 @@
 //! A check of a target, as a task of the main thread's loop: it connects, which says whether the
-//! target is up, and closes at once. Nothing is sent and nothing read, and no count has it.
+//! target is up, and closes at once. Nothing is read, and nothing sent but the header of a rule that
+//! has one, and no count has it.
 //!
 //! Its socket is dialled between two turns, since a task that goes on has no poller to register it
 //! with (`checks`). An event of a check before can come as one of this check: it has the socket asked,
@@ -15,14 +16,16 @@ use fd_descriptor::HalfClose;
 use readiness::{Place, Why, WriteHalf};
 use relay_admin::Addr;
 use relay_core::pause_end;
+use relay_facts::header::own_header;
 use relay_facts::served_rule::ServedRule;
 use relay_facts::target_list::Targets;
-use relay_settings::Checks;
-use rwloops::DevKind;
+use relay_settings::{Checks, Version};
+use rwloops::{DevKind, TryWrite};
 use std::sync::Arc;
 use target_pick::Outcome;
 
-/// A target that is checked: its place in the list of its rule, its address, and how it is checked.
+/// A target that is checked: its place in the list of its rule, its address, how it is checked, and with
+/// which header.
 #[derive(Drop)]
 pub(crate) struct Checked {
     pub(crate) served: Arc<ServedRule>,
@@ -30,6 +33,7 @@ pub(crate) struct Checked {
     pub(crate) place: usize,
     pub(crate) at: Addr,
     pub(crate) checks: Checks,
+    pub(crate) header: Option<Version>,
 }
 
 /// What a dial came to at once.
@@ -74,6 +78,16 @@ fn outcome_of(made: Result<(), DevKind>) -> Outcome
     match made {
         Ok(()) => Outcome::Passed,
         Err(_) => Outcome::Failed,
+    }
+}
+
+// Writes the header that says that the relay speaks for itself, where the rule has one: a target that
+// awaits a header would log an error for a connection that ends without one. The connection is made by
+// now, which is all that a check asks, so it isn't looked at what came of the write; and a socket to which
+// nothing was written has room for the few bytes.
+fn greet(half: &mut WriteHalf, header: Option<Version>) {
+    if let Some(version) = header {
+        let _ = half.try_write(own_header(version).as_slice());
     }
 }
 
@@ -145,7 +159,11 @@ impl CheckTask {
         if half.is_connecting() {
             return None;
         }
-        let outcome = outcome_of(half.connected());
+        let made = half.connected();
+        if made.is_ok() {
+            greet(half, self.checked.header);
+        }
+        let outcome = outcome_of(made);
         self.rest();
         Some(outcome)
     }

@@ -21,6 +21,7 @@ use readiness::{ListenRes, Place, Sock};
 use relay_core::{AcceptStep, Accepting, PollAcceptGate};
 use relay_facts::clock::Moments;
 use relay_facts::connection_facts::Acceptance;
+use relay_facts::header::AcceptedAt;
 use relay_facts::served_rule::{Said, ServedRule};
 use relay_facts::shown::ListenerTimes;
 use relay_shared::address::rule_address;
@@ -117,7 +118,7 @@ where
 {
     // What is known of a client that this listener gave just now: the listener's own rule serves
     // it.
-    fn acceptance(&self, client: Option<relay_admin::Addr>) -> Option<Acceptance>
+    fn acceptance(&self, client: Option<relay_admin::Addr>, sock: &Sock) -> Option<Acceptance>
         ensures own { IfSome result (λ acceptance.
             arc_value acceptance.served ≡ arc_value self.now.served.now) }
         ensures client { IfSome result (λ acceptance. acceptance.client ≡ client) }
@@ -126,6 +127,7 @@ where
         let Said {
             rule,
             targets,
+            header,
             access,
         } = served.said(&self.rt)?;
         Some(Acceptance {
@@ -134,6 +136,8 @@ where
             targets,
             access,
             client,
+            header,
+            accepted_at: header.and_then(|_| accepted_at(sock)),
             at: self.clock.now(),
         })
     }
@@ -160,7 +164,7 @@ where
     }
 
     fn deliver(&mut self, taken: Sock) {
-        if let Some(acceptance) = self.acceptance(peer_of(&taken)) {
+        if let Some(acceptance) = self.acceptance(peer_of(&taken), &taken) {
             self.listener.times.last = acceptance.at;
             self.shared.deliver(&self.rt, taken, acceptance);
         }
@@ -172,6 +176,15 @@ fn peer_of(sock: &Sock) -> Option<relay_admin::Addr> {
     match sock.peer() {
         Some(addr) => Some(rule_address(&addr)),
         None => None,
+    }
+}
+
+// Where it was accepted over TCP: the system is asked, since the listener may be at all addresses.
+fn accepted_at(sock: &Sock) -> Option<AcceptedAt> {
+    match sock.local() {
+        Some(readiness::Addr::Tcp(bytes, port)) => Some(AcceptedAt::Tcp(bytes, port)),
+        Some(readiness::Addr::Tcp6(ip, _, port)) => Some(AcceptedAt::Tcp6(ip, port)),
+        _ => None,
     }
 }
 

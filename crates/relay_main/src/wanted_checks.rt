@@ -8,6 +8,7 @@ use crate::check_task::Checked;
 use relay_admin::{ServeFault, is_same_addr};
 use relay_facts::served_rule::ServedRule;
 use relay_facts::target_list::Targets;
+use relay_settings::Version;
 use std::sync::{Arc, Wait};
 
 // Whether both are one check: of the same rule, by its address, and of the same target, alike.
@@ -37,6 +38,7 @@ fn add_target(
     all: &mut Vec<Checked>,
     served: &Arc<ServedRule>,
     targets: &Arc<Targets>,
+    header: Option<Version>,
     place: usize,
 ) -> Option<()> {
     let (Some(checks), Some(at)) = (targets.checks(), targets.address(place)) else {
@@ -51,6 +53,7 @@ fn add_target(
         place,
         at,
         checks,
+        header,
     };
     all.push(checked).ok()
 }
@@ -61,9 +64,10 @@ fn add_each(
     all: &mut Vec<Checked>,
     served: &Arc<ServedRule>,
     targets: &Arc<Targets>,
+    header: Option<Version>,
 ) -> Option<()> {
     for place in 0..targets.len() {
-        add_target(all, served, targets, place)?;
+        add_target(all, served, targets, header, place)?;
     }
     Some(())
 }
@@ -82,7 +86,7 @@ pub(crate) fn add_targets<R: Wait>(
     let Some(targets) = &said.targets else {
         return Ok(());
     };
-    match add_each(all, served, targets) {
+    match add_each(all, served, targets, said.header) {
         Some(()) => Ok(()),
         None => Err(ServeFault::Memory),
     }

@@ -23,13 +23,15 @@ nothing_said = record {
 abbrev pub no_lists : AccessEntry
 no_lists = record { allow = []; deny = [] }
 
--- a rule whose own target is its only one and isn't checked, and which lets all clients in
+-- a rule whose own target is its only one, isn't checked and is sent no header, and which lets all
+-- clients in
 abbrev pub rule_alone : Entry → SaidRuleEntry
 rule_alone rule = record {
   rule = rule;
   balance = RoundRobin;
   access = no_lists;
   checks = None;
+  header = None;
   targets = record { at = rule.target; weight = 1; backup = false } ∷ [];
 }
 

@@ -1,5 +1,6 @@
 pub mod Conversion
 pub mod ConvertedText
+pub mod Laws
 pub mod Meaning
 pub mod Settings
 pub mod Targets

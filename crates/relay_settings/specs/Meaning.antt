@@ -2,14 +2,15 @@
 -- carried out.
 use Rattle.std.specs.Prelude.{◌≡◌, ◌==◌, ◌⊎◌, ℕ, Bool, true, false, ◌&&◌, List, [], ◌∷◌, ◌++◌, length, map}
 use Rattle.std.specs.Prelude.{nat_le, slice_index, Option, Some, None, is_none, option_map, Result, Ok, Err, if◌then◌else◌}
+use Rattle.std.specs.Option.{option_and_then}
 use Rattle.std.specs.String.{string_bytes}
 use Rattle.config_values.specs.Addr as config
-use Rattle.relay_admin.specs.rules.Addr.{Address, address_of, tcp, unix}
+use Rattle.relay_admin.specs.rules.Addr.{Address, address_of, tcp, tcp6, unix}
 use Rattle.relay_admin.specs.rules.Grammar.{Entry, entry_of}
 use Rattle.relay_config.specs.Config.{SaysConfig, SaysFault}
 use Rattle.relay_config.specs.Entries.{AccessEntry, AdminEntry, ChecksEntry, ClientsEntry, ConfigEntry, HeadEntry, LogEntry}
 use Rattle.relay_config.specs.Entries.{access_entry, checks_entry}
-use Rattle.relay_config.specs.Entries.{RuleEntry, SocketsEntry, TargetEntry}
+use Rattle.relay_config.specs.Entries.{ProxyEntry, RuleEntry, SocketsEntry, TargetEntry}
 use Rattle.relay_config.specs.Fault.{item_spot, spot}
 use Rattle.relay_config.specs.Reading.{◌>>=◌, or_fault}
 use Rattle.relay_config.specs.declared.fault.Fault.{Fault}
@@ -22,6 +23,7 @@ use Rattle.relay_config.specs.declared.fault.Spot.{Spot}
 use Rattle.relay_config.specs.declared.fault.Wrong.TheVariants as wrong
 use Rattle.relay_config.specs.declared.log.Format.{Format}
 use Rattle.relay_config.specs.declared.log.Format.TheVariants as format
+use Rattle.relay_config.specs.declared.proxy.Version.{Version}
 use Rattle.relay_config.specs.declared.rule.TheConstants.{DEFAULT_RESOLVE_MS}
 use Rattle.relay_core.specs.Loops.{loop_count}
 use Rattle.relay_core.specs.PairLimit.{pair_count}
@@ -56,12 +58,17 @@ abbrev pub each_of : {A B : Type 0} → (List B → A → Result B Fault) → Li
 each_of step found [] = Ok found
 each_of step found (x ∷ xs) = step found x >>= λ y. each_of step (found ++ y ∷ []) xs
 
--- an address that a relay has: one of IPv4, or a path of at most 100 bytes
+-- an address that a relay has: one of IPv4 or IPv6, or a path of at most 100 bytes; none of a host by name
 abbrev pub relay_address : config.Address → Option Address
 relay_address (config.v4 ip port) =
     Some (tcp (slice_index ip 0) (slice_index ip 1) (slice_index ip 2) (slice_index ip 3) port)
+relay_address (config.v6 ip scope port) = Some (tcp6 ip scope port)
 relay_address (config.unix path) = if nat_le (length path) 100 then Some (unix path) else None
-relay_address other = None
+relay_address (config.name host port) = None
+
+-- the address of a relay that a text spells, as a configuration has it
+abbrev pub relay_address_at : List ℕ → Option Address
+relay_address_at text = option_and_then relay_address (config.address_at text)
 
 -- milliseconds from 1 to those of a day
 abbrev pub relay_time : ℕ → Option ℕ
@@ -151,25 +158,27 @@ pub record SaidTargetEntry : Type 0 where
   pub weight : ℕ
   pub backup : Bool
 
--- a rule, its targets, how these are checked, and who may connect to it
+-- a rule, its targets, how these are checked and what they are told of a client, and who may connect
 pub record SaidRuleEntry : Type 0 where
   pub rule : Entry
   pub balance : Balance
   pub access : AccessEntry
   pub checks : Option ChecksEntry
+  pub header : Option Version
   pub targets : List SaidTargetEntry
 
 -- what values of the program say
 abbrev pub said_target_entry : Target → SaidTargetEntry
 said_target_entry target = record { at = address_of target.at; weight = target.weight; backup = target.is_backup }
 
--- a rule, its targets, how these are checked, and who may connect to it
+-- a rule, its targets, how these are checked and what they are told of a client, and who may connect
 abbrev pub said_rule_entry : SaidRule → SaidRuleEntry
 said_rule_entry said = record {
   rule = entry_of said.rule;
   balance = said.balance;
   access = access_entry said.access;
   checks = option_map checks_entry said.checks;
+  header = said.header;
   targets = map said_target_entry said.targets.items;
 }
 
@@ -230,12 +239,19 @@ abbrev pub first_address : ℕ → List SaidTargetEntry → Result Address Fault
 first_address rule [] = Err (unserved (spot (place.Rule rule) key.Target))
 first_address rule (first ∷ others) = Ok first.at
 
--- the rule with this number; no client says by a header who it is
+-- with which header a connection to a target begins, if with one; no client says by one who it is
+unfoldable pub header_in : ℕ → Option ProxyEntry → Result (Option Version) Fault
+header_in rule None = Ok None
+header_in rule (Some proxy) = do
+  unread ← served_if (spot (place.Proxy rule) key.FromClient) (length proxy.from_client == 0)
+  Ok proxy.to_target
+
+-- the rule with this number
 unfoldable pub rule_in : ℕ → RuleEntry → Result SaidRuleEntry Fault
 rule_in n rule = do
   idle ← time_in (spot (place.Rule n) key.Idle) rule.head.idle
   head ← head_alone (place.Rule n) rule.head
-  proxy ← served_if (spot (place.Rule n) key.ProxyProtocol) (is_none rule.proxy)
+  header ← header_in n rule.proxy
   listen ← listen_in n rule.listen
   targets ← targets_in n rule.targets
   target ← first_address n targets
@@ -244,6 +260,7 @@ rule_in n rule = do
     balance = rule.head.balance;
     access = rule.access;
     checks = rule.head.health;
+    header = header;
     targets = targets;
   })
 

@@ -4,7 +4,8 @@ ghost use Rattle.std.specs.Prelude.{◌≡◌, true, IfOk, option_map};
 ghost use Rattle.config_values.specs.Addr as config;
 ghost use Rattle.relay_admin.specs.rules.Addr.{address_of};
 ghost use Rattle.relay_config.specs.Fault.{Reads};
-ghost use Rattle.relay_settings.specs.Meaning.{relay_address, relay_time, served, served_if, time_in, unserved};
+ghost use Rattle.relay_settings.specs.Meaning.{relay_address, relay_address_at, relay_time};
+ghost use Rattle.relay_settings.specs.Meaning.{served, served_if, time_in, unserved};
 
 use arrayvec::ArrayString;
 use config_values::DAY_MS;
@@ -36,11 +37,23 @@ pub(crate) fn relay_address(addr: &config_values::Addr) -> Option<Addr>
 {
     match addr {
         config_values::Addr::V4(ip, port) => Some(Addr::Tcp(ip.octets(), *port)),
+        config_values::Addr::V6(ip, scope, port) => Some(Addr::Tcp6(*ip, *scope, *port)),
         config_values::Addr::Unix(path) => match ArrayString::from(path.as_str()) {
             Ok(path) => Some(Addr::Unix(path)),
             Err(_) => None,
         },
-        _ => None,
+        config_values::Addr::Name(_, _) => None,
+    }
+}
+
+/// The address of a relay that a text spells, as a configuration has it; none where it spells none,
+/// or one that isn't served.
+pub fn relay_addr_of(text: &[u8]) -> Option<Addr>
+    ensures { option_map address_of result ≡ relay_address_at text.now }
+{
+    match config_values::addr_of(text) {
+        Some(addr) => relay_address(&addr),
+        None => None,
     }
 }
 

@@ -113,6 +113,7 @@ fn says_rule(said: &SaidRule, rule: &Rule) -> bool
     said.is_alone()
         && said.has_no_lists()
         && said.checks.is_none()
+        && said.header.is_none()
         && said.balance == Balance::RoundRobin
         && is_same_rule(&said.rule, rule)
 }

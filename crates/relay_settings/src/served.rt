@@ -1,15 +1,16 @@
 //! What a rule of a configuration says and this version carries out. Each thing that it comes to do
 //! takes a case away here.
 
-ghost use Rattle.std.specs.Prelude.{◌≡◌, ◌≤◌, ◌<◌, [], IfErr, IfOk, Some, length, map};
+ghost use Rattle.std.specs.Prelude.{◌≡◌, ◌≤◌, ◌<◌, [], IfErr, IfOk, Some, length, map, option_map};
 ghost use Rattle.config_values.specs.Addr as config;
 ghost use Rattle.relay_admin.specs.rules.Addr.{address_of};
 ghost use Rattle.relay_config.specs.Entries.{access_entry, clients_entry, head_entry, rule_entry};
-ghost use Rattle.relay_config.specs.Entries.{sockets_entry, target_entry};
+ghost use Rattle.relay_config.specs.Entries.{proxy_entry, sockets_entry, target_entry};
 ghost use Rattle.relay_config.specs.Fault.{Answers, Reads};
 ghost use Rattle.relay_config.specs.declared.fault.Fault.{Fault};
 ghost use Rattle.relay_settings.specs.Meaning.{clients_alone, each_of, first_address};
-ghost use Rattle.relay_settings.specs.Meaning.{head_alone, is_default_resolve, listen_in, rule_in};
+ghost use Rattle.relay_settings.specs.Meaning.{head_alone, header_in, is_default_resolve, listen_in};
+ghost use Rattle.relay_settings.specs.Meaning.{rule_in};
 ghost use Rattle.relay_settings.specs.Meaning.{said_rule_entry, said_target_entry, sockets_alone};
 ghost use Rattle.relay_settings.specs.Meaning.{target_behind, targets_in};
 ghost use Rattle.relay_settings.specs.Targets.{first_at};
@@ -18,7 +19,9 @@ use crate::address::{address_at, served_if, time_in, unserved};
 use crate::targets::{MAX_TARGETS, SaidRule, Target};
 use relay_admin::{Addr, Rule};
 use relay_config as config;
-use relay_config::{Access, Clients, DEFAULT_RESOLVE_MS, Fault, Head, Key, Place, Sockets, Spot};
+use relay_config::{
+    Access, Clients, DEFAULT_RESOLVE_MS, Fault, Head, Key, Place, Proxy, Sockets, Spot, Version,
+};
 use std::alloc::Global;
 
 /// The rule with this number as a relay serves it, or its first place that isn't carried out.
@@ -29,7 +32,7 @@ pub(crate) fn rule_of(alloc: Global, number: usize, rule: &config::Rule) -> Resu
     let place = Place::Rule(number);
     let idle_ms = time_in(Spot::of(place, Key::Idle), rule.head.idle_ms)?;
     head_alone(place, &rule.head)?;
-    served_if(Spot::of(place, Key::ProxyProtocol), rule.proxy.is_none())?;
+    let header = header_of(number, &rule.proxy)?;
     let access = access_of(alloc, &rule.access)?;
     let listen = listen_of(number, rule.listen.as_slice())?;
     let targets = targets_of(alloc, number, rule.targets.as_slice())?;
@@ -46,8 +49,22 @@ pub(crate) fn rule_of(alloc: Global, number: usize, rule: &config::Rule) -> Resu
         balance: rule.head.balance,
         access,
         checks,
+        header,
         targets,
     })
+}
+
+/// With which header a connection to a target begins. None is read of a client.
+#[tactic(auto, unfolding(crate::specs::Meaning::header_in))]
+fn header_of(rule: usize, proxy: &Option<Proxy>) -> Result<Option<Version>, Fault>
+    ensures { result ≡ header_in rule (option_map proxy_entry proxy.now) }
+{
+    let Some(proxy) = proxy else {
+        return Ok(None);
+    };
+    let from_none = proxy.from_client.is_empty();
+    served_if(Spot::of(Place::Proxy(rule), Key::FromClient), from_none)?;
+    Ok(proxy.to_target)
 }
 
 #[tactic(auto, unfolding(crate::specs::Meaning::head_alone))]

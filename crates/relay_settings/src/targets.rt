@@ -1,4 +1,5 @@
-//! A rule with its targets, their checks, and its lists of clients, as a file says them.
+//! A rule with its targets, their checks, what they are told of a client, and its lists of clients, as a
+//! file says them.
 
 ghost use Rattle.std.specs.Prelude.{◌≡◌, ◌≤◌, ◌<◌, ◌∷◌, [], IfOk, IsTrue, Some, None, ◌↔◌, length};
 ghost use Rattle.relay_settings.specs.Targets.{first_at, own_target};
@@ -6,7 +7,7 @@ ghost use Rattle.target_pick.specs.declared.picking.Balance.TheVariants.{RoundRo
 
 use base_types::OutOfMemory;
 use relay_admin::{Addr, Rule};
-use relay_config::{Access, Checks};
+use relay_config::{Access, Checks, Version};
 use std::alloc::Global;
 use target_pick::Balance;
 
@@ -23,7 +24,7 @@ pub struct Target {
     pub is_backup: bool,
 }
 
-/// A rule, its targets, how these are checked, and who may connect to it.
+/// A rule, its targets, how these are checked and what they are told of a client, and who may connect.
 #[derive(Drop)]
 pub struct SaidRule {
     /// Its own target is the first one.
@@ -34,6 +35,8 @@ pub struct SaidRule {
     pub access: Access,
     /// How its targets are checked; without checks all are up.
     pub checks: Option<Checks>,
+    /// With which header of the PROXY protocol a connection to a target begins, if with one.
+    pub header: Option<Version>,
     /// 1 to 64, in the order of the file.
     pub targets: Vec<Target>,
     ghost some: { 0 < length targets.items },
@@ -53,14 +56,15 @@ fn own_target(rule: &Rule) -> Target
 }
 
 impl SaidRule {
-    /// A rule whose own target is its only one and isn't checked, and which lets all clients in, as a
-    /// rules file says it.
+    /// A rule whose own target is its only one, isn't checked and is sent no header, and which lets all
+    /// clients in, as a rules file says it.
     pub fn alone(alloc: Global, rule: Rule) -> Result<SaidRule, OutOfMemory>
         ensures rule { IfOk result (λ said. said.rule ≡ rule) }
         ensures balance { IfOk result (λ said. said.balance ≡ RoundRobin) }
         ensures allow { IfOk result (λ said. said.access.allow.items ≡ []) }
         ensures deny { IfOk result (λ said. said.access.deny.items ≡ []) }
         ensures checks { IfOk result (λ said. said.checks ≡ None) }
+        ensures header { IfOk result (λ said. said.header ≡ None) }
         ensures targets { IfOk result (λ said. said.targets.items ≡ own_target rule ∷ []) }
     {
         let mut targets = Vec::new(alloc);
@@ -73,6 +77,7 @@ impl SaidRule {
                 deny: Vec::new(alloc),
             },
             checks: None,
+            header: None,
             targets,
         })
     }

@@ -3,7 +3,7 @@ use Rattle.std.specs.Prelude.{Bool, List, Option, Some, None, remove}
 use Rattle.std.specs.List.{position_or_len}
 use Rattle.arrayvec.specs.declared.array_string.ArrayString.{ArrayString}
 use Rattle.relay_admin.specs.declared.rules.addr.Addr.{Addr}
-use Rattle.relay_admin.specs.declared.rules.addr.Addr.TheVariants.{Tcp, Unix}
+use Rattle.relay_admin.specs.declared.rules.addr.Addr.TheVariants.{Tcp, Tcp6, Unix}
 use Rattle.relay_admin.specs.rules.Addr.{address_of, same_address}
 use Rattle.relay_shared.specs.declared.bound_path.BoundPath.{BoundPath}
 use Rattle.relay_shared.specs.declared.bound_path.BoundPaths.{BoundPaths}
@@ -11,6 +11,7 @@ use Rattle.relay_shared.specs.declared.bound_path.BoundPaths.{BoundPaths}
 -- the path of a Unix socket; a port has none
 abbrev pub path_in : Addr → Option (ArrayString 100)
 path_in (Tcp bytes port) = None
+path_in (Tcp6 ip scope port) = None
 path_in (Unix path) = Some path
 
 -- the address that was bound

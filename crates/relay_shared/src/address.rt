@@ -11,6 +11,7 @@ pub fn socket_address(addr: &relay_admin::Addr) -> Addr
 {
     match addr {
         relay_admin::Addr::Tcp(bytes, port) => Addr::Tcp(*bytes, *port),
+        relay_admin::Addr::Tcp6(ip, scope, port) => Addr::Tcp6(*ip, *scope, *port),
         relay_admin::Addr::Unix(path) => Addr::Unix(*path),
     }
 }
@@ -21,6 +22,7 @@ pub fn rule_address(addr: &Addr) -> relay_admin::Addr
 {
     match addr {
         Addr::Tcp(bytes, port) => relay_admin::Addr::Tcp(*bytes, *port),
+        Addr::Tcp6(ip, scope, port) => relay_admin::Addr::Tcp6(*ip, *scope, *port),
         Addr::Unix(path) => relay_admin::Addr::Unix(*path),
     }
 }

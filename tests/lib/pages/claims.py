@@ -30,7 +30,7 @@ NAMESAKES = {
     ("fd_descriptor", "write"), ("readiness", "hold"), ("readiness", "hold_listener"), ("handle_io", "read"), ("handle_io", "write"),
     ("net", "local_addr"), ("net", "wake"), ("net", "closer"), ("net", "find"), ("net", "find_in"), ("net", "line"),
     ("net", "socket_closer"), ("net", "step"), ("net", "peer_addr"), ("net", "Lines::read"), ("conntable", "ids"), ("relay_log", "label"),
-    ("config_values", "text"), ("ip_text", "dotted"), ("ip_text", "hex_groups"), ("ip_text", "ipv6_text"),
+    ("config_values", "text"), ("proxy_header", "decode"),
 }
 LIBRARY = re.compile(r"library calls?: ((?:`[\w:]+`(?:, | and )?)+)")
 WORD = re.compile(r"[A-Za-z_]\w*")

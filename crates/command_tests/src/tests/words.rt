@@ -3,7 +3,7 @@
 use relay_admin::{Addr, addr_of};
 use relay_command::{Job, job_of};
 use relay_core::{Loops, PairLimit};
-use relay_settings::{Asked, Settings, Source};
+use relay_settings::{Asked, Settings, Source, relay_addr_of};
 use std::alloc::{AllocError, Global};
 use std::prelude::HostRuntime;
 use std::test::Fail;
@@ -263,13 +263,15 @@ fn serve_takes_a_log_and_an_address_for_metrics(rt: HostRuntime) -> Result<(), F
     let alloc = rt.alloc();
     let tcp = addr_of(b"tcp:127.0.0.1:9090");
     let unix = addr_of(b"unix:/run/metrics.sock");
-    assert!(&rt; tcp.is_some() && unix.is_some());
-    let rows: [(&[&str], Option<&str>, Option<Addr>); 6] = [
+    let six = relay_addr_of(b"tcp:[::1]:9090");
+    assert!(&rt; tcp.is_some() && unix.is_some() && six.is_some());
+    let rows: [(&[&str], Option<&str>, Option<Addr>); 7] = [
         (&["--log", "/var/log/relay"], Some("/var/log/relay"), None),
         (&["--log=-"], Some("-"), None),
         (&["--log", "-"], Some("-"), None),
         (&["--metrics", "tcp:127.0.0.1:9090"], None, tcp),
         (&["--metrics=unix:/run/metrics.sock"], None, unix),
+        (&["--metrics", "tcp:[::1]:9090"], None, six),
         (
             &["--metrics=tcp:127.0.0.1:9090", "--log=a b"],
             Some("a b"),
@@ -289,7 +291,7 @@ fn serve_takes_a_log_and_an_address_for_metrics(rt: HostRuntime) -> Result<(), F
 
 #[test]
 fn serve_takes_no_other_log_or_address(rt: HostRuntime) -> Result<(), Fail> {
-    let rows: [&[&str]; 15] = [
+    let rows: [&[&str]; 17] = [
         &["--log"],
         &["--log", ""],
         &["--log="],
@@ -304,6 +306,8 @@ fn serve_takes_no_other_log_or_address(rt: HostRuntime) -> Result<(), Fail> {
         &["--metrics", "tcp:01.2.3.4:80"],
         &["--metrics", "unix:run/m"],
         &["--metrics", "127.0.0.1:9090"],
+        &["--metrics", "tcp:::1:9090"],
+        &["--metrics", "tcp:localhost:9090"],
         &["--metrics=unix:/m", "--metrics=unix:/m"],
     ];
     for words in rows {

@@ -1,6 +1,7 @@
 //! Copies that are resumed, by scripted gates that say "not yet", and memory for more room that is
 //! refused.
 mod counted;
+mod front;
 mod paced_gate;
 
 ghost use Rattle.std.specs.Prelude.{◌≡◌};

@@ -14,7 +14,7 @@ const ROWS: &[(&str, Option<([u8; 4], u16)>)] = &[
     ("127.0.0.1", None),
     ("127.0.0.1:65536", None),
     ("127.0.0.01:80", None),
-    ("[::1]:80", None),
+    ("[::1]", None),
     ("localhost:80", None),
     (" 127.0.0.1:80", None),
 ];
@@ -23,7 +23,7 @@ const ROWS: &[(&str, Option<([u8; 4], u16)>)] = &[
 fn is_so(text: &str, named: Option<([u8; 4], u16)>) -> bool {
     match address_of(text) {
         Ok(Addr::Tcp(bytes, port)) => Some((bytes, port)) == named,
-        Ok(Addr::Unix(_)) => false,
+        Ok(Addr::Tcp6(_, _, _)) | Ok(Addr::Unix(_)) => false,
         Err(error) => error.kind() == ErrorKind::InvalidInput && named.is_none(),
     }
 }

@@ -1,8 +1,9 @@
 -- What is shown is one line.
-use Rattle.std.specs.Prelude.{◌≡◌, ◌≢◌, ◌<◌, ◌^◌, ◌∷◌, ◌++◌, codes, if◌then◌else◌}
+use Rattle.std.specs.Prelude.{◌≡◌, ◌≢◌, ◌<◌, ◌^◌, ◌==◌, ◌∷◌, ◌++◌, codes, if◌then◌else◌}
 use Rattle.relay_admin.proofs.Words.{sym, refl, ℕ, List, [], Bool, true, false, Option, Some, None}
-use Rattle.relay_admin.proofs.Words.{append_assoc, arith, nat_tests, decimal, is_ascii_digit, Lacks, Address, tcp, unix}
+use Rattle.relay_admin.proofs.Words.{append_assoc, arith, nat_tests, decimal, is_ascii_digit, Lacks, Address, tcp, tcp6, unix}
 use Rattle.std.specs.List.{list_all}
+use Rattle.std.specs.Net.Text.{ipv6_text, scope_text}
 use Rattle.stream_base.proofs.LineLemmas.{lacks-append}
 use Rattle.relay_admin.specs.rules.Addr.{address_text, is_path, is_visible}
 use Rattle.relay_admin.specs.declared.admin.shown.ShownSide.{ShownSide}
@@ -12,7 +13,7 @@ use Rattle.relay_admin.specs.admin.Shown.{who_text, figures_text}
 use Rattle.relay_admin.specs.Laws.{OneLineAShow}
 use Rattle.relay_admin.proofs.TextLemmas.{both, word_lacks, Lacks-word}
 use Rattle.relay_admin.proofs.NumberLemmas.{Lacks-decimal}
-use Rattle.relay_admin.proofs.GrammarBytes.{name_visible, path_visible}
+use Rattle.relay_admin.proofs.GrammarBytes.{ipv6_visible, name_visible, path_visible}
 
 digit_no_feed : (x : ℕ) → is_ascii_digit x ≡ true → x ≢ 10
 digit_no_feed x e same = grind (arith, nat_tests)
@@ -44,6 +45,13 @@ number_then : (n byte : ℕ) (text : List ℕ) → n < 2 ^ 64 → 10 < byte → 
 number_then n byte text wide past lacks =
     lacks-append 10 (decimal n) (byte ∷ text) (number n wide) (byte_then byte text past lacks)
 
+scope_lacks : (scope : ℕ) → scope < 2 ^ 32 → Lacks 10 (scope_text scope)
+scope_lacks scope small = by_test (scope == 0)
+  where
+    by_test : (none : Bool) → Lacks 10 (if none then [] else codes "%" ++ decimal scope)
+    by_test true = tt
+    by_test false = behind (codes "%") (decimal scope) refl (number scope (omega arith))
+
 peer_lacks : (peer : Option Address) → FitsPeer peer → Lacks 10 (peer_text peer)
 peer_lacks None fits = Lacks-word 10 unnamed refl
 peer_lacks (Some (tcp a b c d port)) fits =
@@ -56,6 +64,12 @@ peer_lacks (Some (tcp a b c d port)) fits =
     refl (byte_then 58 _ (omega arith)
     (number_then a 46 _ wide_a (omega arith) (number_then b 46 _ wide_b (omega arith)
     (number_then c 46 _ wide_c (omega arith) (number_then d 58 _ wide_d (omega arith) (number port wide_port))))))
+peer_lacks (Some (tcp6 ip scope port)) fits =
+    let wide_port : port < 2 ^ 64 = let h = fits.2 in omega arith in
+    behind (codes "tcp:[") (ipv6_text ip ++ (scope_text scope ++ (codes "]:" ++ decimal port))) refl
+    (lacks-append 10 (ipv6_text ip) _ (visible_lacks (ipv6_text ip) (ipv6_visible ip fits.0))
+    (lacks-append 10 (scope_text scope) _ (scope_lacks scope fits.1)
+    (behind (codes "]:") (decimal port) refl (number port wide_port))))
 peer_lacks (Some (unix path)) fits = by_test (is_path path) refl
   where
     by_test : (b : Bool) → is_path path ≡ b → Lacks 10 (if b then address_text (unix path) else unnamed)

@@ -3,7 +3,7 @@ use Rattle.std.specs.Prelude.{◌≡◌, ◌^◌, ◌≤◌, ◌<◌, ◌∷◌,
 use Rattle.relay_admin.proofs.Words.{◌∙◌, refl, ℕ, List, [], Bool, true, false}
 use Rattle.relay_admin.proofs.Words.{Option, Some, None, arith, codes, is_ascii_digit}
 use Rattle.relay_admin.proofs.Words.{all_ascii_digits, bytes_eq, decimal, nat_tests, Lacks, IfSome}
-use Rattle.relay_admin.specs.rules.Addr.{Address, tcp, unix, dot, colon, is_path, IsAddress, address_text}
+use Rattle.relay_admin.specs.rules.Addr.{Address, tcp, tcp6, unix, dot, colon, is_path, IsAddress, address_text}
 use Rattle.relay_admin.specs.rules.Grammar.{Entry, IsEntry, IsIdle, time_text, is_name, space, line_text}
 use Rattle.relay_admin.specs.declared.rules.rule.TheConstants.{MAX_IDLE_MS}
 use Rattle.relay_admin.specs.TextReading.{◌>>=◌, split_at_first, number_within, time_within}
@@ -42,6 +42,7 @@ address_complete (tcp a b c d port) is =
     ++ dot ∷ (decimal b ++ dot ∷ (decimal c ++ dot ∷ (decimal d ++ colon ∷ decimal port))))
     (Lacks-word colon (codes "tcp") refl))
     ∙ tcp_complete a b c d port is
+address_complete (tcp6 ip scope port) is = absurd is
 address_complete (unix path) is =
     bind_is (split_at_first colon (address_text (unix path))) _ (codes "unix", path)
     (split_complete colon (codes "unix") path (Lacks-word colon (codes "unix") refl))
@@ -102,6 +103,7 @@ address_lacks_space (tcp a b c d port) (small_a, small_b, small_c, small_d, some
                 )),
           )),
     ))
+address_lacks_space (tcp6 ip scope port) is = absurd is
 address_lacks_space (unix path) is = Lacks-append space (codes "unix:") path (Lacks-word space (codes "unix:") refl)
     (Lacks-from_list_all space _ path visible_no_space (path_visible path is))
 

@@ -5,7 +5,7 @@ use Rattle.relay_admin.proofs.Words.{◌∙◌, sym, ap, refl, subst, ℕ, List,
 use Rattle.relay_admin.proofs.Words.{get_or, Bool, true, false, Some, None, arith, length-append, append-nil}
 use Rattle.relay_admin.proofs.Words.{append_assoc, bytes_eq, map-append, length-map, Any-from_list_any}
 use Rattle.relay_admin.proofs.Words.{list_any_at, all_pairs_push, nat_tests, lines_of, lines_of-ended_line}
-use Rattle.relay_admin.proofs.Words.{lines_of-last_line, Address, tcp, unix, Entry, IsSkipped, SpellsRule, Spell}
+use Rattle.relay_admin.proofs.Words.{lines_of-last_line, Address, tcp, tcp6, unix, Entry, IsSkipped, SpellsRule, Spell}
 use Rattle.relay_admin.proofs.Words.{nothing, skipped, rule, entry_of, entries_of, CanStandTogether, HasName, LacksName}
 use Rattle.relay_admin.proofs.Words.{HasListen, LacksListen, LineFault, bad_line, too_many, same_name, same_listen}
 use Rattle.relay_admin.proofs.Words.{FirstFault, SaysRules, SaysFault, split_at_first, is_skipped, same_address}
@@ -40,6 +40,11 @@ pub not_skipped : (line : List ℕ) → is_skipped line ≡ false → IsSkipped 
 not_skipped [] e h = absurd (cc)
 not_skipped (byte ∷ line) e h = grind (arith, nat_tests)
 
+three : (p q r : Bool) → (p && q && r) ≡ true → (p ≡ true) × (q ≡ true) × (r ≡ true)
+three true true r e = (refl, refl, e)
+three true false r e = absurd (cc)
+three false q r e = absurd (cc)
+
 five : (p q r s t : Bool) → (p && q && r && s && t) ≡ true → (p ≡ true) × (q ≡ true) × (r ≡ true) × (s ≡ true)
     × (t ≡ true)
 five true true true true t e = (refl, refl, refl, refl, e)
@@ -57,13 +62,24 @@ address_same (tcp a b c d port) (tcp e f g h other) t =
     let p3 = number_same d h p.3 in
     let p4 = number_same port other p.4 in
     cc
+address_same (tcp6 ip scope port) (tcp6 other_ip other_scope other_port) t =
+    let p = three (bytes_eq ip other_ip) (scope == other_scope) (port == other_port) t in
+    let p0 = same_bytes ip other_ip p.0 in
+    let p1 = number_same scope other_scope p.1 in
+    let p2 = number_same port other_port p.2 in
+    cc
 address_same (unix path) (unix other) t = ap unix (same_bytes path other t)
+address_same (tcp a b c d port) (tcp6 ip scope other) t = absurd (cc)
+address_same (tcp6 ip scope other) (tcp a b c d port) t = absurd (cc)
 address_same (tcp a b c d port) (unix path) t = absurd (cc)
 address_same (unix path) (tcp a b c d port) t = absurd (cc)
+address_same (tcp6 ip scope port) (unix path) t = absurd (cc)
+address_same (unix path) (tcp6 ip scope port) t = absurd (cc)
 
 pub address_itself : (one : Address) → same_address one one ≡ true
 address_itself (tcp a b c d port) =
     rw (number_itself a, number_itself b, number_itself c, number_itself d, number_itself port) refl
+address_itself (tcp6 ip scope port) = rw (bytes_itself ip, number_itself scope, number_itself port) refl
 address_itself (unix path) = bytes_itself path
 
 pub has_name_is : (name : List ℕ) (entries : List Entry) → finds_name name entries ≡ true → HasName entries name

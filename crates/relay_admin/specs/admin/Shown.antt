@@ -1,8 +1,8 @@
 -- What is shown of a connection or a listener, and the line that says it.
-use Rattle.std.specs.Prelude.{◌≡◌, ◌<◌, ◌^◌, ℕ, true, List, [], ◌∷◌, ◌++◌, Option, Some, None}
+use Rattle.std.specs.Prelude.{◌≡◌, ◌<◌, ◌^◌, ℕ, true, List, [], ◌∷◌, ◌++◌, Option, Some, None, slice_index}
 use Rattle.std.specs.Prelude.{codes, if◌then◌else◌}
 use Rattle.std.specs.Fmt.{decimal}
-use Rattle.relay_admin.specs.rules.Addr.{Address, tcp, unix, address_text, address_of, is_path}
+use Rattle.relay_admin.specs.rules.Addr.{Address, tcp, tcp6, unix, address_text, address_of, is_path}
 use Rattle.relay_admin.specs.rules.Grammar.{is_name}
 use Rattle.relay_admin.specs.declared.rules.addr.Addr.{Addr}
 use Rattle.relay_admin.specs.declared.admin.shown.Shown.{Shown}
@@ -53,6 +53,7 @@ unnamed = address_text (unix [])
 abbrev pub peer_text : Option Address → List ℕ
 peer_text None = unnamed
 peer_text (Some (tcp a b c d port)) = address_text (tcp a b c d port)
+peer_text (Some (tcp6 ip scope port)) = address_text (tcp6 ip scope port)
 peer_text (Some (unix path)) = if is_path path then address_text (unix path) else unnamed
 
 -- which id, of which rule, on which side, and who is at the other end
@@ -75,6 +76,8 @@ shown_text p = who_text p ++ (figures_text p ++ 10 ∷ [])
 abbrev pub FitsPeer : Option Address → Type 0
 FitsPeer (Some (tcp a b c d port)) =
     (a < 256) × (b < 256) × (c < 256) × (d < 256) × (port < 65536)
+FitsPeer (Some (tcp6 ip scope port)) =
+    ((k : ℕ) → slice_index ip k < 2 ^ 16) × (scope < 2 ^ 32) × (port < 65536)
 FitsPeer peer = Unit {0}
 
 -- the rule has a name of the grammar, and the numbers fit

@@ -114,7 +114,7 @@ fn write_figure<A: Allocator>(
     write_word(into, called, digits.format(figure))
 }
 
-/// The text of a peer, as the rules file spells an address; `unix:` of an unnamed one, as nginx has
+/// The text of a peer, as a configuration spells an address; `unix:` of an unnamed one, as nginx has
 /// it. What its path may be is up to the peer, so that one which no rules file could have isn't
 /// told: with a line feed in it, it would look like the next reply, or the next line of a log.
 pub fn peer_name(peer: &Option<Addr>) -> ArrayString<MAX_ADDR_BYTES>

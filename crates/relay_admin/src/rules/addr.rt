@@ -1,17 +1,22 @@
-//! Where a rule listens and where it connects to.
+//! Where a rule listens and where it connects to. A rules file spells no address of IPv6: a rule of a
+//! configuration may have one, and so may a client.
 
 ghost use Rattle.std.specs.Prelude.{◌≡◌, ◌≤◌, ◌+◌, ◌++◌, true, length, slice_index};
 ghost use Rattle.std.specs.List.{list_all};
 ghost use Rattle.std.specs.Fmt.{decimal};
+ghost use Rattle.std.specs.Net.Addr.{ipv6_segments};
+ghost use Rattle.std.specs.Net.Text as Text;
 ghost use Rattle.arrayvec.specs.ArrayString.{array_string_len};
 ghost use Rattle.relay_admin.specs.rules.Addr.{address_of, address_text, is_path, is_visible};
-ghost use Rattle.relay_admin.specs.rules.Addr.{same_address, tcp, unix};
+ghost use Rattle.relay_admin.specs.rules.Addr.{same_address, tcp, tcp6, unix};
 ghost use Rattle.relay_admin.specs.rules.Reading.{address_at, path_at, tcp_at};
 ghost use Rattle.relay_admin.specs.TextReading.{Views};
 
 use crate::text::{number_between, split_once};
 use arrayvec::ArrayString;
+use ip_text::{MAX_IPV6_BYTES, ipv6_text};
 use itoa::Buffer;
+use std::net::Ipv6Addr;
 use std::str;
 
 /// The most bytes of a path.
@@ -20,20 +25,24 @@ pub const MAX_PATH_BYTES: usize = 100;
 /// The most bytes of an address's text: those of a path, and "unix:" before it.
 pub const MAX_ADDR_BYTES: usize = MAX_PATH_BYTES + 5;
 
-/// An address: `Tcp` has the four bytes of an IPv4 address and a port, `Unix` the path of a socket.
+/// An address: `Tcp` has the four bytes of an IPv4 address and a port; `Tcp6` an IPv6 address, the
+/// number of its scope, 0 for none, and a port; `Unix` the path of a socket.
 #[derive(Clone, Copy, Debug, PartialEq, Eq, Drop)]
 pub enum Addr {
     Tcp([u8; 4], u16),
+    Tcp6(Ipv6Addr, u32, u16),
     Unix(ArrayString<MAX_PATH_BYTES>),
 }
 
 impl Addr {
-    /// The address as a rules file spells it, at most 105 bytes.
+    /// The address as a rules file spells it, and one of IPv6 as a configuration does, at most 105
+    /// bytes.
     pub fn text(&self) -> ArrayString<MAX_ADDR_BYTES>
         ensures { result.bytes ≡ address_text (address_of self.now) }
     {
         match self {
             Addr::Tcp(bytes, port) => tcp_text(bytes, *port),
+            Addr::Tcp6(ip, scope, port) => tcp6_text(*ip, *scope, *port),
             Addr::Unix(path) => unix_text(path.as_str()),
         }
     }
@@ -44,19 +53,50 @@ fn tcp_text(bytes: &[u8; 4], port: u16) -> ArrayString<MAX_ADDR_BYTES>
         (slice_index bytes.now 2) (slice_index bytes.now 3) port) }
 {
     let mut text = ArrayString::new();
-    push_number(&mut text, "tcp:", u16::from(bytes[0]));
-    push_number(&mut text, ".", u16::from(bytes[1]));
-    push_number(&mut text, ".", u16::from(bytes[2]));
-    push_number(&mut text, ".", u16::from(bytes[3]));
-    push_number(&mut text, ":", port);
+    push_number(&mut text, "tcp:", u32::from(bytes[0]));
+    push_number(&mut text, ".", u32::from(bytes[1]));
+    push_number(&mut text, ".", u32::from(bytes[2]));
+    push_number(&mut text, ".", u32::from(bytes[3]));
+    push_number(&mut text, ":", u32::from(port));
     text
 }
 
+fn tcp6_text(ip: Ipv6Addr, scope: u32, port: u16) -> ArrayString<MAX_ADDR_BYTES>
+    ensures { result.bytes ≡ address_text (tcp6 (ipv6_segments ip) scope port) }
+{
+    let digits = digits_of(ip.segments());
+    let mut text = ArrayString::new();
+    text.push_str("tcp:[");
+    text.push_str(digits.as_str());
+    push_scope(&mut text, scope);
+    push_number(&mut text, "]:", u32::from(port));
+    text
+}
+
+/// The digits of the address with these segments, which are ASCII since each has 16 bits.
+fn digits_of(segments: [u16; 8]) -> ArrayString<MAX_IPV6_BYTES>
+    ensures { result.bytes ≡ Text.ipv6_text segments }
+{
+    let digits = ipv6_text(Ipv6Addr::from_segments(segments));
+    held(digits.as_slice())
+}
+
+/// Puts `%` and the scope behind the text, or nothing for none.
+fn push_scope(text: &mut ArrayString<MAX_ADDR_BYTES>, scope: u32)
+    requires { array_string_len text.old + 11 ≤ MAX_ADDR_BYTES }
+    ensures bytes { text.new.bytes ≡ text.old.bytes ++ Text.scope_text scope }
+    ensures short { array_string_len text.new ≤ array_string_len text.old + 11 }
+{
+    if scope > 0 {
+        push_number(text, "%", scope);
+    }
+}
+
 /// Puts these words and a number behind the text.
-fn push_number(text: &mut ArrayString<MAX_ADDR_BYTES>, words: &str, number: u16)
-    requires { array_string_len text.old + length words.now + 5 ≤ MAX_ADDR_BYTES }
+fn push_number(text: &mut ArrayString<MAX_ADDR_BYTES>, words: &str, number: u32)
+    requires { array_string_len text.old + length words.now + 10 ≤ MAX_ADDR_BYTES }
     ensures bytes { text.new.bytes ≡ text.old.bytes ++ (words.now ++ decimal number) }
-    ensures short { array_string_len text.new ≤ array_string_len text.old + length words.now + 5 }
+    ensures short { array_string_len text.new ≤ array_string_len text.old + length words.now + 10 }
 {
     let mut digits = Buffer::new();
     text.push_str(words);
@@ -96,6 +136,9 @@ pub fn is_same_addr(one: &Addr, other: &Addr) -> bool
     match (one, other) {
         (Addr::Tcp(a, port), Addr::Tcp(b, other_port)) => {
             a[0] == b[0] && a[1] == b[1] && a[2] == b[2] && a[3] == b[3] && *port == *other_port
+        }
+        (Addr::Tcp6(ip, scope, port), Addr::Tcp6(other_ip, other_scope, other_port)) => {
+            ip.segments() == other_ip.segments() && *scope == *other_scope && *port == *other_port
         }
         (Addr::Unix(path), Addr::Unix(other_path)) => path.as_str() == other_path.as_str(),
         _ => false,

@@ -70,7 +70,7 @@ fn ends<R: Net + Clock + Abort>(rt: &R, addr: &Addr, listener: Listen) -> (Sock,
 /// The path of a Unix listener goes again.
 fn removes<R: Files>(rt: &R, addr: &Addr) -> bool {
     match addr {
-        Addr::Tcp(_, _) => true,
+        Addr::Tcp(_, _) | Addr::Tcp6(_, _, _) => true,
         Addr::Unix(path) => fs::remove_file(rt, path.as_str()).is_ok(),
     }
 }

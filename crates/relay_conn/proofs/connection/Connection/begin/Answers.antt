@@ -1,4 +1,5 @@
 use Rattle.std.proofs.Common.{◌≡◌, ◌∙◌, Some, sym, ap}
+use Rattle.std.specs.Arc.{arc_value}
 use Rattle.relay_conn.specs.declared.connection.Phase.TheVariants as phase
 use Rattle.relay_conn.proofs.ConnectionLemmas.{begun}
 use Rattle.relay_conn.proofs.connection.Connection.begin.Goals as goal
@@ -8,7 +9,7 @@ pub returns-in-Some-Dialing-clause-begun : goal.returns-in-Some-Dialing-clause-b
 returns-in-Some-Dialing-clause-begun g c = let made = c.of-relaying.ensures in
     let its = c.in-Some-Dialing.field-0-is in
     let dials : c.in-Some-Dialing.field-0 ≡ phase.Dialing c.in-Some-Dialing.dialing = cc in
-    begun c.args.self.now.phase (Some (phase.Relaying c.go_on-next.new.self)) c.in-Some-Dialing.dialing c.of-relaying.result c.go_on-next.result
+    begun (arc_value c.args.self.now.facts).acceptance c.args.self.now.phase (Some (phase.Relaying c.go_on-next.new.self)) c.in-Some-Dialing.dialing c.of-relaying.result c.go_on-next.result
     (sym c.take.ensures.value ∙ c.in-Some-Dialing.is ∙ ap Some dials)
     (record {
       client_feeds_up = made.client_feeds_up;
@@ -19,8 +20,10 @@ returns-in-Some-Dialing-clause-begun g c = let made = c.of-relaying.ensures in
       down_state = made.down_state;
       up_time = made.up_time;
       down_time = made.down_time;
-      up_copying = made.up_copying;
-      down_copying = made.down_copying;
+      up_first = made.up_first;
+      down_first = made.down_first;
+      heading = made.heading;
+      down_heading = made.down_heading;
       up_share = made.up_share;
       down_share = made.down_share;
       tasks = made.tasks;

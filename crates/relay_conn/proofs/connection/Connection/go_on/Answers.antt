@@ -23,7 +23,7 @@ pub returns-in-Connected-clause-connects : goal.returns-in-Connected-clause-conn
 returns-in-Connected-clause-connects g c =
     let its = c.in-Some-Dialing.field-0-is in
     let dials : c.in-Some-Dialing.field-0 ≡ phase.Dialing c.in-Some-Dialing.dialing = cc in
-    connected _ _ c.in-Some-Dialing.dialing c.go_on-step.new.self c.args.why c.begin.result
+    connected _ _ _ c.in-Some-Dialing.dialing c.go_on-step.new.self c.args.why c.begin.result
     (c.in-Some-Dialing.is ∙ ap Some dials) c.go_on-step.ensures.kept c.begin.ensures.begun
 
 -- its target was let go, after what its dial was told
