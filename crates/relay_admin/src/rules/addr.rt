@@ -64,7 +64,7 @@ fn tcp_text(bytes: &[u8; 4], port: u16) -> ArrayString<MAX_ADDR_BYTES>
 fn tcp6_text(ip: Ipv6Addr, scope: u32, port: u16) -> ArrayString<MAX_ADDR_BYTES>
     ensures { result.bytes ≡ address_text (tcp6 (ipv6_segments ip) scope port) }
 {
-    let digits = digits_of(ip.segments());
+    let digits = digits_of(ip);
     let mut text = ArrayString::new();
     text.push_str("tcp:[");
     text.push_str(digits.as_str());
@@ -73,12 +73,22 @@ fn tcp6_text(ip: Ipv6Addr, scope: u32, port: u16) -> ArrayString<MAX_ADDR_BYTES>
     text
 }
 
-/// The digits of the address with these segments, which are ASCII since each has 16 bits.
-fn digits_of(segments: [u16; 8]) -> ArrayString<MAX_IPV6_BYTES>
-    ensures { result.bytes ≡ Text.ipv6_text segments }
+/// The digits of the address.
+fn digits_of(ip: Ipv6Addr) -> ArrayString<MAX_IPV6_BYTES>
+    ensures { result.bytes ≡ Text.ipv6_text (ipv6_segments ip) }
 {
-    let digits = ipv6_text(Ipv6Addr::from_segments(segments));
-    held(digits.as_slice())
+    let segments = ip.segments();
+    let digits = ipv6_text(ip);
+    held_digits(&segments, digits.as_slice())
+}
+
+/// The digits of the address with these segments, which are ASCII since each has 16 bits.
+fn held_digits(segments: &[u16], digits: &[u8]) -> ArrayString<MAX_IPV6_BYTES>
+    requires its { digits.now ≡ Text.ipv6_text segments.now }
+    requires short { length digits.now ≤ MAX_IPV6_BYTES }
+    ensures { result.bytes ≡ digits.now }
+{
+    held(digits)
 }
 
 /// Puts `%` and the scope behind the text, or nothing for none.
