@@ -1,9 +1,11 @@
 -- Which clients the lists of a rule let in.
 use Rattle.std.specs.Prelude.{◌≡◌, ⊤, ℕ, List, [], Option, Some, None, option_map}
 use Rattle.std.specs.Arc.{arc_value}
-use Rattle.std.specs.Net.Addr.{ipv4_octets}
+use Rattle.std.specs.Net.Addr.{ipv4_octets, IsCanonicalOf}
+use Rattle.std.specs.declared.net.ip_addr.IpAddr.{IpAddr}
 use Rattle.std.specs.declared.net.ip_addr.IpAddr.TheVariants as ip
 use Rattle.std.specs.declared.net.ipv4_addr.Ipv4Addr.{Ipv4Addr}
+use Rattle.std.specs.declared.net.ipv6_addr.Ipv6Addr.{Ipv6Addr}
 use Rattle.client_nets.specs.Net.{IsAdmitted}
 use Rattle.client_nets.specs.declared.net.Net.{Net}
 use Rattle.relay_admin.specs.declared.rules.addr.Addr.{Addr}
@@ -26,11 +28,16 @@ abbrev pub AdmitBytes : List Net → List Net → List ℕ → Type 0
 AdmitBytes allow deny bytes =
     (address : Ipv4Addr) × (ipv4_octets address ≡ bytes) × IsAdmitted allow deny (ip.V4 address)
 
+-- these lists admit the IPv6 address; an IPv4-mapped one they admit as the IPv4 address in it
+abbrev pub AdmitV6 : List Net → List Net → Ipv6Addr → Type 0
+AdmitV6 allow deny address =
+    (found : IpAddr) × IsCanonicalOf address found × IsAdmitted allow deny found
+
 -- these lists let the client in: they admit its address, whatever its port and its scope; or it came by a
 -- Unix socket, of which lists of networks say nothing
 abbrev pub LetIn : List Net → List Net → Option Addr → Type 0
 LetIn allow deny (Some (addr.Tcp bytes port)) = AdmitBytes allow deny bytes
-LetIn allow deny (Some (addr.Tcp6 address scope port)) = IsAdmitted allow deny (ip.V6 address)
+LetIn allow deny (Some (addr.Tcp6 address scope port)) = AdmitV6 allow deny address
 LetIn allow deny other = ⊤
 
 -- the lists that stood at its accept, if its rule had any

@@ -1,19 +1,19 @@
 //! Which clients the lists of a rule let in.
 
 ghost use Rattle.std.specs.Prelude.{◌≡◌, ◌↔◌, IsTrue, IfOk, IfErr};
-ghost use Rattle.client_nets.specs.Net.{IsAdmitted};
-ghost use Rattle.relay_facts.specs.Admission.{AdmitBytes, IsLetIn, LetIn};
+ghost use Rattle.client_nets.specs.Net.{IsAdmitted, IsLookedUpAs};
+ghost use Rattle.relay_facts.specs.Admission.{AdmitBytes, AdmitV6, IsLetIn, LetIn};
 
 use crate::connection_facts::Acceptance;
 use client_nets::admits;
 use relay_admin::Addr;
 use relay_settings::Access;
-use std::net::{IpAddr, Ipv4Addr};
+use std::net::{IpAddr, Ipv4Addr, Ipv6Addr};
 
-// Whether these lists admit an address.
+// Whether these lists admit what an address is looked up as.
 fn admit(access: &Access, address: IpAddr) -> bool
-    ensures { IsTrue result
-        ↔ IsAdmitted access.now.allow.items access.now.deny.items address }
+    ensures { (found : IpAddr) → IsLookedUpAs address found → (IsTrue result
+        ↔ IsAdmitted access.now.allow.items access.now.deny.items found) }
 {
     admits(access.allow.as_slice(), access.deny.as_slice(), address)
 }
@@ -27,6 +27,16 @@ fn admit_bytes(access: &Access, bytes: [u8; 4]) -> bool
     admit(access, IpAddr::V4(address))
 }
 
+// Whether these lists admit an IPv6 address.
+fn admit_v6(access: &Access, address: Ipv6Addr) -> bool
+    ensures { IsTrue result
+        ↔ AdmitV6 access.now.allow.items access.now.deny.items address }
+{
+    // (`admits` looks it up as this; it is named here for the clause)
+    let _found = address.to_canonical();
+    admit(access, IpAddr::V6(address))
+}
+
 // Whether these lists let a client in.
 fn let_in(access: &Access, client: &Option<Addr>) -> bool
     ensures { IsTrue result
@@ -34,7 +44,7 @@ fn let_in(access: &Access, client: &Option<Addr>) -> bool
 {
     match client {
         Some(Addr::Tcp(bytes, _)) => admit_bytes(access, *bytes),
-        Some(Addr::Tcp6(ip, _, _)) => admit(access, IpAddr::V6(*ip)),
+        Some(Addr::Tcp6(ip, _, _)) => admit_v6(access, *ip),
         _ => true,
     }
 }
