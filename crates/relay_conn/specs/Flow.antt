@@ -1,5 +1,5 @@
 -- What a way does that goes on.
-use Rattle.std.specs.Prelude.{◌≡◌, ◌<◌, ◌≤◌, ◌↔◌, ℕ, Bool, true, false, List, Some, None, length}
+use Rattle.std.specs.Prelude.{◌≡◌, ◌<◌, ◌≤◌, ◌↔◌, ℕ, Bool, true, false, List, [], Some, None, length}
 use Rattle.relay_core.specs.CopyTrace.{GateCall}
 use Rattle.relay_core.specs.SourceState.{resumed}
 use Rattle.relay_core.specs.Passing.{IsPassing, IsPassed, IsStop, next_dir, unwritten, IfWaits, IfEnded}
@@ -48,7 +48,8 @@ module _ {L R : Type 0} where
     IsTaken : (count : ℕ) → IsPassing TakesSome Untold Untold 0 count old.copying new.copying 1 0
         → (new.heading ≡ true ↔ 0 < length (unwritten new.copying)) → Heads old new Again
     -- nothing was left of it
-    IsOver : new.copying ≡ old.copying → new.heading ≡ false → Heads old new Again
+    IsOver : unwritten old.copying ≡ [] → new.copying ≡ old.copying → new.heading ≡ false
+        → Heads old new Again
     -- none of it was taken, since the call would have blocked, or the way ended
     IsStopped : {step : Step} → IsStop (next_dir new.copying) (λ dir. new.gate.blocked ≡ Some dir)
         (IsPassing TakesSome Untold Untold 0 0 old.copying new.copying 0 0)
