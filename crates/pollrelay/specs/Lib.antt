@@ -1,0 +1,4 @@
+pub mod Ending
+pub mod Given
+pub mod Printed
+pub mod Words
