@@ -1,4 +1,5 @@
 -- What becomes of a connection that goes on.
+use Rattle.std.specs.Arc.{arc_value}
 use Rattle.readiness.specs.declared.agenda.Why.{Why}
 use Rattle.relay_conn.specs.Asked.{KeepsConnection}
 use Rattle.relay_conn.specs.Connection.{IfDialing, IfRelaying, IfSeeking, IsRelaying, IsSeeking}
@@ -19,7 +20,7 @@ module _ {U D R : Type 0} where
     pub dials : IfDialing old.phase (λ before. IfDialing new.phase (λ after.
         DialsOn before after why next))
     pub connects : IfDialing old.phase (λ before. IfRelaying new.phase (λ after.
-        Connects before after why next))
+        Connects (arc_value old.facts).acceptance before after why next))
     pub seeks : IfDialing old.phase (λ dialed. IfSeeking new.phase (λ seeks.
         SeeksOn dialed seeks before after why next))
     pub seeks_on : IfSeeking old.phase (λ sought. IfSeeking new.phase (λ seeks.

@@ -1,7 +1,10 @@
-use Rattle.std.proofs.Common.{◌≡◌, ◌∙◌, Some, sym, ap}
+use Rattle.std.proofs.Common.{◌≡◌, ◌∙◌, ◌<◌, ◌↔◌, Some, true, length, sym, ap, subst}
 use Rattle.std.specs.Arc.{arc_value}
 use Rattle.relay_conn.specs.declared.connection.Phase.TheVariants as phase
 use Rattle.relay_conn.proofs.ConnectionLemmas.{begun}
+use Rattle.relay_core.specs.Passing.{Bytes}
+use Rattle.relay_facts.specs.Header.{first_bytes}
+use Rattle.relay_facts.specs.declared.connection_facts.ConnectionFacts.{ConnectionFacts}
 use Rattle.relay_conn.proofs.connection.Connection.begin.Goals as goal
 
 -- its ways are those of what was dialled
@@ -20,9 +23,9 @@ returns-in-Some-Dialing-clause-begun g c = let made = c.of-relaying.ensures in
       down_state = made.down_state;
       up_time = made.up_time;
       down_time = made.down_time;
-      up_first = made.up_first;
+      up_first = made.up_first ∙ ap (λ (facts : ConnectionFacts). Bytes (first_bytes facts.acceptance)) c.deref.ensures;
       down_first = made.down_first;
-      heading = made.heading;
+      heading = subst (λ (facts : ConnectionFacts). c.of-relaying.result.up.heading ≡ true ↔ 0 < length (first_bytes facts.acceptance)) c.deref.ensures made.heading;
       down_heading = made.down_heading;
       up_share = made.up_share;
       down_share = made.down_share;
