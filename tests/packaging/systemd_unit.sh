@@ -36,7 +36,8 @@ calls_of() {
     done
 }
 calls_of "$(sed -n 's/^SystemCallFilter=//p' $unit)" | sort -u >"$scratch/allowed"
-families=$(sed -n 's/^RestrictAddressFamilies=//p' $unit | sed 's/ /,|/g; s/$/,/')
+named=$(sed -n 's/^RestrictAddressFamilies=//p' $unit)
+families=$(echo "$named" | sed 's/ /,|/g; s/$/,/')
 
 cat >"$scratch/traced" <<END
 #!/bin/sh
@@ -75,6 +76,68 @@ wait $given
 holds "it ends by TERM" test $? = 0
 none "what it doesn't use" "$(grep 'unused socket' "$scratch/told")"
 holds "it leaves their paths" test -S "$scratch/one.sock" -a -S "$scratch/given.sock"
+
+# IPv6, under a filter of calls as systemd makes one of RestrictAddressFamilies: sockets of other families are refused.
+cat >"$scratch/restricted.py" <<'END'
+"""Runs a program that is given sockets of these families alone: restricted.py "FAMILY.." PROGRAM.."""
+import ctypes
+import errno
+import os
+import socket
+import struct
+import sys
+
+# By linux/filter.h and linux/seccomp.h: each step has a code, how many steps are skipped where a word is its value and where it
+# isn't, and that value. The words are a call's number, of which socket has 41 on x86-64, and its first argument, at byte 16.
+LOAD, IS_EQUAL, ANSWER = 0x20, 0x15, 0x06
+REFUSED, ALLOWED = 0x50000 | errno.EAFNOSUPPORT, 0x7FFF0000
+PR_SET_NO_NEW_PRIVS, PR_SET_SECCOMP, SECCOMP_MODE_FILTER = 38, 22, 2
+
+families = [getattr(socket, name) for name in sys.argv[1].split()]
+steps = [(LOAD, 0, 0, 0), (IS_EQUAL, 0, len(families) + 2, 41), (LOAD, 0, 0, 16)]
+steps += [(IS_EQUAL, len(families) - place, 0, family) for place, family in enumerate(families)]
+steps += [(ANSWER, 0, 0, REFUSED), (ANSWER, 0, 0, ALLOWED)]
+code = ctypes.create_string_buffer(b"".join(struct.pack("=HBBI", *step) for step in steps))
+filter_of_calls = ctypes.create_string_buffer(struct.pack("@HP", len(steps), ctypes.addressof(code)))
+libc = ctypes.CDLL(None, use_errno=True)
+libc.prctl.argtypes = [ctypes.c_int] + [ctypes.c_ulong] * 4
+if libc.prctl(PR_SET_NO_NEW_PRIVS, 1, 0, 0, 0) or libc.prctl(PR_SET_SECCOMP, SECCOMP_MODE_FILTER, ctypes.addressof(filter_of_calls), 0, 0):
+    sys.exit(f"no filter of calls: {os.strerror(ctypes.get_errno())}")
+os.execvp(sys.argv[2], sys.argv[2:])
+END
+cat >"$scratch/line.py" <<'END'
+"""A line through a relay that listens at one host, to a target at another: line.py LISTEN TARGET, and words ahead of the program's."""
+import sys
+
+sys.path.insert(1, "tests")
+from lib.counting_target import CountingTarget
+from lib.echoes import comes_back
+from lib.relay import Relay, StartFault
+from lib.sockets import free_port
+
+listens, host, *before = sys.argv[1:]
+address, target = f"tcp:{listens}:{free_port()}", CountingTarget(host=host)
+rule = f'[[rule]]\nname = "six"\nlisten = ["{address}"]\ntarget = [{{ at = "{target.address}" }}]\n'
+try:
+    with Relay(f'admin = "{{folder}}/admin.sock"\nlog = "{{folder}}/log"\n{rule}', form="config", before=before, env={}) as relay:
+        came, ended = comes_back(address), relay.stop()[:2]
+        with open(f"{relay.folder}/log", encoding="ascii") as log:
+            sys.exit(0 if came and ended == (0, (5, 5)) else f"no line comes back: {log.read()}{ended}")
+except StartFault as fault:
+    sys.exit(f"it doesn't start: {fault.errors}")
+END
+# line LISTEN TARGET "FAMILY..": a line through a relay under that filter, traced.
+line() {
+    POLLRELAY=$program python3 "$scratch/line.py" "$1" "$2" python3 "$scratch/restricted.py" "$3" strace -A -f -qq -a1 -o "$scratch/log.six"
+}
+if python3 -c 'import sys; sys.path.insert(1, "tests"); from lib.sockets import has_ipv6; sys.exit(not has_ipv6())'; then
+    holds "a rule at [::1] under the unit's families" line "[::1]" 127.0.0.1 "$named"
+    holds "a target at [::1] under the unit's families" line 127.0.0.1 ::1 "$named"
+    line "[::1]" 127.0.0.1 "AF_INET AF_UNIX" >"$scratch/told" 2>&1
+    holds "a rule at [::1] where they lack AF_INET6" grep -qx "it doesn't start: cannot listen six" "$scratch/told"
+else
+    echo "NOT TRIED: this machine has no ::1, so that the unit is tried with none of IPv6"
+fi
 
 # The file system as ProtectSystem=strict shows it, in a mount namespace of its own: only the unit's folders can be written. There the
 # program takes a log in LogsDirectory, and none elsewhere.
