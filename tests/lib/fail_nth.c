@@ -184,7 +184,7 @@ int listen(int fd, int most) {
     int domain = AF_UNIX;
     socklen_t size = sizeof domain;
     getsockopt(fd, SOL_SOCKET, SO_DOMAIN, &domain, &size);
-    return domain == AF_INET && is_failed("listen", CALLER) ? fail(fd) : it(fd, most);
+    return domain != AF_UNIX && is_failed("listen", CALLER) ? fail(fd) : it(fd, most);
 }
 
 // The program gives each of its calls a number as the third word.

@@ -13,18 +13,23 @@ reloads    a reload adds and takes away rules of IPv6; connections go on.
 health     a target of IPv6 is down, and up again, by its checks.
 option     `--metrics` takes an IPv6 address too.
 refused    where nobody listens, the next target of the other family is tried; a port that is taken is told as one of IPv4.
+faults     each call fails once by which a listener of IPv6 is made: the start ends with the rule's fault; a reload is refused, keeps no
+           descriptor and changes nothing.
 """
 import contextlib
+import errno
 import json
 import socket
 import subprocess
 import sys
 
 sys.path.insert(1, f"{sys.path[0]}/..")
+from lib.c_code import library
 from lib.counting_target import CountingTarget
+from lib.faulted_life import said_of
 from lib.log_text import logged
 from lib.metrics import scrape
-from lib.places import PROGRAM
+from lib.places import LIB, PROGRAM
 from lib.relay import Relay, StartFault
 from lib.sockets import connect, dual_stack, free_port, has_ipv6, listener, tcp_address
 from lib.stages import run_script
@@ -320,9 +325,57 @@ def refusal(of_rule):
     return None
 
 
+# The calls by which a listener is made, each with an error of its manual. A start makes the rule's listener, then the admin socket's:
+# which of them can't be made where the first such call fails, and where the second does. A listener of IPv6 has two options set; the
+# library has no `listen` of a Unix socket fail.
+CALLS = {
+    "socket": ("EAFNOSUPPORT", ["six", "admin"]), "setsockopt": ("ENOBUFS", ["six", "six"]),
+    "bind": ("EADDRNOTAVAIL", ["six", "admin"]), "listen": ("EADDRINUSE", ["six"]),
+}
+MOST_CALLS = 20
+
+
+def faults(checks, folder):
+    lib = library(f"{LIB}/fail_nth.c", f"{folder}/fail_nth.so")
+    for call, (error, told) in CALLS.items():
+        env = {"LD_PRELOAD": lib, "FAIL_CALL": call, "FAIL_WITH": str(getattr(errno, error))}
+        envs = [{**env, "FAIL_AT": str(at)} for at in range(1, MOST_CALLS)]
+        checks.expect(f"faults: {call}: starts", [(3, f"cannot listen {name}\n", []) for name in told], list(failed_starts(envs)))
+        checks.expect(f"faults: {call}: reloads", told.count("six"), failed_reloads(checks, call, envs))
+
+
+def failed_starts(envs):
+    """How each start ends of a relay of which such a call fails, what it says and which paths it leaves, until none fails."""
+    a = CountingTarget("A", "::1")
+    for env in envs:
+        try:
+            with relay(rule(ONE(free_port()), a, name="six"), env=env):
+                return
+        except StartFault as fault:
+            yield fault.status, said_of(fault.errors)[0], fault.left
+
+
+def failed_reloads(checks, call, envs):
+    """Of reloads that add a rule of IPv6 to one of IPv4, how many there are that such a call has refused, until none fails."""
+    a, b, count = CountingTarget("A", "::1"), CountingTarget("B"), 0
+    for env in envs:
+        first, second = FOUR(free_port()), ONE(free_port())
+        one, more = rule(first, b, name="four"), rule(second, a, name="six")
+        with contextlib.suppress(StartFault), relay(one, env=env) as it:
+            rest, reply = it.descriptors(), reload(it, one, more)
+            if not said_of(it.errors())[1]:
+                return count
+            count += 1
+            checks.expect(f"faults: {call}: a reload", "cannot listen six", reply)
+            checks.holds(f"faults: {call}: its descriptors", wait_until(lambda: it.descriptors() == rest, SOON), f"{it.descriptors()}, not {rest}")
+            checks.expect(f"faults: {call}: who is served", ("ids 1", "B", "refused"), (it.ask("list"), name_at(first), name_at(second)))
+            checks.expect(f"faults: {call}: the next reload", ("rules 2", "A"), (reload(it, one, more), name_at(second)))
+    return None
+
+
 STAGES = {
     "loopback": loopback, "any": any_address, "texts": texts, "lists": who_may, "source": source, "inherited": inherited, "option": option,
-    "reloads": reloads, "health": health, "refused": refused,
+    "reloads": reloads, "health": health, "refused": refused, "faults": faults,
 }
 
 if __name__ == "__main__":
