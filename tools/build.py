@@ -1,9 +1,10 @@
 """Proves and builds a crate and every library below it, those that don't wait for each other at once.
 
-    python3 tools/build.py [CRATE] [--for-checks] [--lanes N] [--jobs N]      CRATE is pollrelay where none is named
+    python3 tools/build.py [CRATE] [--for-checks] [--keep-going] [--lanes N] [--jobs N]
 
-It needs the kit's rt on the path. What stands in out/ of this text already isn't built again. Every 10 seconds a line
-says how far it is; the first crate that isn't proved ends it with what the prover said, and status 1.
+CRATE is pollrelay where none is named. It needs the kit's rt on the path. What stands in out/ of this text already isn't
+built again. Every 10 seconds a line says how far it is; the first crate that isn't proved ends it with what the prover
+said, and status 1. With `--keep-going` all that doesn't stand on that crate is built first.
 
 A lane is a check that is under way: one a processor, as far as free memory holds them. First come those with the most
 above them. A check shares its proofs among some processes, its jobs. Each loads the libraries below anew, so it has as
@@ -137,8 +138,8 @@ class Check:
 class Build:
     """Which crates are left, under way and done."""
 
-    def __init__(self, crates, cuts, lanes, jobs):
-        self.cuts, self.lanes, self.jobs = cuts, lanes, jobs
+    def __init__(self, crates, cuts, lanes, jobs, keeps_going=False):
+        self.cuts, self.lanes, self.jobs, self.keeps_going = cuts, lanes, jobs, keeps_going
         self.memory, self.began = free_bytes(), time.monotonic()
         self.total, self.running = len(crates), []
         self.above = {it.name: lines_above(it, crates) for it in crates}
@@ -186,18 +187,29 @@ class Build:
             check.end()
         return None
 
+    def refuse(self, check):
+        """Tells what the prover said of a crate, and leaves out all that stands on it."""
+        name = check.crate.name
+        print(check.end(), end="")
+        self.say(f"{name} NOT PROVED: what the prover said of it stands above")
+        self.left = [it for it in self.left if name not in (other.name for other in it.below())]
+
     def run(self):
-        said = time.monotonic()
+        """Gives the names of the crates that weren't proved: of the first, or where it keeps going of all."""
+        said, refused = time.monotonic(), []
         while self.left or self.running:
             self.start_ready()
             time.sleep(0.1)
             failed = self.look()
             if failed:
-                return failed
+                self.refuse(failed)
+                refused.append(failed.crate.name)
+                if not self.keeps_going:
+                    return refused
             if time.monotonic() - said >= SAYS_EVERY:
                 said = time.monotonic()
                 self.say("under way: " + ", ".join(f"{it.crate.name} {clock(it.seconds())}" for it in self.running))
-        return None
+        return refused
 
 
 def crates_of(name):
@@ -216,6 +228,7 @@ def main():
     options = argparse.ArgumentParser(description=__doc__.split("\n")[0])
     options.add_argument("crate", nargs="?", default="pollrelay")
     options.add_argument("--for-checks", action="store_true", help="so that rt check takes the libraries")
+    options.add_argument("--keep-going", action="store_true", help="after a crate that isn't proved too")
     processors = len(os.sched_getaffinity(0))
     options.add_argument("--lanes", type=int, default=processors, metavar="N")
     options.add_argument("--jobs", type=int, default=min(MOST_JOBS, processors), metavar="N")
@@ -223,7 +236,7 @@ def main():
     crates, held = crates_of(given.crate)
     try:
         cuts = not given.for_checks and not any(it.is_built() for it in crates if it.makes_rlib())
-        return built(Build(crates, cuts, max(1, given.lanes), max(1, given.jobs)))
+        return built(Build(crates, cuts, max(1, given.lanes), max(1, given.jobs), given.keep_going))
     finally:
         for it in held:
             os.close(it)
@@ -231,14 +244,14 @@ def main():
 
 def built(build):
     """The exit status of a build, once it has told how it ended."""
-    failed = build.run()
-    if not failed:
+    refused = build.run()
+    if not refused:
         build.say("all proved and built")
         return 0
     for it in build.running:
         it.end()
-    print(failed.end(), end="")
-    build.say(f"{failed.crate.name} NOT PROVED: what the prover said of it stands above")
+    if build.keeps_going:
+        build.say("not proved: " + ", ".join(refused))
     return 1
 
 

@@ -90,6 +90,15 @@ class Builds(MadeFolder):
         self.assertNotIn("begins base", again)
         self.assertIn("ends top", again)
 
+    def test_it_keeps_going_with_what_does_not_stand_on_what_was_refused(self):
+        self.write("refused", "left\n")
+        status, lines, log = self.build("top", "--lanes", "1", "--keep-going")
+        self.assertEqual(status, 1)
+        self.assertIn("fn left::bad: no proof: a goal is open", lines)
+        self.assertIn("2 of 4 crates, not proved: left", lines[-1])
+        self.assertIn("ends right", log)
+        self.assertFalse([it for it in log if it.startswith("begins top")])
+
     def test_it_says_how_far_it_is(self):
         _, lines, _ = self.build("top", says_every=0.2)
         said = [it for it in lines if re.match(r"\d+:\d\d  \d of 4 crates, under way: \w+ \d+:\d\d", it)]
