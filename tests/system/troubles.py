@@ -78,6 +78,20 @@ class Made:
         return sum(float(it) for it in re.findall(rf"^{name}(?:{{.*}})? (\S+)$", self.page("/metrics")[1], re.M))
 
 
+class Configured(Made):
+    """The same by a configuration, whose rule has these further lines."""
+
+    def __init__(self, stack, lines, to=None):
+        self.stack, self.port = stack, free_port()
+        self.to, self.web = to or target()[1], f"tcp:127.0.0.1:{self.port}"
+        self.relay = stack.enter_context(Relay(self.text(lines), form="config", env={}))
+        self.log = f"{self.relay.folder}/log"
+
+    def text(self, lines, head=""):
+        head += 'log = { file = "{folder}/log" }\nadmin = { path = "{folder}/admin.sock" }\n'
+        return f'{head}[[rule]]\nname = "web"\nlisten = ["{self.web}"]\ntarget = [{{ at = "{self.to}" }}]\n{lines}'
+
+
 def ctl(path, *words):
     ran = subprocess.run([PROGRAM, "ctl", "--admin", path, *words], capture_output=True, text=True, timeout=SECONDS, check=False)
     return ran.returncode, (ran.stdout + ran.stderr).strip()
@@ -92,8 +106,8 @@ def start_fault(rules, folder, *options, admin=None):
     return ran.returncode, ran.stderr.strip()
 
 
-def verdict(path):
-    return subprocess.run([PROGRAM, "check", "--rules", path], capture_output=True, text=True, check=False).stdout.strip()
+def verdict(path, form="rules"):
+    return subprocess.run([PROGRAM, "check", f"--{form}", path], capture_output=True, text=True, check=False).stdout.strip()
 
 
 def is_closed(sock):
@@ -175,11 +189,35 @@ def _(stack, checks):
         checks.expect(f"{name}: check says the same", "bad rules: line 2", verdict(f"{folder}/rules"))
 
 
-@trial("cannot read rules")
+@trial("bad config: ..")
 def _(stack, checks):
-    words = [PROGRAM, "serve", "--rules", "/none/rules", "--admin", "/none/admin"]
-    ran = subprocess.run(words, capture_output=True, text=True, timeout=SECONDS, check=False)
-    checks.expect("no file", (3, "cannot read rules"), (ran.returncode, ran.stderr.strip()))
+    folder = stack.enter_context(tempfile.TemporaryDirectory())
+    faults = (("no time", "idle", '"30x"', "is no time"), ("what isn't served", "connections", "500", "this version doesn't serve it"))
+    for name, key, value, why in faults:
+        with open(f"{folder}/config", "w", encoding="ascii") as file:
+            file.write(f'[[rule]]\nname = "web"\nlisten = ["unix:/a"]\ntarget = [{{ at = "unix:/b" }}]\n{key} = {value}\n')
+        told = verdict(f"{folder}/config", "config")
+        checks.holds(f"{name}: rule, key and what is wanted", told.startswith(f'bad config: rule "web": {key}: ') and why in told, told)
+        words = [PROGRAM, "serve", "--config", f"{folder}/config", "--admin", f"{folder}/admin.sock"]
+        ran = subprocess.run(words, capture_output=True, text=True, timeout=SECONDS, check=False)
+        checks.expect(f"{name}: a start says the same", told, ran.stderr.strip())
+
+
+@trial("cannot read rules, cannot read config")
+def _(stack, checks):
+    for form in ("rules", "config"):
+        words = [PROGRAM, "serve", f"--{form}", f"/none/{form}", "--admin", "/none/admin"]
+        ran = subprocess.run(words, capture_output=True, text=True, timeout=SECONDS, check=False)
+        checks.expect(f"no file of {form}", (3, f"cannot read {form}"), (ran.returncode, ran.stderr.strip()))
+
+
+@trial("a changed key of the configuration has no effect after a reload")
+def _(stack, checks):
+    made = Configured(stack, "")
+    made.relay.write(made.text("", "loops = 3\n"))
+    checks.expect("a reload", (0, "rules 1"), ctl(made.relay.admin, "reload"))
+    told = "reload: loops has changed, and needs a restart\n"
+    checks.holds("the line", wait_until(lambda: made.relay.errors() == told, SECONDS), made.relay.errors())
 
 
 @trial("cannot open log")
@@ -214,7 +252,7 @@ def _(stack, checks):
     checks.holds("clients are served", comes_back(made.web), "")
 
 
-@trial("clients connect, and nothing comes; the log has at most accept other")
+@trial("clients connect, and nothing comes; the log has no line of them, or accept other")
 def _(stack, checks):
     made = Made(stack)
     checks.expect("a deadline on a listener", (0, "ok"), ctl(made.relay.admin, "deadline", "1", "0"))
@@ -251,6 +289,24 @@ def _(stack, checks):
     made = Made(stack, hole.address, "never", "--connect-timeout", "300")
     checks.holds("it is closed", is_closed(stack.enter_context(connect(made.web))), "")
     checks.holds("the log", made.ends("no target timeout"), made.logged())
+
+
+@trial("the same with no target down")
+def _(stack, checks):
+    made = Configured(stack, 'health = { every = "100ms", timeout = "100ms", fall = 1, rise = 1 }\n', f"tcp:127.0.0.1:{free_port()}")
+    checks.holds("a line of its target", wait_until(lambda: any(" target down" in it for it in made.logged()), SECONDS), made.logged())
+    checks.holds("it is closed", is_closed(stack.enter_context(connect(made.web))), "")
+    checks.holds("the log", made.ends("no target down"), made.logged())
+
+
+@trial("the same with denied")
+def _(stack, checks):
+    made = Configured(stack, 'deny = ["127.0.0.0/8"]\n')
+    checks.holds("it is closed", is_closed(stack.enter_context(connect(made.web))), "")
+    checks.holds("the log", made.ends("denied") and "127.0.0.1" in made.logged()[0], made.logged())
+    made.relay.write(made.text(""))
+    checks.expect("a reload of mended lists", (0, "rules 1"), ctl(made.relay.admin, "reload"))
+    checks.holds("clients are served", comes_back(made.web), "")
 
 
 @trial("the same with full")
