@@ -121,7 +121,7 @@ ROWS = (
     ("stale", "docs/DECISIONS.md", END, "| What are `--` and `-- trace` on the command line? | Refused, though clap takes them |\n", "a `--` at the end is taken"),
     ("stale", CHANGES, END, "- One call (`Poller::hold`), and an entry for it (`Held`).\n", "the entry of a table is `HeldSocket`"),
     ("stale", "docs/wake-ups.md", END, "\nA loop, the admin thread and the main thread.\n", "admin sessions are tasks of the main thread"),
-    ("stale", "crates/readiness/src/sock.rt", r"stream\.set_nodelay\(true\)", "stream.set_keepalive(true)", "says “TCP keepalive is off”, and"),
+    ("stale", "crates/readiness/src/sock.rt", r"stream\.set_nodelay\(true\)", "stream.set_keepalive(true)", "says “TCP keepalive is off without `keepalive`”, and"),
     ("stale", "crates/readiness/src/sock.rt", r"stream\.set_nodelay\(true\)", "stream.set_nodelay(false)", "says “TCP connections have `TCP_NODELAY`”, and"),
     ("limits", CHANGES, END, "- A read takes up to 16,384 bytes from the first on.\n", "65,536, as `LOOP_BUFFER_BYTES` is"),
     ("figures", CHANGES, END, "- `--loops` of serve: loops.\n- `--loops` of serve: how many loops.\n", "tells `--loops` twice"),

@@ -1,7 +1,7 @@
 use Rattle.std.proofs.Common.{◌+◌, ◌++◌, length, take, arith}
 use borrow.Rule.Slice.PartMut.{Post-is}
 use Rattle.mio.specs.SockAddr.{put}
-use Rattle.readiness.proofs.v6_listener.put.Goals as goal
+use Rattle.readiness.proofs.raw_address.put.Goals as goal
 
 pub returns : goal.returns
 unfolding put
