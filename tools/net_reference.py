@@ -4,9 +4,10 @@ fails, and what Go and tokio have in its place.
 
     python3 tools/net_reference.py > docs/net.md
 
-What an item does is its doc comment. How a call fails is read from its contract: the call of a handle that a clause names, the faults
-that `fd_descriptor` lists for that call, and the kind that `handle_io` gives to each fault. Go's and tokio's names and the times stand below; a
-public item without them, or one of them without an item, is a fault of this script.
+What an item does is its doc comment, in `net` or, of an item that `net` hands on, in the crate that has it. How a call fails is read
+from its contract: the call of a handle that a clause names, the faults that `fd_descriptor` lists for that call, and the kind that
+`handle_io` gives to each fault. Go's and tokio's names and the times stand below; a public item without a place in the sections, or a name
+below without an item, is a fault of this script.
 """
 import pathlib
 import re
@@ -19,7 +20,7 @@ CALLS, KINDS = ROOT / "crates/fd_descriptor/specs/HandleCalls.antt", ROOT / "cra
 # The sections, each with its items in the order in which a program comes to them.
 SECTIONS = {
     "A net": ("Net", "Net::start", "Net::stop"),
-    "Addresses": ("address_of", "tcp", "UNIX"),
+    "Addresses": ("Addr", "Addr::of", "address_of", "tcp", "UNIX"),
     "Listeners": ("Listener", "Listener::bind", "Listener::accept", "Listener::try_clone", "Listener::close", "Listener::closer", "Listener::local_addr"),
     "Connections": (
         "Conn", "Conn::connect", "Conn::read", "Conn::write", "Conn::flush", "Conn::try_clone", "Conn::set_read_timeout",
@@ -52,7 +53,7 @@ SECTIONS = {
 }
 # What Go's package net has in its place.
 GO = {
-    "Listener": "`net.Listener`", "Listener::bind": "`net.Listen`", "Listener::accept": "`Listener.Accept`", "Listener::close": "`Listener.Close`",
+    "Listener": "`net.Listener`", "Listener::bind": "`net.Listen`, which at `[::]` takes IPv4 clients too", "Listener::accept": "`Listener.Accept`", "Listener::close": "`Listener.Close`",
     "Listener::local_addr": "`Listener.Addr`", "Conn": "`net.Conn`", "Conn::connect": "`net.DialTimeout`", "Conn::read": "`Conn.Read`",
     "Conn::write": "`Conn.Write`", "Conn::set_deadline": "`Conn.SetDeadline`, by a moment; all times here are lengths from now",
     "Conn::set_read_timeout": "none: `SetReadDeadline` before each read", "Conn::set_write_timeout": "none: `SetWriteDeadline` before each write",
@@ -63,11 +64,11 @@ GO = {
     "Service::wait": "none: `http.Server.Serve` returns at once, and `Shutdown` waits", "Lines::read": "`Scanner.Scan`", "Lines::line": "`Scanner.Bytes`",
     "Task": "none: a goroutine a connection", "LineTask": "none: a loop over `bufio.Scanner` in a goroutine", "Outgoing": "none: a goroutine's `Write` waits", "Cause::idle": "none: `SetReadDeadline` before each read",
     "SocketCloser::close": "`Listener.Close` and `Conn.Close`, which any goroutine may call", "ConnGroup::wait": "`sync.WaitGroup.Wait`, without a time",
-    "Net": "none: its runtime has the poller", "Net::serve": "none: a goroutine a connection", "listen_and_serve": "`http.ListenAndServe`; without HTTP a loop over `Listener.Accept`", "address_of": "`net.ResolveTCPAddr`, which looks names up",
+    "Addr": "`net.Addr`", "Net": "none: its runtime has the poller", "Net::serve": "none: a goroutine a connection", "listen_and_serve": "`http.ListenAndServe`; without HTTP a loop over `Listener.Accept`", "address_of": "`net.ResolveTCPAddr`, which looks names up",
 }
 # What tokio 1 has in its place, with tokio-util.
 TOKIO = {
-    "Net": "its runtime has the driver", "Listener": "`net::TcpListener`, `net::UnixListener`", "Listener::bind": "`TcpListener::bind`",
+    "Addr": "`std::net::SocketAddr`, or a path", "Net": "its runtime has the driver", "Listener": "`net::TcpListener`, `net::UnixListener`", "Listener::bind": "`TcpListener::bind`, which at `[::]` takes IPv4 clients too unless `net.ipv6.bindv6only` is 1",
     "Listener::accept": "`TcpListener::accept`", "Listener::close": "none: its drop, or a `CancellationToken` in a `select!`",
     "Conn": "`net::TcpStream`, `net::UnixStream`", "Conn::connect": "`timeout(time, TcpStream::connect(addr))`", "Conn::read": "`AsyncReadExt::read`",
     "Conn::write": "`AsyncWriteExt::write_all`", "Conn::try_clone": "`into_split`, which gives an owner of reads and one of writes", "Conn::set_read_timeout": "`timeout(time, read)`",
@@ -89,6 +90,10 @@ VARIANTS = {
         "TooLong": "In Go `bufio.ErrTooLong`, in tokio `LinesCodecError::MaxLineLengthExceeded`.",
         "End": "In Go `Scan` gives `false` and `Err` `nil`, in tokio the stream ends.",
     },
+}
+# What a doc comment of a crate below says of its own listener, and what holds of one of `net`.
+OF_NET = {
+    "Addr": ("which a listener makes and nobody removes", "which a listener makes, and removes as it closes"),
 }
 # Which time ends a call's wait.
 TIMES = {
@@ -146,22 +151,53 @@ def owner_of(text, at):
     return found
 
 
+def handed_on():
+    """The sources of the crates below that have an item which the crate hands on, each with these items."""
+    found = {}
+    for crate, name in re.findall(r"^pub use (\w+)::(\w+);", (SRC / "lib.rt").read_text(), re.M):
+        for path in sorted((ROOT / "crates" / crate / "src").glob("*.rt")):
+            if re.search(rf"^pub (?:struct|enum|trait|fn) {name}\b", path.read_text(), re.M):
+                found.setdefault(path, set()).add(name)
+    return found
+
+
 def items():
-    """Each documented item: its doc comment, its signature and its contract."""
+    """Each documented item: its doc comment, its signature, its contract, and its variants."""
     found = {}
     for path in sorted(SRC.glob("*.rt")):
-        text = path.read_text()
-        for head in HEAD.finditer(text):
-            is_public = re.search(r"\bpub (?:fn|struct|enum|trait|const|static) ", head[0]) or owner_of(text, head.start()) in ("Task", "LineHandler")
-            is_read_or_write = path.name == "stream.rt" and head[4] in ("read", "write", "flush")
-            is_method = bool(head[2]) and head[3] == "fn"
-            if not (is_public or is_read_or_write or is_method and head[4] == "unlink"):
-                continue
-            name = f"{owner_of(text, head.start())}::{head[4]}" if is_method else head[4]
-            doc = " ".join(it.strip().removeprefix("///").strip() for it in head[1].strip().splitlines())
-            contract = text[head.end() : text.find("\n" + head[2] + "}", head.end())]
-            signature = " ".join(f"{head[3]} {head[4]}{head[5]}".split()).replace("( ", "(").replace(", )", ")")
-            found.setdefault(name, (doc, signature, contract, body_of(text, head)))
+        found = {**items_in(path), **found}
+    for path, names in handed_on().items():
+        found.update({name: for_net(name, it) for name, it in items_in(path).items() if name.split("::")[0] in names})
+    return found
+
+
+def for_net(name, item):
+    """An item of a crate below, with what holds of `net` in place of what holds there."""
+    if name not in OF_NET:
+        return item
+    there, here = OF_NET[name]
+    doc, signature, contract, variants = item
+    said = [doc, *(when for _, when in variants)]
+    if sum(there in it for it in said) != 1:
+        raise ValueError(f"the doc comments of {name} don't say once: {there}")
+    return doc.replace(there, here), signature, contract, [(it, when.replace(there, here)) for it, when in variants]
+
+
+def items_in(path):
+    """The documented items of a file."""
+    found = {}
+    text = path.read_text()
+    for head in HEAD.finditer(text):
+        is_public = re.search(r"\bpub (?:fn|struct|enum|trait|const|static) ", head[0]) or owner_of(text, head.start()) in ("Task", "LineHandler")
+        is_read_or_write = path.name == "stream.rt" and head[4] in ("read", "write", "flush")
+        is_method = bool(head[2]) and head[3] == "fn"
+        if not (is_public or is_read_or_write or is_method and head[4] == "unlink"):
+            continue
+        name = f"{owner_of(text, head.start())}::{head[4]}" if is_method else head[4]
+        doc = " ".join(it.strip().removeprefix("///").strip() for it in head[1].strip().splitlines())
+        contract = text[head.end() : text.find("\n" + head[2] + "}", head.end())]
+        signature = " ".join(f"{head[3]} {head[4]}{head[5]}".split()).replace("( ", "(").replace(", )", ")")
+        found.setdefault(name, (doc, signature, contract, body_of(text, head)))
     return found
 
 
@@ -225,7 +261,8 @@ def page():
         "# The library net",
         "",
         "For authors of programs on sockets: the reference of each call. `tools/net_reference.py` makes this page of the doc comments and",
-        "contracts in `crates/net/src`. `net-guide.md` builds servers step by step; `sockets.md` says more of tasks.",
+        "contracts in `crates/net/src`, and of those of `Addr`, which `net` hands on from the crate `readiness`. `net-guide.md` builds servers",
+        "step by step; `sockets.md` says more of tasks.",
         "",
         "A connection is shared by clones, one a thread; a clone is a `Read` and a `Write`. Clones share time-outs and the deadline; the earlier",
         "one wins. A time-out starts once a call has its direction to itself. A read answers `Ok(0)` at the peer's end.",
@@ -256,7 +293,7 @@ def exports():
     """The names that the crate hands out."""
     text = (SRC / "lib.rt").read_text()
     groups = re.findall(r"^pub use (?:\w+)::(?:\{([^}]*)\}|(\w+));", text, re.M)
-    return {it.strip() for group in groups for it in (group[0] or group[1]).split(",")} - {"Addr"}
+    return {it.strip() for group in groups for it in (group[0] or group[1]).split(",")}
 
 
 def main():

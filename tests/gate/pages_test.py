@@ -107,6 +107,7 @@ ROWS = (
     ("names", "docs/rattle-for-rust.md", END, "\n`FROM_JAVA.md`\n", "nothing is called `FROM_JAVA`"),
     ("links", "docs/nowhere.md", END, "# Nowhere\n", "doesn't list nowhere.md"),
     ("net_page", "docs/net.md", r"Closes the connection for all who share it", "Closes this clone", "isn't what tools/net_reference.py makes of crates/net/src"),
+    ("net_page", "docs/net.md", r"makes, and removes as it closes", "makes and nobody removes", "isn't what tools/net_reference.py makes of crates/net/src"),
     ("tables", "docs/DECISIONS.md", END, "\n| A | B |\n|---|---|\n| one | two | three |\n", "a row of 3 cells below a head of 2"),
     ("tables", "crates/relay_main/README.md", r"`listeners_end`", "`ending`", "lacks or has too much: ['ending', 'listeners_end']"),
     ("tables", "crates/net_tests/README.md", r"\| `groups` \|", "| `crowds` |", "there is no file `crowds`"),
