@@ -37,8 +37,9 @@ pub struct Listener<R: Runs> {
 }
 
 impl<R: Runs + Threads + Sockets + Files> Listener<R> {
-    /// Listens at an address; at port 0 the system chooses one, which `local_addr` tells. The file
-    /// at the path of a Unix one goes when the listener closes.
+    /// Listens at an address; at port 0 the system chooses one, which `local_addr` tells. At `[::]`
+    /// it takes clients of IPv6 alone, as at each IPv6 address. The file at the path of a Unix one
+    /// goes when the listener closes.
     pub fn bind(net: &Net<R>, addr: &Addr) -> io::Result<Listener<R>>
         ensures open { IfOk result (λ listener. is_shut listener ≡ false) }
         ensures family { IfOk result (IsOfFamily addr.now) }
