@@ -1,10 +1,13 @@
-"""Counts that pages give of what a script or a file lists: each is that of the list. And the packages that the quick tests install."""
+"""Counts that pages give of what a script or a file lists: each is that of the list. The packages that the quick tests install. And of which
+crates it is said when `rt plant` was run on them."""
 
 import re
 
-from lib.pages.markdown import rows, section
+from lib.pages.markdown import rows, section, spans
 
-PARTS = "tests/README.md"
+PARTS, TESTING = "tests/README.md", "docs/testing.md"
+# Where it is said of which crates `rt plant` had a whole run.
+PLANTED = "What `rt plant` lets through"
 # What a part may need beside packages: a program that is built, a machine of its own, a lane among those that mostly wait.
 NO_PACKAGES = {"", "program", "proved program", "alone", "sleeps"}
 SEARCHES, WAKE_UPS = "tests/gate/wakeups.sh", "docs/wake-ups.md"
@@ -14,7 +17,7 @@ ROWS = (
     (WAKE_UPS, r"(\d+) models that must be sound", SEARCHES, r"^# *(?:sound|ends) *\|"),
     (WAKE_UPS, r"(\d+) mutants", SEARCHES, r"^# *(?:fails|endless) *\|"),
     (WAKE_UPS, r"(\d+) changes that must turn out harmless", SEARCHES, HARMLESS),
-    ("docs/testing.md", r"each of (\d+) calls of the C library that fails", "tests/system/system_faults.py", r'^    "(\w+)": "E'),
+    (TESTING, r"each of (\d+) calls of the C library that fails", "tests/system/system_faults.py", r'^    "(\w+)": "E'),
     ("CHANGELOG.md", r"one file of (\d+) lines \(`crates/lockword/specs/Headline.antt`\)", "crates/lockword/specs/Headline.antt", r"\n"),
 )
 
@@ -35,8 +38,18 @@ def packages(tree, told):
         told.holds(named == needed, "README.md", f"the quick tests need {sorted(needed)}, and it says {sorted(named)}")
 
 
+def planted(tree, told):
+    """Each crate but those of tests and benches has its place where `rt plant` is told of: a new one isn't passed over."""
+    crates = re.findall(r"^(?!bench_)(\w+?)(?<!_tests)\b[^:\n#]*:", tree.text("crates.txt"), re.M)
+    said = {it for _, it in spans(section(tree.text(TESTING), PLANTED))}
+    if told.reads(crates and said, TESTING, __file__):
+        for it in crates:
+            told.holds(it in said, TESTING, f"{PLANTED}: doesn't say whether `rt plant` was run on {it}")
+
+
 def check(tree, told):
     packages(tree, told)
+    planted(tree, told)
     for page, words, file, pattern in ROWS:
         number = entries(tree.text(file), pattern)
         said = re.findall(words, tree.text(page), re.M)
