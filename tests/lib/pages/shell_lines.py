@@ -9,7 +9,7 @@ from collections import namedtuple
 
 from lib.pages import options, tools
 from lib.pages.admin import counts
-from lib.pages.markdown import FENCE, SHELL, fences, indented, spans
+from lib.pages.markdown import FENCE, SHELL, fences, indented, set_off, spans
 from lib.pages.tree import FOLLOWED
 
 # The page, the line in it, the simple command's words, and whether it stands in running text, where it may be a name alone.
@@ -34,6 +34,8 @@ CALLS = re.compile(rf"\b(?:{'|'.join((options.PROGRAM, *tools.CALLED, *tools.OTH
 ENDS = {"&&", "||", ";", "|", "&", ";;"}
 # A command that begins a paragraph.
 BARE = re.compile(rf"(?:{options.PROGRAM} (?:serve|ctl|check|trace)|python3|sh|systemctl|docker|curl) \S")
+# A block that starts a relay, and asks it in a later line: that comes before the relay listens.
+TOO_SOON = re.compile(rf"^(?:{options.PROGRAM} serve .*&|systemctl enable --now .*|docker run -d .*)\n(?:.*\n)*?.*({options.PROGRAM} ctl .*)", re.M)
 # What stands for a word of the reader's own.
 PLACE = re.compile(r"[A-Z][A-Z_]*(?:\.\.)?|\d+|never|[<$/{].*|.*/.*")
 
@@ -129,6 +131,9 @@ def check(tree, told):
         for line, said in enumerate(FENCE.sub(lambda it: "\n" * it[0].count("\n"), tree.text(page)).splitlines(), 1):
             if BARE.match(said):
                 told.holds(False, page, f"`{said}` is a command, and isn't set off", line)
+        for line, block in set_off(tree.text(page)):
+            for it in TOO_SOON.finditer(block):
+                told.holds(False, page, f"`{it[1]}` asks a relay that was just started, which may not listen yet", line)
 
 
 def with_wrapper(tree, found):
