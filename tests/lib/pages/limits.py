@@ -68,6 +68,9 @@ CELLS = {
     "--connect-timeout MS": {"Default": ("DEFAULT_CONNECT_MS",), "Range": ("config_values::DAY_MS",)}, "NAME": {"Form": ("MAX_NAME_BYTES",)},
     "LISTEN": {"Form": ("MAX_PATH_BYTES",)}, "IDLE": {"Form": ("DAY_MS",)},
 }
+# What the keys of `health` are without a value, and the most outcomes in a row, which the guide's table of these keys has.
+CHECKS = "crates/relay_config/src/health.rt"
+CHECK_KEYS = {"every": "DEFAULT_EVERY_MS", "timeout": "DEFAULT_TIMEOUT_MS", "fall": "DEFAULT_FALL", "rise": "DEFAULT_RISE"}
 NEEDED = "crates/relay_command/src/descriptors.rt"
 # The threads of a relay beside those of loops.
 ABOUT_A_DOZEN = 12
@@ -88,6 +91,7 @@ def check(tree, told):
         in_rows(told, tree.text(GUIDE), known)
         in_cells(told, tree.text(GUIDE), known)
         in_sentences(tree, told, known)
+        of_checks(told, tree.text(GUIDE), constants(tree.text(CHECKS)))
         of_unit(tree, told, known, needed(tree, told, known))
 
 
@@ -112,6 +116,19 @@ def in_cells(told, text, known):
             said = re.findall(N, found.get(row, {}).get(head, ""))
             for name in names:
                 told.holds(grouped(known[name]) in said, GUIDE, f"the {head} of {row} isn't {grouped(known[name])}, as `{name}` is")
+
+
+def of_checks(told, text, known):
+    """The guide's keys of `health` have their defaults, and those that count their most."""
+    found = {bare(cells[0]): [bare(it) for it in cells] for _, cells in rows(section(text, "Health of targets")) if len(cells) == 4}
+    if not told.reads({*CHECK_KEYS.values(), "MAX_IN_A_ROW"} <= set(known), CHECKS, __file__):
+        return
+    for key, name in CHECK_KEYS.items():
+        *_, value, default = found.get(key, ("", ""))
+        wanted = f"{known[name] // 1_000}s" if name.endswith("_MS") else f"{known[name]}"
+        told.holds(default == wanted, GUIDE, f"the Default of {key} isn't {wanted}, as `{name}` is")
+        is_range = name.endswith("_MS") or value == f"1 to {known['MAX_IN_A_ROW']}"
+        told.holds(is_range, GUIDE, f"the Value of {key} isn't 1 to {known['MAX_IN_A_ROW']}, as `MAX_IN_A_ROW` is")
 
 
 @functools.cache
