@@ -303,10 +303,12 @@ def last_end(checks):
 
 
 def moment(checks):
-    """Whether a relay ended soon after its moment had come."""
+    """Whether a relay ended soon after its moment had come.
+
+    The moment comes long after the last turn that the session causes, late as that may be: a turn would do for a wake-up."""
     with Tried(checks, "finish at a moment", loops=1) as it:
         it.talking()
-        it.answers("finish 50\n", "ok\n")
+        it.answers("finish 300\n", "ok\n")
         return ends_soon(it, time.monotonic())
 
 
