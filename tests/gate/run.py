@@ -33,8 +33,9 @@ TEST_SECONDS = 900
 # are those that it would have had alone.
 PART_SECONDS, TIMES = 2_400, 5
 PROCESSORS = len(os.sched_getaffinity(0))
-# How much is shown of what a failed part said.
+# How much is shown of what a failed part said: its last lines, and before them as many that tell of a failure.
 LINES_SHOWN = 40
+TELLS_FAILURE = re.compile(r"\bFAILED\b|panicked|^error")
 # How a part says how many it passed: rt's tests and most scripts, and Python's own tests.
 PASSED, RAN = re.compile(r"(\d+) passed[;,] (\d+) failed"), re.compile(r"^Ran (\d+) tests?", re.M)
 
@@ -179,6 +180,12 @@ def end_hints(groups):
                 os.kill(pid, signal.SIGKILL)
 
 
+def shown(lines):
+    """Of the lines that a failed part said, those that are shown."""
+    before = [it for it in lines[:-LINES_SHOWN] if TELLS_FAILURE.search(it)]
+    return before[:LINES_SHOWN] + lines[-LINES_SHOWN:]
+
+
 class Run:
     """Which parts wait, run, and have ended, and how."""
 
@@ -211,7 +218,7 @@ class Run:
         print(f"{word:6}  {part.name:18} {part.seconds():5.0f} s  {passed} passed, {failed} failed", flush=True)
         if failed:
             said = part.text() + (part.text(part.printed) if part.wanted is not None else "")
-            print("\n".join(f"    {it}" for it in said.splitlines()[-LINES_SHOWN:]))
+            print("\n".join(f"    {it}" for it in shown(said.splitlines())))
             print(f"    alone: sh tests/run.sh {part.name}", flush=True)
         if part.name == PROGRAM:
             self.note_program(part, failed)

@@ -51,6 +51,13 @@ class Runs(MadeFolder):
         self.assertEqual((passed, failed), (4, 2))
         self.assertIn("close_ends_a_read ... FAILED", said)
 
+    def test_a_failure_that_many_lines_follow_is_shown(self):
+        early, many = "echo 'test a_row ... FAILED'; echo 'test b_row ... ok'", "for n in $(seq 60); do echo line $n.; done; false"
+        said = self.ran(self.part("long", f"{early}; {many}"))[2]
+        self.assertIn("test a_row ... FAILED", said)
+        self.assertIn("line 21.", said)
+        self.assertNotIn("b_row", said)
+
     def test_a_printed_text_is_compared(self):
         self.assertEqual(self.ran(self.part("same", "echo hello", wanted=self.stored("hello\n")))[:2], (1, 0))
         self.assertEqual(self.ran(self.part("other", "echo hullo", wanted=self.stored("hello\n")))[:2], (0, 1))

@@ -124,7 +124,10 @@ impl SaidRule {
     pub fn has_one_listener(&self) -> bool
         ensures { IsTrue result ↔ (self.now.listens.items ≡ self.now.rule.listen ∷ []) }
     {
-        self.listens.len() == 1
+        match self.listens.as_slice() {
+            [_] => true,
+            _ => false,
+        }
     }
 
     /// Whether nothing is said of its sockets.
