@@ -64,6 +64,8 @@ ROWS = (
     ("listed", "tests/system/system_faults.py", r'    "nanosleep": "EINTR",\n', "", "docs/testing.md: says 25, and tests/system/system_faults.py has 24"),
     ("listed", "crates/lockword/specs/Headline.antt", END, "-- more\n", "CHANGELOG.md: says 120, and"),
     ("listed", "docs/testing.md", r"`handle_io`, `net`, `pollrelay`", "`net`, `pollrelay`", "doesn't say whether `rt plant` was run on handle_io"),
+    ("listed", "docs/crates.md", r"(\| `readiness` [^\n]*\n)(\| `conntable` [^\n]*\n)", r"\2\1", "readiness stands on ['conntable'], which it has above"),
+    ("listed", "docs/crates.md", r"(\| `pollrelay` \| [^|]*\|) [^|]* \|", r"\1 none |", "nothing but safety is proved of pollrelay"),
     ("listed", "crates.txt", END, "relay_udp: base_types\n", "doesn't say whether `rt plant` was run on relay_udp"),
     ("limits", "crates/conntable/src/token.rt", r"KEYS: u64 = 4096", "KEYS: u64 = 2048", "2,048, as `KEYS` is"),
     ("limits", "crates/relay_workers/src/buffers.rt", r"BUFFER_BYTES: usize = 16_384", "BUFFER_BYTES: usize = 8_192", "8,192, as `BUFFER_BYTES` is"),

@@ -1,11 +1,12 @@
-"""Counts that pages give of what a script or a file lists: each is that of the list. The packages that the quick tests install. And of which
-crates it is said when `rt plant` was run on them."""
+"""Counts that pages give of what a script or a file lists: each is that of the list. The packages that the quick tests install. And what is
+said of each crate: whether `rt plant` was run on it, above which others it stands, and whether more than its safety is proved."""
 
 import re
 
-from lib.pages.markdown import rows, section, spans
+from lib.pages.markdown import paragraphs, rows, section, spans
 
-PARTS, TESTING = "tests/README.md", "docs/testing.md"
+PARTS, TESTING, CRATES = "tests/README.md", "docs/testing.md", "docs/crates.md"
+GUARANTEES = "docs/guarantees.md"
 # Where it is said of which crates `rt plant` had a whole run.
 PLANTED = "What `rt plant` lets through"
 # What a part may need beside packages: a program that is built, a machine of its own, a lane among those that mostly wait.
@@ -47,9 +48,31 @@ def planted(tree, told):
             told.holds(it in said, TESTING, f"{PLANTED}: doesn't say whether `rt plant` was run on {it}")
 
 
+def highest_first(tree, told):
+    """In each table of the list of crates a crate stands above those that it stands on, but in that of tests."""
+    below = {it[1]: it[2].split() for it in re.finditer(r"^(\w+)[^:\n#]*:(.*)$", tree.text("crates.txt"), re.M)}
+    lists = [[it[0].strip("`") for _, it in rows(block)] for _, block in paragraphs(tree.text(CRATES)) if block.startswith("|")]
+    if told.reads(below and lists, CRATES, __file__):
+        for named in lists:
+            for at, crate in enumerate(named):
+                above = set(below.get(crate, ())) & set(named[:at])
+                told.holds(crate.endswith("_tests") or not above, CRATES, f"{crate} stands on {sorted(above)}, which it has above")
+
+
+def beyond_safety(tree, told):
+    """Of a crate that the guarantees have in a heading, the list of crates doesn't say that nothing but safety is proved."""
+    named = {it for head in re.findall(r"^## .*", tree.text(GUARANTEES), re.M) for it in re.findall(r"`(\w+)`", head)}
+    said = {it[0].strip("`"): it[2] for _, it in rows(tree.text(CRATES)) if len(it) == 3}
+    if told.reads(named and said, CRATES, __file__):
+        for crate in named:
+            told.holds(said.get(crate) != "none", CRATES, f"says that nothing but safety is proved of {crate}, and {GUARANTEES} has clauses of it")
+
+
 def check(tree, told):
     packages(tree, told)
+    beyond_safety(tree, told)
     planted(tree, told)
+    highest_first(tree, told)
     for page, words, file, pattern in ROWS:
         number = entries(tree.text(file), pattern)
         said = re.findall(words, tree.text(page), re.M)
