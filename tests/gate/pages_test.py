@@ -112,6 +112,8 @@ ROWS = (
     ("links", README, END, "\n`tests/metrics_storm.py`\n", "names `tests/metrics_storm.py`"),
     ("links", README, END, "\n`docs/operations.md` (Stopping, Beginning) has it.\n", "names Beginning of docs/operations.md, which has no such section"),
     ("links", GUIDE, r"\n## Stopping\n", "\n## Ending\n", "which has no such section"),
+    ("links", "docs/design.md", r"`relay_facts/src/safeguards\.rt`", "`relay_facts/src/safeguard.rt`", "names `relay_facts/src/safeguard.rt`, which isn't there"),
+    ("links", "docs/design.md", r"(?<=`relay_main/src/main_loop\.rt`, )`accept_turns\.rt`", "`safeguards.rt`", "names `safeguards.rt` behind a file of relay_main/src, which has none"),
     ("names", "docs/rattle-for-rust.md", END, "\n`FROM_JAVA.md`\n", "nothing is called `FROM_JAVA`"),
     ("links", "docs/nowhere.md", END, "# Nowhere\n", "doesn't list nowhere.md"),
     ("net_page", "docs/net.md", r"Closes the connection for all who share it", "Closes this clone", "isn't what tools/net_reference.py makes of crates/net/src"),

@@ -5,12 +5,14 @@ import os
 import re
 
 from lib.pages.kit import is_page_of_kit
-from lib.pages.markdown import FENCE, spans
+from lib.pages.markdown import FENCE, SPAN, rows, spans
 from lib.pages.tree import ON_KIT
 
 LINK = re.compile(r"\]\(([^)\s#]+)(?:#[\w-]*)?\)")
 # What a page names as a file: a path of these letters with a folder ahead or an ending that files here have.
 PATH = re.compile(r"(?:\.\./|[\w.-]+/)+[\w.*-]*|[\w-]+\.(?:md|py|sh|rt|antt|pml|svg|cfg|service|rules|session|edit|txt)")
+# A file of code, with its folder or alone.
+SOURCE = re.compile(r"(?:[\w.-]+/)*[\w-]+\.(?:rt|antt)")
 ROOTS = {"tests", "docs", "crates", "examples", "bench", "models", "tools", "packaging", "man", ".ci"}
 FILE = re.compile(r"^`[\w./-]+`:$", re.M)
 # Words in capitals stand for any name.
@@ -58,10 +60,10 @@ class Names:
         return path in self.tails or self.tree.has(path)
 
 
-def is_path(span, page):
-    """Whether a word in code's letters names a file of this repository."""
+def is_path(span, page, crates):
+    """Whether a word in code's letters names a file of this repository, also one that begins with the name of a crate."""
     first = span.split("/")[0]
-    is_own = first in ROOTS or first == ".." or "/" not in span or page.startswith("crates/")
+    is_own = first in ROOTS or first in crates or first == ".." or "/" not in span or page.startswith("crates/")
     return bool(PATH.fullmatch(span)) and is_own and span not in OF_GO and not MADE.search(span)
 
 
@@ -70,6 +72,18 @@ def named_files(text):
     """The paths that a page names, alone or in a line of shell in code's letters, each with its line; but for a file that the page
     itself gives, below a line with its path alone."""
     return [(line, word.strip("'\",:")) for line, span in spans(FILE.sub("", text)) for word in span.split(" ")]
+
+
+def in_folders(text):
+    """In each cell of a table the names of files behind the path of one, with the folder of that path and their line."""
+    for line, cells in rows(text):
+        for cell in cells:
+            folder = None
+            for span in SPAN.findall(cell):
+                if SOURCE.fullmatch(span):
+                    folder = span.rpartition("/")[0] or folder
+                    if folder:
+                        yield line, folder, span.rpartition("/")[2]
 
 
 def named_sections(text):
@@ -87,13 +101,15 @@ def has_section(tree, page, path, name):
 
 
 def check(tree, told):
-    names = Names(tree)
+    names, crates = Names(tree), {it.split("/")[1] for it in tree.paths(r"crates/\w+/README\.md")}
     for page in tree.pages():
         text = tree.text(page)
+        for line, folder, name in in_folders(text):
+            told.holds(names.is_there(f"{folder}/{name}"), page, f"names `{name}` behind a file of {folder}, which has none", line)
         for line, path in named_files(text):
             if page == ON_KIT and is_page_of_kit(path):
                 told.passed += 1
-            elif is_path(path, page) and page != CHANGES:
+            elif is_path(path, page, crates) and page != CHANGES:
                 told.holds(names.is_there(path), page, f"names `{path}`, which isn't there", line)
         for it in LINK.finditer(FENCE.sub(lambda block: "\n" * block[0].count("\n"), text)):
             if "://" not in it[1]:
