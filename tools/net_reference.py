@@ -110,8 +110,8 @@ TIMES = {
 }
 # How calls fail whose clauses name no call of a handle, and what comes beside those that do.
 FAILS = {
-    "Net::start": "`OutOfMemory`, or the system's error for a poller or a thread; `WouldBlock` where it has no thread left",
-    "Net::serve": "`OutOfMemory`, what `Task::begin` answers, or the system's error for a poller or a thread; `WouldBlock` where it has no thread left",
+    "Net::start": "`OutOfMemory`, the system's error for a poller, or `WouldBlock` where the system refuses a thread",
+    "Net::serve": "`OutOfMemory`, what `Task::begin` answers, the system's error for a poller, or `WouldBlock` where the system refuses a thread",
     "listen_and_serve": "as `Net::start`, `Listener::bind` and `Net::serve`",
     "Listener::bind": "`OutOfMemory`, `Other` where the net has its 4,096 sockets, or the system's error: the address is taken, isn't this machine's, or isn't allowed",
     "Listener::accept": "`OutOfMemory`, or the system's error where the poller refuses the socket",
@@ -136,7 +136,7 @@ WHEN = {
     "BrokenPipe": "the peer takes no more bytes, or this side was shut",
     "ConnectionRefused": "nobody listens at the address",
     "Other": "the net has its 4,096 sockets (`bind`, `accept`, `connect`), no reference or place to wait is left (16,777,215 and 262,143), or the system interrupted the call 1,025 times in a row; another error of the system keeps its own kind and number. None is `Interrupted`",
-    "WouldBlock": "the queue at a Unix path is full (`Conn::connect`), or the system has no thread left (`Net::start`, `Net::serve`, `listen_and_serve`); no other call fails so",
+    "WouldBlock": "the queue at a Unix path is full (`Conn::connect`), or the system refuses a thread (`Net::start`, `Net::serve`, `listen_and_serve`); no other call fails so",
     "OutOfMemory": "memory was refused; the connection is as before",
 }
 HEAD = re.compile(
