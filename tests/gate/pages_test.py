@@ -131,6 +131,7 @@ ROWS = (
     ("stale", "packaging/debian/rules.sample", END, "# It is read at the start alone: systemctl restart pollrelay\n", "rules are read anew by `reload`"),
     ("stale", "docs/DECISIONS.md", END, "| What are `--` and `-- trace` on the command line? | Refused, though clap takes them |\n", "a `--` at the end is taken"),
     ("stale", CHANGES, END, "- One call (`Poller::hold`), and an entry for it (`Held`).\n", "the entry of a table is `HeldSocket`"),
+    ("stale", "docs/proved.md", END, "\n`FdHandle::read` and `write` are called by no program here.\n", "a benchmark calls `FdHandle::read`"),
     ("stale", "docs/wake-ups.md", END, "\nA loop, the admin thread and the main thread.\n", "admin sessions are tasks of the main thread"),
     ("stale", "crates/readiness/src/sock.rt", r"stream\.set_nodelay\(true\)", "stream.set_keepalive(true)", "says “TCP keepalive is off without `keepalive`”, and"),
     ("stale", "crates/readiness/src/sock.rt", r"stream\.set_nodelay\(true\)", "stream.set_nodelay(false)", "says “TCP connections have `TCP_NODELAY`”, and"),

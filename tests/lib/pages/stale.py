@@ -14,6 +14,8 @@ ROWS = (
     ("crates/relay_main/src/admin_socket.rt", r"pub struct AdminTask", r"the admin thread", "admin sessions are tasks of the main thread"),
     # (a sceptic finds a program that was built and proved by nobody)
     ("tools/unproved.py", r"checks in place of proofs", r"prover checks before the program is built|built only after a prover|aren't all proved isn't built", "`rt try` builds a program with nothing proved"),
+    # (a sceptic who looks for the symbols finds them in a benchmark)
+    ("crates/bench_calls/src/handles.rt", r"handle\.read\(", r"`FdHandle::read` and `write` are called by no program", "a benchmark calls `FdHandle::read`"),
     # (a listener that came by a reload has a greater id than connections that stand)
     ("crates/relay_admin/src/admin/command.rt", r'b"reload"', r"whose ids come first", "after a reload a listener may have any id"),
 )
