@@ -132,6 +132,7 @@ ROWS = (
     ("stale", "docs/DECISIONS.md", END, "| What are `--` and `-- trace` on the command line? | Refused, though clap takes them |\n", "a `--` at the end is taken"),
     ("stale", CHANGES, END, "- One call (`Poller::hold`), and an entry for it (`Held`).\n", "the entry of a table is `HeldSocket`"),
     ("stale", "docs/proved.md", END, "\n`FdHandle::read` and `write` are called by no program here.\n", "a benchmark calls `FdHandle::read`"),
+    ("stale", GUIDE, r"as long as the list is the same, and the same targets of it are up\.", "as long as the list is the same.", "the remainder changes with the targets that are up"),
     ("stale", "docs/wake-ups.md", END, "\nA loop, the admin thread and the main thread.\n", "admin sessions are tasks of the main thread"),
     ("stale", "crates/readiness/src/sock.rt", r"stream\.set_nodelay\(true\)", "stream.set_keepalive(true)", "says “TCP keepalive is off without `keepalive`”, and"),
     ("stale", "crates/readiness/src/sock.rt", r"stream\.set_nodelay\(true\)", "stream.set_nodelay(false)", "says “TCP connections have `TCP_NODELAY`”, and"),
