@@ -109,6 +109,7 @@ ROWS = (
     ("names", "docs/testing.md", END, "\n`a_close_ends_no_read_at_all`\n", "nothing is called `a_close_ends_no_read_at_all`"),
     ("names", "crates/workers_tests/src/.*", r"fn lines_have_their_replies", "fn lines_have_replies", "nothing is called `lines_have_their_replies`"),
     ("links", README, END, "\n[here](docs/nowhere.md)\n", "links to docs/nowhere.md"),
+    ("links", README, r"\n## The kit\n", "\n## A kit\n", "links to #the-kit of README.md, which has no such heading"),
     ("links", README, END, "\n`tests/metrics_storm.py`\n", "names `tests/metrics_storm.py`"),
     ("links", README, END, "\n`docs/operations.md` (Stopping, Beginning) has it.\n", "names Beginning of docs/operations.md, which has no such section"),
     ("links", GUIDE, r"\n## Stopping\n", "\n## Ending\n", "which has no such section"),

@@ -9,6 +9,8 @@ from lib.pages.markdown import FENCE, SPAN, rows, spans
 from lib.pages.tree import ON_KIT
 
 LINK = re.compile(r"\]\(([^)\s#]+)(?:#[\w-]*)?\)")
+# A link to a heading, of another page or of its own.
+ANCHOR = re.compile(r"\]\(([^)\s#:]*)#([\w-]+)\)")
 # What a page names as a file: a path of these letters with a folder ahead or an ending that files here have.
 PATH = re.compile(r"(?:\.\./|[\w.-]+/)+[\w.*-]*|[\w-]+\.(?:md|py|sh|rt|antt|pml|svg|cfg|service|rules|session|edit|txt)")
 # A file of code, with its folder or alone.
@@ -74,6 +76,11 @@ def named_files(text):
     return [(line, word.strip("'\",:")) for line, span in spans(FILE.sub("", text)) for word in span.split(" ")]
 
 
+def anchors(text):
+    """What a link calls each heading of a page."""
+    return {re.sub(r"[^\w -]", "", it.lower()).replace(" ", "-") for it in HEADING.findall(FENCE.sub("", text))}
+
+
 def in_folders(text):
     """In each cell of a table the names of files behind the path of one, with the folder of that path and their line."""
     for line, cells in rows(text):
@@ -115,6 +122,11 @@ def check(tree, told):
             if "://" not in it[1]:
                 path = os.path.normpath(os.path.join(os.path.dirname(page), it[1]))
                 told.holds(tree.has(path), page, f"links to {it[1]}, which isn't there", text.count("\n", 0, it.start()) + 1)
+        for it in ANCHOR.finditer(text):
+            path = os.path.normpath(os.path.join(os.path.dirname(page), it[1])) if it[1] else page
+            is_there = tree.has(path) and it[2] in anchors(tree.text(path))
+            line = text.count("\n", 0, it.start()) + 1
+            told.holds(is_there, page, f"links to #{it[2]} of {path}, which has no such heading", line)
         for line, path, name in named_sections(text):
             told.holds(has_section(tree, page, path, name), page, f"names {name} of {path}, which has no such section", line)
     index = tree.text("docs/README.md")
