@@ -460,6 +460,16 @@ def ends(checks, folder):
     target.close()
 
 
+def settled(target):
+    """How many checks a target has taken, once those that were made before this moment have come to it, late as it may be."""
+    for _ in range(50):
+        known = target.probes
+        time.sleep(0.2)
+        if target.probes == known:
+            break
+    return known
+
+
 def shortage(checks, folder):
     target = Target("A")
     with Checked((target,), health(OFTEN, "fall = 1", "rise = 1")) as it:
@@ -467,7 +477,7 @@ def shortage(checks, folder):
         pid = it.relay.process.pid
         most = resource.prlimit(pid, resource.RLIMIT_NOFILE)
         resource.prlimit(pid, resource.RLIMIT_NOFILE, (1, most[1]))
-        probes = target.probes
+        probes = settled(target)
         time.sleep(0.5)
         checks.holds("shortage: no check can be made", target.probes <= probes + 1, target.probes - probes)
         resource.prlimit(pid, resource.RLIMIT_NOFILE, most)
