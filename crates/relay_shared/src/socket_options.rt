@@ -21,7 +21,7 @@ fn option_number(number: u64) -> u32
 
 // What is asked of its connections over TCP.
 fn tcp_options(sockets: &Sockets) -> TcpOptions
-    ensures { result ≡ tcp_options sockets.now }
+    ensures { result ≡ tcp_options sockets.now.keepalive_ms sockets.now.user_timeout_ms }
 {
     TcpOptions {
         keepalive_s: sockets.keepalive_ms.map(|ms| option_number(ms / 1_000)),
