@@ -14,7 +14,6 @@ use Rattle.relay_main.specs.declared.followed.Followed.{Followed}
 use Rattle.relay_main.specs.declared.main_task.MainTask.{MainTask}
 use Rattle.relay_main.specs.declared.main_task.MainTask.TheVariants as task
 use Rattle.relay_main.specs.declared.rule_listeners.Listening.{Listening}
-use Rattle.relay_main.specs.declared.rule_task.RuleTask.{RuleTask}
 use Rattle.relay_main.specs.declared.wanted_listeners.WantedListener.{WantedListener}
 
 -- the token of the first of these that is at this address
@@ -42,6 +41,7 @@ StaysBut old new = new ≡ old
 abbrev pub StayBut : {R A : Type 0} → Tasks (MainTask R) A → Tasks (MainTask R) A → Type 0
 StayBut old new = (token : ℕ) → StaysBut (task_in old token) (task_in new token)
 
--- the task accepts by this account, and is otherwise as it was
-abbrev pub FollowsAccount : {R : Type 0} → Arc ServedRule Global → RuleTask R → Option (RuleTask R) → Type 0
-FollowsAccount account old new = new ≡ Some (record old { served = account })
+-- a task that accepts by a rule accepts by this account; any other is as it was
+abbrev pub following : {R : Type 0} → Arc ServedRule Global → MainTask R → MainTask R
+following account (task.Rule accepts) = task.Rule (record accepts { served = account })
+following account other = other

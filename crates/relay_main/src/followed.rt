@@ -1,13 +1,12 @@
 //! By which account a rule's task accepts, which counts it. A listener that stays over a reload may come
 //! to another rule, or its rule to another account: then its task follows.
 
-ghost use Rattle.std.specs.Prelude.{◌≡◌, ◌≢◌, ℕ, IfErr, IfOk, IfSome, filter_map, map};
+ghost use Rattle.std.specs.Prelude.{◌≡◌, IfErr, IfOk, IfSome, IsNone, filter_map, map};
 ghost use Rattle.readiness.specs.EventLoop.{tasks_of};
-ghost use Rattle.readiness.specs.LoopToken.{place_in};
+ghost use Rattle.readiness.specs.Lends.{with_task};
 ghost use Rattle.readiness.specs.Tasks.{task_in};
 ghost use Rattle.relay_admin.specs.declared.serve_fault.ServeFault.{ServeFault};
 ghost use Rattle.relay_main.specs.Followed as spec;
-ghost use Rattle.relay_main.specs.RuleTask.{rule_task_in};
 
 use crate::accounts::account_at;
 use crate::main_loop::MainLoop;
@@ -51,11 +50,14 @@ pub(crate) fn followed_of(
 {
     let mut all = Vec::new(alloc);
     for one in keep {
-        let account = account_at(accounts, &one.rule.listen);
-        if let (Some(token), Some(account)) = (token_for(standing, &one.listen), account) {
-            let served = Arc::try_clone(account)?;
-            all.push(Followed { token, served })?;
-        }
+        let Some(token) = token_for(standing, &one.listen) else {
+            continue;
+        };
+        let Some(account) = account_at(accounts, &one.rule.listen) else {
+            continue;
+        };
+        let served = Arc::try_clone(account)?;
+        all.push(Followed { token, served })?;
     }
     Ok(all)
 }
@@ -83,6 +85,18 @@ impl<R: Wait + Copy> RuleTask<R> {
     }
 }
 
+impl<R: Wait + Copy> MainTask<R> {
+    // One that accepts by a rule accepts by this account from now on; any other goes on as it did.
+    fn follow(&mut self, served: Arc<ServedRule>)
+        ensures { self.new ≡ spec.following served self.old }
+    {
+        match self {
+            MainTask::Rule(task) => task.follow(served),
+            MainTask::Admin(_) | MainTask::Check(_) | MainTask::Session(_) => {}
+        }
+    }
+}
+
 impl<R: Wait + Clock + Copy> MainLoop<R> {
     /// Has each of these accept by its account from now on.
     pub(crate) fn follow_accounts(&mut self, all: Vec<Followed>)
@@ -96,16 +110,16 @@ impl<R: Wait + Clock + Copy> MainLoop<R> {
 
     // Has the rule's task that this token names accept by this account from now on.
     fn follow_account(&mut self, one: Followed)
-        ensures follows { IfSome (rule_task_in (task_in (tasks_of self.old.tasks) one.token)) (λ task.
-            spec.FollowsAccount one.served task
-            (rule_task_in (task_in (tasks_of self.new.tasks) one.token))) }
-        ensures others { (other : ℕ) → place_in other ≢ place_in one.token →
-            task_in (tasks_of self.new.tasks) other ≡ task_in (tasks_of self.old.tasks) other }
+        ensures follows { IfSome (task_in (tasks_of self.old.tasks) one.token) (λ task.
+            tasks_of self.new.tasks ≡ with_task (tasks_of self.old.tasks) one.token
+            (spec.following one.served task)) }
+        ensures gone { IsNone (task_in (tasks_of self.old.tasks) one.token)
+            → self.new.tasks ≡ self.old.tasks }
         ensures stay { spec.StayBut (tasks_of self.old.tasks) (tasks_of self.new.tasks) }
         ensures listening { self.new.listening ≡ self.old.listening }
     {
         let Followed { token, served } = one;
-        if let Some(MainTask::Rule(task)) = self.tasks.task_mut(token) {
+        if let Some(task) = self.tasks.task_mut(token) {
             task.follow(served);
         }
     }

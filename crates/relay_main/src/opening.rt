@@ -89,6 +89,7 @@ pub(crate) fn hold_rule<R: Wait + Copy>(
     ensures listen { IfOk result (λ one. one.listen ≡ facts.listen) }
     ensures faults { IfErr result IsRunFault }
 {
+    let listen = facts.listen;
     let Ok(place) = tasks.vacant() else {
         return Err(ServeFault::Memory);
     };
@@ -101,7 +102,7 @@ pub(crate) fn hold_rule<R: Wait + Copy>(
             served.count_listener(true);
             tasks.again(place.first);
             Ok(Listening {
-                listen: facts.listen,
+                listen,
                 id,
                 token: place.first,
             })
