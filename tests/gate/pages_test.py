@@ -135,7 +135,7 @@ ROWS = (
     ("stale", "docs/proved.md", END, "\n`FdHandle::read` and `write` are called by no program here.\n", "a benchmark calls `FdHandle::read`"),
     ("stale", GUIDE, r"as long as the list is the same, and the same targets of it are up\.", "as long as the list is the same.", "the remainder changes with the targets that are up"),
     ("stale", "docs/wake-ups.md", END, "\nA loop, the admin thread and the main thread.\n", "admin sessions are tasks of the main thread"),
-    ("stale", "crates/readiness/src/sock.rt", r"stream\.set_nodelay\(true\)", "stream.set_keepalive(true)", "says “TCP keepalive is off”, and"),
+    ("stale", "crates/readiness/src/sock.rt", r"stream\.set_nodelay\(true\)", "stream.set_keepalive(true)", "says “TCP keepalive is off without `keepalive`”, and"),
     ("stale", "crates/readiness/src/sock.rt", r"stream\.set_nodelay\(true\)", "stream.set_nodelay(false)", "says “TCP connections have `TCP_NODELAY`”, and"),
     ("limits", CHANGES, END, "- A read takes up to 16,384 bytes from the first on.\n", "65,536, as `LOOP_BUFFER_BYTES` is"),
     ("figures", CHANGES, END, "- `--loops` of serve: loops.\n- `--loops` of serve: how many loops.\n", "tells `--loops` twice"),

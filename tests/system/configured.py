@@ -41,7 +41,7 @@ HEAD = '[[rule]]\nname = "web"\n'
 ENDS = 'listen = ["unix:/a"]\ntarget = [{ at = "unix:/b" }]\n'
 TIME = "is no time (as 500ms, 30s, 5m, 2h, at most a day; or never)"
 LISTEN = "is no address to listen at (as tcp:0.0.0.0:443, tcp:[::]:443, unix:/run/x.sock)"
-ADDRESS = "is no address (as tcp:10.0.0.1:443, tcp:[::1]:443, tcp:app.internal:443, unix:/run/x.sock)"
+ADDRESS = "is no address (as tcp:10.0.0.1:443, tcp:[::1]:443, unix:/run/x.sock)"
 CHECKS = "is not a table ({ every = .., timeout = .., fall = .., rise = .. })"
 NETWORK = "is no network (as 10.0.0.0/8, 2001:db8::/32, 10.0.0.1)"
 NAME = 'is no name (a letter, then letters, digits and "-", all small, at most 16)'
@@ -102,13 +102,12 @@ UNSERVED = (
     ('log = { file = "-", format = "json" }\n', "log: format"),
     ('metrics = "unix:/' + 100 * "m" + '"\n', "metrics"),
     *((HEAD + f"{key} = {value}\n" + ENDS, f'rule "web": {key}') for key, value in (
-        ("connections", "5"), ("connections_per_source", "5"), ("accepts_per_source", '"5/s"'), ("keepalive", '"30s"'),
-        ("user_timeout", '"30s"'), ("backlog", "5"), ("source", '"127.0.0.1"'), ("resolve", '"5s"'), ("resolve", '"never"'),
+        ("connections_per_source", "5"), ("accepts_per_source", '"5/s"'), ("resolve", '"5s"'), ("resolve", '"never"'),
     )),
     *((HEAD + f"proxy_protocol = {{ {keys} }}\n" + ENDS, 'rule "web": proxy_protocol: from_client') for keys in (
         'from_client = ["0.0.0.0/0"]', 'to_target = "v2", from_client = ["::1"]',
     )),
-    (RULE.replace('["unix:/a"]', '["unix:/a", "unix:/c"]'), 'rule "web": listen 2'),
+    (RULE.replace('["unix:/a"]', '["unix:/a", "unix:/c", "unix:/' + 100 * "d" + '"]'), 'rule "web": listen 3'),
     (RULE.replace("unix:/a", "unix:/" + 100 * "a"), 'rule "web": listen 1'),
     (RULE.replace("unix:/b", "tcp:app.internal:80"), 'rule "web": target 1: at'),
     (RULE.replace("unix:/b", "unix:/" + 100 * "b"), 'rule "web": target 1: at'),
@@ -116,12 +115,21 @@ UNSERVED = (
     (RULE.replace('{ at = "unix:/b" }', 63 * '{ at = "unix:/b" }, ' + '{ at = "tcp:app.internal:80" }'), 'rule "web": target 64: at'),
     ("".join(RULE.replace("web", f"r{n}").replace("/a", f"/{n}") for n in range(65)), "rule 65"),
     # Of several the first: keys of the whole ahead of rules, and the text's own faults ahead of all.
-    (HEAD + 'source = "127.0.0.1"\nbacklog = 5\n' + ENDS, 'rule "web": backlog'),
-    (HEAD + 'proxy_protocol = { from_client = ["10.0.0.0/8"] }\nsource = "127.0.0.1"\n' + ENDS, 'rule "web": source'),
-    ('log = { file = "-", format = "json" }\n' + HEAD + "backlog = 5\n" + ENDS, "log: format"),
+    (HEAD + 'accepts_per_source = "5/s"\nconnections_per_source = 5\n' + ENDS, 'rule "web": connections_per_source'),
+    (HEAD + 'proxy_protocol = { from_client = ["10.0.0.0/8"] }\nresolve = "5s"\n' + ENDS, 'rule "web": resolve'),
+    ('log = { file = "-", format = "json" }\n' + HEAD + 'resolve = "5s"\n' + ENDS, "log: format"),
 )
-# Rules of several targets, of such that are checked, and of such that are sent a header.
+# Rules of several targets, of such that are checked, and of such that are sent a header; rules with several addresses, with options of
+# sockets, and with a limit of their own.
 TARGETS = (
+    *(RULE.replace('["unix:/a"]', f'[{", ".join(addresses)}]') for addresses in (
+        ('"unix:/a"', '"tcp:[::]:443"', '"tcp:0.0.0.0:443"'), [f'"unix:/{n}"' for n in range(16)],
+    )),
+    *(HEAD + f"{key} = {value}\n" + ENDS for key, value in (
+        ("keepalive", '"1s"'), ("keepalive", '"32767s"'), ("user_timeout", '"1ms"'), ("user_timeout", '"24h"'), ("backlog", "1"), ("backlog", "65535"),
+        ("source", '"127.0.0.1"'), ("source", '"2001:db8::1"'),
+    )),
+    HEAD + "connections = 1\n" + ENDS, HEAD + "connections = 50000\n" + ENDS,
     *(HEAD + f"health = {keys}\n" + ENDS for keys in ("{}", '{ every = "1ms", timeout = "24h", fall = 1, rise = 100 }', "{ rise = 1 }")),
     RULE.replace('{ at = "unix:/b" }', '{ at = "unix:/b", weight = 2 }, { at = "unix:/b" }, { at = "unix:/c", backup = true }'),
     RULE.replace('"unix:/b"', '"unix:/b", weight = 0'), RULE.replace('"unix:/b"', '"unix:/b", backup = true'),
@@ -174,7 +182,7 @@ def verdicts(checks, folder):
 def unserved(checks, folder):
     for text, place in UNSERVED:
         refused(checks, folder, text, f"{place}: this version doesn't serve it")
-    faulty = HEAD + 'backlog = 5\nidle = "30x"\n' + ENDS
+    faulty = HEAD + 'resolve = "5s"\nidle = "30x"\n' + ENDS
     refused(checks, folder, faulty, f'rule "web": idle: "30x" {TIME}')
 
 
@@ -272,7 +280,7 @@ def reloads(checks, folder):
         checks.holds("the new target", reaches(port, second), "no bytes pass")
         for text, reply in (
             (config(port, one, "", "zone = 1\n"), 'bad config: rule "web": unknown key "zone"'),
-            (config(port, one, "", "backlog = 5\n"), 'bad config: rule "web": backlog: this version doesn\'t serve it'),
+            (config(port, one, "", 'resolve = "5s"\n'), 'bad config: rule "web": resolve: this version doesn\'t serve it'),
             (config(port, one, "loops = 0\n"), "bad config: loops: 0 is not from 1 to 64"),
         ):
             relay.write(text)

@@ -73,7 +73,7 @@ pollrelay_rule_accepted_total{rule="a"} 1
 """.split("\n")[1:-1]
 # Connections of a rule with an idle time that end, longer than that time, and more turns than two loops make in a silence, beside those
 # that a second brings.
-ENDED, SILENCE, MOST_TURNS = 40, 0.7, 10
+ENDED, SILENCE, MOST_TURNS = 40, 3.5, 10
 # The most scrapes, each of some milliseconds, until a figure is told.
 SCRAPES = 1_000
 
@@ -242,7 +242,7 @@ def used(it, metrics):
 
 
 def quiet(checks, folder):
-    metrics, rules = some_address(), "relay n {0} {target} never\nrelay i {1} {target} 500\n"
+    metrics, rules = some_address(), "relay n {0} {target} never\nrelay i {1} {target} 3000\n"
     with Tried(checks, "quiet", rules=rules, options=("--log", f"{folder}/log", "--metrics", metrics)) as it:
         whole, half = it.ends(), it.ends()
         it.holds("one stands, of another the client's end has come", whole.pass_both() and half.pass_both() and half.half_end(), "not so")

@@ -18,6 +18,7 @@ shortage a relay without a descriptor left takes no target for down.
 rest     64 targets that are checked take hardly any time of a processor.
 """
 import contextlib
+import os
 import resource
 import selectors
 import signal
@@ -34,7 +35,7 @@ from lib.metrics import scrape
 from lib.relay import Relay
 from lib.sockets import free_port, listener, some_address
 from lib.stages import run_script
-from lib.waiting import comes, processor_seconds
+from lib.waiting import comes, processor_seconds, unhindered
 
 SOON = 10
 # Checks that come so often that a test needn't wait, and such that come once.
@@ -124,6 +125,10 @@ class Checked:
     def reload(self, targets, checks, balance="round-robin"):
         self.relay.write(self.text(targets, checks, balance))
         return self.relay.ask("reload")
+
+    def moment(self):
+        """By a clock that stands while the relay or this script waits for a processor."""
+        return unhindered(self.relay.process.pid, os.getpid())
 
     def client(self):
         sock = socket.create_connection(("127.0.0.1", self.port), SOON)
@@ -259,9 +264,9 @@ def frozen(checks, folder):
             checks.expect("frozen: before", "A", it.got())
             process.send_signal(signal.SIGSTOP)
             checks.holds("frozen: it is down", it.comes_to(address, "down"), it.lines())
-            began = time.monotonic()
+            began = it.moment()
             checks.expect("frozen: clients go elsewhere", "B" * 4, it.names(4))
-            checks.holds("frozen: at once", time.monotonic() - began < 2, time.monotonic() - began)
+            checks.holds("frozen: at once, beside waits for a processor", it.moment() - began < 2, it.moment() - began)
             process.send_signal(signal.SIGCONT)
             checks.holds("frozen: it is up", it.comes_to(address, "down", "up"), it.lines())
             checks.holds("frozen: clients come back", comes(lambda: it.got() == "A"), "no client")
@@ -300,9 +305,9 @@ def clients(checks, folder):
     with BlackHole() as hole, Checked((hole, up), health(ONCE, 'timeout = "1h"', "fall = 2"), "first", "600ms") as it:
         checks.expect("clients: late ones go on", "BB", it.names(2))
         checks.holds("clients: late", it.comes_to(hole.address, "down"), it.lines())
-        began = time.monotonic()
+        began = it.moment()
         checks.expect("clients: those behind them", "BBB", it.names(3))
-        checks.holds("clients: don't wait", time.monotonic() - began < 0.3 * 3, time.monotonic() - began)
+        checks.holds("clients: don't wait, beside waits for a processor", it.moment() - began < 0.3 * 3, it.moment() - began)
     # The last target is late when the time of all is over.
     with BlackHole() as hole, Checked((hole,), health(ONCE, 'timeout = "1h"', "fall = 1"), "first", "300ms") as it:
         checks.expect("clients: the last", "end", it.got())
@@ -409,7 +414,7 @@ def refused(checks, folder):
     often = health(OFTEN, "fall = 2", "rise = 2")
     with Checked((target, up), often, "first") as it:
         checks.holds("refused: it is down", it.comes_to(target, "down"), it.lines())
-        for faulty in ("health = { every = 2 }\n", often + "backlog = 5\n"):
+        for faulty in ("health = { every = 2 }\n", often + 'accepts_per_source = "5/s"\n'):
             reply = it.reload((target, up), faulty, "first")
             checks.holds("refused: the reload", reply.startswith('bad config: rule "web": '), reply)
         taken, address = listener()

@@ -338,10 +338,11 @@ def without_descriptors(checks, name, folder, fast, wakes):
     with Relay(RULE.format("one", address, to), env={"LD_PRELOAD": shim, "FAST": str(fast)}) as relay:
         checks.holds(f"{name}: it serves", comes_back(address), "nothing came back")
         waiting = while_short(relay, address, wakes)
-        began = unhindered(relay.process.pid)
+        pids = relay.process.pid, os.getpid()
+        began = unhindered(*pids)
         checks.expect(f"{name}: who has waited is served", b"hello", heard(waiting, SETTLE_SECONDS))
-        took = unhindered(relay.process.pid) - began
-        checks.holds(f"{name}: within 2 s, beside its waits for a processor", took < 2, f"{took:.2f} s")
+        took = unhindered(*pids) - began
+        checks.holds(f"{name}: within 2 s, beside waits for a processor", took < 2, f"{took:.2f} s")
         waiting.close()
         checks.holds(f"{name}: others too", comes_back(address), "nothing came back")
         checks.expect(f"{name}: status and totals", (0, (15, 15)), relay.stop()[:2])

@@ -200,7 +200,13 @@ def nobody(checks, folder):
         # With the whole time for each it would take 16 s.
         checks.expect("nobody: the client ends", "end", it.got()[1])
         checks.holds("nobody: after the whole time", time.monotonic() - began > 1.9, "before")
-        checks.expect("nobody: the log", [(holes[-1].address, "no target timeout")], it.lines(1))
+        # On a busy machine the time may be over before the last was tried: then another client has to come to it.
+        lines = it.lines(1)
+        while lines[-1][0] != holes[-1].address and len(lines) < 5:
+            it.got()
+            lines = it.lines(len(lines) + 1)
+        checks.expect("nobody: each is told as late", {"no target timeout"}, {how for _, how in lines})
+        checks.expect("nobody: the last is tried too", holes[-1].address, lines[-1][0])
     for hole in holes:
         hole.__exit__()
 

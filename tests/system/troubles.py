@@ -192,7 +192,7 @@ def _(stack, checks):
 @trial("bad config: ..")
 def _(stack, checks):
     folder = stack.enter_context(tempfile.TemporaryDirectory())
-    faults = (("no time", "idle", '"30x"', "is no time"), ("what isn't served", "connections", "500", "this version doesn't serve it"))
+    faults = (("no time", "idle", '"30x"', "is no time"), ("what isn't served", "connections_per_source", "5", "this version doesn't serve it"))
     for name, key, value, why in faults:
         with open(f"{folder}/config", "w", encoding="ascii") as file:
             file.write(f'[[rule]]\nname = "web"\nlisten = ["unix:/a"]\ntarget = [{{ at = "unix:/b" }}]\n{key} = {value}\n')

@@ -32,9 +32,10 @@ pub(crate) enum Stage {
 }
 
 /// A client of a server of lines of at most `LIMIT` bytes, for `Net::serve`. A client that says
-/// nothing, or takes nothing of its answer, for the idle time leaves, and so does one that has no
-/// whole line at a shutdown. It leaves by a gentle close of at most the idle time, so that it has
-/// the last answer also where it sent more.
+/// nothing for the idle time leaves, and so does one that has no whole line at a shutdown. It
+/// leaves by a gentle close of at most the idle time, so that it has the last answer also where it
+/// sent more. A client that takes nothing of its answer for the idle time is closed at once, without
+/// the rest.
 #[derive(Drop)]
 pub struct LineTask<H, const LIMIT: usize> {
     handler: H,

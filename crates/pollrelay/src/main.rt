@@ -55,13 +55,13 @@ fn read<R: Files + AllocGlobal>(rt: &R, source: &Source) -> Result<Vec<u8>, Serv
 }
 
 /// How many descriptors a process with these limits may have, where a relay of this size may need
-/// more.
-fn few_descriptors(limits: &str, capacity: &Capacity) -> Option<u64>
-    ensures { result ≡ fewer_than (needed capacity.now.pairs.count capacity.now.loops.count)
-        (soft_limit limits.now) }
+/// more, whose rules have so many addresses beyond the first of each.
+fn few_descriptors(limits: &str, capacity: &Capacity, further: u32) -> Option<u64>
+    ensures { result ≡ fewer_than
+        (needed capacity.now.pairs.count capacity.now.loops.count further) (soft_limit limits.now) }
 {
     let allowed = descriptors_allowed(limits)?;
-    if allowed < descriptors_needed(capacity.pairs, capacity.loops) {
+    if allowed < descriptors_needed(capacity.pairs, capacity.loops, further) {
         Some(allowed)
     } else {
         None
@@ -70,12 +70,12 @@ fn few_descriptors(limits: &str, capacity: &Capacity) -> Option<u64>
 
 /// Says on standard error where the process may have fewer descriptors than its relay may need. The
 /// relay starts all the same: it pauses once they run out.
-fn warn_of_descriptors<R: Files + Eprint + AllocGlobal>(rt: &R, capacity: &Capacity) {
+fn warn_of_descriptors<R: Files + Eprint + AllocGlobal>(rt: &R, capacity: &Capacity, further: u32) {
     let Ok(limits) = fs::read_to_string(rt, "/proc/self/limits") else {
         return;
     };
-    if let Some(allowed) = few_descriptors(limits.as_str(), capacity) {
-        let needed = descriptors_needed(capacity.pairs, capacity.loops);
+    if let Some(allowed) = few_descriptors(limits.as_str(), capacity, further) {
+        let needed = descriptors_needed(capacity.pairs, capacity.loops, further);
         let _ = eprintln!(rt; "few descriptors: {allowed}, and {needed} may be needed");
     }
 }
@@ -126,7 +126,7 @@ where
 {
     let config = Config::read(&rt, rt.alloc(), asked)?;
     tell_of_options(&rt, &config.start);
-    warn_of_descriptors(&rt, &config.capacity);
+    warn_of_descriptors(&rt, &config.capacity, config.further);
     let errors = open_log(&rt, "-").ok();
     let given = Given { listeners, errors };
     serve(rt, config, given, LogFiles { rt }, &mut io::writer(&rt))?;

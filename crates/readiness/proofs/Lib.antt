@@ -4,3 +4,4 @@ pub mod ResumingLemmas
 pub mod LateLemmas
 pub mod TurnLemmas
 pub mod TellingLemmas
+pub mod LendLemmas

@@ -5,6 +5,7 @@ pub mod Batch
 pub mod Telling
 pub mod PollTimeout
 pub mod Poller
+pub mod RawSocket
 pub mod Holding
 pub mod Alarms
 pub mod LoopToken

@@ -2,6 +2,8 @@
 use Rattle.std.specs.Prelude.{ℕ, Bool, true, false, List, Option, Some, None, Result, Ok, Err}
 use Rattle.std.specs.Option.{option_map}
 use Rattle.std.specs.Arc.{arc_value}
+use Rattle.std.specs.declared.net.ip_addr.IpAddr.{IpAddr}
+use Rattle.std.specs.declared.net.ip_addr.IpAddr.TheVariants as family
 use Rattle.std.specs.declared.net.socket_addr.SocketAddr.{SocketAddr}
 use Rattle.mio.specs.declared.net.stream.TcpStream.{TcpStream}
 use Rattle.mio.specs.declared.net.uds.stream.UnixStream.{UnixStream}
@@ -21,6 +23,13 @@ abbrev pub is_tcp_addr : Addr → Bool
 is_tcp_addr (TcpAddr bytes port) = true
 is_tcp_addr (Tcp6Addr ip scope port) = true
 is_tcp_addr (UnixAddr path) = false
+
+-- the source of a connection to this address: the one that is said, where both are of IPv4 or both of
+-- IPv6
+abbrev pub source_for : Addr → Option IpAddr → Option IpAddr
+source_for (TcpAddr bytes port) (Some (family.V4 own)) = Some (family.V4 own)
+source_for (Tcp6Addr ip scope port) (Some (family.V6 own)) = Some (family.V6 own)
+source_for addr source = None
 
 -- the connection is one of TCP
 abbrev pub is_tcp : Sock → Bool

@@ -1,8 +1,8 @@
 //! Sockets that never wait, and a poller that tells the descriptors in a table what is ready and
 //! what time it is: Go's network poller, over `epoll`.
 //!
-//! `addr`, `peer`, `local`, `sock`, `open` and `v6_listener` have the sockets, `resources` what a descriptor makes of
-//! them, and `last_codes` and `noted_listen` the numbers of the system's errors. `batch`
+//! `addr`, `peer`, `local`, `sock`, `open`, `from_source`, `v6_listener` and `socket_options` have the sockets, over
+//! `raw_address` and `raw_socket`, `resources` what a descriptor makes of them, and `last_codes` and `noted_listen` the numbers of the system's errors. `batch`
 //! and `poll_timeout` decide what a poll's events say and how long a poll waits, `poller` polls,
 //! `holding` puts sockets into its table, and `timer_alarms` has deadlines wake it.
 #![tactic(auto)]
@@ -12,6 +12,7 @@ mod agenda;
 mod batch;
 mod due_timers;
 mod event_loop;
+mod from_source;
 mod giving_way;
 mod holding;
 mod last_codes;
@@ -27,10 +28,13 @@ mod peer;
 mod poll_timeout;
 mod polled_events;
 mod poller;
+mod raw_address;
+mod raw_socket;
 mod registrar;
 mod resources;
 mod resuming;
 mod sock;
+mod socket_options;
 mod system_error;
 mod task_times;
 mod tasks;
@@ -50,13 +54,14 @@ pub use loop_remote::{LoopRemote, RemoteAlarms};
 pub use loop_token::{LAST_SERIAL, MAX_PLACES, Place, Side, side_of};
 pub use named_tasks::MAX_NAMED;
 pub use noted_listen::{NotedListen, NotedListenRes};
-pub use open::{connect, connect_io, listen, listen_io};
+pub use open::{connect, connect_from, connect_io, listen, listen_io};
 pub use peer::PeerStream;
 pub use poll_timeout::{MAX_WAIT_MS, sleep_ms, wait_ms};
 pub use poller::{HasCell, Poller};
 pub use registrar::Registrar;
 pub use resources::{ListenRes, NoWrites, ReadHalf, SockRes, WriteHalf};
 pub use sock::{Listen, Sock};
+pub use socket_options::TcpOptions;
 pub use tasks::{Host, NoPlace, Turn};
 pub use timer_alarms::TimerAlarms;
 

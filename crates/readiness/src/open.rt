@@ -3,11 +3,12 @@
 ghost use Rattle.std.specs.Prelude.{◌≡◌, IfOk, IfErr, None, true};
 ghost use Rattle.std.specs.Net.Socket.{v6_flowinfo, v6_ip, v6_port, v6_scope_id};
 ghost use Rattle.readiness.specs.Peers.{tcp_addr};
-ghost use Rattle.readiness.specs.Sockets.{is_tcp, is_tcp_listener, is_tcp_addr, peer_of};
+ghost use Rattle.readiness.specs.Sockets.{is_tcp, is_tcp_listener, is_tcp_addr, peer_of, source_for};
 ghost use Rattle.readiness.specs.SystemErrors.{IsConnectKind};
 ghost use Rattle.rwloops.specs.declared.outcome.DevKind.{DevKind};
 
 use crate::addr::Addr;
+use crate::from_source::connect_tcp_from;
 use crate::peer::PeerStream;
 use crate::sock::{Listen, Sock};
 use crate::system_error::connect_kind_of;
@@ -16,7 +17,7 @@ use mio::net::{TcpListener, TcpStream, UnixListener, UnixStream};
 use rwloops::DevKind;
 use std::fs::Files;
 use std::io;
-use std::net::{Ipv4Addr, Ipv6Addr, Net, SocketAddr, SocketAddrV4, SocketAddrV6};
+use std::net::{IpAddr, Ipv4Addr, Ipv6Addr, Net, SocketAddr, SocketAddrV4, SocketAddrV6};
 
 fn v4_address(bytes: [u8; 4], port: u16) -> SocketAddr
     ensures { tcp_addr result ≡ Addr.Tcp bytes port }
@@ -33,13 +34,31 @@ fn v6_address(ip: Ipv6Addr, scope: u32, port: u16) -> SocketAddrV6
     SocketAddrV6::new(ip, port, 0, scope)
 }
 
-fn connect_tcp<R: Net>(rt: &R, at: SocketAddr) -> io::Result<Sock>
+fn stream_to<R: Net>(rt: &R, at: SocketAddr, source: Option<IpAddr>) -> io::Result<TcpStream> {
+    match source {
+        Some(source) => connect_tcp_from(rt, source, at),
+        None => TcpStream::connect(rt, at),
+    }
+}
+
+fn connect_tcp<R: Net>(rt: &R, at: SocketAddr, source: Option<IpAddr>) -> io::Result<Sock>
     ensures family { IfOk result (λ sock. is_tcp sock ≡ true) }
     ensures no_peer { IfOk result (λ sock. peer_of sock ≡ None) }
 {
-    let stream = TcpStream::connect(rt, at)?;
+    let stream = stream_to(rt, at, source)?;
     let _ = stream.set_nodelay(true);
     Ok(Sock::Tcp(PeerStream { stream, peer: None }))
+}
+
+// From where a connection to this address is begun, where that is said.
+fn source_for(addr: &Addr, source: Option<IpAddr>) -> Option<IpAddr>
+    ensures { result ≡ source_for addr.now source }
+{
+    match (addr, source) {
+        (Addr::Tcp(_, _), Some(IpAddr::V4(own))) => Some(IpAddr::V4(own)),
+        (Addr::Tcp6(_, _, _), Some(IpAddr::V6(own))) => Some(IpAddr::V6(own)),
+        _ => None,
+    }
 }
 
 /// Begins a connection as `connect` does, with the system's own error.
@@ -47,10 +66,20 @@ pub fn connect_io<R: Net>(rt: &R, addr: &Addr) -> io::Result<Sock>
     ensures family { IfOk result (λ sock. is_tcp sock ≡ is_tcp_addr addr.now) }
     ensures no_peer { IfOk result (λ sock. peer_of sock ≡ None) }
 {
+    connect_from(rt, addr, None)
+}
+
+/// The same, from an address of this machine's own, where one is said that is of the same family. Where
+/// it isn't the machine's, or no port is left for it, that is the error.
+pub fn connect_from<R: Net>(rt: &R, addr: &Addr, source: Option<IpAddr>) -> io::Result<Sock>
+    ensures family { IfOk result (λ sock. is_tcp sock ≡ is_tcp_addr addr.now) }
+    ensures no_peer { IfOk result (λ sock. peer_of sock ≡ None) }
+{
+    let source = source_for(addr, source);
     match addr {
-        Addr::Tcp(bytes, port) => connect_tcp(rt, v4_address(*bytes, *port)),
+        Addr::Tcp(bytes, port) => connect_tcp(rt, v4_address(*bytes, *port), source),
         Addr::Tcp6(ip, scope, port) => {
-            connect_tcp(rt, SocketAddr::V6(v6_address(*ip, *scope, *port)))
+            connect_tcp(rt, SocketAddr::V6(v6_address(*ip, *scope, *port)), source)
         }
         Addr::Unix(path) => {
             let stream = UnixStream::connect(rt, path.as_str())?;

@@ -41,7 +41,7 @@ wanted key.Name = codes "no name (a letter, then letters, digits and \"-\", all 
 wanted key.Balance = codes "none of \"round-robin\", \"least-connections\", \"first\", \"source\""
 wanted key.Listen = codes "no address to listen at (as tcp:0.0.0.0:443, tcp:[::]:443, unix:/run/x.sock)"
 wanted key.Metrics = codes "no address to listen at (as tcp:0.0.0.0:443, tcp:[::]:443, unix:/run/x.sock)"
-wanted other = codes "no address (as tcp:10.0.0.1:443, tcp:[::1]:443, tcp:app.internal:443, unix:/run/x.sock)"
+wanted other = codes "no address (as tcp:10.0.0.1:443, tcp:[::1]:443, unix:/run/x.sock)"
 
 -- the type that the key, or an item of its list, has to have
 abbrev pub type_wanted : Key → Option ℕ → List ℕ

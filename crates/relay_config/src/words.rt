@@ -34,8 +34,7 @@ pub(crate) fn wanted(key: Key) -> &'static str
         Key::Listen | Key::Metrics => {
             "no address to listen at (as tcp:0.0.0.0:443, tcp:[::]:443, unix:/run/x.sock)"
         }
-        _ =>
-            "no address (as tcp:10.0.0.1:443, tcp:[::1]:443, tcp:app.internal:443, unix:/run/x.sock)",
+        _ => "no address (as tcp:10.0.0.1:443, tcp:[::1]:443, unix:/run/x.sock)",
     }
 }
 

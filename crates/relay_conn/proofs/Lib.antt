@@ -1,4 +1,5 @@
 pub mod ConnectionLemmas
 pub mod DeadlinesLemmas
 pub mod DrainedLemmas
+pub mod HeadLemmas
 pub mod RelayingLemmas

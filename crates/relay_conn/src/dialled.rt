@@ -6,11 +6,11 @@ ghost use Rattle.readiness.specs.Sockets.{is_tcp};
 ghost use Rattle.relay_conn.specs.Dialled.{HasNoDescriptors, cause_of_kind, dialled_to};
 ghost use Rattle.relay_log.specs.declared.ended.Cause.{Cause};
 
-use readiness::{Sock, connect_io};
+use readiness::Sock;
 use relay_admin::Addr;
 use relay_log::ended::Cause;
-use relay_shared::address::socket_address;
 use relay_shared::shortage::is_shortage;
+use relay_shared::socket_options::{Sockets, connect_out, set_options};
 use std::io;
 use std::io::ErrorKind;
 use std::net::Net;
@@ -38,15 +38,19 @@ pub struct NotDialled {
     pub is_shortage: bool,
 }
 
-/// Begins a connection to this target. Over TCP it is made later, over a Unix socket at once.
-pub fn dial<R: Net>(rt: &R, target: &Addr) -> Result<Dialled, NotDialled>
+/// Begins a connection to this target, whose socket is set up so. Over TCP it is made later, over a
+/// Unix socket at once.
+pub fn dial<R: Net>(rt: &R, target: &Addr, sockets: &Sockets) -> Result<Dialled, NotDialled>
     ensures target { IfOk result (λ dialled. dialled_to dialled ≡ target.now) }
 {
-    match connect_io(rt, &socket_address(target)) {
-        Ok(sock) => Ok(Dialled {
-            target: *target,
-            sock,
-        }),
+    match connect_out(rt, target, sockets.source) {
+        Ok(sock) => {
+            set_options(&sock, sockets);
+            Ok(Dialled {
+                target: *target,
+                sock,
+            })
+        }
         Err(error) => Err(NotDialled {
             cause: cause_of_connect(&error),
             is_shortage: is_shortage(&error),

@@ -98,6 +98,7 @@ impl<L: Ledger, R: Wait + Clock + Copy> Flow<L, R> {
     }
 
     // Offers what is left of its header, once.
+    #[tactic(auto, using(crate::proofs::HeadLemmas::is_over))]
     fn head(&mut self) -> Step
         ensures heads { Heads self.old self.new result }
         ensures share { self.new.share ≡ self.old.share }

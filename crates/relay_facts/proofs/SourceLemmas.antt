@@ -3,10 +3,13 @@ use Rattle.std.proofs.Common.{◌≡◌, ◌∙◌, List, [], ◌∷◌, Option,
 use Rattle.std.specs.Prelude.{IfOk, map, option_map}
 use Rattle.client_nets.specs.Net.{network_of}
 use Rattle.client_nets.specs.declared.net.Net.{Net}
+use Rattle.relay_admin.specs.declared.rules.addr.Addr.{Addr}
 use Rattle.relay_admin.specs.declared.rules.rule.Rule.{Rule}
+use Rattle.relay_admin.specs.rules.Addr.{address_of}
+use Rattle.relay_core.specs.declared.pair_limit.PairLimit.{PairLimit}
 use Rattle.relay_admin.specs.declared.serve_fault.ServeFault.{ServeFault}
 use Rattle.relay_admin.specs.rules.Grammar.{entry_of}
-use Rattle.relay_config.specs.Entries.{checks_entry}
+use Rattle.relay_config.specs.Entries.{SocketsEntry, checks_entry, sockets_entry}
 use Rattle.relay_config.specs.declared.health.Checks.{Checks}
 use Rattle.relay_config.specs.declared.proxy.Version.{Version}
 use Rattle.relay_facts.specs.Config.{AreServed, IsOfFile}
@@ -16,15 +19,20 @@ use Rattle.relay_facts.specs.declared.config.Start.{Start}
 use Rattle.relay_settings.specs.declared.asked.Source.{Source}
 use Rattle.relay_settings.specs.declared.said.Said.{Said}
 use Rattle.relay_settings.specs.Meaning.{SaidRuleEntry, said_rule_entry, said_target_entry}
-use Rattle.relay_settings.specs.Targets.{own_target}
+use Rattle.relay_settings.specs.Listeners.{further_listeners}
+use Rattle.relay_settings.specs.Targets.{own_target, plain_sockets}
 use Rattle.relay_settings.specs.declared.targets.SaidRule.{SaidRule}
 use Rattle.relay_settings.specs.declared.targets.Target.{Target}
 use Rattle.target_pick.specs.declared.picking.Balance.{Balance}
 use Rattle.target_pick.specs.declared.picking.Balance.TheVariants.{RoundRobin}
 
-abbrev entry_with : Rule → Balance → List Net → List Net → Option Checks → Option Version → List Target → SaidRuleEntry
-entry_with rule balance allow deny checks header targets = record {
+abbrev entry_with : Rule → List Addr → Option PairLimit → SocketsEntry → Balance → List Net → List Net → Option Checks → Option Version
+    → List Target → SaidRuleEntry
+entry_with rule listens limit sockets balance allow deny checks header targets = record {
   rule = entry_of rule;
+  listens = map address_of listens;
+  limit = option_map (λ p. p.count) limit;
+  sockets = sockets;
   balance = balance;
   access = record { allow = map network_of allow; deny = map network_of deny };
   checks = option_map checks_entry checks;
@@ -32,25 +40,38 @@ entry_with rule balance allow deny checks header targets = record {
   targets = map said_target_entry targets;
 }
 
-pub alone_entry : (said : SaidRule) (rule : Rule) → said.rule ≡ rule → said.balance ≡ RoundRobin
+pub alone_entry : (said : SaidRule) (rule : Rule) → said.rule ≡ rule → said.listens.items ≡ rule.listen ∷ []
+    → said.limit ≡ None → sockets_entry said.sockets ≡ plain_sockets → said.balance ≡ RoundRobin
     → said.access.allow.items ≡ [] → said.access.deny.items ≡ []
     → said.checks ≡ None → said.header ≡ None → said.targets.items ≡ own_target rule ∷ []
     → said_rule_entry said ≡ entry_alone rule
-alone_entry said rule same balance allow deny checks header targets =
-    ap (λ r. entry_with r said.balance said.access.allow.items said.access.deny.items said.checks said.header said.targets.items) same
-    ∙ ap (λ b. entry_with rule b said.access.allow.items said.access.deny.items said.checks said.header said.targets.items) balance
-    ∙ ap (λ nets. entry_with rule RoundRobin nets said.access.deny.items said.checks said.header said.targets.items) allow
-    ∙ ap (λ nets. entry_with rule RoundRobin [] nets said.checks said.header said.targets.items) deny
-    ∙ ap (λ c. entry_with rule RoundRobin [] [] c said.header said.targets.items) checks
-    ∙ ap (λ h. entry_with rule RoundRobin [] [] None h said.targets.items) header
-    ∙ ap (λ ts. entry_with rule RoundRobin [] [] None None ts) targets
+alone_entry said rule same listens limit sockets balance allow deny checks header targets =
+    let own = rule.listen ∷ [] in
+    let told = sockets_entry said.sockets in
+    let nets = said.access in
+    ap (λ r. entry_with r said.listens.items said.limit told said.balance nets.allow.items nets.deny.items said.checks said.header said.targets.items) same
+    ∙ ap (λ l. entry_with rule l said.limit told said.balance nets.allow.items nets.deny.items said.checks said.header said.targets.items) listens
+    ∙ ap (λ l. entry_with rule own l told said.balance nets.allow.items nets.deny.items said.checks said.header said.targets.items) limit
+    ∙ ap (λ s. entry_with rule own None s said.balance nets.allow.items nets.deny.items said.checks said.header said.targets.items) sockets
+    ∙ ap (λ b. entry_with rule own None plain_sockets b nets.allow.items nets.deny.items said.checks said.header said.targets.items) balance
+    ∙ ap (λ ns. entry_with rule own None plain_sockets RoundRobin ns nets.deny.items said.checks said.header said.targets.items) allow
+    ∙ ap (λ ns. entry_with rule own None plain_sockets RoundRobin [] ns said.checks said.header said.targets.items) deny
+    ∙ ap (λ c. entry_with rule own None plain_sockets RoundRobin [] [] c said.header said.targets.items) checks
+    ∙ ap (λ h. entry_with rule own None plain_sockets RoundRobin [] [] None h said.targets.items) header
+    ∙ ap (λ ts. entry_with rule own None plain_sockets RoundRobin [] [] None None ts) targets
 
 -- a start by what a file says, whose rules are served, is one of that file
 pub of_file : (made : Result Config ServeFault) (source : Source) (said : Said) (start : Start) (rules : List SaidRule)
     → FileSays source said → rules ≡ said.rules.items → start.file ≡ said.settings
     → IfOk made (λ config. config.start ≡ start)
     → IfOk made (λ config. AreServed rules config.capacity.loops.count config.rules.items)
+    → IfOk made (λ config. config.further ≡ further_listeners rules)
     → IfOk made (IsOfFile source)
-of_file (Err fault) source said start rules says same file is served = tt
-of_file (Ok config) source said start rules says same file is served =
-    (said, says, ap (λ (s : Start). s.file) is ∙ file, subst (λ rs. AreServed rs config.capacity.loops.count config.rules.items) same served)
+of_file (Err fault) source said start rules says same file is served further = tt
+of_file (Ok config) source said start rules says same file is served further = (
+  said,
+  says,
+  ap (λ (s : Start). s.file) is ∙ file,
+  subst (λ rs. AreServed rs config.capacity.loops.count config.rules.items) same served,
+  further ∙ ap further_listeners same,
+)

@@ -5,6 +5,7 @@ use Rattle.std.specs.declared.alloc.Global.{Global}
 use Rattle.std.specs.declared.sync.Arc.{Arc}
 use Rattle.relay_admin.specs.declared.rules.rule.Rule.{Rule}
 use Rattle.relay_core.specs.declared.capacity.Capacity.{Capacity}
+use Rattle.relay_settings.specs.Listeners.{further_listeners}
 use Rattle.relay_settings.specs.declared.asked.Source.{Source}
 use Rattle.relay_settings.specs.declared.said.Said as file
 use Rattle.relay_settings.specs.declared.settings.Settings.{Settings}
@@ -12,15 +13,19 @@ use Rattle.relay_settings.specs.declared.targets.SaidRule.{SaidRule}
 use Rattle.relay_facts.specs.Acceptance.{checks_with, targets_with}
 use Rattle.relay_facts.specs.Admission.{allowed_by, denied_by}
 use Rattle.relay_facts.specs.Counts.{loops_of}
+use Rattle.relay_facts.specs.Listens.{listens_in}
 use Rattle.relay_facts.specs.Source.{FileSays}
 use Rattle.relay_facts.specs.declared.config.Config.{Config}
 use Rattle.relay_facts.specs.declared.served_rule.Said.{Said}
 use Rattle.relay_facts.specs.declared.served_rule.ServedRule.{ServedRule}
 
--- what an account says is this rule, with its targets, of which one is picked and which are checked
--- as it says, with its header for them, and with its lists of clients
+-- what an account says is this rule, at its addresses, with its limit, its sockets, its targets, of which one is picked and which
+-- are checked as it says, with its header for them, and with its lists of clients
 pub record SaysRule (given : SaidRule) (said : Said) : Type 0 where
   pub rule : said.rule ≡ given.rule
+  pub listens : listens_in said ≡ given.listens.items
+  pub limit : said.limit ≡ given.limit
+  pub sockets : said.sockets ≡ given.sockets
   pub targets : targets_with (option_map arc_value said.targets) said.rule ≡ given.targets.items
   pub balance : IfSome said.targets (λ list. (arc_value list).balance ≡ given.balance)
   pub checks : checks_with (option_map arc_value said.targets) ≡ given.checks
@@ -39,11 +44,13 @@ pub record AreServed (rules : List SaidRule) (loops : ℕ) (all : List (Arc Serv
   pub each : (k : ℕ) (said : SaidRule) (served : Arc ServedRule Global) → slice_get rules k ≡ Some said
       → slice_get all k ≡ Some served → ServesRule said.rule loops (arc_value served)
 
--- what a relay is asked to be is what its file says: each rule is served, and nothing else
+-- what a relay is asked to be is what its file says: each rule is served, and nothing else, and its further
+-- addresses are counted
 abbrev pub IsOfFile : Source → Config → Type 0
 IsOfFile source config = (said : file.Said) × FileSays source said
     × (config.start.file ≡ said.settings)
     × AreServed said.rules.items config.capacity.loops.count config.rules.items
+    × (config.further ≡ further_listeners said.rules.items)
 
 -- neither the words of the command line nor the file name an admin socket
 abbrev pub NamesNoAdmin : (words file : Settings) → Type 0

@@ -6,6 +6,7 @@ pub mod Config
 pub mod Counts
 pub mod Header
 pub mod HowEnded
+pub mod Listens
 pub mod LogLines
 pub mod RulesFile
 pub mod Safeguards

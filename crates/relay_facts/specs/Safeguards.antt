@@ -2,6 +2,7 @@
 use Rattle.std.specs.Prelude.{◌≤◌, ℕ, false, Option, Some, None, unwrap_or}
 use Rattle.relay_core.specs.declared.pair_limit.PairLimit.{PairLimit}
 use Rattle.relay_facts.specs.declared.safeguards.Safeguards.{Safeguards}
+use Rattle.relay_settings.specs.Settings.{first_said}
 use Rattle.relay_settings.specs.declared.settings.Settings.{Settings}
 
 -- those of a relay with these settings: without a word of it a target has 5,000 milliseconds, a rule
@@ -13,7 +14,12 @@ safeguards_of settings = record {
   replaces_stale = unwrap_or settings.replaces_stale false;
 }
 
--- a rule of which so many connections stand has as many as it may, where it has a limit of its own
+-- how many connections of a rule stand at once: as many as it says itself, else as many as is said of each
+-- rule; without either as many as of all
+abbrev pub rule_limit : Option PairLimit → Option PairLimit → Option PairLimit
+rule_limit own each = first_said own each
+
+-- a rule with this limit, of which so many connections stand, has as many as it may
 abbrev pub IsAtRuleLimit : Option PairLimit → ℕ → Type 0
 IsAtRuleLimit (Some limit) standing = limit.count ≤ standing
 IsAtRuleLimit None standing = ⊥

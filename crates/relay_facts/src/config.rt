@@ -7,6 +7,7 @@ ghost use Rattle.relay_admin.specs.rules.Verdict.{verdict_line};
 ghost use Rattle.relay_facts.specs.Config.{AreServed, IsCapacity, IsOfFile, NamesNoAdmin, ServesRule};
 ghost use Rattle.relay_facts.specs.Safeguards.{safeguards_of};
 ghost use Rattle.relay_facts.specs.Source.{SaysNoSettings};
+ghost use Rattle.relay_settings.specs.Listeners.{further_listeners};
 ghost use Rattle.relay_settings.specs.Settings.{AreInForce};
 ghost use Rattle.relay_admin.specs.declared.serve_fault.ServeFault.{ServeFault};
 
@@ -19,7 +20,7 @@ use base_types::OutOfMemory;
 use log_writer::Log;
 use relay_admin::{ServeFault, Verdict};
 use relay_core::Capacity;
-use relay_settings::{Asked, Said, SaidRule, Settings, in_force};
+use relay_settings::{Asked, Said, SaidRule, Settings, further_listeners, in_force};
 use std::alloc::Global;
 use std::fs::Files;
 use std::sync::Arc;
@@ -42,6 +43,8 @@ pub struct Config {
     /// The settings in force.
     pub settings: Settings,
     pub capacity: Capacity,
+    /// How many addresses its rules have beyond the first of each.
+    pub further: u32,
     pub safeguards: Safeguards,
     /// Where its lines go. Who wants them written starts the log's thread.
     pub log: Option<Arc<Log>>,
@@ -142,6 +145,7 @@ fn config_of<R: Threads>(
     ensures start { IfOk result (λ config. config.start ≡ start) }
     ensures served { IfOk result (λ config.
         AreServed rules.now config.capacity.loops.count config.rules.items) }
+    ensures further { IfOk result (λ config. config.further ≡ further_listeners rules.now) }
     ensures in_force { IfOk result (λ config.
         AreInForce start.asked.words start.file config.settings) }
     ensures admin { IfOk result (λ config. is_some config.settings.admin ≡ true) }
@@ -151,6 +155,7 @@ fn config_of<R: Threads>(
     ensures faults { IfErr result (λ fault. IsFileFault fault) }
 {
     let settings = settings_in_force(alloc, &start.asked, &start.file)?;
+    let further = further_listeners(rules);
     let capacity = settings.capacity(rt);
     let safeguards = Safeguards::of(&settings);
     let rules = served_rules(alloc, rules, capacity.loops.count)?;
@@ -163,6 +168,7 @@ fn config_of<R: Threads>(
         start,
         settings,
         capacity,
+        further,
         safeguards,
         log,
     })

@@ -13,7 +13,8 @@ use crate::header::AcceptedAt;
 use crate::served_rule::ServedRule;
 use crate::target_list::{NoneLeft, Picked, Targets};
 use relay_admin::{Addr, Rule, Shown, ShownSide};
-use relay_settings::{Access, Version};
+use relay_core::PairLimit;
+use relay_settings::{Access, Sockets, Version};
 use std::sync::Arc;
 use std::sync::atomic::{AtomicU64, AtomicUsize, Ordering};
 use target_pick::{Tried, source_number};
@@ -24,6 +25,10 @@ pub struct Acceptance {
     pub served: Arc<ServedRule>,
     /// What its rule said then.
     pub rule: Rule,
+    /// How many connections of its rule might stand then, where the rule said that itself.
+    pub limit: Option<PairLimit>,
+    /// How its sockets are set up.
+    pub sockets: Sockets,
     /// Its rule's targets then; without a list the rule's own target is the only one.
     pub targets: Option<Arc<Targets>>,
     /// Who might connect to its rule then; without lists all clients.
@@ -44,6 +49,8 @@ impl Acceptance {
         ensures served { IfSome result (λ same. arc_value same.served
             ≡ arc_value self.now.served) }
         ensures rule { IfSome result (λ same. same.rule ≡ self.now.rule) }
+        ensures limit { IfSome result (λ same. same.limit ≡ self.now.limit) }
+        ensures sockets { IfSome result (λ same. same.sockets ≡ self.now.sockets) }
         ensures targets { IfSome result (λ same. list_in same ≡ list_in self.now) }
         ensures access { IfSome result (λ same. lists_in same ≡ lists_in self.now) }
         ensures client { IfSome result (λ same. same.client ≡ self.now.client) }
@@ -63,6 +70,8 @@ impl Acceptance {
         Some(Acceptance {
             served,
             rule: self.rule,
+            limit: self.limit,
+            sockets: self.sockets,
             targets,
             access,
             client: self.client,

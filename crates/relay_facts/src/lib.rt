@@ -12,6 +12,7 @@ pub mod counts;
 pub mod header;
 pub mod how_ended;
 mod known_targets;
+pub mod listens;
 pub mod log_lines;
 pub mod outcomes;
 pub mod rule_figures;

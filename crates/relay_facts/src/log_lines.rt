@@ -181,9 +181,16 @@ pub fn tell_end<R: Wait + Clock>(
     tell(rt, log, &facts.acceptance, &facts.target(), now, &outcome);
 }
 
-// Tells what is of no client: the rule's listening address stands in place of a client's.
-fn tell_of_rule<R: Wait + Clock>(rt: &R, log: &Log, rule: &Rule, target: &Addr, how: Ended) {
-    let (listen, target) = (rule.listen.text(), target.text());
+// Tells what is of no client: an address at which the rule listens stands in place of a client's.
+fn tell_of_rule<R: Wait + Clock>(
+    rt: &R,
+    log: &Log,
+    rule: &Rule,
+    listen: &Addr,
+    target: &Addr,
+    how: Ended,
+) {
+    let (listen, target) = (listen.text(), target.text());
     let line = Outcome::refused(how).line(
         moment_of(rt.since_1970()),
         rule.name.as_str(),
@@ -194,10 +201,16 @@ fn tell_of_rule<R: Wait + Clock>(rt: &R, log: &Log, rule: &Rule, target: &Addr, 
     log.push(rt, &line);
 }
 
-/// Tells that an accept of a rule failed.
-pub fn tell_accept_fault<R: Wait + Clock>(rt: &R, log: &Log, served: &ServedRule, why: Reason) {
+/// Tells that an accept of a rule failed, at this address.
+pub fn tell_accept_fault<R: Wait + Clock>(
+    rt: &R,
+    log: &Log,
+    served: &ServedRule,
+    listen: &Addr,
+    why: Reason,
+) {
     let rule = served.rule(rt);
-    tell_of_rule(rt, log, &rule, &rule.target, Ended::Accept(why));
+    tell_of_rule(rt, log, &rule, listen, &rule.target, Ended::Accept(why));
 }
 
 // The log's word for such a change.
@@ -218,5 +231,5 @@ pub(crate) fn tell_change<R: Wait + Clock>(
     target: &Addr,
     change: Change,
 ) {
-    tell_of_rule(rt, log, rule, target, ended_of(change));
+    tell_of_rule(rt, log, rule, &rule.listen, target, ended_of(change));
 }

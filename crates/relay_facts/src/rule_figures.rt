@@ -67,7 +67,7 @@ pub fn rule_figures<R: Wait>(rt: &R, served: &ServedRule) -> RuleFigures {
         ends,
         unreached,
         accept_faults: served.counts.accept_faults.get(),
-        is_listening: served.is_listening(),
+        is_listening: served.is_listening(rt),
     }
 }
 

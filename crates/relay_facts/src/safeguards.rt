@@ -1,7 +1,7 @@
 //! What keeps one target, one rule or a path that was left from harming the rest of a relay.
 
 ghost use Rattle.std.specs.Prelude.{◌≡◌, ◌↔◌, true};
-ghost use Rattle.relay_facts.specs.Safeguards.{IsAtRuleLimit, safeguards_of};
+ghost use Rattle.relay_facts.specs.Safeguards.{IsAtRuleLimit, rule_limit, safeguards_of};
 
 use relay_core::PairLimit;
 use relay_settings::Settings;
@@ -11,13 +11,14 @@ use relay_settings::Settings;
 /// refused.
 pub const DEFAULT_CONNECT_MS: u32 = 5_000;
 
-/// How long targets may keep connections waiting, how many of these a rule may have, and what
+/// How long targets may keep connections waiting, how many of these each rule may have, and what
 /// becomes of sockets that were left at Unix paths.
 #[derive(Clone, Copy, Debug, PartialEq, Eq, Drop)]
 pub struct Safeguards {
     /// How many milliseconds a target has to be connected; without it as long as the system takes.
     pub connect_ms: Option<u32>,
-    /// How many connections of one rule stand at once; without it as many as of all.
+    /// How many connections of one rule stand at once that doesn't say it itself; without it as many
+    /// as of all.
     pub per_rule: Option<PairLimit>,
     /// Whether a Unix socket at which nobody listens any more gives way to a listener.
     pub replaces_stale: bool,
@@ -41,13 +42,14 @@ impl Safeguards {
         }
     }
 
-    /// Whether a rule of which so many connections stand has as many as it may.
-    pub fn is_at_limit(&self, standing: u64) -> bool
-        ensures { result ≡ true ↔ IsAtRuleLimit self.now.per_rule standing }
+    /// Whether a rule of which so many connections stand has as many as it may: as many as it says
+    /// itself, else as many as each rule may have.
+    pub fn is_at_limit(&self, own: Option<PairLimit>, standing: u64) -> bool
+        ensures { result ≡ true ↔ IsAtRuleLimit (rule_limit own self.now.per_rule) standing }
     {
-        match self.per_rule {
-            Some(limit) => standing >= limit.count as u64,
-            None => false,
+        match (own, self.per_rule) {
+            (Some(limit), _) | (None, Some(limit)) => standing >= limit.count as u64,
+            (None, None) => false,
         }
     }
 }

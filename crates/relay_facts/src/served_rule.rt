@@ -6,20 +6,30 @@ ghost use Rattle.relay_facts.specs.Acceptance.{checks_with, targets_with};
 ghost use Rattle.relay_facts.specs.Admission.{allowed_by, denied_by};
 ghost use Rattle.relay_facts.specs.Config.{SaysRule};
 ghost use Rattle.relay_facts.specs.Counts.{loops_of};
+ghost use Rattle.relay_config.specs.Entries.{sockets_entry};
+ghost use Rattle.relay_settings.specs.Targets.{plain_sockets};
 
 use crate::counts::RuleCounts;
+use crate::listens::{Addresses, addresses_of};
 use crate::target_list::Targets;
 use base_types::OutOfMemory;
 use relay_admin::{Addr, Rule};
-use relay_settings::{Access, SaidRule, Version};
+use relay_core::PairLimit;
+use relay_settings::{Access, PLAIN_SOCKETS, SaidRule, Sockets, Version};
 use std::alloc::Global;
-use std::sync::atomic::{AtomicBool, AtomicU64, Ordering};
+use std::sync::atomic::{AtomicU64, Ordering};
 use std::sync::{Arc, Mutex, Wait};
 
 /// What a rule says at a moment.
 #[derive(Drop)]
 pub struct Said {
     pub rule: Rule,
+    /// Where it listens; without a list at its own address alone.
+    pub listens: Option<Arc<Addresses>>,
+    /// How many connections of it stand at once; without it as many as of each rule.
+    pub limit: Option<PairLimit>,
+    /// How the sockets of its listeners and connections are set up.
+    pub sockets: Sockets,
     /// Its targets; without a list the rule's own target is the only one.
     pub targets: Option<Arc<Targets>>,
     /// With which header a connection to a target begins, if with one.
@@ -71,25 +81,36 @@ impl Said {
     pub fn of(alloc: Global, said: &SaidRule, before: Option<&Targets>) -> Result<Said, OutOfMemory>
         ensures { IfOk result (SaysRule said.now) }
     {
+        let listens = addresses_of(alloc, said)?;
         let targets = list_of(alloc, said, before)?;
         let access = access_of(alloc, said)?;
         Ok(Said {
             rule: said.rule,
+            listens,
+            limit: said.limit,
+            sockets: said.sockets,
             targets,
             header: said.header,
             access,
         })
     }
 
-    /// A rule whose own target is its only one and is sent no header, and which lets all clients in.
+    /// A rule at its own address alone, without a limit of its own and with plain sockets, whose own target
+    /// is its only one and is sent no header, and which lets all clients in.
     pub fn alone(rule: &Rule) -> Said
         ensures rule { result.rule ≡ rule.now }
+        ensures listens { result.listens ≡ None }
+        ensures limit { result.limit ≡ None }
+        ensures sockets { sockets_entry result.sockets ≡ plain_sockets }
         ensures targets { result.targets ≡ None }
         ensures header { result.header ≡ None }
         ensures access { result.access ≡ None }
     {
         Said {
             rule: *rule,
+            listens: None,
+            limit: None,
+            sockets: PLAIN_SOCKETS,
             targets: None,
             header: None,
             access: None,
@@ -97,9 +118,10 @@ impl Said {
     }
 }
 
-/// The account of a rule, by its listening address: what the rule says now, and what was counted. It
-/// outlives the rule's listener, which is the main thread's. The rule's name, targets, header, idle
-/// time and lists of clients change with a reload; a connection goes on by what they were when it was
+/// The account of a rule, by the first address at which it listens: what the rule says now, and what was
+/// counted, of all its listeners together. It outlives these, which are the main thread's. The rule's
+/// name, further addresses, limit, sockets, targets, header, idle time and lists of clients change with a
+/// reload; a connection goes on by what they were when it was
 /// accepted.
 #[derive(Drop)]
 pub struct ServedRule {
@@ -107,8 +129,8 @@ pub struct ServedRule {
     said: Mutex<Said>,
     /// How many targets were picked by it.
     picks: AtomicU64,
-    /// Whether its clients are accepted.
-    is_listening: AtomicBool,
+    /// How many of its listeners accept clients.
+    accepting: AtomicU64,
     /// How many of its connections stand, those that wait for their loops among them.
     standing: AtomicU64,
     pub counts: RuleCounts,
@@ -122,6 +144,9 @@ impl ServedRule {
     {
         let Said {
             rule,
+            listens,
+            limit,
+            sockets,
             targets,
             header,
             access,
@@ -131,12 +156,15 @@ impl ServedRule {
             listen: rule.listen,
             said: Mutex::new(Said {
                 rule,
+                listens,
+                limit,
+                sockets,
                 targets,
                 header,
                 access,
             }),
             picks: AtomicU64::new(0),
-            is_listening: AtomicBool::new(false),
+            accepting: AtomicU64::new(0),
             standing: AtomicU64::new(0),
             counts,
         };
@@ -146,7 +174,7 @@ impl ServedRule {
         }
     }
 
-    /// What the rule says now, but for its targets and its lists.
+    /// What the rule says now, but for its further addresses, its limit, its targets and its lists.
     pub fn rule<R: Wait>(&self, rt: &R) -> Rule {
         self.said.lock(rt).rule
     }
@@ -154,6 +182,10 @@ impl ServedRule {
     /// What it says now. It takes no memory; refused is only a list that is held too often.
     pub fn said<R: Wait>(&self, rt: &R) -> Option<Said> {
         let said = self.said.lock(rt);
+        let listens = match &said.listens {
+            Some(list) => Some(Arc::try_clone(list).ok()?),
+            None => None,
+        };
         let targets = match &said.targets {
             Some(targets) => Some(Arc::try_clone(targets).ok()?),
             None => None,
@@ -164,6 +196,9 @@ impl ServedRule {
         };
         Some(Said {
             rule: said.rule,
+            listens,
+            limit: said.limit,
+            sockets: said.sockets,
             targets,
             header: said.header,
             access,
@@ -180,14 +215,19 @@ impl ServedRule {
         self.picks.fetch_add(1, Ordering::SeqCst)
     }
 
-    /// Its clients are accepted from now on, or they aren't.
-    pub fn note_listening(&self, is_listening: bool) {
-        self.is_listening.store(is_listening, Ordering::SeqCst);
+    /// One of its listeners accepts clients from now on, or does so no more.
+    pub fn count_listener(&self, accepts: bool) {
+        if accepts {
+            self.accepting.fetch_add(1, Ordering::SeqCst);
+        } else {
+            self.accepting.fetch_sub(1, Ordering::SeqCst);
+        }
     }
 
-    /// Whether its clients are accepted.
-    pub(crate) fn is_listening(&self) -> bool {
-        self.is_listening.load(Ordering::SeqCst)
+    /// Whether clients are accepted at each of its addresses.
+    pub(crate) fn is_listening<R: Wait>(&self, rt: &R) -> bool {
+        let count = self.said.lock(rt).listener_count();
+        self.accepting.load(Ordering::SeqCst) >= count as u64
     }
 
     /// One of its connections more stands. Each is left once.

@@ -40,49 +40,66 @@ pub fn shown_side(facts: &ConnectionFacts, id: u64, side: ShownSide, now: u64) -
     }
 }
 
-/// Since when a listener stands, and when it accepted last, or else began, by the relay's clock.
+/// Where a listener listens, since when it stands, and when it accepted last, or else began, by the
+/// relay's clock.
 #[derive(Clone, Copy, Debug, PartialEq, Eq, Drop)]
-pub struct ListenerTimes {
+pub struct ListenerFacts {
+    pub listen: Addr,
     pub since: u64,
     pub last: u64,
 }
 
-// The same of a listener that is one of this rule's, with these times.
-fn shown_of_rule(served: &ServedRule, rule: &Rule, id: u64, times: ListenerTimes, now: u64) -> Shown
+impl ListenerFacts {
+    /// Those of one that begins at this address at this moment.
+    pub fn new(listen: Addr, now: u64) -> ListenerFacts
+        ensures listen { result.listen ≡ listen }
+        ensures since { result.since ≡ now }
+        ensures last { result.last ≡ now }
+    {
+        ListenerFacts {
+            listen,
+            since: now,
+            last: now,
+        }
+    }
+}
+
+// The same of a listener that is one of this rule's, of which this is known.
+fn shown_of_rule(served: &ServedRule, rule: &Rule, id: u64, facts: ListenerFacts, now: u64) -> Shown
     ensures id { result.id ≡ id }
     ensures rule { result.rule ≡ rule.now.name }
     ensures side { result.side ≡ ShownSide.Listener }
-    ensures peer { result.peer ≡ Some served.now.listen }
-    ensures age { result.age_ms ≡ (now - times.since) / 1000000 }
-    ensures quiet { result.quiet_ms ≡ (now - times.last) / 1000000 }
+    ensures peer { result.peer ≡ Some facts.listen }
+    ensures age { result.age_ms ≡ (now - facts.since) / 1000000 }
+    ensures quiet { result.quiet_ms ≡ (now - facts.last) / 1000000 }
 {
     let (up, down) = served.counts.bytes();
     Shown {
         id,
         rule: rule.name,
         side: ShownSide::Listener,
-        peer: Some(served.listen),
+        peer: Some(facts.listen),
         up,
         down,
-        age_ms: ms_between(times.since, now),
-        quiet_ms: ms_between(times.last, now),
+        age_ms: ms_between(facts.since, now),
+        quiet_ms: ms_between(facts.last, now),
     }
 }
 
 /// What is shown at this moment of the rule's listener with this id: where it listens, the bytes of
-/// all its connections so far, since when it stands, and how long ago it accepted last.
+/// all connections of its rule so far, since when it stands, and how long ago it accepted last.
 pub fn shown_listener<R: Wait>(
     rt: &R,
     served: &ServedRule,
     id: u64,
-    times: ListenerTimes,
+    facts: ListenerFacts,
     now: u64,
 ) -> Shown
     ensures id { result.id ≡ id }
     ensures side { result.side ≡ ShownSide.Listener }
-    ensures peer { result.peer ≡ Some served.now.listen }
-    ensures age { result.age_ms ≡ (now - times.since) / 1000000 }
-    ensures quiet { result.quiet_ms ≡ (now - times.last) / 1000000 }
+    ensures peer { result.peer ≡ Some facts.listen }
+    ensures age { result.age_ms ≡ (now - facts.since) / 1000000 }
+    ensures quiet { result.quiet_ms ≡ (now - facts.last) / 1000000 }
 {
-    shown_of_rule(served, &served.rule(rt), id, times, now)
+    shown_of_rule(served, &served.rule(rt), id, facts, now)
 }

@@ -1,6 +1,6 @@
 -- The alarms of a loop's tasks, of which one was changed between two turns.
-use Rattle.std.proofs.Common.{◌≡◌, ◌≢◌, ◌∙◌, ℕ, Bool, true, false, Option, Some, None, refl, sym, ap, subst, inl, inr, length, nat_eq}
-use Rattle.std.specs.Prelude.{option_and_then, IsSome, if◌then◌else◌, ◌==◌}
+use Rattle.std.proofs.Common.{◌≡◌, ◌≢◌, ◌∙◌, ℕ, Option, Some, None, refl, sym, ap, subst, inl, inr, length}
+use Rattle.std.specs.Prelude.{option_and_then, IsSome, ◌==◌}
 use Rattle.std.specs.Option.{option_map}
 use Rattle.std.proofs.lemmas.Bool.{cases_eq}
 use Rattle.slab.specs.Slab.{Slab, get, with_value}
@@ -8,11 +8,12 @@ use Rattle.slab.proofs.SlabLemmas.{Updates-with_value}
 use Rattle.deadline_core.specs.Moments.{IsCovered}
 use Rattle.readiness.specs.Lends.{with_task, with_task_at}
 use Rattle.readiness.specs.LoopToken.{place_in, serial_in}
-use Rattle.readiness.specs.TaskAlarms.{serial_at, awaited_at, alarm_by_place, IsPlaced, IsPlacedBy, AreArmedBut, AreArmed, StandApart}
+use Rattle.readiness.specs.TaskAlarms.{alarm_by_place, IsPlaced, IsPlacedBy, AreArmedBut, AreArmed, StandApart}
 use Rattle.readiness.specs.Tasks.{task_in, task_with}
 use Rattle.readiness.specs.declared.tasks.Slot.{Slot}
 use Rattle.readiness.specs.declared.tasks.Tasks.{Tasks}
 use Rattle.readiness.proofs.AlarmLemmas.{open_at, closed_at}
+use Rattle.readiness.proofs.LendLemmas.{named_if}
 
 none_is_some : (place : ℕ) → let none : Option ℕ = None in none ≢ Some place
 none_is_some place same = cc
@@ -44,17 +45,6 @@ module _ {T : Type 0} where
       ap (option_map (λ (s : Slot T). s.task))
       ((Updates-with_value slots place (record slot { task = task }) (subst IsSome (sym is) refl)).others other differs)
 
-  -- and each slot of another place
-  other_slot : (slots : Slab (Slot T)) (place : ℕ) (found : Option (Slot T)) (task : T) → get slots place ≡ found
-      → (other : ℕ) → other ≢ place → get (with_task_at slots place found task) other ≡ get slots other
-  other_slot slots place None task is other differs = refl
-  other_slot slots place (Some slot) task is other differs =
-      (Updates-with_value slots place (record slot { task = task }) (subst IsSome (sym is) refl)).others other differs
-
-  named_if : (names : Bool) (found task : T) → (if names then Some found else None) ≡ Some task → found ≡ task
-  named_if true found task named = cc
-  named_if false found task named = absurd (cc)
-
   -- a slot that a token names has the task that it names
   named_task : (serial : ℕ) (slot : Slot T) (task : T) → task_with serial (Some slot) ≡ Some task → slot.task ≡ task
   named_task serial slot task named = named_if (slot.serial == serial) slot.task task named
@@ -85,13 +75,6 @@ module _ {T A : Type 0} where
   placed tasks token task before =
       subst (λ (s : Option ℕ). IsPlacedBy (length tasks.alarms) (place_in token) s (alarm_by_place tasks (place_in token)))
       (sym (same_serial tasks.slots (place_in token) (get tasks.slots (place_in token)) task refl (place_in token))) before
-
-  -- where a task was changed, tokens of other places name what they did
-  pub others_named : (tasks : Tasks T A) (token : ℕ) (task : T) (other : ℕ) → place_in other ≢ place_in token
-      → task_in (with_task tasks token task) other ≡ task_in tasks other
-  others_named tasks token task other away =
-      ap (task_with (serial_in other))
-      (other_slot tasks.slots (place_in token) (get tasks.slots (place_in token)) task refl (place_in other) away)
 
   -- where a task was changed, all others have their alarms
   pub changed : (tasks : Tasks T A) (token : ℕ) (task : T) (awaited : T → Option ℕ) → AreArmed awaited tasks

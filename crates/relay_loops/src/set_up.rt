@@ -22,6 +22,7 @@ use relay_core::idle_deadline;
 use relay_facts::clock::Moments;
 use relay_facts::connection_facts::{Acceptance, ConnectionFacts};
 use relay_shared::inbox::Counted;
+use relay_shared::socket_options::set_options;
 use std::net::Net;
 use std::sync::ledger::Ledger;
 use std::sync::{Arc, Wait};
@@ -94,7 +95,8 @@ impl<R: Wait + Net + Clock + Copy> LoopContext<R> {
         }
     }
 
-    // What a connection begins with whose first target is dialled.
+    // What a connection begins with whose first target is dialled. The client's socket is set up as its
+    // rule says.
     fn begins_with(
         &self,
         sock: Sock,
@@ -117,6 +119,7 @@ impl<R: Wait + Net + Clock + Copy> LoopContext<R> {
             IsIdleEnd (arc_value self.now.shared).safeguards.connect_ms begins.connect_by) }
         ensures refused { IfErr result (IsRefusedFor acceptance.now) }
     {
+        set_options(&sock, &acceptance.sockets);
         match self.facts(acceptance, target.place()) {
             Some(facts) => Ok(Begins {
                 client: sock,

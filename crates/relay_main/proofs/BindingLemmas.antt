@@ -9,12 +9,13 @@ use Rattle.readiness.specs.LoopToken.{place_in, token_of}
 use Rattle.readiness.specs.Tasks.{task_in, SameTasks, IsPut, next_place}
 use Rattle.readiness.specs.declared.tasks.Tasks.{Tasks}
 use Rattle.readiness.specs.declared.loop_token.Place.{Place}
-use Rattle.relay_admin.specs.declared.rules.rule.Rule.{Rule}
+use Rattle.relay_admin.specs.declared.rules.addr.Addr.{Addr}
 use Rattle.relay_admin.specs.rules.Addr.{address_of, same_address}
 use Rattle.relay_facts.specs.declared.served_rule.ServedRule.{ServedRule}
 use Rattle.relay_main.specs.Accounts.{is_account_of}
-use Rattle.relay_main.specs.Binding.{StillStand, HasCome, IsListenedFor, account_in}
+use Rattle.relay_main.specs.Binding.{StillStand, HasCome, IsListenedFor, account_in, listening_in}
 use Rattle.relay_main.specs.declared.main_task.MainTask.{MainTask}
+use Rattle.relay_main.specs.declared.wanted_listeners.WantedListener.{WantedListener}
 
 -- both tokens of a place are of it
 same_place : (place serial : ℕ) → place_in (token_of 1 place serial) ≡ place_in (token_of 0 place serial)
@@ -65,25 +66,34 @@ module _ {R A : Type 0} (mid new : Tasks (MainTask R) A) (token : ℕ) (held : A
   accepts_on None is e still = absurd (cc)
   accepts_on (Some task) is e still = ap account_in (still token task is) ∙ e
 
-  -- a rule whose listener came is listened for from then on
-  pub listened_on : (rule : Rule) (account : Arc ServedRule Global)
+  -- and where it did
+  listens_on : (listen : Addr) (found : Option (MainTask R)) → task_in mid token ≡ found → listening_in found ≡ Some listen
+      → StillStand mid new → listening_in (task_in new token) ≡ Some listen
+  listens_on listen None is e still = absurd (cc)
+  listens_on listen (Some task) is e still = ap listening_in (still token task is) ∙ e
+
+  -- a listener that came is listened for from then on
+  pub listened_on : (wanted : WantedListener) (account : Arc ServedRule Global)
       → account_in (task_in mid token) ≡ Some held → arc_value held ≡ arc_value account
-      → is_account_of rule.listen account ≡ true → StillStand mid new → IsListenedFor rule new
-  listened_on rule account accepts same own still = (
+      → is_account_of wanted.rule.listen account ≡ true → listening_in (task_in mid token) ≡ Some wanted.listen
+      → StillStand mid new → IsListenedFor wanted new
+  listened_on wanted account accepts same own listens still = (
     token,
     held,
     accepts_on (task_in mid token) refl accepts still,
-    ap (λ (served : ServedRule). same_address (address_of served.listen) (address_of rule.listen)) same ∙ own,
+    ap (λ (served : ServedRule). same_address (address_of served.listen) (address_of wanted.rule.listen)) same ∙ own,
+    listens_on wanted.listen (task_in mid token) refl listens still,
   )
 
 -- a task that was put at a place that named nothing has come there
 pub has_come : {R A : Type 0} (old mid placed new : Tasks (MainTask R) A) (first : ℕ) (found : Option (MainTask R))
-    (held : Arc ServedRule Global) (account : ServedRule) → SameTasks old mid
+    (held : Arc ServedRule Global) (account : ServedRule) (listen : Addr) → SameTasks old mid
     → ((token : ℕ) → place_in token ≡ place_in first → task_in mid token ≡ None)
-    → task_in placed first ≡ found → account_in found ≡ Some held → SameTasks placed new
-    → arc_value held ≡ account → HasCome account old new first
-has_come old mid placed new first found held account kept unused put accepts again same = record {
+    → task_in placed first ≡ found → account_in found ≡ Some held → listening_in found ≡ Some listen
+    → SameTasks placed new → arc_value held ≡ account → HasCome account listen old new first
+has_come old mid placed new first found held account listen kept unused put accepts listens again same = record {
   accepts = (held, ap account_in (again first ∙ put) ∙ accepts, same);
+  listens = ap listening_in (again first ∙ put) ∙ listens;
   fresh = λ other at. sym (kept other) ∙ unused other at;
 }
 

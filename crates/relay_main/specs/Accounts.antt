@@ -23,12 +23,12 @@ pub record AreAccountsOf (rules : List Rule) (accounts : List (Arc ServedRule Gl
   pub own : (k : ℕ) (rule : Rule) (account : Arc ServedRule Global) → slice_get rules k ≡ Some rule
       → slice_get accounts k ≡ Some account → is_account_of rule.listen account ≡ true
 
--- a rule of these listens at this address
+-- this is the own address of a rule of these
 abbrev pub is_listened_at : Addr → List Rule → Bool
 is_listened_at addr rules =
     list_any (λ rule. same_address (address_of rule.listen) (address_of addr)) rules
 
--- the accounts at whose addresses no rule of these listens
+-- the accounts of none of these rules
 abbrev pub without_rules : List Rule → List (Arc ServedRule Global) → List (Arc ServedRule Global)
 without_rules rules accounts =
     filter (λ (account : Arc ServedRule Global). not (is_listened_at (arc_value account).listen rules))

@@ -5,6 +5,7 @@ pub mod Checks
 pub mod Closing
 pub mod Deadlines
 pub mod Finishing
+pub mod Followed
 pub mod ListenersEnd
 pub mod Listening
 pub mod Opening
@@ -16,3 +17,4 @@ pub mod RuleTask
 pub mod Session
 pub mod SessionDesk
 pub mod Sessions
+pub mod WantedListeners

@@ -7,6 +7,11 @@ use Rattle.relay_admin.specs.declared.serve_fault.ServeFault.{ServeFault}
 use Rattle.relay_admin.specs.declared.serve_fault.ServeFault.TheVariants as fault
 use Rattle.relay_facts.specs.Config.{SaysRule}
 use Rattle.relay_facts.specs.declared.served_rule.Said.{Said}
+use Rattle.readiness.specs.declared.tasks.Tasks.{Tasks}
+use Rattle.relay_main.specs.Followed.{StayBut}
+use Rattle.relay_main.specs.ListenersEnd.{AreEnded}
+use Rattle.relay_main.specs.declared.main_task.MainTask.{MainTask}
+use Rattle.relay_main.specs.declared.rule_listeners.Listening.{Listening}
 use Rattle.relay_settings.specs.declared.targets.SaidRule.{SaidRule}
 
 -- the file, what is bad in it, or an address as at a start; of what else may come to a reload, the
@@ -24,3 +29,8 @@ pub record SayRules (rules : List SaidRule) (all : List Said) : Type 0 where
   pub count : length all ≡ length rules
   pub each : (k : ℕ) (rule : SaidRule) (said : Said) → slice_get rules k ≡ Some rule
       → slice_get all k ≡ Some said → SaysRule rule said
+
+module _ {R A : Type 0} where
+  -- these listeners end, and each other task stays, but for the account by which it may accept
+  abbrev pub GoOver : List Listening → Tasks (MainTask R) A → Tasks (MainTask R) A → Type 0
+  GoOver close old new = (mid : Tasks (MainTask R) A) × StayBut old mid × AreEnded close mid new

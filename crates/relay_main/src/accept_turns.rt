@@ -17,7 +17,6 @@ use relay_core::{AcceptEnded, AcceptStep, Accepting, RESTART_MS, next_pause_ms};
 use relay_facts::clock::Moments;
 use relay_facts::how_ended::reason_of_fault;
 use relay_facts::log_lines::tell_accept_fault;
-use relay_facts::served_rule::ServedRule;
 use rwloops::Fault;
 use std::sync::Wait;
 use std::time::Clock;
@@ -59,25 +58,26 @@ impl<R: Wait + Clock + Copy, C: Moments> MainHost<R, C> {
         let (step, fault) = accept_on(self.rt, &self.clock, &*self.shared, task);
         match step {
             AcceptStep::Pauses(ms) => {
-                self.note_fault(&task.served, fault, begins_row(ms));
+                task.note_listening(false);
+                self.note_fault(task, fault, begins_row(ms));
                 self.pause(task.place, &mut task.paused_until, ms);
             }
             AcceptStep::Ended(AcceptEnded::TooManyFaults(_)) => self.begin_anew(task),
-            AcceptStep::Ended(_) => task.served.note_listening(false),
-            AcceptStep::Waits | AcceptStep::Again => task.served.note_listening(true),
+            AcceptStep::Ended(_) => task.note_listening(false),
+            AcceptStep::Waits | AcceptStep::Again => task.note_listening(true),
         }
         turn_after(&step)
     }
 
     // An accept failed. The log and the metrics are told of the first in a row.
-    fn note_fault(&self, served: &ServedRule, fault: Option<Fault>, is_first: bool) {
-        served.note_listening(false);
+    fn note_fault(&self, task: &RuleTask<R>, fault: Option<Fault>, is_first: bool) {
         if !is_first {
             return;
         }
-        served.counts.accept_faults.add(1);
+        task.served.counts.accept_faults.add(1);
         if let (Some(log), Some(fault)) = (&self.shared.log, fault) {
-            tell_accept_fault(&self.rt, log, served, reason_of_fault(fault));
+            let listen = &task.listener.facts.listen;
+            tell_accept_fault(&self.rt, log, &task.served, listen, reason_of_fault(fault));
         }
     }
 
@@ -166,13 +166,16 @@ impl<R: Wait + Clock + Copy, C: Moments> MainHost<R, C> {
     {
         let RuleTask {
             served,
+            is_counted,
             place,
             listener,
             ..
         } = task;
         let RuleListener { id, half, .. } = listener;
         let _ = self.shared.index.lock(&self.rt).leave(id);
-        served.note_listening(false);
+        if is_counted {
+            served.count_listener(false);
+        }
         let mut handle = half.into_handle();
         let closed = handle.close(&self.rt);
         if let Some(alarms) = self.alarms() {

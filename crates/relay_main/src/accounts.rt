@@ -1,6 +1,6 @@
 //! The accounts of rules: how many connections of a rule stand, against its limit, and what was
-//! counted of it. An account is by the rule's listening address. It outlives the rule's listener, and
-//! its place in the file as long as connections of it stand.
+//! counted of it. An account is by the first address at which the rule listens. It outlives the rule's
+//! listeners, and its place in the file as long as connections of it stand.
 
 ghost use Rattle.std.specs.Prelude.{◌≡◌, true, IfSome, IfNone, IfOk, IfErr, option_copied};
 ghost use Rattle.relay_admin.specs.declared.serve_fault.ServeFault.{ServeFault};
@@ -82,7 +82,7 @@ pub(crate) fn accounts_of(
     Ok(all)
 }
 
-/// The accounts at whose addresses no rule of these listens.
+/// The accounts of none of these rules.
 pub(crate) fn without_rules(accounts: Vec<Arc<ServedRule>>, rules: &[Rule]) -> Vec<Arc<ServedRule>>
     ensures { result.items ≡ spec.without_rules rules.now accounts.items }
 {
@@ -91,8 +91,8 @@ pub(crate) fn without_rules(accounts: Vec<Arc<ServedRule>>, rules: &[Rule]) -> V
     accounts
 }
 
-/// Whether a rule of these listens at this address.
-pub(crate) fn is_listened_at(rules: &[Rule], listen: &Addr) -> bool
+// Whether this is the own address of a rule of these.
+fn is_listened_at(rules: &[Rule], listen: &Addr) -> bool
     ensures { result ≡ spec.is_listened_at listen.now rules.now }
 {
     rules.iter().any(|rule| is_same_addr(&rule.listen, listen))

@@ -1,4 +1,4 @@
-//! The binds of a reload: all rules that are to be bound are listened for, or none.
+//! The binds of a reload: all listeners that are to be bound are, or none.
 
 ghost use Rattle.std.specs.Prelude.{◌≡◌, ◌≢◌, ℕ, Ok, None, All, IfOk, IfErr, OnOk, IfSome};
 ghost use Rattle.std.specs.Prelude.{IsSome, IsNone};
@@ -17,22 +17,25 @@ use crate::listeners_end::LastClients;
 use crate::listening::Opened;
 use crate::main_loop::MainLoop;
 use crate::opening::hold_shared;
+use crate::wanted_listeners::WantedListener;
 use readiness::Listen;
-use relay_admin::{Rule, ServeFault};
+use relay_admin::{Addr, ServeFault};
 use relay_facts::served_rule::ServedRule;
+use relay_facts::shown::ListenerFacts;
+use relay_shared::socket_options::limit_queue;
 use std::fs::Files;
 use std::net::Net;
 use std::sync::{Arc, Wait};
 use std::time::Clock;
 
-/// That each rule which was to be bound is: the last bind alone makes one. Who changes a rule asks
+/// That each listener which was to be bound is: the last bind alone makes one. Who changes a rule asks
 /// for one, so a reload that is refused has changed none.
 #[derive(Drop)]
 pub(crate) struct AllBound {
     by_last: (),
 }
 
-/// That a rule is listened for, by the task with this token. It can't be dropped: it stays where all
+/// That a listener is bound, which the task with this token has. It can't be dropped: it stays where all
 /// are bound, and is let go where not, so that a refused reload leaves no listener.
 struct Begun {
     token: u64,
@@ -46,93 +49,95 @@ impl Begun {
 }
 
 impl<R: Wait + Net + Files + Clock + Copy> MainLoop<R> {
-    /// Listens for these rules in turn, by their accounts among those; or for none: after a fault
+    /// Binds these listeners in turn, by the accounts of their rules among those; or none: after a fault
     /// those before it are let go, the last first.
     pub(crate) fn bind_all(
         &mut self,
         rt: &R,
         accounts: &[Arc<ServedRule>],
-        rules: &[Rule],
+        wanted: &[WantedListener],
         now: u64,
     ) -> Result<AllBound, ServeFault>
         ensures stand { StillStand (tasks_of self.old.tasks) (tasks_of self.new.tasks) }
         ensures bound { OnOk result
-            (All (λ rule. IsListenedFor rule (tasks_of self.new.tasks)) rules.now) }
+            (All (λ one. IsListenedFor one (tasks_of self.new.tasks)) wanted.now) }
         ensures faults { IfErr result IsBindFault }
     {
-        let Some((rule, rest)) = rules.split_first() else {
+        let Some((one, rest)) = wanted.split_first() else {
             return Ok(AllBound { by_last: () });
         };
-        let served = account_of(self.alloc, accounts, rule, self.host.shared.loops.len())?;
-        let begun = self.bind(rt, rule, &served, now)?;
+        let loops = self.host.shared.loops.len();
+        let served = account_of(self.alloc, accounts, &one.rule, loops)?;
+        let begun = self.bind(rt, one, &served, now)?;
         match self.bind_all(rt, accounts, rest, now) {
             Ok(bound) => {
                 begun.stay(&bound);
                 Ok(bound)
             }
             Err(fault) => {
-                self.let_go(rt, rule, begun);
+                self.let_go(rt, &one.listen, begun);
                 Err(fault)
             }
         }
     }
 
     // Ends a listener that was bound just now, and removes its path.
-    fn let_go(&mut self, rt: &R, rule: &Rule, begun: Begun)
+    fn let_go(&mut self, rt: &R, listen: &Addr, begun: Begun)
         ensures gone { task_in (tasks_of self.new.tasks) begun.token ≡ None }
         ensures others { (other : ℕ) → place_in other ≢ place_in begun.token →
             task_in (tasks_of self.new.tasks) other ≡ task_in (tasks_of self.old.tasks) other }
     {
         let Begun { token } = begun;
         self.end_rule(token, LastClients::AreReset);
-        self.paths.remove_at(rt, &rule.listen);
+        self.paths.remove_at(rt, listen);
     }
 
-    // Listens for a rule that has no listener. The path that one before it left goes first, and
-    // after a fault there is none of this one.
+    // Binds a listener where none stands. The path that one before it left goes first, and after a
+    // fault there is none of this one.
     fn bind(
         &mut self,
         rt: &R,
-        rule: &Rule,
+        one: &WantedListener,
         served: &Arc<ServedRule>,
         now: u64,
     ) -> Result<Begun, ServeFault>
         ensures stand { StillStand (tasks_of self.old.tasks) (tasks_of self.new.tasks) }
-        ensures come { IfOk result (λ begun. HasCome (arc_value served.now)
+        ensures come { IfOk result (λ begun. HasCome (arc_value served.now) one.now.listen
             (tasks_of self.old.tasks) (tasks_of self.new.tasks) begun.token) }
-        ensures faults { IfErr result (IsListenFault rule.now.name) }
+        ensures faults { IfErr result (IsListenFault one.now.rule.name) }
     {
-        self.paths.remove_at(rt, &rule.listen);
-        let socket = self.open(rt, rule)?;
-        match self.begin(rt, socket, served, now) {
+        self.paths.remove_at(rt, &one.listen);
+        let socket = self.open(rt, one)?;
+        limit_queue(&socket, one.backlog);
+        match self.begin(rt, socket, served, ListenerFacts::new(one.listen, now)) {
             Ok(token) => Ok(Begun { token }),
             Err(fault) => {
-                self.paths.remove_at(rt, &rule.listen);
+                self.paths.remove_at(rt, &one.listen);
                 Err(fault)
             }
         }
     }
 
-    // Listens at a rule's address. The path of one that isn't given is kept, for its removal.
-    fn open(&mut self, rt: &R, rule: &Rule) -> Result<Listen, ServeFault>
-        ensures given { IfSome (given_at rule.now.listen self.old.listeners.given.items)
+    // Listens at the address of one. The path of one that isn't given is kept, for its removal.
+    fn open(&mut self, rt: &R, one: &WantedListener) -> Result<Listen, ServeFault>
+        ensures given { IfSome (given_at one.now.listen self.old.listeners.given.items)
             (λ listener. result ≡ Ok listener) }
-        ensures no_path { IsSome (given_at rule.now.listen self.old.listeners.given.items)
+        ensures no_path { IsSome (given_at one.now.listen self.old.listeners.given.items)
             → paths_in self.new.paths ≡ paths_in self.old.paths }
-        ensures path { IsNone (given_at rule.now.listen self.old.listeners.given.items)
-            → OnOk result (KeepsPath rule.now.listen self.old.paths self.new.paths) }
+        ensures path { IsNone (given_at one.now.listen self.old.listeners.given.items)
+            → OnOk result (KeepsPath one.now.listen self.old.paths self.new.paths) }
         ensures left { self.new.listeners.given.items
-            ≡ left_by rule.now.listen self.old.listeners.given.items }
+            ≡ left_by one.now.listen self.old.listeners.given.items }
         ensures tasks { self.new.tasks ≡ self.old.tasks }
-        ensures faults { IfErr result (IsListenFault rule.now.name) }
+        ensures faults { IfErr result (IsListenFault one.now.rule.name) }
     {
-        match self.listeners.open(rt, &rule.listen) {
+        match self.listeners.open(rt, &one.listen) {
             Ok(Opened::Given(socket)) => Ok(socket),
             Ok(Opened::Bound(socket, path)) => {
                 self.paths.keep(rt, path)?;
                 Ok(socket)
             }
-            Err(_) => Err(ServeFault::Listen(rule.name)),
+            Err(_) => Err(ServeFault::Listen(one.rule.name)),
         }
     }
 
@@ -142,12 +147,12 @@ impl<R: Wait + Net + Files + Clock + Copy> MainLoop<R> {
         rt: &R,
         socket: Listen,
         served: &Arc<ServedRule>,
-        now: u64,
+        facts: ListenerFacts,
     ) -> Result<u64, ServeFault>
         ensures stand { StillStand (tasks_of self.old.tasks) (tasks_of self.new.tasks) }
-        ensures come { IfOk result (λ token. HasCome (arc_value served.now)
+        ensures come { IfOk result (λ token. HasCome (arc_value served.now) facts.listen
             (tasks_of self.old.tasks) (tasks_of self.new.tasks) token) }
-        ensures noted { IfOk result (λ token. IsNoted (arc_value served.now).listen token
+        ensures noted { IfOk result (λ token. IsNoted facts.listen token
             self.old.listening.items self.new.listening.items) }
         ensures faults { IfErr result IsRunFault }
     {
@@ -157,7 +162,7 @@ impl<R: Wait + Net + Files + Clock + Copy> MainLoop<R> {
             host,
             ..
         } = self;
-        let one = hold_shared(rt, *alloc, tasks, &host.shared.index, socket, served, now)?;
+        let one = hold_shared(rt, *alloc, tasks, &host.shared.index, socket, served, facts)?;
         let token = one.token;
         match self.listening.push(one) {
             Ok(()) => Ok(token),

@@ -21,11 +21,12 @@ use relay_facts::served_rule::ServedRule;
 use relay_facts::target_list::Targets;
 use relay_settings::{Checks, Version};
 use rwloops::{DevKind, TryWrite};
+use std::net::IpAddr;
 use std::sync::Arc;
 use target_pick::Outcome;
 
-/// A target that is checked: its place in the list of its rule, its address, how it is checked, and with
-/// which header.
+/// A target that is checked: its place in the list of its rule, its address, how it is checked, with which
+/// header, and from where.
 #[derive(Drop)]
 pub(crate) struct Checked {
     pub(crate) served: Arc<ServedRule>,
@@ -34,6 +35,7 @@ pub(crate) struct Checked {
     pub(crate) at: Addr,
     pub(crate) checks: Checks,
     pub(crate) header: Option<Version>,
+    pub(crate) source: Option<IpAddr>,
 }
 
 /// What a dial came to at once.

@@ -10,15 +10,15 @@ use crate::main_host::MainHost;
 use crate::main_loop::MainLoop;
 use crate::main_task::MainTask;
 use crate::wanted_checks::{add_targets, place_among};
-use readiness::{Poller, Turn, Why, connect_io};
+use readiness::{Poller, Turn, Why};
 use relay_admin::{Addr, ServeFault};
 use relay_core::{has_come, pause_end};
 use relay_facts::clock::Moments;
 use relay_facts::outcomes::note_outcome;
-use relay_shared::address::socket_address;
 use relay_shared::shortage::is_shortage;
+use relay_shared::socket_options::connect_out;
 use std::alloc::Global;
-use std::net::Net;
+use std::net::{IpAddr, Net};
 use std::sync::Wait;
 use std::time::Clock;
 use target_pick::Outcome;
@@ -27,8 +27,8 @@ use target_pick::Outcome;
 const RETRY_MS: u64 = 1_000;
 
 // Begins a connection to a target, of whose socket the poller tells under this token.
-fn dial<R: Net>(rt: &R, alloc: Global, poller: &Poller, at: &Addr, token: u64) -> Dial {
-    let mut sock = match connect_io(rt, &socket_address(at)) {
+fn dial<R: Net>(rt: &R, alloc: Global, poller: &Poller, dialled: &Dialled, token: u64) -> Dial {
+    let mut sock = match connect_out(rt, &dialled.at, dialled.source) {
         Ok(sock) => sock,
         Err(error) if is_shortage(&error) => return Dial::Refused,
         Err(_) => return Dial::Failed,
@@ -40,6 +40,13 @@ fn dial<R: Net>(rt: &R, alloc: Global, poller: &Poller, at: &Addr, token: u64) -
         Ok((_, half)) => Dial::Begun(half),
         Err(_) => Dial::Refused,
     }
+}
+
+// To where a check connects, and from where.
+#[derive(Clone, Copy, Debug, PartialEq, Eq, Drop)]
+struct Dialled {
+    at: Addr,
+    source: Option<IpAddr>,
 }
 
 // What the loop does with the task of a check after this step: where one is to be dialled, it doesn't
@@ -192,10 +199,13 @@ impl<R: Wait + Clock + Copy> MainLoop<R> {
         self.follow_at = None;
     }
 
-    // The address of the target whose check has this token.
-    fn address_checked(&self, token: u64) -> Option<Addr> {
+    // To where the check that has this token connects, and from where.
+    fn dialled_by(&self, token: u64) -> Option<Dialled> {
         match self.tasks.task(token) {
-            Some(MainTask::Check(task)) => Some(task.checked.at),
+            Some(MainTask::Check(task)) => Some(Dialled {
+                at: task.checked.at,
+                source: task.checked.source,
+            }),
             _ => None,
         }
     }
@@ -215,10 +225,11 @@ impl<R: Wait + Net + Clock + Copy> MainLoop<R> {
     fn dial_check(&mut self, token: u64)
         ensures kept { self.new.host ≡ self.old.host }
     {
-        let Some(at) = self.address_checked(token) else {
+        let Some(dialled) = self.dialled_by(token) else {
             return;
         };
-        let dial = dial(&self.host.rt, self.alloc, self.tasks.poller(), &at, token);
+        let poller = self.tasks.poller();
+        let dial = dial(&self.host.rt, self.alloc, poller, &dialled, token);
         let Some(MainTask::Check(task)) = self.tasks.task_mut(token) else {
             return;
         };

@@ -2,7 +2,7 @@
 //! until the relay stops or has finished.
 
 ghost use Rattle.std.specs.Prelude.{◌≡◌, ◌↔◌, ℕ, true, false, Some, None, [], IfOk, IfErr, OnOk};
-ghost use Rattle.std.specs.Prelude.{length};
+ghost use Rattle.std.specs.Prelude.{List, length};
 ghost use Rattle.std.specs.Arc.{arc_value};
 ghost use Rattle.readiness.specs.EventLoop.{tasks_of};
 ghost use Rattle.readiness.specs.Tasks.{ComesNext, SameTasks, StillCome, gave_way_in, task_in};
@@ -10,7 +10,9 @@ ghost use Rattle.relay_main.specs.Binding.{IsBindFault, StillStand};
 ghost use Rattle.relay_main.specs.Opening.{IsAdmin, IsAdminFault};
 ghost use Rattle.relay_admin.specs.ServeFault.{IsRunFault};
 ghost use Rattle.relay_admin.specs.declared.serve_fault.ServeFault.{ServeFault};
+ghost use Rattle.relay_facts.specs.declared.served_rule.Said.{Said};
 ghost use Rattle.relay_main.specs.Finishing.{IsOver};
+ghost use Rattle.relay_main.specs.WantedListeners.{wanted_by};
 
 use crate::finishing::is_over;
 use crate::listeners_end::{AcceptsEnded, end_tasks};
@@ -20,10 +22,11 @@ use crate::main_task::MainTask;
 use crate::opening::open_admin;
 use crate::rule_listeners::Listening;
 use crate::sessions::Sessions;
+use crate::wanted_listeners::{WantedListener, wanted_by};
 use readiness::{EventLoop, LoopDriver};
-use relay_admin::{Rule, ServeFault};
+use relay_admin::ServeFault;
 use relay_facts::clock::{Moments, RelayClock};
-use relay_facts::served_rule::ServedRule;
+use relay_facts::served_rule::{Said, ServedRule};
 use relay_shared::bound_path::BoundPaths;
 use relay_shared::poller_fault::of_poller;
 use relay_shared::shared::Shared;
@@ -127,29 +130,46 @@ fn all_again<T>(tasks: &mut EventLoop<T>, listening: &[Listening])
 }
 
 impl<R: Wait + Net + Files + Clock + Eprint + Copy> MainLoop<R> {
-    /// Listens for all rules, in their order; or for none, after a fault: the first rule's that can't
-    /// be listened for, or `Device` or `Memory`.
+    /// Listens for all rules, in their order, at each address of each; or for none, after a fault: the
+    /// first rule's that can't be listened for, or `Device` or `Memory`.
     pub fn listen(&mut self) -> Result<(), ServeFault>
         ensures stand { StillStand (tasks_of self.old.tasks) (tasks_of self.new.tasks) }
         ensures faults { IfErr result IsBindFault }
     {
         let rt = self.host.rt;
         let accounts = self.accounts(&rt)?;
-        let rules = self.said(&rt, accounts.as_slice())?;
-        let _bound = self.bind_all(&rt, accounts.as_slice(), rules.as_slice(), 0)?;
+        let wanted = self.wanted(&rt, accounts.as_slice())?;
+        let _bound = self.bind_all(&rt, accounts.as_slice(), wanted.as_slice(), 0)?;
         Ok(())
     }
 
-    // What the rules of these accounts say now.
-    fn said(&self, rt: &R, accounts: &[Arc<ServedRule>]) -> Result<Vec<Rule>, ServeFault>
-        ensures each { IfOk result (λ rules. length rules.items ≡ length accounts.now) }
+    // The listeners that the rules of these accounts are to have.
+    fn wanted(
+        &self,
+        rt: &R,
+        accounts: &[Arc<ServedRule>],
+    ) -> Result<Vec<WantedListener>, ServeFault>
+        ensures wanted { IfOk result (λ wanted. (said : List Said)
+            × (length said ≡ length accounts.now) × (wanted.items ≡ wanted_by said)) }
         ensures faults { IfErr result (λ fault. fault ≡ ServeFault.Memory) }
     {
-        let mut rules = Vec::new(self.alloc);
+        let said = self.said(rt, accounts)?;
+        wanted_by(self.alloc, said.as_slice())
+    }
+
+    // What the rules of these accounts say now. Refused is only a list that is held too often.
+    fn said(&self, rt: &R, accounts: &[Arc<ServedRule>]) -> Result<Vec<Said>, ServeFault>
+        ensures each { IfOk result (λ all. length all.items ≡ length accounts.now) }
+        ensures faults { IfErr result (λ fault. fault ≡ ServeFault.Memory) }
+    {
+        let mut all = Vec::new(self.alloc);
         for served in accounts {
-            rules.push(served.rule(rt))?;
+            let Some(said) = served.said(rt) else {
+                return Err(ServeFault::Memory);
+            };
+            all.push(said)?;
         }
-        Ok(rules)
+        Ok(all)
     }
 
     /// Opens the admin socket at this path, and accepts there from the next turn on. Its path is kept

@@ -20,7 +20,7 @@ use fd_descriptor::{FdHandle, TaskReader};
 use readiness::{EventLoop, HoldFault, Listen, ListenRes, Poller};
 use relay_admin::{Addr, ServeFault};
 use relay_facts::served_rule::ServedRule;
-use relay_facts::shown::ListenerTimes;
+use relay_facts::shown::ListenerFacts;
 use relay_shared::bound_path::BoundPaths;
 use relay_shared::index::Standing;
 use relay_shared::standing::RelayIndex;
@@ -53,14 +53,13 @@ fn listener_in<R: Wait + Copy>(
     index: &mut RelayIndex,
     handle: FdHandle<ListenRes>,
     served: &Arc<ServedRule>,
-    now: u64,
+    facts: ListenerFacts,
 ) -> Option<RuleListener<R>>
     ensures entered { IfSome result (λ listener.
         IsEntered (arc_value served.now) listener.id index.old index.new) }
     ensures kept { IfNone result (index.new ≡ index.old) }
     ensures own { IfSome result (λ listener. IsHalfOf handle listener.half) }
-    ensures since { IfSome result (λ listener. listener.times.since ≡ now) }
-    ensures last { IfSome result (λ listener. listener.times.last ≡ now) }
+    ensures facts { IfSome result (λ listener. listener.facts ≡ facts) }
 {
     let cell = handle.cell().ok()?;
     let known = Arc::try_clone(served).ok()?;
@@ -69,15 +68,12 @@ fn listener_in<R: Wait + Copy>(
         id: entered.keep(),
         cell,
         half: TaskReader::new(rt, handle),
-        times: ListenerTimes {
-            since: now,
-            last: now,
-        },
+        facts,
     })
 }
 
-/// Has a task accept from this socket from the next turn on, by this account; its listener stands in
-/// the index under the next id. After a fault nothing of it is left.
+/// Has a task accept from this socket from the next turn on, by this account, which counts it; its
+/// listener stands in the index under the next id. After a fault nothing of it is left.
 pub(crate) fn hold_rule<R: Wait + Copy>(
     rt: R,
     alloc: Global,
@@ -85,27 +81,28 @@ pub(crate) fn hold_rule<R: Wait + Copy>(
     index: &mut RelayIndex,
     socket: Listen,
     served: &Arc<ServedRule>,
-    now: u64,
+    facts: ListenerFacts,
 ) -> Result<Listening, ServeFault>
     ensures stand { StillStand (tasks_of tasks.old) (tasks_of tasks.new) }
-    ensures come { IfOk result (λ one.
-        HasCome (arc_value served.now) (tasks_of tasks.old) (tasks_of tasks.new) one.token) }
-    ensures listen { IfOk result (λ one. one.listen ≡ (arc_value served.now).listen) }
+    ensures come { IfOk result (λ one. HasCome (arc_value served.now) facts.listen
+        (tasks_of tasks.old) (tasks_of tasks.new) one.token) }
+    ensures listen { IfOk result (λ one. one.listen ≡ facts.listen) }
     ensures faults { IfErr result IsRunFault }
 {
+    let listen = facts.listen;
     let Ok(place) = tasks.vacant() else {
         return Err(ServeFault::Memory);
     };
     let handle = opened(tasks.poller(), alloc, socket, place.first)?;
     let task_served = Arc::try_clone(served)?;
-    let listener = listener_in(rt, index, handle, served, now).ok_or(ServeFault::Memory)?;
+    let listener = listener_in(rt, index, handle, served, facts).ok_or(ServeFault::Memory)?;
     let id = listener.id;
     match tasks.put(MainTask::Rule(RuleTask::new(task_served, place, listener))) {
         Ok(_) => {
-            served.note_listening(true);
+            served.count_listener(true);
             tasks.again(place.first);
             Ok(Listening {
-                listen: served.listen,
+                listen,
                 id,
                 token: place.first,
             })
@@ -125,15 +122,23 @@ pub(crate) fn hold_shared<R: Wait + Copy>(
     index: &Mutex<RelayIndex>,
     socket: Listen,
     served: &Arc<ServedRule>,
-    now: u64,
+    facts: ListenerFacts,
 ) -> Result<Listening, ServeFault>
     ensures stand { StillStand (tasks_of tasks.old) (tasks_of tasks.new) }
-    ensures come { IfOk result (λ one.
-        HasCome (arc_value served.now) (tasks_of tasks.old) (tasks_of tasks.new) one.token) }
-    ensures listen { IfOk result (λ one. one.listen ≡ (arc_value served.now).listen) }
+    ensures come { IfOk result (λ one. HasCome (arc_value served.now) facts.listen
+        (tasks_of tasks.old) (tasks_of tasks.new) one.token) }
+    ensures listen { IfOk result (λ one. one.listen ≡ facts.listen) }
     ensures faults { IfErr result IsRunFault }
 {
-    hold_rule(*rt, alloc, tasks, &mut *index.lock(rt), socket, served, now)
+    hold_rule(
+        *rt,
+        alloc,
+        tasks,
+        &mut *index.lock(rt),
+        socket,
+        served,
+        facts,
+    )
 }
 
 // Listens at the admin path, and keeps it for its removal, where it isn't given. A path of no byte, or

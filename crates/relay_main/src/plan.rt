@@ -6,26 +6,33 @@ ghost use Rattle.relay_main.specs.Accounts.{AreAccountsOf, without_rules};
 ghost use Rattle.relay_main.specs.Plan as spec;
 ghost use Rattle.relay_main.specs.RuleListeners.{to_close};
 
-use crate::accounts::{accounts_of, is_listened_at, without_rules};
+use crate::accounts::{accounts_of, without_rules};
 use crate::rule_listeners::Listening;
+use crate::wanted_listeners::{WantedListener, is_wanted_at};
 use relay_admin::{Addr, Rule, ServeFault, is_same_addr};
 use relay_facts::served_rule::ServedRule;
 use std::alloc::Global;
 use std::sync::Arc;
 
-/// What becomes of listeners. Each rule of the file is in one of `bind` and `keep`, in its order.
+/// What becomes of listeners. Each that is wanted is in one of `bind` and `keep`, in their order.
+#[derive(Drop)]
+pub(crate) struct ListenerPlan {
+    /// Those at whose addresses none stands.
+    pub(crate) bind: Vec<WantedListener>,
+    /// Those at whose addresses one stands, which stays.
+    pub(crate) keep: Vec<WantedListener>,
+    /// The listeners at whose addresses none is wanted.
+    pub(crate) close: Vec<Listening>,
+}
+
+/// What a reload comes to.
 #[derive(Drop)]
 pub(crate) struct Plan {
     /// The accounts of the file's rules, in its order.
     pub(crate) serve: Vec<Arc<ServedRule>>,
-    /// The rules at whose addresses no listener stands.
-    pub(crate) bind: Vec<Rule>,
-    /// The rules whose listeners stay.
-    pub(crate) keep: Vec<Rule>,
-    /// The accounts at whose addresses no rule of the file listens.
+    /// The accounts that none of its rules has.
     pub(crate) end: Vec<Arc<ServedRule>>,
-    /// The listeners at whose addresses none does.
-    pub(crate) close: Vec<Listening>,
+    pub(crate) listeners: ListenerPlan,
 }
 
 // Whether a listener of these stands at this address.
@@ -35,55 +42,65 @@ fn stands_at(standing: &[Listening], listen: &Addr) -> bool
     standing.iter().any(|one| is_same_addr(&one.listen, listen))
 }
 
-// The listeners of these at whose addresses no rule of these listens.
+// The listeners of these at whose addresses none of those is wanted.
 fn to_close(
     alloc: Global,
-    standing: &[Listening],
-    rules: &[Rule],
+    known: &[Listening],
+    wanted: &[WantedListener],
 ) -> Result<Vec<Listening>, ServeFault>
-    ensures close { IfOk result (λ close. close.items ≡ to_close rules.now standing.now) }
+    ensures close { IfOk result (λ close. close.items ≡ to_close wanted.now known.now) }
     ensures faults { IfErr result (λ fault. fault ≡ ServeFault.Memory) }
 {
     let mut close = Vec::new(alloc);
-    for one in standing {
-        if !is_listened_at(rules, &one.listen) {
+    for one in known {
+        if !is_wanted_at(wanted, &one.listen) {
             close.push(*one)?;
         }
     }
     Ok(close)
 }
 
-/// The plan from these accounts, where these listeners stand, to these rules of a relay with so many
-/// loops.
+/// What becomes of the listeners that are known, of which these stand, where those are wanted.
+pub(crate) fn listener_plan(
+    alloc: Global,
+    known: &[Listening],
+    standing: &[Listening],
+    wanted: &[WantedListener],
+) -> Result<ListenerPlan, ServeFault>
+    ensures bind { IfOk result (λ plan. plan.bind.items ≡ spec.to_bind standing.now wanted.now) }
+    ensures keep { IfOk result (λ plan. plan.keep.items ≡ spec.to_keep standing.now wanted.now) }
+    ensures close { IfOk result (λ plan. plan.close.items ≡ to_close wanted.now known.now) }
+{
+    let mut bind = Vec::new(alloc);
+    let mut keep = Vec::new(alloc);
+    for one in wanted {
+        if stands_at(standing, &one.listen) {
+            keep.push(*one)?;
+        } else {
+            bind.push(*one)?;
+        }
+    }
+    let close = to_close(alloc, known, wanted)?;
+    Ok(ListenerPlan { bind, keep, close })
+}
+
+/// The plan from these accounts to these rules of a relay with so many loops, with this plan of their
+/// listeners.
 pub(crate) fn plan_of(
     alloc: Global,
     accounts: Vec<Arc<ServedRule>>,
-    standing: &[Listening],
     rules: &[Rule],
+    listeners: ListenerPlan,
     loops: usize,
 ) -> Result<Plan, ServeFault>
-    ensures bind { IfOk result (λ plan. plan.bind.items ≡ spec.to_bind standing.now rules.now) }
-    ensures keep { IfOk result (λ plan. plan.keep.items ≡ spec.to_keep standing.now rules.now) }
-    ensures end { IfOk result (λ plan. plan.end.items ≡ without_rules rules.now accounts.items) }
-    ensures close { IfOk result (λ plan. plan.close.items ≡ to_close rules.now standing.now) }
     ensures serve { IfOk result (λ plan. AreAccountsOf rules.now plan.serve.items) }
+    ensures end { IfOk result (λ plan. plan.end.items ≡ without_rules rules.now accounts.items) }
+    ensures listeners { IfOk result (λ plan. plan.listeners ≡ listeners) }
 {
     let serve = accounts_of(alloc, accounts.as_slice(), rules, loops)?;
-    let mut bind = Vec::new(alloc);
-    let mut keep = Vec::new(alloc);
-    for rule in rules {
-        if stands_at(standing, &rule.listen) {
-            keep.push(*rule)?;
-        } else {
-            bind.push(*rule)?;
-        }
-    }
-    let close = to_close(alloc, standing, rules)?;
     Ok(Plan {
         serve,
-        bind,
-        keep,
         end: without_rules(accounts, rules),
-        close,
+        listeners,
     })
 }

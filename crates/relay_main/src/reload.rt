@@ -2,33 +2,28 @@
 //! the plan to them: it binds, or is refused and has changed nothing; then it has all rules say what
 //! is new, and ends the listeners of those that have gone.
 
-ghost use Rattle.std.specs.Prelude.{◌≡◌, ◌≢◌, ℕ, None, IfSome, IfOk, IfErr, OnErr};
+ghost use Rattle.std.specs.Prelude.{◌≡◌, ◌≢◌, ℕ, None, OnErr};
 ghost use Rattle.readiness.specs.EventLoop.{tasks_of};
-ghost use Rattle.readiness.specs.Tasks.{task_in};
 ghost use Rattle.relay_main.specs.Binding.{StillStand};
 ghost use Rattle.relay_admin.specs.declared.admin.answers.ReloadAnswer.{ReloadAnswer};
 ghost use Rattle.relay_admin.specs.declared.rules.verdict.Verdict.{Verdict};
-ghost use Rattle.relay_admin.specs.declared.serve_fault.ServeFault.{ServeFault};
 ghost use Rattle.relay_main.specs.ListenersEnd.{AreEnded};
-ghost use Rattle.relay_main.specs.Plan.{IsPlanned};
-ghost use Rattle.relay_facts.specs.Config.{SaysRule};
-ghost use Rattle.relay_facts.specs.Source.{rules_said};
-ghost use Rattle.relay_main.specs.Reload.{SayRules, answer_of_fault};
+ghost use Rattle.relay_main.specs.Reload.{GoOver, answer_of_fault};
 ghost use Rattle.relay_main.specs.RuleListeners.{standing_in};
 
 use crate::accounts::account_at;
 use crate::binding::AllBound;
 use crate::listeners_end::LastClients;
 use crate::main_loop::MainLoop;
-use crate::plan::{Plan, plan_of};
+use crate::plan::Plan;
+use crate::planning::Prepared;
 use crate::rule_listeners::Listening;
-use relay_admin::{ReloadAnswer, Rule, ServeFault, Verdict};
+use relay_admin::{ReloadAnswer, ServeFault, Verdict};
 use relay_facts::config::Start;
 use relay_facts::served_rule::{Said, ServedRule};
 use relay_facts::source::said_by;
 use relay_settings::{SETTINGS, SaidRule, Settings, needs_restart, rule_count};
 use relay_shared::bound_path::BoundPaths;
-use std::alloc::Global;
 use std::fs::Files;
 use std::net::Net;
 use std::sync::{Arc, Wait};
@@ -47,58 +42,6 @@ fn answer_of_fault(fault: ServeFault) -> ReloadAnswer
     }
 }
 
-// The rules, without their targets.
-fn rules_of(alloc: Global, all: &[SaidRule]) -> Result<Vec<Rule>, ServeFault>
-    ensures rules { IfOk result (λ rules. rules.items ≡ rules_said all.now) }
-    ensures faults { IfErr result (λ fault. fault ≡ ServeFault.Memory) }
-{
-    let mut rules = Vec::new(alloc);
-    for said in all {
-        rules.push(said.rule)?;
-    }
-    Ok(rules)
-}
-
-// What the account of this rule, among those, is to say. Connections that its list counts now are
-// counted on.
-fn said_of<R: Wait>(
-    rt: &R,
-    alloc: Global,
-    accounts: &[Arc<ServedRule>],
-    rule: &SaidRule,
-) -> Result<Said, ServeFault>
-    ensures said { IfOk result (SaysRule rule.now) }
-    ensures faults { IfErr result (λ fault. fault ≡ ServeFault.Memory) }
-{
-    let Some(served) = account_at(accounts, &rule.rule.listen) else {
-        return Ok(Said::of(alloc, rule, None)?);
-    };
-    let Some(before) = served.said(rt) else {
-        return Err(ServeFault::Memory);
-    };
-    match &before.targets {
-        Some(list) => Ok(Said::of(alloc, rule, Some(list))?),
-        None => Ok(Said::of(alloc, rule, None)?),
-    }
-}
-
-// What the accounts of these rules, among those, are to say.
-fn all_said<R: Wait>(
-    rt: &R,
-    alloc: Global,
-    accounts: &[Arc<ServedRule>],
-    rules: &[SaidRule],
-) -> Result<Vec<Said>, ServeFault>
-    ensures said { IfOk result (λ all. SayRules rules.now all.items) }
-    ensures faults { IfErr result (λ fault. fault ≡ ServeFault.Memory) }
-{
-    let mut all = Vec::new(alloc);
-    for rule in rules {
-        all.push(said_of(rt, alloc, accounts, rule)?)?;
-    }
-    Ok(all)
-}
-
 // Has the accounts of rules, among those, say this.
 fn say_all<R: Wait>(rt: &R, accounts: &[Arc<ServedRule>], all: Vec<Said>, _bound: &AllBound) {
     for said in all {
@@ -108,10 +51,10 @@ fn say_all<R: Wait>(rt: &R, accounts: &[Arc<ServedRule>], all: Vec<Said>, _bound
     }
 }
 
-// Removes the paths of these accounts' listeners.
-fn remove_paths_of<R: Files>(rt: &R, paths: &mut BoundPaths, accounts: &[Arc<ServedRule>]) {
-    for served in accounts {
-        paths.remove_at(rt, &served.listen);
+// Removes the paths of these listeners.
+fn remove_paths_of<R: Files>(rt: &R, paths: &mut BoundPaths, listeners: &[Listening]) {
+    for one in listeners {
+        paths.remove_at(rt, &one.listen);
     }
 }
 
@@ -127,97 +70,57 @@ fn tell_restarts<R: Eprint>(rt: &R, start: &Start, file: &Settings) {
 }
 
 impl<R: Wait + Net + Files + Clock + Eprint + Copy> MainLoop<R> {
-    /// All accounts: of the rules in force, and of those that have gone and had connections still.
-    pub(crate) fn accounts(&self, rt: &R) -> Result<Vec<Arc<ServedRule>>, ServeFault>
-        ensures { IfErr result (λ fault. fault ≡ ServeFault.Memory) }
-    {
-        let mut all = Vec::new(self.alloc);
-        for served in self.host.shared.rules.lock(rt).iter() {
-            all.push(Arc::try_clone(served)?)?;
-        }
-        for served in self.gone.iter() {
-            all.push(Arc::try_clone(served)?)?;
-        }
-        Ok(all)
-    }
-
-    // The listeners that stand.
-    fn standing(&self) -> Result<Vec<Listening>, ServeFault>
-        ensures standing { IfOk result (λ standing.
-            standing.items ≡ standing_in (tasks_of self.now.tasks) self.now.listening.items) }
-        ensures faults { IfErr result (λ fault. fault ≡ ServeFault.Memory) }
-    {
-        let mut standing = Vec::new(self.alloc);
-        for one in self.listening.iter() {
-            if self.tasks.task(one.token).is_some() {
-                standing.push(*one)?;
-            }
-        }
-        Ok(standing)
-    }
-
-    // The plan to these rules.
-    fn planned(&self, rt: &R, rules: &[Rule]) -> Result<Plan, ServeFault>
-        ensures plan { IfOk result (IsPlanned rules.now
-            (standing_in (tasks_of self.now.tasks) self.now.listening.items)) }
-    {
-        let accounts = self.accounts(rt)?;
-        let standing = self.standing()?;
-        plan_of(
-            self.alloc,
-            accounts,
-            standing.as_slice(),
-            rules,
-            self.host.shared.loops.len(),
-        )
-    }
-
-    // The plan to what the file says, and what the accounts are to say then.
-    fn prepared(&self, rt: &R, file: &[SaidRule]) -> Result<(Plan, Vec<Said>), ServeFault>
-        ensures plan { IfOk result (λ both. IsPlanned (rules_said file.now)
-            (standing_in (tasks_of self.now.tasks) self.now.listening.items) both.0) }
-        ensures said { IfOk result (λ both. SayRules file.now both.1.items) }
-    {
-        let rules = rules_of(self.alloc, file)?;
-        let plan = self.planned(rt, rules.as_slice())?;
-        let said = all_said(rt, self.alloc, plan.serve.as_slice(), file)?;
-        Ok((plan, said))
-    }
-
     // Serves what the file says from now on; or, after a fault, the rules of before.
     fn serve_rules(&mut self, rt: &R, file: &[SaidRule], now: u64) -> Result<(), ServeFault>
         ensures refused { OnErr result
             (StillStand (tasks_of self.old.tasks) (tasks_of self.new.tasks)) }
     {
-        let (plan, said) = self.prepared(rt, file)?;
-        let bound = self.bind_all(rt, plan.serve.as_slice(), plan.bind.as_slice(), now)?;
-        self.go_over(rt, plan, said, bound);
+        let prepared = self.prepared(rt, file)?;
+        let plan = &prepared.plan;
+        let wanted = plan.listeners.bind.as_slice();
+        let bound = self.bind_all(rt, plan.serve.as_slice(), wanted, now)?;
+        self.go_over(rt, prepared, bound);
         Ok(())
     }
 
-    // Goes over to a plan of which all is bound.
-    fn go_over(&mut self, rt: &R, plan: Plan, said: Vec<Said>, bound: AllBound)
-        ensures closed { AreEnded plan.close.items (tasks_of self.old.tasks) (tasks_of self.new.tasks) }
+    // Goes over to a plan of which all is bound: the listeners that stay follow their rules, the rules
+    // say what is new, and the other listeners end.
+    fn go_over(&mut self, rt: &R, prepared: Prepared, bound: AllBound)
+        ensures closed { GoOver prepared.plan.listeners.close.items
+            (tasks_of self.old.tasks) (tasks_of self.new.tasks) }
         ensures left { self.new.listening.items
             ≡ standing_in (tasks_of self.new.tasks) self.old.listening.items }
     {
+        let Prepared {
+            plan,
+            said,
+            followed,
+        } = prepared;
         let Plan {
             serve,
-            bind: _,
-            keep: _,
             end,
-            close,
+            listeners,
         } = plan;
+        self.follow_accounts(followed);
         say_all(rt, serve.as_slice(), said, &bound);
         *self.host.shared.rules.lock(rt) = serve;
-        self.end_rules(close.as_slice(), LastClients::AreReset);
-        self.forget_closed();
-        remove_paths_of(rt, &mut self.paths, end.as_slice());
+        self.end_listeners(rt, listeners.close.as_slice());
         let mut gone = end;
         gone.retain(|served| served.standing() > 0);
         self.gone = gone;
         self.follow_at = Some(0);
         self.host.shared.reloads.add(1);
+    }
+
+    // Ends these listeners, removes their paths, and forgets all that were closed.
+    fn end_listeners(&mut self, rt: &R, close: &[Listening])
+        ensures closed { AreEnded close.now (tasks_of self.old.tasks) (tasks_of self.new.tasks) }
+        ensures left { self.new.listening.items
+            ≡ standing_in (tasks_of self.new.tasks) self.old.listening.items }
+    {
+        self.end_rules(close, LastClients::AreReset);
+        self.forget_closed();
+        remove_paths_of(rt, &mut self.paths, close);
     }
 
     // Forgets the listeners that were closed.

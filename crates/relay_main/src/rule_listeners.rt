@@ -9,7 +9,7 @@ use relay_admin::Addr;
 /// The listener of a rule.
 #[derive(Clone, Copy, Debug, PartialEq, Eq, Drop)]
 pub(crate) struct Listening {
-    /// Its rule's address.
+    /// Where it listens.
     pub(crate) listen: Addr,
     /// The id of its entry in the index.
     pub(crate) id: u64,

@@ -1,7 +1,7 @@
 //! A rule's task of the main thread's loop: it accepts from the rule's listener, and delivers to the
 //! loops.
 
-ghost use Rattle.std.specs.Prelude.{◌≡◌, ◌↔◌, ⊤, None, Err, IfSome, IsNone, OnOk};
+ghost use Rattle.std.specs.Prelude.{◌≡◌, ◌↔◌, ⊤, true, None, Err, IfSome, IsNone, OnOk};
 ghost use Rattle.readiness.specs.EventLoop.{tasks_of};
 ghost use Rattle.readiness.specs.Tasks.{task_in};
 ghost use Rattle.relay_main.specs.Closing.{WasClosed};
@@ -23,20 +23,20 @@ use relay_facts::clock::Moments;
 use relay_facts::connection_facts::Acceptance;
 use relay_facts::header::AcceptedAt;
 use relay_facts::served_rule::{Said, ServedRule};
-use relay_facts::shown::ListenerTimes;
+use relay_facts::shown::ListenerFacts;
 use relay_shared::address::rule_address;
 use relay_shared::shared::Shared;
 use rwloops::Fault;
 use std::sync::{Arc, Wait};
 use std::time::Clock;
 
-/// A rule's listener, as its task has it.
+/// One of a rule's listeners, as its task has it.
 #[derive(Drop)]
 pub struct RuleListener<R: Wait + Copy> {
     pub(crate) id: u64,
     pub(crate) cell: Arc<PollCell>,
     pub(crate) half: TaskReader<ListenRes, R>,
-    pub(crate) times: ListenerTimes,
+    pub(crate) facts: ListenerFacts,
 }
 
 impl<R: Wait + Copy> RuleListener<R> {
@@ -66,10 +66,12 @@ impl<R: Wait + Copy> RuleListener<R> {
     }
 }
 
-/// Accepts by a rule until its listener is closed or drained.
+/// Accepts by a rule from one of its listeners until that is closed or drained.
 #[derive(Drop)]
 pub struct RuleTask<R: Wait + Copy> {
     pub(crate) served: Arc<ServedRule>,
+    /// Whether that counts it among the listeners that accept.
+    pub(crate) is_counted: bool,
     pub(crate) place: Place,
     pub(crate) listener: RuleListener<R>,
     pub(crate) accepting: Accepting,
@@ -78,19 +80,22 @@ pub struct RuleTask<R: Wait + Copy> {
 }
 
 impl<R: Wait + Copy> RuleTask<R> {
-    /// One at this place that accepts by this account from this listener. No accept failed yet.
+    /// One at this place that accepts by this account, which counts it, from this listener. No accept
+    /// failed yet.
     pub(crate) fn new(
         served: Arc<ServedRule>,
         place: Place,
         listener: RuleListener<R>,
     ) -> RuleTask<R>
         ensures served { result.served ≡ served }
+        ensures counted { result.is_counted ≡ true }
         ensures place { result.place ≡ place }
         ensures listener { result.listener ≡ listener }
         ensures goes_on { result.paused_until ≡ None }
     {
         RuleTask {
             served,
+            is_counted: true,
             place,
             listener,
             accepting: Accepting::new(),
@@ -126,6 +131,9 @@ where
         let served = Arc::try_clone(self.served).ok()?;
         let Said {
             rule,
+            listens: _,
+            limit,
+            sockets,
             targets,
             header,
             access,
@@ -133,6 +141,8 @@ where
         Some(Acceptance {
             served,
             rule,
+            limit,
+            sockets,
             targets,
             access,
             client,
@@ -165,7 +175,7 @@ where
 
     fn deliver(&mut self, taken: Sock) {
         if let Some(acceptance) = self.acceptance(peer_of(&taken), &taken) {
-            self.listener.times.last = acceptance.at;
+            self.listener.facts.last = acceptance.at;
             self.shared.deliver(&self.rt, taken, acceptance);
         }
     }
@@ -196,6 +206,7 @@ pub(crate) fn accept_on<'a, R: Wait + Clock + Copy, C: Moments>(
     task: &'a mut RuleTask<R>,
 ) -> (AcceptStep, Option<Fault>)
     ensures served { task.new.served ≡ task.old.served }
+    ensures counted { task.new.is_counted ≡ task.old.is_counted }
     ensures place { task.new.place ≡ task.old.place }
     ensures paused { task.new.paused_until ≡ task.old.paused_until }
 {

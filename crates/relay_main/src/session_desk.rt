@@ -156,7 +156,7 @@ impl<'a, R: Wait + Clock + Copy> RelayDesk<'a, R> {
         let rt = self.main.host.rt;
         let now = self.main.host.clock.now();
         if let Some(task) = self.rule_task(id) {
-            return Some(shown_listener(&rt, &*task.served, id, task.listener.times, now));
+            return Some(shown_listener(&rt, &*task.served, id, task.listener.facts, now));
         }
         let index = self.main.host.shared.index.lock(&rt);
         shown_of_side(&*index, id, now)

@@ -6,9 +6,8 @@ ghost use Rattle.relay_main.specs.Checks.{IsSameCheck};
 
 use crate::check_task::Checked;
 use relay_admin::{ServeFault, is_same_addr};
-use relay_facts::served_rule::ServedRule;
+use relay_facts::served_rule::{Said, ServedRule};
 use relay_facts::target_list::Targets;
-use relay_settings::Version;
 use std::sync::{Arc, Wait};
 
 // Whether both are one check: of the same rule, by its address, and of the same target, alike.
@@ -32,13 +31,13 @@ pub(crate) fn place_among(all: &[Checked], one: &Checked) -> Option<usize>
     None
 }
 
-// Puts the target at this place of a rule's list behind these, where it is to be checked. None says
-// that memory was refused.
+// Puts the target at this place of the list of a rule that says this behind these, where it is to be
+// checked. None says that memory was refused.
 fn add_target(
     all: &mut Vec<Checked>,
     served: &Arc<ServedRule>,
     targets: &Arc<Targets>,
-    header: Option<Version>,
+    said: &Said,
     place: usize,
 ) -> Option<()> {
     let (Some(checks), Some(at)) = (targets.checks(), targets.address(place)) else {
@@ -53,21 +52,22 @@ fn add_target(
         place,
         at,
         checks,
-        header,
+        header: said.header,
+        source: said.sockets.source,
     };
     all.push(checked).ok()
 }
 
-// Puts all of a list that are to be checked behind these, each address once. None says that memory was
-// refused.
+// Puts all of the list of a rule that says this, which are to be checked, behind these, each address once.
+// None says that memory was refused.
 fn add_each(
     all: &mut Vec<Checked>,
     served: &Arc<ServedRule>,
     targets: &Arc<Targets>,
-    header: Option<Version>,
+    said: &Said,
 ) -> Option<()> {
     for place in 0..targets.len() {
-        add_target(all, served, targets, header, place)?;
+        add_target(all, served, targets, said, place)?;
     }
     Some(())
 }
@@ -86,7 +86,7 @@ pub(crate) fn add_targets<R: Wait>(
     let Some(targets) = &said.targets else {
         return Ok(());
     };
-    match add_each(all, served, targets, said.header) {
+    match add_each(all, served, targets, &said) {
         Some(()) => Ok(()),
         None => Err(ServeFault::Memory),
     }

@@ -31,6 +31,9 @@ rule_sync = search (sendable, crosses) depth 60 fits 100000
 acceptance_send : IsSend acceptance.the_row
 acceptance_send = search (rule_send, rule_sync, sendable, crosses) depth 60 fits 100000
 
+acceptance_sync : IsSync acceptance.the_row
+acceptance_sync = search (rule_send, rule_sync, sendable, crosses) depth 60 fits 100000
+
 counted_send : IsSend counted.the_row
 counted_send = search (rule_send, rule_sync, sendable, crosses) depth 60 fits 100000
 
@@ -40,11 +43,36 @@ accepted_send = declared_send accepted.the_type (sock_send, (acceptance_send, (c
 inbox_send : IsSend inbox.the_row
 inbox_send = search (accepted_send, sendable, crosses) depth 60 fits 100000
 
+-- one search for each field of `ConnectionFacts`, in its order
 facts_send : IsSend conn_facts.the_row
-facts_send = search (sendable, crosses) depth 60 fits 100000
+facts_send = declared_send conn_facts.the_type (
+  acceptance_send,
+  (
+    search (sendable, crosses) depth 60 fits 100000,
+    (
+      search (sendable, crosses) depth 60 fits 100000,
+      (
+        search (sendable, crosses) depth 60 fits 100000,
+        (search (sendable, crosses) depth 60 fits 100000, (search (sendable, crosses) depth 60 fits 100000, tt)),
+      ),
+    ),
+  ),
+)
 
 facts_sync : IsSync conn_facts.the_row
-facts_sync = search (sendable, crosses) depth 60 fits 100000
+facts_sync = declared_sync conn_facts.the_type (
+  acceptance_sync,
+  (
+    search (sendable, crosses) depth 60 fits 100000,
+    (
+      search (sendable, crosses) depth 60 fits 100000,
+      (
+        search (sendable, crosses) depth 60 fits 100000,
+        (search (sendable, crosses) depth 60 fits 100000, (search (sendable, crosses) depth 60 fits 100000, tt)),
+      ),
+    ),
+  ),
+)
 
 handle_send : IsSend handle.the_row
 handle_send = search (inbox_send, sendable, crosses, maps.crosses) depth 60 fits 100000

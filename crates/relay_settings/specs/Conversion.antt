@@ -4,6 +4,7 @@ use Rattle.relay_admin.specs.rules.Fault.{SaysRules}
 use Rattle.relay_admin.specs.rules.Grammar.{Entry}
 use Rattle.relay_config.specs.Entries.{AccessEntry}
 use Rattle.relay_settings.specs.Meaning.{SaidEntry, SaidRuleEntry, SaysAll, SettingsEntry}
+use Rattle.relay_settings.specs.Targets.{plain_sockets}
 use Rattle.target_pick.specs.declared.picking.Balance.TheVariants.{RoundRobin}
 
 -- no setting is said
@@ -23,11 +24,14 @@ nothing_said = record {
 abbrev pub no_lists : AccessEntry
 no_lists = record { allow = []; deny = [] }
 
--- a rule whose own target is its only one, isn't checked and is sent no header, and which lets all
--- clients in
+-- a rule at its own address alone, without a limit of its own and with plain sockets, whose own target is
+-- its only one, isn't checked and is sent no header, and which lets all clients in
 abbrev pub rule_alone : Entry → SaidRuleEntry
 rule_alone rule = record {
   rule = rule;
+  listens = rule.listen ∷ [];
+  limit = None;
+  sockets = plain_sockets;
   balance = RoundRobin;
   access = no_lists;
   checks = None;

@@ -1,6 +1,7 @@
 pub mod Conversion
 pub mod ConvertedText
 pub mod Laws
+pub mod Listeners
 pub mod Meaning
 pub mod Settings
 pub mod Targets

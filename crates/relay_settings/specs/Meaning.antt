@@ -9,7 +9,7 @@ use Rattle.relay_admin.specs.rules.Addr.{Address, address_of, tcp, tcp6, unix}
 use Rattle.relay_admin.specs.rules.Grammar.{Entry, entry_of}
 use Rattle.relay_config.specs.Config.{SaysConfig, SaysFault}
 use Rattle.relay_config.specs.Entries.{AccessEntry, AdminEntry, ChecksEntry, ClientsEntry, ConfigEntry, HeadEntry, LogEntry}
-use Rattle.relay_config.specs.Entries.{access_entry, checks_entry}
+use Rattle.relay_config.specs.Entries.{access_entry, checks_entry, sockets_entry}
 use Rattle.relay_config.specs.Entries.{ProxyEntry, RuleEntry, SocketsEntry, TargetEntry}
 use Rattle.relay_config.specs.Fault.{item_spot, spot}
 use Rattle.relay_config.specs.Reading.{◌>>=◌, or_fault}
@@ -100,9 +100,9 @@ settings_entry settings = record {
   metrics = option_map address_of settings.metrics;
 }
 
--- connections that may stand at once, at a key of the whole
-abbrev pub pairs_at : Key → ℕ → Result ℕ Fault
-pairs_at here count = served (spot place.Top here) (pair_count count)
+-- how many connections may stand at once, by a place, if it says that
+abbrev pub pairs_in : Spot → Option ℕ → Result (Option ℕ) Fault
+pairs_in at count = if_said (λ n. served at (pair_count n)) count
 
 -- loops
 abbrev pub loops_at : ℕ → Result ℕ Fault
@@ -132,8 +132,8 @@ log_at log = served_if (spot place.Log key.Format) (is_text log.format) >>= λ i
 -- the settings that the keys of the whole say
 unfoldable pub settings_in : ConfigEntry → Result SettingsEntry Fault
 settings_in config = do
-  pairs ← if_said (pairs_at key.Connections) config.limits.connections
-  per_rule ← if_said (pairs_at key.ConnectionsPerRule) config.limits.rule_connections
+  pairs ← pairs_in (spot place.Top key.Connections) config.limits.connections
+  per_rule ← pairs_in (spot place.Top key.ConnectionsPerRule) config.limits.rule_connections
   connect ← if_said (time_in (spot place.Top key.ConnectTimeout)) config.limits.connect_timeout
   loops ← if_said loops_at config.service.loops
   metrics ← if_said metrics_at config.service.metrics
@@ -158,9 +158,13 @@ pub record SaidTargetEntry : Type 0 where
   pub weight : ℕ
   pub backup : Bool
 
--- a rule, its targets, how these are checked and what they are told of a client, and who may connect
+-- a rule, where it listens, how many connections of it stand at once, how its sockets are set up, its
+-- targets, how these are checked and what they are told of a client, and who may connect
 pub record SaidRuleEntry : Type 0 where
   pub rule : Entry
+  pub listens : List Address
+  pub limit : Option ℕ
+  pub sockets : SocketsEntry
   pub balance : Balance
   pub access : AccessEntry
   pub checks : Option ChecksEntry
@@ -171,10 +175,14 @@ pub record SaidRuleEntry : Type 0 where
 abbrev pub said_target_entry : Target → SaidTargetEntry
 said_target_entry target = record { at = address_of target.at; weight = target.weight; backup = target.is_backup }
 
--- a rule, its targets, how these are checked and what they are told of a client, and who may connect
+-- a rule, where it listens, how many connections of it stand at once, how its sockets are set up, its
+-- targets, how these are checked and what they are told of a client, and who may connect
 abbrev pub said_rule_entry : SaidRule → SaidRuleEntry
 said_rule_entry said = record {
   rule = entry_of said.rule;
+  listens = map address_of said.listens.items;
+  limit = option_map (λ p. p.count) said.limit;
+  sockets = sockets_entry said.sockets;
   balance = said.balance;
   access = access_entry said.access;
   checks = option_map checks_entry said.checks;
@@ -187,36 +195,28 @@ abbrev pub is_default_resolve : Option ℕ → Bool
 is_default_resolve (Some ms) = ms == DEFAULT_RESOLVE_MS
 is_default_resolve None = false
 
--- how many clients a rule serves: as many as any
+-- how many clients of one address a rule serves: as many as of all
 unfoldable pub clients_alone : Place → ClientsEntry → Result (Unit {0}) Fault
 clients_alone here clients = do
-  all ← served_if (spot here key.Connections) (is_none clients.connections)
   each ← served_if (spot here key.ConnectionsPerSource) (is_none clients.source_connections)
   served_if (spot here key.AcceptsPerSource) (is_none clients.source_accepts)
 
--- how sockets are set up: as without a word of it
-unfoldable pub sockets_alone : Place → SocketsEntry → Result (Unit {0}) Fault
-sockets_alone here sockets = do
-  alive ← served_if (spot here key.Keepalive) (is_none sockets.keepalive)
-  lost ← served_if (spot here key.UserTimeout) (is_none sockets.user_timeout)
-  waiting ← served_if (spot here key.Backlog) (is_none sockets.backlog)
-  served_if (spot here key.Source) (is_none sockets.source)
-
--- what a rule says beside its lists, its name, its idle time, how a target is picked and how targets are
--- checked
+-- what a rule says beside its lists, its name, its idle time, its limit, how its sockets are set up, how a
+-- target is picked and how targets are checked
 unfoldable pub head_alone : Place → HeadEntry → Result (Unit {0}) Fault
 head_alone here head = do
   names ← served_if (spot here key.Resolve) (is_default_resolve head.resolve)
-  clients ← clients_alone here head.clients
-  sockets_alone here head.sockets
+  clients_alone here head.clients
 
--- the one listener of a rule
-unfoldable pub listen_in : ℕ → List config.Address → Result Address Fault
-listen_in rule [] = Err (unserved (spot (place.Rule rule) key.Listen))
-listen_in rule (first ∷ others) = do
-  address ← served (item_spot (place.Rule rule) key.Listen 0) (relay_address first)
-  alone ← served_if (item_spot (place.Rule rule) key.Listen 1) (length others == 0)
-  Ok address
+-- the address behind these at which a rule listens
+abbrev pub address_behind : ℕ → List Address → config.Address → Result Address Fault
+address_behind rule found address =
+    served (item_spot (place.Rule rule) key.Listen (length found)) (relay_address address)
+
+-- the first of the addresses at which a rule listens
+abbrev pub first_listener : ℕ → List Address → Result Address Fault
+first_listener rule [] = Err (unserved (spot (place.Rule rule) key.Listen))
+first_listener rule (first ∷ others) = Ok first
 
 -- a target, at an address that the relay has
 unfoldable pub target_in : Place → TargetEntry → Result SaidTargetEntry Fault
@@ -250,13 +250,18 @@ header_in rule (Some proxy) = do
 unfoldable pub rule_in : ℕ → RuleEntry → Result SaidRuleEntry Fault
 rule_in n rule = do
   idle ← time_in (spot (place.Rule n) key.Idle) rule.head.idle
+  limit ← pairs_in (spot (place.Rule n) key.Connections) rule.head.clients.connections
   head ← head_alone (place.Rule n) rule.head
   header ← header_in n rule.proxy
-  listen ← listen_in n rule.listen
+  listens ← each_of (address_behind n) [] rule.listen
+  listen ← first_listener n listens
   targets ← targets_in n rule.targets
   target ← first_address n targets
   Ok (record {
     rule = record { name = rule.head.name; listen = listen; target = target; idle = idle };
+    listens = listens;
+    limit = limit;
+    sockets = rule.head.sockets;
     balance = rule.head.balance;
     access = rule.access;
     checks = rule.head.health;

@@ -1,16 +1,17 @@
-//! The addresses, times and places of a configuration that a relay can have.
+//! The addresses, times, limits and places of a configuration that a relay can have.
 
 ghost use Rattle.std.specs.Prelude.{◌≡◌, true, IfOk, option_map};
 ghost use Rattle.config_values.specs.Addr as config;
 ghost use Rattle.relay_admin.specs.rules.Addr.{address_of};
 ghost use Rattle.relay_config.specs.Fault.{Reads};
-ghost use Rattle.relay_settings.specs.Meaning.{relay_address, relay_address_at, relay_time};
+ghost use Rattle.relay_settings.specs.Meaning.{pairs_in, relay_address, relay_address_at, relay_time};
 ghost use Rattle.relay_settings.specs.Meaning.{served, served_if, time_in, unserved};
 
 use arrayvec::ArrayString;
 use config_values::DAY_MS;
 use relay_admin::Addr;
 use relay_config::{Fault, Spot, Wrong};
+use relay_core::PairLimit;
 
 /// The fault of a place that isn't carried out.
 pub(crate) fn unserved(spot: Spot) -> Fault
@@ -85,6 +86,19 @@ pub(crate) fn time_in(spot: Spot, said: Option<u64>) -> Result<Option<u32>, Faul
     };
     match relay_time(ms) {
         Some(ms) => Ok(Some(ms)),
+        None => Err(unserved(spot)),
+    }
+}
+
+/// How many connections may stand at once, by a place, if it says that.
+pub(crate) fn pairs_in(spot: Spot, said: Option<u32>) -> Result<Option<PairLimit>, Fault>
+    ensures { Reads (option_map (λ pairs. pairs.count)) result (pairs_in spot said) }
+{
+    let Some(count) = said else {
+        return Ok(None);
+    };
+    match PairLimit::of(u64::from(count)) {
+        Some(pairs) => Ok(Some(pairs)),
         None => Err(unserved(spot)),
     }
 }

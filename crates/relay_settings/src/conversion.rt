@@ -111,6 +111,9 @@ fn says_rule(said: &SaidRule, rule: &Rule) -> bool
     ensures { IsTrue result → said_rule_entry said.now ≡ rule_alone (entry_of rule.now) }
 {
     said.is_alone()
+        && said.has_one_listener()
+        && said.limit.is_none()
+        && said.has_plain_sockets()
         && said.has_no_lists()
         && said.checks.is_none()
         && said.header.is_none()

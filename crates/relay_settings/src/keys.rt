@@ -6,17 +6,17 @@ ghost use Rattle.config_values.specs.Addr as config;
 ghost use Rattle.relay_admin.specs.rules.Addr.{address_of};
 ghost use Rattle.relay_config.specs.Entries.{admin_entry, config_entry, log_entry};
 ghost use Rattle.relay_config.specs.Fault.{Answers, Reads};
-ghost use Rattle.relay_settings.specs.Meaning.{admin_at, if_said, is_text, log_at, loops_at, metrics_at, pairs_at};
+ghost use Rattle.relay_settings.specs.Meaning.{admin_at, if_said, is_text, log_at, loops_at, metrics_at};
 ghost use Rattle.relay_settings.specs.Meaning.{settings_entry, settings_in, time_in};
 ghost use Rattle.relay_config.specs.Fault as fault;
 ghost use Rattle.relay_config.specs.declared.fault.Key.TheVariants as key;
 ghost use Rattle.relay_config.specs.declared.fault.Place.TheVariants as place;
 
-use crate::address::{address_at, served_if, time_in, unserved};
+use crate::address::{address_at, pairs_in, served_if, time_in, unserved};
 use crate::settings::Settings;
 use relay_admin::Addr;
 use relay_config::{Admin, Config, Fault, Format, Key, Log, Place, Spot};
-use relay_core::{Loops, PairLimit};
+use relay_core::Loops;
 use std::alloc::Global;
 
 /// The settings that the keys of the whole say, or the first of them that isn't carried out.
@@ -24,9 +24,13 @@ use std::alloc::Global;
 pub(crate) fn settings_of(alloc: Global, config: &Config) -> Result<Settings, Fault>
     ensures { Answers settings_entry result (settings_in (config_entry config.now)) }
 {
-    let pairs = pairs_of(Key::Connections, config.limits.connections)?;
-    let per_rule = pairs_of(Key::ConnectionsPerRule, config.limits.rule_connections)?;
-    let connect_ms = connect_of(config.limits.connect_ms)?;
+    let limits = &config.limits;
+    let pairs = pairs_in(Spot::of(Place::Top, Key::Connections), limits.connections)?;
+    let per_rule = pairs_in(
+        Spot::of(Place::Top, Key::ConnectionsPerRule),
+        limits.rule_connections,
+    )?;
+    let connect_ms = connect_of(limits.connect_ms)?;
     let loops = loops_of(config.service.loops)?;
     let metrics = metrics_of(&config.service.metrics)?;
     let admin = admin_of(alloc, &config.service.admin)?;
@@ -41,18 +45,6 @@ pub(crate) fn settings_of(alloc: Global, config: &Config) -> Result<Settings, Fa
         log,
         metrics,
     })
-}
-
-fn pairs_of(key: Key, said: Option<u32>) -> Result<Option<PairLimit>, Fault>
-    ensures { Reads (option_map (λ pairs. pairs.count)) result (if_said (pairs_at key) said) }
-{
-    let Some(count) = said else {
-        return Ok(None);
-    };
-    match PairLimit::of(u64::from(count)) {
-        Some(pairs) => Ok(Some(pairs)),
-        None => Err(unserved(Spot::of(Place::Top, key))),
-    }
 }
 
 fn connect_of(said: Option<Option<u64>>) -> Result<Option<Option<u32>>, Fault>

@@ -2,25 +2,27 @@
 //! takes a case away here.
 
 ghost use Rattle.std.specs.Prelude.{◌≡◌, ◌≤◌, ◌<◌, [], IfErr, IfOk, Some, length, map, option_map};
+ghost use Rattle.std.specs.Prelude.{slice_get};
 ghost use Rattle.config_values.specs.Addr as config;
 ghost use Rattle.relay_admin.specs.rules.Addr.{address_of};
 ghost use Rattle.relay_config.specs.Entries.{access_entry, clients_entry, head_entry, rule_entry};
-ghost use Rattle.relay_config.specs.Entries.{proxy_entry, sockets_entry, target_entry};
+ghost use Rattle.relay_config.specs.Entries.{proxy_entry, target_entry};
 ghost use Rattle.relay_config.specs.Fault.{Answers, Reads};
 ghost use Rattle.relay_config.specs.declared.fault.Fault.{Fault};
-ghost use Rattle.relay_settings.specs.Meaning.{clients_alone, each_of, first_address};
-ghost use Rattle.relay_settings.specs.Meaning.{head_alone, header_in, is_default_resolve, listen_in};
+ghost use Rattle.relay_settings.specs.Meaning.{clients_alone, each_of, first_address, first_listener};
+ghost use Rattle.relay_settings.specs.Meaning.{head_alone, header_in, is_default_resolve};
+ghost use Rattle.relay_settings.specs.Meaning.{address_behind};
 ghost use Rattle.relay_settings.specs.Meaning.{rule_in};
-ghost use Rattle.relay_settings.specs.Meaning.{said_rule_entry, said_target_entry, sockets_alone};
+ghost use Rattle.relay_settings.specs.Meaning.{said_rule_entry, said_target_entry};
 ghost use Rattle.relay_settings.specs.Meaning.{target_behind, targets_in};
 ghost use Rattle.relay_settings.specs.Targets.{first_at};
 
-use crate::address::{address_at, served_if, time_in, unserved};
+use crate::address::{address_at, pairs_in, served_if, time_in, unserved};
 use crate::targets::{MAX_TARGETS, SaidRule, Target};
 use relay_admin::{Addr, Rule};
 use relay_config as config;
 use relay_config::{
-    Access, Clients, DEFAULT_RESOLVE_MS, Fault, Head, Key, Place, Proxy, Sockets, Spot, Version,
+    Access, Clients, DEFAULT_RESOLVE_MS, Fault, Head, Key, Place, Proxy, Spot, Version,
 };
 use std::alloc::Global;
 
@@ -31,24 +33,28 @@ pub(crate) fn rule_of(alloc: Global, number: usize, rule: &config::Rule) -> Resu
 {
     let place = Place::Rule(number);
     let idle_ms = time_in(Spot::of(place, Key::Idle), rule.head.idle_ms)?;
+    let said = rule.head.clients.connections;
+    let limit = pairs_in(Spot::of(place, Key::Connections), said)?;
     head_alone(place, &rule.head)?;
     let header = header_of(number, &rule.proxy)?;
     let access = access_of(alloc, &rule.access)?;
-    let listen = listen_of(number, rule.listen.as_slice())?;
+    let listens = listens_of(alloc, number, rule.listen.as_slice())?;
+    let listen = first_listener(number, listens.as_slice())?;
     let targets = targets_of(alloc, number, rule.targets.as_slice())?;
     let target = first_address(number, targets.as_slice())?;
-    let name = rule.head.name;
-    let checks = rule.head.health;
     Ok(SaidRule {
         rule: Rule {
-            name,
+            name: rule.head.name,
             listen,
             target,
             idle_ms,
         },
+        listens,
+        limit,
+        sockets: rule.head.sockets,
         balance: rule.head.balance,
         access,
-        checks,
+        checks: rule.head.health,
         header,
         targets,
     })
@@ -73,8 +79,7 @@ fn head_alone(place: Place, head: &Head) -> Result<(), Fault>
 {
     let resolves = is_default_resolve(head.resolve_ms);
     served_if(Spot::of(place, Key::Resolve), resolves)?;
-    clients_alone(place, &head.clients)?;
-    sockets_alone(place, &head.sockets)
+    clients_alone(place, &head.clients)
 }
 
 fn is_default_resolve(resolve_ms: Option<u64>) -> bool
@@ -90,32 +95,12 @@ fn is_default_resolve(resolve_ms: Option<u64>) -> bool
 fn clients_alone(place: Place, clients: &Clients) -> Result<(), Fault>
     ensures { result ≡ clients_alone place (clients_entry clients.now) }
 {
-    served_if(
-        Spot::of(place, Key::Connections),
-        clients.connections.is_none(),
-    )?;
     let each = clients.source_connections.is_none();
     served_if(Spot::of(place, Key::ConnectionsPerSource), each)?;
     served_if(
         Spot::of(place, Key::AcceptsPerSource),
         clients.source_accepts.is_none(),
     )
-}
-
-#[tactic(auto, unfolding(crate::specs::Meaning::sockets_alone))]
-fn sockets_alone(place: Place, sockets: &Sockets) -> Result<(), Fault>
-    ensures { result ≡ sockets_alone place (sockets_entry sockets.now) }
-{
-    served_if(
-        Spot::of(place, Key::Keepalive),
-        sockets.keepalive_ms.is_none(),
-    )?;
-    served_if(
-        Spot::of(place, Key::UserTimeout),
-        sockets.user_timeout_ms.is_none(),
-    )?;
-    served_if(Spot::of(place, Key::Backlog), sockets.backlog.is_none())?;
-    served_if(Spot::of(place, Key::Source), sockets.source.is_none())
 }
 
 /// The same lists, in memory of their own.
@@ -132,18 +117,45 @@ fn access_of(alloc: Global, access: &Access) -> Result<Access, Fault>
     Ok(Access { allow, deny })
 }
 
-/// The one listener of a rule.
-#[tactic(auto, unfolding(crate::specs::Meaning::listen_in))]
-fn listen_of(rule: usize, listen: &[config_values::Addr]) -> Result<Addr, Fault>
-    ensures { Reads address_of result (listen_in rule (map config.address_of listen.now)) }
+/// The addresses at which a rule listens, each at its place.
+#[tactic(auto, using(crate::proofs::OneByOne::goes_on, crate::proofs::OneByOne::fails, crate::proofs::OneByOne::ended))]
+fn listens_of(
+    alloc: Global,
+    rule: usize,
+    listen: &[config_values::Addr],
+) -> Result<Vec<Addr>, Fault>
+    ensures { Answers (λ found. map address_of found.items) result
+        (each_of (address_behind rule) [] (map config.address_of listen.now)) }
 {
-    let place = Place::Rule(rule);
-    let [first, others @ ..] = listen else {
-        return Err(unserved(Spot::of(place, Key::Listen)));
+    let mut found = Vec::new(alloc);
+    for addr in listen {
+        let served = address_behind(rule, found.as_slice(), addr)?;
+        if found.push(served).is_err() {
+            return Err(Fault::Memory);
+        }
+    }
+    Ok(found)
+}
+
+/// The address behind these at which a rule listens.
+fn address_behind(rule: usize, found: &[Addr], addr: &config_values::Addr) -> Result<Addr, Fault>
+    ensures { Reads address_of result
+        (address_behind rule (map address_of found.now) (config.address_of addr.now)) }
+{
+    let spot = Spot::item(Place::Rule(rule), Key::Listen, found.len());
+    address_at(spot, addr)
+}
+
+/// The first of these.
+fn first_listener(rule: usize, listens: &[Addr]) -> Result<Addr, Fault>
+    ensures address { Reads address_of result
+        (first_listener rule (map address_of listens.now)) }
+    ensures own { IfOk result (λ listen. slice_get listens.now 0 ≡ Some listen) }
+{
+    let [first, ..] = listens else {
+        return Err(unserved(Spot::of(Place::Rule(rule), Key::Listen)));
     };
-    let addr = address_at(Spot::item(place, Key::Listen, 0), first)?;
-    served_if(Spot::item(place, Key::Listen, 1), others.is_empty())?;
-    Ok(addr)
+    Ok(*first)
 }
 
 /// The targets of a rule, each at its place.

@@ -1,18 +1,29 @@
-//! A rule with its targets, their checks, what they are told of a client, and its lists of clients, as a
-//! file says them.
+//! A rule with where it listens, its limit, its sockets, its targets, their checks, what they are told of a client, and its lists of
+//! clients, as a file says them.
 
 ghost use Rattle.std.specs.Prelude.{◌≡◌, ◌≤◌, ◌<◌, ◌∷◌, [], IfOk, IsTrue, Some, None, ◌↔◌, length};
-ghost use Rattle.relay_settings.specs.Targets.{first_at, own_target};
+ghost use Rattle.std.specs.Prelude.{slice_get};
+ghost use Rattle.relay_config.specs.Entries.{sockets_entry};
+ghost use Rattle.relay_settings.specs.Targets.{first_at, own_target, plain_sockets};
 ghost use Rattle.target_pick.specs.declared.picking.Balance.TheVariants.{RoundRobin};
 
 use base_types::OutOfMemory;
 use relay_admin::{Addr, Rule};
-use relay_config::{Access, Checks, Version};
+use relay_config::{Access, Checks, Sockets, Version};
+use relay_core::PairLimit;
 use std::alloc::Global;
 use target_pick::Balance;
 
 /// The most targets of a rule.
 pub const MAX_TARGETS: usize = relay_config::MAX_TARGETS;
+
+/// Sockets of which nothing is said.
+pub const PLAIN_SOCKETS: Sockets = Sockets {
+    keepalive_ms: None,
+    user_timeout_ms: None,
+    backlog: None,
+    source: None,
+};
 
 /// A target of a rule.
 #[derive(Clone, Copy, Debug, PartialEq, Eq, Drop)]
@@ -24,11 +35,18 @@ pub struct Target {
     pub is_backup: bool,
 }
 
-/// A rule, its targets, how these are checked and what they are told of a client, and who may connect.
+/// A rule, where it listens, how many connections of it stand at once, how its sockets are set up, its
+/// targets, how these are checked and what they are told of a client, and who may connect.
 #[derive(Drop)]
 pub struct SaidRule {
-    /// Its own target is the first one.
+    /// Its own address is the first one, and so is its own target.
     pub rule: Rule,
+    /// Where it listens: one address at least, in the order of the file.
+    pub listens: Vec<Addr>,
+    /// How many connections of it stand at once; without it as many as of each rule.
+    pub limit: Option<PairLimit>,
+    /// How the sockets of its listeners, of its clients and to its targets are set up.
+    pub sockets: Sockets,
     /// By what a client's is picked.
     pub balance: Balance,
     /// The networks whose clients are let in, and those whose aren't.
@@ -39,6 +57,7 @@ pub struct SaidRule {
     pub header: Option<Version>,
     /// 1 to 64, in the order of the file.
     pub targets: Vec<Target>,
+    ghost own: { slice_get listens.items 0 ≡ Some rule.listen },
     ghost some: { 0 < length targets.items },
     ghost first: { first_at targets.items ≡ Some rule.target },
     ghost few: { length targets.items ≤ 64 },
@@ -56,10 +75,14 @@ fn own_target(rule: &Rule) -> Target
 }
 
 impl SaidRule {
-    /// A rule whose own target is its only one, isn't checked and is sent no header, and which lets all
-    /// clients in, as a rules file says it.
+    /// A rule at its own address alone, without a limit of its own and with plain sockets, whose own
+    /// target is its only one, isn't checked and is sent no header, and which lets all clients in, as a
+    /// rules file says it.
     pub fn alone(alloc: Global, rule: Rule) -> Result<SaidRule, OutOfMemory>
         ensures rule { IfOk result (λ said. said.rule ≡ rule) }
+        ensures listens { IfOk result (λ said. said.listens.items ≡ rule.listen ∷ []) }
+        ensures limit { IfOk result (λ said. said.limit ≡ None) }
+        ensures sockets { IfOk result (λ said. sockets_entry said.sockets ≡ plain_sockets) }
         ensures balance { IfOk result (λ said. said.balance ≡ RoundRobin) }
         ensures allow { IfOk result (λ said. said.access.allow.items ≡ []) }
         ensures deny { IfOk result (λ said. said.access.deny.items ≡ []) }
@@ -67,10 +90,15 @@ impl SaidRule {
         ensures header { IfOk result (λ said. said.header ≡ None) }
         ensures targets { IfOk result (λ said. said.targets.items ≡ own_target rule ∷ []) }
     {
+        let mut listens = Vec::new(alloc);
+        listens.push(rule.listen)?;
         let mut targets = Vec::new(alloc);
         targets.push(own_target(&rule))?;
         Ok(SaidRule {
             rule,
+            listens,
+            limit: None,
+            sockets: PLAIN_SOCKETS,
             balance: Balance::RoundRobin,
             access: Access {
                 allow: Vec::new(alloc),
@@ -90,6 +118,27 @@ impl SaidRule {
             [only] => only.weight == 1 && !only.is_backup,
             _ => false,
         }
+    }
+
+    /// Whether it listens at its own address alone.
+    pub fn has_one_listener(&self) -> bool
+        ensures { IsTrue result ↔ (self.now.listens.items ≡ self.now.rule.listen ∷ []) }
+    {
+        match self.listens.as_slice() {
+            [_] => true,
+            _ => false,
+        }
+    }
+
+    /// Whether nothing is said of its sockets.
+    pub fn has_plain_sockets(&self) -> bool
+        ensures { IsTrue result ↔ (sockets_entry self.now.sockets ≡ plain_sockets) }
+    {
+        let sockets = &self.sockets;
+        sockets.keepalive_ms.is_none()
+            && sockets.user_timeout_ms.is_none()
+            && sockets.backlog.is_none()
+            && sockets.source.is_none()
     }
 
     /// Whether its lists have no network, so that it lets all clients in.

@@ -10,5 +10,6 @@ pub mod Placing
 pub mod PollerFault
 pub mod Requests
 pub mod Shortage
+pub mod SocketOptions
 pub mod StalePath
 pub mod Standing

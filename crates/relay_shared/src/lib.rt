@@ -12,6 +12,7 @@ pub mod poller_fault;
 pub mod requests;
 pub mod shared;
 pub mod shortage;
+pub mod socket_options;
 pub mod stale_path;
 pub mod standing;
 pub mod stopping;

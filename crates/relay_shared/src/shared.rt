@@ -82,6 +82,7 @@ pub fn shared_of(
         start,
         settings: _,
         capacity,
+        further: _,
         safeguards,
         log,
     } = config;
@@ -169,9 +170,10 @@ impl Shared {
         let Ok(admitted) = acceptance.admitted() else {
             return Err(Ended::Denied);
         };
+        let standing = admitted.acceptance.served.standing();
         if self
             .safeguards
-            .is_at_limit(admitted.acceptance.served.standing())
+            .is_at_limit(admitted.acceptance.limit, standing)
         {
             return Err(Ended::RuleFull);
         }

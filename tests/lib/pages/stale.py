@@ -21,11 +21,11 @@ ROWS = (
     # (a listener that came by a reload has a greater id than connections that stand)
     ("crates/relay_admin/src/admin/command.rt", r'b"reload"', r"whose ids come first", "after a reload a listener may have any id"),
 )
-# What a page says of sockets: the page, its words, files of the code, what they set, and whether they do. (`relay_config` and
-# `relay_settings` read what a configuration says, and set nothing.)
+# What a page says of sockets: the page, its words, files of the code, what they set, and whether they do. (Keepalives are
+# asked for in one file alone.)
 OPTIONS = (
     (GUIDE, r"TCP connections have `TCP_NODELAY`", r"crates/readiness/src/(?:sock|open)\.rt", r"\bset_nodelay\(true\)", True),
-    (GUIDE, r"TCP keepalive is off", r"crates/(?:readiness|listen_fds|net|relay(?!_config|_settings)\w*)/src/.*\.rt", r"(?i)keep_?alive", False),
+    (GUIDE, r"TCP keepalive is off without `keepalive`", r"crates/(?:readiness|listen_fds|net|relay\w*)/src/(?!socket_options).*\.rt", r"SO_KEEPALIVE|set_keepalive", False),
 )
 
 

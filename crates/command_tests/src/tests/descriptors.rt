@@ -11,8 +11,9 @@ Max processes             63410                63410                processes \n
 Max open files            1024                 524288               files     \n\
 Max locked memory         8388608              8388608              bytes     \n";
 
-fn needed(pairs: u64, loops: u64) -> Option<u64> {
-    Some(descriptors_needed(PairLimit::of(pairs)?, Loops::of(loops)?))
+fn needed(pairs: u64, loops: u64, further: u32) -> Option<u64> {
+    let (pairs, loops) = (PairLimit::of(pairs)?, Loops::of(loops)?);
+    Some(descriptors_needed(pairs, loops, further))
 }
 
 #[test]
@@ -28,7 +29,15 @@ fn a_limit_is_read_and_a_need_is_counted(rt: HostRuntime) {
     ] {
         assert!(&rt; descriptors_allowed(limits) == want, "{limits}");
     }
-    for (pairs, loops, want) in [(1, 1, 244), (512, 8, 1_280), (50_000, 64, 100_368)] {
-        assert!(&rt; needed(pairs, loops) == Some(want), "{pairs} {loops}");
+    for (pairs, loops, further, want) in [
+        (1, 1, 0, 244),
+        (512, 8, 0, 1_280),
+        (512, 8, 64, 1_408),
+        (50_000, 64, 0, 100_368),
+    ] {
+        assert!(&rt;
+            needed(pairs, loops, further) == Some(want),
+            "{pairs} {loops} {further}"
+        );
     }
 }

@@ -186,7 +186,7 @@ const ROWS: &[(&str, &str)] = &[
     (
         "[[rule]]\nname = \"web\"\nlisten = [\"unix:/a\"]\ntarget = [{ at = \"b:80\" }]\n",
         "bad config: rule \"web\": target 1: at: \"b:80\" is no address (as tcp:10.0.0.1:443, tcp:[::1]:443, \
-        tcp:app.internal:443, unix:/run/x.sock)",
+        unix:/run/x.sock)",
     ),
     (
         "[[rule]]\nname = \"web\"\nlisten = [\"unix:/a\"]\ntarget = [{ at = \"unix:/b\", wieght = 2 }]\n",

@@ -16,8 +16,8 @@ returns-clause-come g c = elim c.match-put.branch [
       (c.in-Ok.ensures.place ∙ sym w.in-Ok-put.ensures.given) ∙ w.in-Ok-put.ensures.put.first in
       rw (w.result-is, w.tasks-is) (has_come (tasks_of c.args.tasks.now) (tasks_of c.vacant.new.self)
       (tasks_of c.put.new.self) (tasks_of w.again.new.self) c.in-Ok.place.first _
-      c.in_ok-task_served.task_served (arc_value c.args.served.now) c.in-Ok.ensures.kept c.in-Ok.ensures.unused
-      put (ap Some c.new.ensures.served) w.again.ensures.kept same)
+      c.in_ok-task_served.task_served (arc_value c.args.served.now) c.args.facts.listen c.in-Ok.ensures.kept
+      c.in-Ok.ensures.unused put (ap Some c.new.ensures.served) (search rules) w.again.ensures.kept same)
   | in-Err w ↦ rw w.result-is tt
 ]
 

@@ -7,3 +7,4 @@ returns-clause-served g c =
     of_file c.config_of.result c.args.asked.source c.in_ok-settings.field-0
     (record { asked = c.args.asked; file = c.in_ok-settings.field-0.settings }) c.as_slice.result.now c.in_ok-settings.ensures.said
     c.as_slice.ensures.value refl c.config_of.ensures.start c.config_of.ensures.served
+    c.config_of.ensures.further

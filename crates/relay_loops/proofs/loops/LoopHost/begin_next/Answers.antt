@@ -2,7 +2,8 @@ use Rattle.std.proofs.Common.{◌∙◌, sym, ap}
 use Rattle.std.specs.Option.{option_copied_mut}
 use Rattle.readiness.specs.EventLoop.{tasks_of}
 use Rattle.relay_conn.specs.Connection.{awaited_by}
-use Rattle.relay_loops.proofs.ArmedLemmas.{changed_alike, others_named}
+use Rattle.readiness.proofs.LendLemmas.{others_named}
+use Rattle.relay_loops.proofs.ArmedLemmas.{changed_alike}
 use Rattle.relay_loops.proofs.loops.LoopHost.begin_next.Goals as goal
 
 -- its task alone was changed, which awaits what it did

@@ -1,7 +1,8 @@
 use Rattle.std.proofs.Common.{◌∙◌}
 use Rattle.readiness.specs.EventLoop.{tasks_of}
 use Rattle.relay_conn.specs.Connection.{awaited_by}
-use Rattle.relay_loops.proofs.ArmedLemmas.{changed, others_named}
+use Rattle.readiness.proofs.LendLemmas.{others_named}
+use Rattle.relay_loops.proofs.ArmedLemmas.{changed}
 use Rattle.relay_loops.proofs.loops.LoopHost.put_next.Goals as goal
 
 -- its task alone was changed, and is timed last
