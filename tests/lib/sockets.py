@@ -1,22 +1,40 @@
 """Sockets on the loopback and at Unix paths, by addresses as a rule spells them."""
 import contextlib
+import os
 import random
 import socket
 
 REPLY_SECONDS = 60
 
-# Ports below the range from which the system takes those of outgoing connections, so that none of these takes ours.
-_ports = random.sample(range(10_000, 32_000), 22_000)
+# Ports below the range from which the system takes those of outgoing connections, so that none of these takes ours. A process takes them
+# by blocks. Of each it holds the first port, over UDP, for as long as it lives, so that no two scripts have one port, of whichever checkout.
+BLOCK = 50
+_blocks = random.sample(range(10_000, 32_000, BLOCK), 440)
+_held, _ports = [], []
+# A forked process takes blocks of its own.
+os.register_at_fork(after_in_child=_ports.clear)
 
 
-def share_ports(at, count):
-    """Leaves this process one of so many shares of the ports, where others that were forked with it take theirs."""
-    _ports[:] = _ports[at::count]
+def take_block():
+    """Takes a block of ports of which no other process has any."""
+    while True:
+        first = _blocks.pop()
+        hold = socket.socket(socket.AF_INET, socket.SOCK_DGRAM)
+        try:
+            hold.bind(("127.0.0.1", first))
+        except OSError:
+            hold.close()
+            continue
+        _held.append(hold)
+        _ports.extend(range(first, first + BLOCK))
+        return
 
 
 def free_port():
     """A port of the loopback that nobody has, for a program that cannot take a listening socket."""
     while True:
+        if not _ports:
+            take_block()
         port = _ports.pop()
         with socket.socket() as probe:
             try:

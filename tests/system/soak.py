@@ -25,7 +25,6 @@ from lib.lane_runs import admin_ends, expect_end, expect_nothing_left, is_quiet,
 from lib.lanes import LANES, STALL_MS, make_lanes, run_lanes
 from lib.meddler import Meddler
 from lib.relay import Relay, allow_descriptors
-from lib.sockets import share_ports
 from lib.stages import FAULTS, options
 from lib.talk import both_ways
 from lib.waiting import wait_until
@@ -167,10 +166,9 @@ def soak(name, load, minutes, pause, seed, checks):
             run.expect_totals(expect_end(checks, name, relay))
 
 
-def soak_into(results, at, *words):
+def soak_into(results, *words):
     """Runs in a process of its own, since each relay has lanes of its own."""
     checks = Checks()
-    share_ports(at, 2)
     try:
         soak(*words, checks)
     except (*FAULTS, multiprocessing.TimeoutError) as fault:
@@ -201,8 +199,8 @@ def main():
     checks, results, fork = Checks(), multiprocessing.Queue(), multiprocessing.get_context("fork")
     how = chosen.minutes, chosen.pause, chosen.seed
     running = [
-        fork.Process(target=soak_into, args=(results, at, name, load, *how))
-        for at, (name, load) in enumerate([("exact", EXACT), ("rough", ROUGH)])
+        fork.Process(target=soak_into, args=(results, name, load, *how))
+        for name, load in [("exact", EXACT), ("rough", ROUGH)]
     ]
     for process in running:
         process.start()
