@@ -2,6 +2,7 @@
 import contextlib
 import glob
 import os
+import threading
 import time
 
 # The most turns of a millisecond that a script waits for what comes about at once.
@@ -30,6 +31,36 @@ def unhindered(*pids):
         with contextlib.suppress(OSError), open(path, encoding="ascii") as file:
             waited += int(file.read().split()[1])
     return time.monotonic() - waited / 1e9
+
+
+def threads_of(pid):
+    """What the system says of each thread of a process: its state, how long it ran and waited for a processor, and how often."""
+    found = []
+    for path in glob.glob(f"/proc/{pid}/task/*"):
+        try:
+            with open(f"{path}/stat", encoding="ascii", errors="replace") as stat, open(f"{path}/schedstat", encoding="ascii") as times:
+                found.append((path, stat.read().rpartition(")")[2].split()[0], times.read()))
+        except OSError:
+            found.append((path, "gone", ""))
+    return found
+
+
+class Asleep(threading.Thread):
+    """Counts for how many seconds all threads of a process sleep, until it ends. A thread that waits for a processor doesn't sleep, so a
+    machine that is full of other work adds nothing."""
+
+    def __init__(self, pid):
+        super().__init__()
+        self.pid, self.seconds = pid, 0.0
+
+    def run(self):
+        then, before = time.monotonic(), threads_of(self.pid)
+        while any(state not in ("Z", "X", "gone") for _, state, _ in before):
+            time.sleep(TURN_SECONDS)
+            now, after = time.monotonic(), threads_of(self.pid)
+            if after == before and all(state == "S" for _, state, _ in after):
+                self.seconds += now - then
+            then, before = now, after
 
 
 def comes(is_so, turns=TURNS, turn_seconds=0.001):

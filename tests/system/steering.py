@@ -25,7 +25,7 @@ from lib.sockets import connect, is_served
 from lib.stages import run_script
 from lib.talk import hears
 from lib.tried import WAIT_SECONDS, Tried, is_refused
-from lib.waiting import TURNS, comes
+from lib.waiting import TURNS, Asleep, comes
 
 NOBODY = "relay a {0} {3} never\n"
 UNKNOWN = "error 404 no such connection\n"
@@ -36,9 +36,8 @@ PAUSES = 30
 # Commands that reach a loop that sleeps, longer than it takes to its next sleep, and the longest that all of them may take: a loop
 # that isn't woken wakes by itself after a second. On a machine that is full of other work some rounds take longer.
 COMMANDS, UNTIL_IT_SLEEPS, LONGEST, ROUNDS = 8, 0.05, 3, 4
-# So many relays of 64 loops are stopped at most, until one ends in less than such a second: on such a machine some don't, and where none
-# starts as soon either, it is too slow to tell.
-STOPS, LONGEST_STOP = 8, 0.8
+# A relay whose loops are all told of a stop sleeps for less than this before it ends: one that isn't told wakes by itself after a second.
+LONGEST_ASLEEP = 0.5
 # More pieces of 4 KiB than the sockets of a connection hold.
 PIECES = 20_000
 # How a relay with a connection finishes: the lines, the answer, and whether its connection ends by itself.
@@ -213,23 +212,14 @@ def stop(checks, _):
         it.comes_to("list\ntotals\n", "ids 1 2 3 4 5\ntotals up 10 down 0\n")
         it.stop("listening 1\nup 10 down 0\n")
         it.are_over(first, second, peer)
-    starts, stops = [], []
-    while len(stops) < STOPS and (not stops or stops[-1] >= LONGEST_STOP):
-        start_and_stop(checks, starts, stops)
-    is_told = stops[-1] < LONGEST_STOP or min(starts) >= LONGEST_STOP
-    checks.holds("stop of 64 loops: each is told", is_told, f"stops took {stops} s, and starts {starts} s")
-
-
-def start_and_stop(checks, starts, stops):
-    """Adds how long it takes that a relay starts, and that it ends once all its loops sleep."""
-    began = time.monotonic()
     with Tried(checks, "stop of 64 loops", rules=NOBODY, loops=64) as it:
         it.answers("list\n", "ids 1\n")
-        starts.append(time.monotonic() - began)
         time.sleep(UNTIL_IT_SLEEPS)
-        began = time.monotonic()
+        asleep = Asleep(it.relay.process.pid)
+        asleep.start()
         it.stop("listening 1\nup 0 down 0\n")
-        stops.append(time.monotonic() - began)
+        asleep.join()
+        it.holds("each is told", asleep.seconds < LONGEST_ASLEEP, f"the relay slept for {asleep.seconds} s")
 
 
 def finish(checks, _):
