@@ -37,7 +37,7 @@ PAUSES = 30
 # that isn't woken wakes by itself after a second. On a machine that is full of other work some rounds take longer.
 COMMANDS, UNTIL_IT_SLEEPS, LONGEST, ROUNDS = 8, 0.05, 3, 4
 # A relay whose loops are all told of a stop sleeps for less than this before it ends: one that isn't told wakes by itself after a second.
-LONGEST_ASLEEP = 0.5
+LONGEST_ASLEEP = 0.2
 # More pieces of 4 KiB than the sockets of a connection hold.
 PIECES = 20_000
 # How a relay with a connection finishes: the lines, the answer, and whether its connection ends by itself.

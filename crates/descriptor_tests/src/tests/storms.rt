@@ -14,7 +14,7 @@ use std::sync::Wait;
 use std::sync::atomic::Ordering;
 use std::thread;
 use std::thread::{JoinHandle, Threads};
-use std::time::Clock;
+use std::time::{Clock, Duration};
 
 /// What a thread does again and again until the descriptor is closed.
 #[derive(Clone, Copy)]
@@ -41,6 +41,10 @@ const ROLES: [Role; 7] = [
 
 /// Every other round is drained before it is closed.
 const ROUNDS: u64 = 100;
+
+/// So many calls of a thread come right behind each other. Then it sleeps: eight threads that never do
+/// leave each other no processor on a machine that has few to spare, and a round takes too long.
+const CALLS: u64 = 64;
 
 /// An answer that no call of a storm may give.
 const ODD: Result<(), Fault> = Err(Fault::EndOfFile);
@@ -77,13 +81,24 @@ fn plays<T: Wait + Clock + Drop>(
     role: Role,
     is_drained: bool,
 ) -> bool {
+    let mut calls = 0u64;
     for _ in rt.forever() {
         if let Some(may) = ends(takes(rt, handle, role), is_drained) {
             return may;
         }
-        thread::yield_now();
+        calls = calls.wrapping_add(1);
+        gives_way(rt, calls);
     }
     unreachable!()
+}
+
+/// Lets others run behind a thread's call with this number.
+fn gives_way<C: Clock>(clock: &C, calls: u64) {
+    if calls % CALLS == 0 {
+        thread::sleep(clock, Duration::from_millis(1));
+    } else {
+        thread::yield_now();
+    }
 }
 
 /// What a task's read is answered beside them, but by a deadline; none once so many tries were made.
