@@ -50,7 +50,8 @@ esac
 
 # Names of signals, and beside them: `opens`, by which the relay answers from now on, and `heard`, by which the wrapper has told
 # the relay as many commands as there were signals, and `tried`, by which it has tried to. A `group` ahead sends a signal to every
-# process of the group. `early` names the signals that the wrapper sends itself once the relay has begun, and before it notes its number.
+# process of the group. `early` names the signals that the wrapper sends itself once the relay has begun, and before it notes its number,
+# and `behind` one that it sends itself as its first wait has ended: bash ends the next wait for it too.
 Row = namedtuple("Row", "name steps said status options given", defaults=((), {}))
 ROWS = (
     Row("TERM lets connections end", "TERM", ["finish 30000"], 0),
@@ -79,6 +80,7 @@ ROWS = (
     Row("a TERM before the relay's number is known", "", ["finish 30000"], 0, (), {"early": "TERM"}),
     Row("two of them", "", ["stop"], 0, (), {"early": "TERM TERM", "ends_by": "stop"}),
     Row("a HUP before it is known", "heard TERM", ["reload", "finish 30000"], 0, (), {"early": "HUP"}),
+    Row("a TERM behind a wait that a HUP ended", "HUP heard", ["reload", "finish 30000"], 0, (), {"behind": "TERM"}),
 )
 # Times that `finish` wouldn't take, and none.
 NO_TIMES = ("", "x", "-1", "1 2", "030", "86400001", "999999999", "18446744073709551616")
@@ -98,8 +100,8 @@ class Wrapped:
         os.chmod(self.program, 0o755)
         open(f"{self.folder}/said", "w", encoding="ascii").close()
         self.errors = open(f"{self.folder}/errors", "wb")
-        given = {"status": "0", "ends_by": "finish", "refuses": "", "opens": "at once", "early": "", **row.given}
-        self.early = given["early"].split()
+        given = {"status": "0", "ends_by": "finish", "refuses": "", "opens": "at once", "early": "", "behind": "", **row.given}
+        self.early, self.behind = given["early"].split(), given["behind"]
         self.words = ["--rules", "the rules", "--admin", f"{self.folder}/admin"]
         self.process = subprocess.Popen(
             [*before, shell, self.wrapper(), *row.options, *self.words], env={**os.environ, "POLLRELAY": self.program, **given},
@@ -107,11 +109,13 @@ class Wrapped:
         )
 
     def wrapper(self):
-        """The wrapper's path, or that of a copy that sends itself signals early."""
-        if not self.early:
+        """The wrapper's path, or that of a copy that sends itself signals."""
+        if not self.early and not self.behind:
             return WRAPPER
         with open(WRAPPER, encoding="ascii") as file:
             text = file.read().replace("\nrelay=$!\n", "\n" + "".join(f"kill -{name} $$\n" for name in self.early) + "relay=$!\n")
+        if self.behind:
+            text = text.replace("\n    code=$?\n", f"\n    code=$? once=${{once-$(kill -{self.behind} $$)}}\n")
         with open(f"{self.folder}/wrapper", "w", encoding="ascii") as file:
             file.write(text)
         return file.name
