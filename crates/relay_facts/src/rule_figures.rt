@@ -1,4 +1,4 @@
-//! What the metrics tell of a rule: the sums of what all loops count, and which of its targets are up.
+//! What the metrics tell of a rule: the sums of what all loops count, and what is known of its targets.
 
 ghost use Rattle.std.specs.Prelude.{◌≡◌, ◌+◌, ◌-◌, ◌^◌, min};
 
@@ -50,8 +50,21 @@ fn sums(counts: &RuleCounts) -> (u64, CarriedBytes, Refusals) {
         add(&mut refused.no_target, counted.no_target.get());
         add(&mut refused.no_memory, counted.no_memory.get());
         add(&mut refused.descriptors, counted.no_descriptors.get());
+        add(&mut refused.no_header, counted.no_header.get());
+        add(&mut refused.bad_header, counted.bad_header.get());
     }
     (connections, bytes, refused)
+}
+
+// Whether a target of a rule is up; a rule of which that can't be told counts as served.
+fn has_target<R: Wait>(rt: &R, served: &ServedRule) -> bool {
+    let Some(said) = served.said(rt) else {
+        return true;
+    };
+    match &said.targets {
+        Some(targets) => targets.has_one_up(),
+        None => true,
+    }
 }
 
 /// What is told of a rule at this moment.
@@ -68,10 +81,11 @@ pub fn rule_figures<R: Wait>(rt: &R, served: &ServedRule) -> RuleFigures {
         unreached,
         accept_faults: served.counts.accept_faults.get(),
         is_listening: served.is_listening(rt),
+        has_target: has_target(rt, served),
     }
 }
 
-/// Puts what is told of the targets of a rule at this moment behind these, where they are checked.
+/// Puts what is told of the targets of a rule at this moment behind these.
 pub fn add_target_figures<R: Wait>(
     rt: &R,
     served: &ServedRule,

@@ -43,7 +43,7 @@ fn add_target(
     let (Some(checks), Some(at)) = (targets.checks(), targets.address(place)) else {
         return Some(());
     };
-    if targets.stands_before(place, &at) {
+    if targets.is_repeated(place) {
         return Some(());
     }
     let checked = Checked {
