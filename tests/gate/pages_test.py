@@ -89,6 +89,7 @@ ROWS = (
     ("limits", UNIT, r"(?m)^ExecStart=.*", "ExecStart=/usr/bin/pollrelay-run --finish 3600000 --rules /a --admin /b", "below 3601"),
     ("shell_lines", README, END, "\n    pollrelay serve --rule FILE --admin PATH\n", "`serve` has no option `--rule`"),
     ("shell_lines", GUIDE, END, "\n    pollrelay check --rules FILE && pollrelay ctl --admin PATH close\n", "`close` is no admin command"),
+    ("shell_lines", GUIDE, END, "\n    pollrelay ctl --admin PATH target web tcp:10.0.0.1:80 off\n", "tcp:10.0.0.1:80 off` is no admin command"),
     ("shell_lines", "examples/README.md", END, "\n    pollrelay serve --rules FILE\n", "lacks `--admin`"),
     ("shell_lines", "examples/README.md", END, "\n    pollrelay check rules\n", "lacks `--rules` or `--config`"),
     ("shell_lines", "examples/rules/web.rules", END, "# Check this file: pollrelay check --rules examples/rules/wep.rules\n", "there is no examples/rules/wep.rules"),

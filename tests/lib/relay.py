@@ -34,9 +34,9 @@ class Session:
         return said[:-1]
 
     def reply(self, asked):
-        """The lines of the next reply, which is one to this line: that to `show` has many."""
+        """The lines of the next reply, which is one to this line: those to `show` and `targets` have many."""
         lines = [self.line(asked)]
-        while asked == "show" and lines[-1].startswith("show "):
+        while lines[-1].startswith({"show": "show ", "targets": "target "}.get(asked, "\n")):
             lines.append(self.line(asked))
         return lines
 

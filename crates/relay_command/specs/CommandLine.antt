@@ -112,16 +112,18 @@ abbrev pub operand : Text → Bool → Rule
 operand name has_to_be =
     record (new_rule name) { action = Some Set; required = has_to_be }
 
--- `ctl` with the path of an admin socket and one to three words
+-- `ctl` with the path of an admin socket and one to four words
 abbrev pub ctl_app : App
 ctl_app =
     with_rule
     (with_rule
     (with_rule
+    (with_rule
     (with_rule (new_app (codes "ctl")) (required_option (codes "admin")))
     (operand (codes "command") true))
     (operand (codes "first") false))
-    (operand (codes "second") false)
+    (operand (codes "second") false))
+    (operand (codes "third") false)
 
 -- the program's name, which doesn't stand ahead of the words; it has a command `help` of its own
 abbrev pub named_app : App
@@ -254,6 +256,7 @@ spaced (Some word) = codes " " ++ word
 abbrev pub line_in : List Row → Text
 line_in rows = value_of (codes "command") rows
     ++ spaced (first_of (codes "first") rows) ++ spaced (first_of (codes "second") rows)
+    ++ spaced (first_of (codes "third") rows)
 
 -- the job of a command with its options, or none
 abbrev pub named_job : Text → List Row → Option Asked

@@ -107,7 +107,8 @@ fn ctl<'a>(alloc: Global) -> Result<Command<'a>, OutOfMemory>
         .arg(option(alloc, "admin"))?
         .arg(word(alloc, "command", true))?
         .arg(word(alloc, "first", false))?
-        .arg(word(alloc, "second", false))
+        .arg(word(alloc, "second", false))?
+        .arg(word(alloc, "third", false))
 }
 
 // The commands that read a file, or a script.

@@ -1,4 +1,5 @@
 pub mod FileFaults
 pub mod HealthLemmas
 pub mod SourceLemmas
+pub mod SteeringLemmas
 pub mod TargetsLemmas

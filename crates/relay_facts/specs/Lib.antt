@@ -10,7 +10,10 @@ pub mod Listens
 pub mod LogLines
 pub mod RulesFile
 pub mod Safeguards
+pub mod SetOrder
 pub mod Shown
 pub mod Source
+pub mod Steering
+pub mod TargetCounts
 pub mod TargetHealth
 pub mod Targets

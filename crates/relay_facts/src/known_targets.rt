@@ -3,6 +3,7 @@
 
 ghost use Rattle.std.specs.Prelude.{◌≡◌, is_some, IfOk};
 
+use crate::target_counts::TargetCounts;
 use crate::target_health::TargetHealth;
 use crate::target_list::{CountedTarget, Targets};
 use base_types::OutOfMemory;
@@ -10,7 +11,6 @@ use relay_admin::{Addr, is_same_addr};
 use relay_settings::Checks;
 use std::alloc::Global;
 use std::sync::Arc;
-use std::sync::atomic::AtomicU64;
 
 // The first of these at this address.
 fn target_at<'a>(all: &'a [CountedTarget], at: &Addr) -> Option<&'a CountedTarget> {
@@ -22,18 +22,29 @@ fn target_at<'a>(all: &'a [CountedTarget], at: &Addr) -> Option<&'a CountedTarge
     None
 }
 
+// What is counted at this address: by these targets, or by those of the list before.
+fn counted_at<'a>(
+    made: &'a [CountedTarget],
+    before: Option<&'a Targets>,
+    at: &Addr,
+) -> Option<&'a CountedTarget> {
+    if let Some(counted) = target_at(made, at) {
+        return Some(counted);
+    }
+    target_at(before?.all.as_slice(), at)
+}
+
 /// What is counted at this address from now on: what those targets count there, if one has it.
-pub(crate) fn count_at(
+pub(crate) fn counts_at(
     alloc: Global,
     at: &Addr,
+    made: &[CountedTarget],
     before: Option<&Targets>,
-) -> Result<Arc<AtomicU64>, OutOfMemory> {
-    if let Some(before) = before {
-        if let Some(counted) = target_at(before.all.as_slice(), at) {
-            return Ok(Arc::try_clone(&counted.standing)?);
-        }
+) -> Result<Arc<TargetCounts>, OutOfMemory> {
+    match counted_at(made, before, at) {
+        Some(counted) => Ok(Arc::try_clone(&counted.counts)?),
+        None => Ok(Arc::new(alloc, TargetCounts::new())?),
     }
-    Ok(Arc::new(alloc, AtomicU64::new(0))?)
 }
 
 // The health that is known at this address: of these targets, or of those of the list before.

@@ -31,6 +31,14 @@ fn moment_of(told: io::Result<Duration>) -> Moment
     }
 }
 
+/// The moment by the calendar, in milliseconds since 1970; 0 where it can't be read.
+pub fn calendar_ms<R: Clock>(rt: &R) -> u64 {
+    match rt.since_1970() {
+        Ok(passed) => u64::try_from(passed.as_millis()).unwrap_or(u64::MAX),
+        Err(_) => 0,
+    }
+}
+
 // What a line says of how it went, beside who and when.
 #[derive(Drop)]
 struct Outcome {

@@ -1,9 +1,9 @@
-//! What the metrics tell of a rule: the sums of what all loops count, and which of its targets are up.
+//! What the metrics tell of a rule: the sums of what all loops count, and what is known of its targets.
 
 ghost use Rattle.std.specs.Prelude.{◌≡◌, ◌+◌, ◌-◌, ◌^◌, min};
 
 use crate::counts::{Counter, RuleCounts};
-use crate::served_rule::ServedRule;
+use crate::served_rule::{Said, ServedRule};
 use base_types::OutOfMemory;
 use relay_log::ended::{CAUSES, ENDS};
 use relay_metrics::{CarriedBytes, Refusals, RuleFigures, TargetFigures};
@@ -54,6 +54,19 @@ fn sums(counts: &RuleCounts) -> (u64, CarriedBytes, Refusals) {
     (connections, bytes, refused)
 }
 
+// Whether a target of a rule is up; a rule of which that can't be told counts as served.
+fn has_target<R: Wait>(rt: &R, served: &ServedRule) -> bool {
+    match served.said(rt) {
+        Some(
+            Said {
+                targets: Some(targets),
+                ..
+            },
+        ) => targets.has_one_up(),
+        _ => true,
+    }
+}
+
 /// What is told of a rule at this moment.
 pub fn rule_figures<R: Wait>(rt: &R, served: &ServedRule) -> RuleFigures {
     let (connections, bytes, refused) = sums(&served.counts);
@@ -68,10 +81,11 @@ pub fn rule_figures<R: Wait>(rt: &R, served: &ServedRule) -> RuleFigures {
         unreached,
         accept_faults: served.counts.accept_faults.get(),
         is_listening: served.is_listening(rt),
+        has_target: has_target(rt, served),
     }
 }
 
-/// Puts what is told of the targets of a rule at this moment behind these, where they are checked.
+/// Puts what is told of the targets of a rule at this moment behind these.
 pub fn add_target_figures<R: Wait>(
     rt: &R,
     served: &ServedRule,

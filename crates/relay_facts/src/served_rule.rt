@@ -1,6 +1,6 @@
 //! A rule as a running relay serves it.
 
-ghost use Rattle.std.specs.Prelude.{◌≡◌, None, IfOk, IfSome, option_map};
+ghost use Rattle.std.specs.Prelude.{◌≡◌, None, Some, IfOk, option_map};
 ghost use Rattle.std.specs.Arc.{arc_value};
 ghost use Rattle.relay_facts.specs.Acceptance.{checks_with, targets_with};
 ghost use Rattle.relay_facts.specs.Admission.{allowed_by, denied_by};
@@ -30,7 +30,8 @@ pub struct Said {
     pub limit: Option<PairLimit>,
     /// How the sockets of its listeners and connections are set up.
     pub sockets: Sockets,
-    /// Its targets; without a list the rule's own target is the only one.
+    /// Its targets; without a list, as an account has it before its rule is read, the rule's own target
+    /// is the only one.
     pub targets: Option<Arc<Targets>>,
     /// With which header a connection to a target begins, if with one.
     pub header: Option<Version>,
@@ -38,26 +39,20 @@ pub struct Said {
     pub access: Option<Arc<Access>>,
 }
 
-// The list of these targets, where a rule needs one: a client of a rule that is alone with a target
-// which isn't checked is picked none. What the list of before counts and knows of a target stays.
+// The list of these targets. What the list of before counts and knows of a target stays.
 fn list_of(
     alloc: Global,
     said: &SaidRule,
     before: Option<&Targets>,
-) -> Result<Option<Arc<Targets>>, OutOfMemory>
+) -> Result<Arc<Targets>, OutOfMemory>
     ensures targets { IfOk result (λ list.
-        targets_with (option_map arc_value list) said.now.rule ≡ said.now.targets.items) }
-    ensures balance { IfOk result (λ list.
-        IfSome list (λ list. (arc_value list).balance ≡ said.now.balance)) }
+        targets_with (Some (arc_value list)) said.now.rule ≡ said.now.targets.items) }
+    ensures balance { IfOk result (λ list. (arc_value list).balance ≡ said.now.balance) }
     ensures checks { IfOk result (λ list.
-        checks_with (option_map arc_value list) ≡ said.now.checks) }
+        checks_with (Some (arc_value list)) ≡ said.now.checks) }
 {
-    if said.is_alone() && said.checks.is_none() {
-        return Ok(None);
-    }
     let targets = said.targets.as_slice();
-    let list = Targets::new(alloc, said.balance, said.checks, targets, before)?;
-    Ok(Some(list))
+    Targets::new(alloc, said.balance, said.checks, targets, before)
 }
 
 // Who may connect to a rule, in memory of its own, where the rule has lists.
@@ -82,7 +77,7 @@ impl Said {
         ensures { IfOk result (SaysRule said.now) }
     {
         let listens = addresses_of(alloc, said)?;
-        let targets = list_of(alloc, said, before)?;
+        let targets = Some(list_of(alloc, said, before)?);
         let access = access_of(alloc, said)?;
         Ok(Said {
             rule: said.rule,
@@ -133,6 +128,8 @@ pub struct ServedRule {
     accepting: AtomicU64,
     /// How many of its connections stand, those that wait for their loops among them.
     standing: AtomicU64,
+    /// Its number among accounts; 0 before it has one.
+    number: AtomicU64,
     pub counts: RuleCounts,
 }
 
@@ -166,6 +163,7 @@ impl ServedRule {
             picks: AtomicU64::new(0),
             accepting: AtomicU64::new(0),
             standing: AtomicU64::new(0),
+            number: AtomicU64::new(0),
             counts,
         };
         match Arc::new(alloc, served) {
@@ -208,6 +206,16 @@ impl ServedRule {
     /// Has it say this from now on.
     pub fn say<R: Wait>(&self, rt: &R, said: Said) {
         *self.said.lock(rt) = said;
+    }
+
+    /// Its number among accounts, from 1 on; 0 before it has one.
+    pub fn number(&self) -> u64 {
+        self.number.load(Ordering::SeqCst)
+    }
+
+    /// This is its number from now on. An account that stays over a reload keeps it.
+    pub fn set_number(&self, number: u64) {
+        self.number.store(number, Ordering::SeqCst);
     }
 
     /// How many targets were picked by it before, this time not counted.

@@ -2,6 +2,8 @@
 use Rattle.std.specs.Prelude.{◌≡◌, ◌+◌, ◌*◌, ◌-◌, ◌^◌, ℕ, Bool, true, min, Option, Some, None, Result, Ok, Err}
 use Rattle.std.specs.Arc.{arc_value}
 use Rattle.std.specs.declared.alloc.Global.{Global}
+use Rattle.std.specs.declared.io.ErrorKind.{ErrorKind}
+use Rattle.std.specs.declared.io.ErrorKind.TheVariants.{ConnectionRefused, TimedOut}
 use Rattle.readiness.specs.declared.resources.WriteHalf.{WriteHalf}
 use Rattle.readiness.specs.declared.tasks.Turn.{Turn}
 use Rattle.readiness.specs.declared.tasks.Turn.TheVariants as turn
@@ -12,7 +14,10 @@ use Rattle.relay_main.specs.declared.check_task.CheckTask.{CheckTask}
 use Rattle.relay_main.specs.declared.check_task.Checked.{Checked}
 use Rattle.relay_main.specs.declared.main_task.MainTask.{MainTask}
 use Rattle.relay_main.specs.declared.main_task.MainTask.TheVariants as task
+use Rattle.relay_log.specs.declared.ended.Cause.{Cause}
+use Rattle.relay_log.specs.declared.ended.Cause.TheVariants as cause
 use Rattle.rwloops.specs.declared.outcome.DevKind.{DevKind}
+use Rattle.rwloops.specs.declared.outcome.DevKind.TheVariants as kind
 use Rattle.target_pick.specs.declared.health.Outcome.{Outcome}
 use Rattle.target_pick.specs.declared.health.Outcome.TheVariants.{Passed, Failed}
 
@@ -28,6 +33,17 @@ Rests check = check.dial ≡ None
 abbrev pub outcome_of : Result (Unit {0}) DevKind → Outcome
 outcome_of (Ok made) = Passed
 outcome_of (Err kind) = Failed
+
+-- why a connection isn't made of which the system says this
+abbrev pub check_cause : DevKind → Cause
+check_cause kind.Refused = cause.Refused
+check_cause other = cause.Unreachable
+
+-- why a connect that failed at once did
+abbrev pub connect_cause : ErrorKind → Cause
+connect_cause ConnectionRefused = cause.Refused
+connect_cause TimedOut = cause.Timeout
+connect_cause _ = cause.Unreachable
 
 -- so many milliseconds after a moment
 abbrev pub moment_behind : ℕ → ℕ → ℕ

@@ -17,4 +17,5 @@ pub mod RuleTask
 pub mod Session
 pub mod SessionDesk
 pub mod Sessions
+pub mod TargetsDesk
 pub mod WantedListeners

@@ -3,7 +3,8 @@
 
 ghost use Rattle.std.specs.Prelude.{◌≡◌, None, [], IfErr, false};
 ghost use Rattle.relay_admin.specs.declared.serve_fault.ServeFault.{ServeFault};
-ghost use Rattle.relay_main.specs.Checks.{dial_in, turn_of};
+ghost use Rattle.std.specs.IoError.{error_kind};
+ghost use Rattle.relay_main.specs.Checks.{connect_cause, dial_in, turn_of};
 
 use crate::check_task::{CheckStep, CheckTask, Checked, Dial};
 use crate::main_host::MainHost;
@@ -14,24 +15,37 @@ use readiness::{Poller, Turn, Why};
 use relay_admin::{Addr, ServeFault};
 use relay_core::{has_come, pause_end};
 use relay_facts::clock::Moments;
-use relay_facts::outcomes::note_outcome;
+use relay_facts::outcomes::{Came, note_outcome};
+use relay_log::ended::Cause;
 use relay_shared::shortage::is_shortage;
 use relay_shared::socket_options::connect_out;
 use std::alloc::Global;
+use std::io;
+use std::io::ErrorKind;
 use std::net::{IpAddr, Net};
 use std::sync::Wait;
 use std::time::Clock;
-use target_pick::Outcome;
 
 /// How long after memory was refused for a task it is tried again.
 const RETRY_MS: u64 = 1_000;
+
+// Why a connect that failed at once did.
+fn connect_cause(error: &io::Error) -> Cause
+    ensures { result ≡ connect_cause (error_kind error.now) }
+{
+    match error.kind() {
+        ErrorKind::ConnectionRefused => Cause::Refused,
+        ErrorKind::TimedOut => Cause::Timeout,
+        _ => Cause::Unreachable,
+    }
+}
 
 // Begins a connection to a target, of whose socket the poller tells under this token.
 fn dial<R: Net>(rt: &R, alloc: Global, poller: &Poller, dialled: &Dialled, token: u64) -> Dial {
     let mut sock = match connect_out(rt, &dialled.at, dialled.source) {
         Ok(sock) => sock,
         Err(error) if is_shortage(&error) => return Dial::Refused,
-        Err(_) => return Dial::Failed,
+        Err(error) => return Dial::Failed(connect_cause(&error)),
     };
     if poller.register(&mut sock, token).is_err() {
         return Dial::Refused;
@@ -73,13 +87,16 @@ impl<R: Wait + Clock + Copy, C: Moments> MainHost<R, C> {
                 // One that finds no room is due again once it would be late.
                 let _ = self.due.push(task.place.first);
             }
-            CheckStep::Ends(outcome) => self.note_check(&task.checked, outcome),
+            CheckStep::Ends(outcome) => {
+                let came = Came::of_check(outcome, task.cause());
+                self.note_check(&task.checked, &came);
+            }
         }
         turn_after(step)
     }
 
     // Notes what came of a check.
-    fn note_check(&self, checked: &Checked, outcome: Outcome) {
+    fn note_check(&self, checked: &Checked, came: &Came) {
         let rule = checked.served.rule(&self.rt);
         note_outcome(
             &self.rt,
@@ -87,7 +104,7 @@ impl<R: Wait + Clock + Copy, C: Moments> MainHost<R, C> {
             &rule,
             &checked.targets,
             checked.place,
-            outcome,
+            came,
         );
     }
 }
@@ -234,7 +251,8 @@ impl<R: Wait + Net + Clock + Copy> MainLoop<R> {
             return;
         };
         if let Some(outcome) = task.begin(dial) {
-            self.host.note_check(&task.checked, outcome);
+            let came = Came::of_check(outcome, task.cause());
+            self.host.note_check(&task.checked, &came);
         }
         self.tasks.keep_time(&self.host, token);
     }

@@ -48,6 +48,8 @@ pub struct MainLoop<R: Wait + Clock + Copy> {
     pub(crate) paths: BoundPaths,
     /// The accounts of rules that a reload left out, and of which connections stood then.
     pub(crate) gone: Vec<Arc<ServedRule>>,
+    /// How many accounts have a number, by which sessions look at their targets.
+    pub(crate) numbered: u64,
     /// The tokens of the tasks that check targets.
     pub(crate) checking: Vec<u64>,
     /// When these are to follow the rules, if they are.
@@ -86,6 +88,7 @@ impl<R: Wait + Clock + Copy> MainLoop<R> {
             listening: Vec::new(alloc),
             paths: BoundPaths::none(alloc),
             gone: Vec::new(alloc),
+            numbered: 0,
             checking: Vec::new(alloc),
             follow_at: Some(0),
             admin: 0,
@@ -106,6 +109,7 @@ impl<R: Wait + Clock + Copy> MainLoop<R> {
             listening: _,
             paths,
             gone: _,
+            numbered: _,
             checking: _,
             follow_at: _,
             admin: _,
@@ -140,6 +144,7 @@ impl<R: Wait + Net + Files + Clock + Eprint + Copy> MainLoop<R> {
         let accounts = self.accounts(&rt)?;
         let wanted = self.wanted(&rt, accounts.as_slice())?;
         let _bound = self.bind_all(&rt, accounts.as_slice(), wanted.as_slice(), 0)?;
+        self.begin_targets(accounts.as_slice());
         Ok(())
     }
 

@@ -20,6 +20,7 @@ use crate::planning::Prepared;
 use crate::rule_listeners::Listening;
 use relay_admin::{ReloadAnswer, ServeFault, Verdict};
 use relay_facts::config::Start;
+use relay_facts::log_lines::calendar_ms;
 use relay_facts::served_rule::{Said, ServedRule};
 use relay_facts::source::said_by;
 use relay_settings::{SETTINGS, SaidRule, Settings, needs_restart, rule_count};
@@ -42,11 +43,28 @@ fn answer_of_fault(fault: ServeFault) -> ReloadAnswer
     }
 }
 
+// Has an account say this from this moment on, by the calendar. What an operator has set of its targets is
+// over, as its list is.
+fn say_now<R: Wait>(rt: &R, served: &ServedRule, said: Said, now: u64) {
+    if let Some(targets) = &said.targets {
+        let before = served.said(rt);
+        let list = before.as_ref().and_then(|before| before.targets.as_ref());
+        targets.follow(list.map(|list| &**list), now);
+    }
+    served.say(rt, said);
+}
+
 // Has the accounts of rules, among those, say this.
-fn say_all<R: Wait>(rt: &R, accounts: &[Arc<ServedRule>], all: Vec<Said>, _bound: &AllBound) {
+fn say_all<R: Wait + Clock>(
+    rt: &R,
+    accounts: &[Arc<ServedRule>],
+    all: Vec<Said>,
+    _bound: &AllBound,
+) {
+    let now = calendar_ms(rt);
     for said in all {
         if let Some(served) = account_at(accounts, &said.rule.listen) {
-            served.say(rt, said);
+            say_now(rt, served, said, now);
         }
     }
 }

@@ -118,14 +118,33 @@ rules_text rules = rule_family_text family.RuleConnections rules
     ++ (rule_family_text family.RuleRefused rules
     ++ (rule_family_text family.RuleEnds rules ++ defence_text rules))))
 
--- whether a target is up that is checked
-unfoldable pub target_text : TargetFigures → List ℕ
-target_text t =
-    rule_sample_text family.TargetUp t.rule.bytes (codes "target") (escaped t.target.bytes) (flag t.is_up)
+-- a figure of a target
+unfoldable pub target_text : Family → TargetFigures → ℕ → List ℕ
+target_text f t n = rule_sample_text f t.rule.bytes (codes "target") (escaped t.target.bytes) n
 
--- the family of targets, in their order
+-- whether it is up, where it is checked
+unfoldable pub up_of_target : TargetFigures → Option Bool → List ℕ
+up_of_target t None = []
+up_of_target t (Some up) = target_text family.TargetUp t (flag up)
+
+-- a target's figures in a family of targets; in other families it has none
+unfoldable pub of_each_target : Family → TargetFigures → List ℕ
+of_each_target family.TargetUp t = up_of_target t t.is_up
+of_each_target family.TargetConnections t = target_text family.TargetConnections t t.connections
+of_each_target family.TargetConnects t = target_text family.TargetConnects t t.connects
+of_each_target family.TargetFailures t = target_text family.TargetFailures t t.failures
+of_each_target _ t = []
+
+-- a family of targets: the figures of each, in their order
+unfoldable pub target_family_text : Family → List TargetFigures → List ℕ
+target_family_text f targets = head_text f ++ flat_map (of_each_target f) targets
+
+-- the families of targets
 unfoldable pub targets_text : List TargetFigures → List ℕ
-targets_text targets = head_text family.TargetUp ++ flat_map target_text targets
+targets_text targets = target_family_text family.TargetUp targets
+    ++ (target_family_text family.TargetConnections targets
+    ++ (target_family_text family.TargetConnects targets
+    ++ target_family_text family.TargetFailures targets))
 
 -- the whole text
 unfoldable pub metrics_text : Figures → List ℕ

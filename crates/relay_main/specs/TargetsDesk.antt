@@ -1,0 +1,28 @@
+-- The numbers of targets, and what a session is refused that names a rule.
+use Rattle.std.specs.Prelude.{◌≡◌, ◌+◌, ◌*◌, ◌/◌, ◌%◌, ◌⊎◌, ℕ, true, IsSomeAnd, slice_get}
+use Rattle.std.specs.Arc.{arc_value}
+use Rattle.relay_admin.specs.admin.TargetOrder.{target_word}
+use Rattle.relay_admin.specs.declared.admin.target_order.TargetOrder.{TargetOrder}
+use Rattle.relay_facts.specs.Steering.{names}
+use Rattle.relay_facts.specs.Targets.{targets_of}
+use Rattle.relay_facts.specs.declared.served_rule.Said.{Said}
+use Rattle.relay_admin.specs.declared.admin.answers.TargetAnswer.{TargetAnswer}
+use Rattle.relay_admin.specs.declared.admin.answers.TargetAnswer.TheVariants.{NoMemory, UnknownRule}
+
+-- the number of the target at a place of an account
+abbrev pub target_number : (account place : ℕ) → ℕ
+target_number account place = account * 64 + place
+
+-- the account and the place that a number has
+abbrev pub parts_of : ℕ → ℕ × ℕ
+parts_of number = (number / 64, number % 64)
+
+-- the command's word names a target of the list that a rule says
+abbrev pub NamesTarget : TargetOrder → Said → Type 0
+NamesTarget order said = IsSomeAnd said.targets (λ list. (place : ℕ)
+    × IsSomeAnd (slice_get (targets_of (arc_value list)) place)
+    (λ target. names (target_word order) place target ≡ true))
+
+-- no rule has the name, or what one says couldn't be held
+abbrev pub IsRuleRefused : TargetAnswer → Type 0
+IsRuleRefused answer = (answer ≡ UnknownRule) ⊎ (answer ≡ NoMemory)
