@@ -104,9 +104,6 @@ UNSERVED = (
     *((HEAD + f"{key} = {value}\n" + ENDS, f'rule "web": {key}') for key, value in (
         ("connections_per_source", "5"), ("accepts_per_source", '"5/s"'), ("resolve", '"5s"'), ("resolve", '"never"'),
     )),
-    *((HEAD + f"proxy_protocol = {{ {keys} }}\n" + ENDS, 'rule "web": proxy_protocol: from_client') for keys in (
-        'from_client = ["0.0.0.0/0"]', 'to_target = "v2", from_client = ["::1"]',
-    )),
     (RULE.replace('["unix:/a"]', '["unix:/a", "unix:/c", "unix:/' + 100 * "d" + '"]'), 'rule "web": listen 3'),
     (RULE.replace("unix:/a", "unix:/" + 100 * "a"), 'rule "web": listen 1'),
     (RULE.replace("unix:/b", "tcp:app.internal:80"), 'rule "web": target 1: at'),
@@ -116,11 +113,10 @@ UNSERVED = (
     ("".join(RULE.replace("web", f"r{n}").replace("/a", f"/{n}") for n in range(65)), "rule 65"),
     # Of several the first: keys of the whole ahead of rules, and the text's own faults ahead of all.
     (HEAD + 'accepts_per_source = "5/s"\nconnections_per_source = 5\n' + ENDS, 'rule "web": connections_per_source'),
-    (HEAD + 'proxy_protocol = { from_client = ["10.0.0.0/8"] }\nresolve = "5s"\n' + ENDS, 'rule "web": resolve'),
     ('log = { file = "-", format = "json" }\n' + HEAD + 'resolve = "5s"\n' + ENDS, "log: format"),
 )
-# Rules of several targets, of such that are checked, and of such that are sent a header; rules with several addresses, with options of
-# sockets, and with a limit of their own.
+# Rules of several targets, of such that are checked, and of such that are sent a header; rules whose clients begin with one; rules with
+# several addresses, with options of sockets, and with a limit of their own.
 TARGETS = (
     *(RULE.replace('["unix:/a"]', f'[{", ".join(addresses)}]') for addresses in (
         ('"unix:/a"', '"tcp:[::]:443"', '"tcp:0.0.0.0:443"'), [f'"unix:/{n}"' for n in range(16)],
@@ -134,7 +130,9 @@ TARGETS = (
     RULE.replace('{ at = "unix:/b" }', '{ at = "unix:/b", weight = 2 }, { at = "unix:/b" }, { at = "unix:/c", backup = true }'),
     RULE.replace('"unix:/b"', '"unix:/b", weight = 0'), RULE.replace('"unix:/b"', '"unix:/b", backup = true'),
     RULE.replace('{ at = "unix:/b" }', ", ".join(64 * ['{ at = "unix:/b", weight = 65535 }'])),
-    *(HEAD + f"proxy_protocol = {keys}\n" + ENDS for keys in ('{ to_target = "v1" }', '{ to_target = "v2" }', "{}")),
+    *(HEAD + f"proxy_protocol = {keys}\n" + ENDS for keys in (
+        '{ to_target = "v1" }', '{ to_target = "v2" }', "{}", '{ from_client = ["0.0.0.0/0"] }', '{ to_target = "v2", from_client = ["::1", "10.0.0.1"] }',
+    )),
     *(HEAD + f'balance = "{word}"\n' + ENDS for word in ("round-robin", "least-connections", "first", "source")),
 )
 # Addresses of IPv6, one with the number of a scope.
@@ -231,7 +229,7 @@ def served(checks, folder):
         checks.expect("its end", 0, relay.stop()[0])
         with open(f"{relay.folder}/log", encoding="utf-8") as file:
             checks.holds("its log has a line", " web " in file.read(), "it has none")
-    checks.expect("the sample", (0, "rules 4\n", ""), run("check", "--config", SAMPLE))
+    checks.expect("the sample", (0, "rules 5\n", ""), run("check", "--config", SAMPLE))
     target.close()
 
 

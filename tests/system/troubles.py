@@ -309,6 +309,29 @@ def _(stack, checks):
     checks.holds("clients are served", comes_back(made.web), "")
 
 
+@trial("the same with bad header")
+def _(stack, checks):
+    made = Configured(stack, 'proxy_protocol = { from_client = ["127.0.0.0/8"] }\n')
+    client = stack.enter_context(connect(made.web))
+    client.sendall(b"GET / HTTP/1.1\r\n")
+    checks.holds("it is closed", is_closed(client), "")
+    checks.holds("the log", made.ends("bad header") and "127.0.0.1" in made.logged()[0], made.logged())
+    made.relay.write(made.text(""))
+    checks.expect("a reload without the list", (0, "rules 1"), ctl(made.relay.admin, "reload"))
+    checks.holds("clients are served", comes_back(made.web), "")
+
+
+@trial("the same after 5 seconds, with no header")
+def _(stack, checks):
+    made = Configured(stack, 'proxy_protocol = { from_client = ["127.0.0.0/8"] }\n')
+    checks.holds("it is closed", is_closed(stack.enter_context(connect(made.web))), "")
+    checks.holds("the log", made.ends("no header") and "127.0.0.1" in made.logged()[0], made.logged())
+    with connect(made.web) as client:
+        client.sendall(b"PROXY UNKNOWN\r\nhello")
+        client.settimeout(SECONDS)
+        checks.expect("one that sends a header is served", b"hello", client.recv(5))
+
+
 @trial("the same with full")
 def _(stack, checks):
     made = Made(stack, None, "never", "--connections", "1")

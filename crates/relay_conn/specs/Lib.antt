@@ -1,4 +1,5 @@
 pub mod Asked
+pub mod Awaiting
 pub mod Cause
 pub mod Connection
 pub mod Deadlines

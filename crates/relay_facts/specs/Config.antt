@@ -14,13 +14,15 @@ use Rattle.relay_facts.specs.Acceptance.{checks_with, targets_with}
 use Rattle.relay_facts.specs.Admission.{allowed_by, denied_by}
 use Rattle.relay_facts.specs.Counts.{loops_of}
 use Rattle.relay_facts.specs.Listens.{listens_in}
+use Rattle.relay_facts.specs.Senders.{nets_with}
 use Rattle.relay_facts.specs.Source.{FileSays}
 use Rattle.relay_facts.specs.declared.config.Config.{Config}
 use Rattle.relay_facts.specs.declared.served_rule.Said.{Said}
 use Rattle.relay_facts.specs.declared.served_rule.ServedRule.{ServedRule}
 
--- what an account says is this rule, at its addresses, with its limit, its sockets, its targets, of which one is picked and which
--- are checked as it says, with its header for them, and with its lists of clients
+-- what an account says is this rule, at its addresses, with its limit, its sockets, its targets, of which
+-- one is picked and which are checked as it says, with its header for them, with its lists of clients, and
+-- with those that begin with a header
 pub record SaysRule (given : SaidRule) (said : Said) : Type 0 where
   pub rule : said.rule ≡ given.rule
   pub listens : listens_in said ≡ given.listens.items
@@ -32,6 +34,7 @@ pub record SaysRule (given : SaidRule) (said : Said) : Type 0 where
   pub header : said.header ≡ given.header
   pub allow : allowed_by (option_map arc_value said.access) ≡ given.access.allow.items
   pub deny : denied_by (option_map arc_value said.access) ≡ given.access.deny.items
+  pub senders : nets_with (option_map arc_value said.senders) ≡ given.senders.items
 
 -- a rule is served at its own address, and so many loops count for it
 abbrev pub ServesRule : Rule → ℕ → ServedRule → Type 0

@@ -22,10 +22,12 @@ abbrev pub cause_count_of : Cause → ℕ × ℕ → ℕ × ℕ
 cause_count_of cause = count_behind (cause_place cause)
 
 -- the count in `LoopCounts` of the clients that weren't served so, for want of a target, of room at
--- the poller, or of memory
+-- the poller, of a header or of a good one, or of memory
 abbrev pub refusal_of : Ended → ℕ × ℕ → ℕ × ℕ
 refusal_of (how.NoTarget why) = count_behind 3
 refusal_of how.Descriptors = count_behind 5
+refusal_of how.NoHeader = count_behind 6
+refusal_of how.BadHeader = count_behind 7
 refusal_of other = count_behind 4
 
 -- the count in `RuleCounts` of the clients that were dropped so: since as many connections stood as

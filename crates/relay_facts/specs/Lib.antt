@@ -10,6 +10,7 @@ pub mod Listens
 pub mod LogLines
 pub mod RulesFile
 pub mod Safeguards
+pub mod Senders
 pub mod SetOrder
 pub mod Shown
 pub mod Source
@@ -17,3 +18,4 @@ pub mod Steering
 pub mod TargetCounts
 pub mod TargetHealth
 pub mod Targets
+pub mod Told

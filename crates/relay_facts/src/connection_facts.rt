@@ -7,10 +7,12 @@ ghost use Rattle.relay_facts.specs.Acceptance.{IsPicked, IsTargetOf, address_in,
 ghost use Rattle.relay_facts.specs.Acceptance.{checked_in, targets_in};
 ghost use Rattle.relay_facts.specs.Admission.{lists_in};
 ghost use Rattle.relay_facts.specs.Targets.{IsNext, IsNoneLeft};
+ghost use Rattle.relay_facts.specs.Senders.{senders_at};
 
 use crate::counts::LoopCounts;
 use crate::header::AcceptedAt;
-use crate::served_rule::ServedRule;
+use crate::senders::Senders;
+use crate::served_rule::{ServedRule, same_list};
 use crate::target_list::{NoneLeft, Picked, Targets};
 use relay_admin::{Addr, Rule, Shown, ShownSide};
 use relay_core::PairLimit;
@@ -33,11 +35,13 @@ pub struct Acceptance {
     pub targets: Option<Arc<Targets>>,
     /// Who might connect to its rule then; without lists all clients.
     pub access: Option<Arc<Access>>,
-    /// The client's address; an unnamed Unix socket has none.
+    /// Whose clients began with a header then; without a list none did.
+    pub senders: Option<Arc<Senders>>,
+    /// The client's address, once it has told one by a header that; an unnamed Unix socket has none.
     pub client: Option<Addr>,
     /// With which header its connection to a target begins, if with one.
     pub header: Option<Version>,
-    /// Where it was accepted, as far as such a header says it.
+    /// Where it was accepted, as far as such a header says it; or where its own header says so.
     pub accepted_at: Option<AcceptedAt>,
     /// The moment, in nanoseconds of the relay's clock.
     pub at: u64,
@@ -53,20 +57,16 @@ impl Acceptance {
         ensures sockets { IfSome result (λ same. same.sockets ≡ self.now.sockets) }
         ensures targets { IfSome result (λ same. list_in same ≡ list_in self.now) }
         ensures access { IfSome result (λ same. lists_in same ≡ lists_in self.now) }
+        ensures senders { IfSome result (λ same. senders_at same ≡ senders_at self.now) }
         ensures client { IfSome result (λ same. same.client ≡ self.now.client) }
         ensures header { IfSome result (λ same. same.header ≡ self.now.header) }
         ensures accepted_at { IfSome result (λ same. same.accepted_at ≡ self.now.accepted_at) }
         ensures at { IfSome result (λ same. same.at ≡ self.now.at) }
     {
         let served = Arc::try_clone(&self.served).ok()?;
-        let targets = match &self.targets {
-            Some(targets) => Some(Arc::try_clone(targets).ok()?),
-            None => None,
-        };
-        let access = match &self.access {
-            Some(access) => Some(Arc::try_clone(access).ok()?),
-            None => None,
-        };
+        let targets = same_list(&self.targets)?;
+        let access = same_list(&self.access)?;
+        let senders = same_list(&self.senders)?;
         Some(Acceptance {
             served,
             rule: self.rule,
@@ -74,6 +74,7 @@ impl Acceptance {
             sockets: self.sockets,
             targets,
             access,
+            senders,
             client: self.client,
             header: self.header,
             accepted_at: self.accepted_at,

@@ -109,10 +109,12 @@ pub struct LoopCounts {
     pub up: Counter,
     pub down: Counter,
     /// The connections that weren't, since there is no target, no memory, or no room at the system's
-    /// poller.
+    /// poller, or since the client was to say who it is, and said nothing or no header.
     pub no_target: Counter,
     pub no_memory: Counter,
     pub no_descriptors: Counter,
+    pub no_header: Counter,
+    pub bad_header: Counter,
     pub ends: EndCounts,
     pub causes: CauseCounts,
 }
@@ -128,6 +130,8 @@ impl LoopCounts {
             no_target: Counter::new(),
             no_memory: Counter::new(),
             no_descriptors: Counter::new(),
+            no_header: Counter::new(),
+            bad_header: Counter::new(),
             ends: EndCounts::new(),
             causes: CauseCounts::new(),
         }
@@ -144,7 +148,8 @@ impl LoopCounts {
         self.causes.note(how);
     }
 
-    /// A client wasn't served, since there is no target, or memory or the poller refused.
+    /// A client wasn't served, since there is no target, memory or the poller refused, or its header
+    /// is missing or bad.
     pub fn note_refused(&self, how: Ended) {
         self.refusals(how).add(1);
         self.causes.note(how);
@@ -157,6 +162,8 @@ impl LoopCounts {
         match how {
             Ended::NoTarget(_) => &self.no_target,
             Ended::Descriptors => &self.no_descriptors,
+            Ended::NoHeader => &self.no_header,
+            Ended::BadHeader => &self.bad_header,
             _ => &self.no_memory,
         }
     }

@@ -50,6 +50,8 @@ fn sums(counts: &RuleCounts) -> (u64, CarriedBytes, Refusals) {
         add(&mut refused.no_target, counted.no_target.get());
         add(&mut refused.no_memory, counted.no_memory.get());
         add(&mut refused.descriptors, counted.no_descriptors.get());
+        add(&mut refused.no_header, counted.no_header.get());
+        add(&mut refused.bad_header, counted.bad_header.get());
     }
     (connections, bytes, refused)
 }

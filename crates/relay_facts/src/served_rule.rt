@@ -11,6 +11,7 @@ ghost use Rattle.relay_settings.specs.Targets.{plain_sockets};
 
 use crate::counts::RuleCounts;
 use crate::listens::{Addresses, addresses_of};
+use crate::senders::{Senders, senders_of};
 use crate::target_list::Targets;
 use base_types::OutOfMemory;
 use relay_admin::{Addr, Rule};
@@ -37,6 +38,8 @@ pub struct Said {
     pub header: Option<Version>,
     /// Who may connect to it; without lists all clients may.
     pub access: Option<Arc<Access>>,
+    /// Whose clients begin with a header; without a list none does.
+    pub senders: Option<Arc<Senders>>,
 }
 
 // The list of these targets. What the list of before counts and knows of a target stays.
@@ -71,7 +74,36 @@ fn access_of(alloc: Global, said: &SaidRule) -> Result<Option<Arc<Access>>, OutO
     Ok(Some(access))
 }
 
+/// The same list held once more, unless it is held too often.
+pub(crate) fn same_list<T>(list: &Option<Arc<T>>) -> Option<Option<Arc<T>>>
+    ensures { IfSome result (λ same.
+        option_map arc_value same ≡ option_map arc_value list.now) }
+{
+    match list {
+        Some(list) => Some(Some(Arc::try_clone(list).ok()?)),
+        None => Some(None),
+    }
+}
+
 impl Said {
+    // The same once more. It takes no memory; refused is only a list that is held too often.
+    fn try_clone(&self) -> Option<Said> {
+        let listens = same_list(&self.listens)?;
+        let targets = same_list(&self.targets)?;
+        let access = same_list(&self.access)?;
+        let senders = same_list(&self.senders)?;
+        Some(Said {
+            rule: self.rule,
+            listens,
+            limit: self.limit,
+            sockets: self.sockets,
+            targets,
+            header: self.header,
+            access,
+            senders,
+        })
+    }
+
     /// What a rule of the file says. `before` is the list of its account, if that has one.
     pub fn of(alloc: Global, said: &SaidRule, before: Option<&Targets>) -> Result<Said, OutOfMemory>
         ensures { IfOk result (SaysRule said.now) }
@@ -79,6 +111,7 @@ impl Said {
         let listens = addresses_of(alloc, said)?;
         let targets = Some(list_of(alloc, said, before)?);
         let access = access_of(alloc, said)?;
+        let senders = senders_of(alloc, said)?;
         Ok(Said {
             rule: said.rule,
             listens,
@@ -87,11 +120,12 @@ impl Said {
             targets,
             header: said.header,
             access,
+            senders,
         })
     }
 
     /// A rule at its own address alone, without a limit of its own and with plain sockets, whose own target
-    /// is its only one and is sent no header, and which lets all clients in.
+    /// is its only one and is sent no header, and which lets all clients in and awaits a header of none.
     pub fn alone(rule: &Rule) -> Said
         ensures rule { result.rule ≡ rule.now }
         ensures listens { result.listens ≡ None }
@@ -100,6 +134,7 @@ impl Said {
         ensures targets { result.targets ≡ None }
         ensures header { result.header ≡ None }
         ensures access { result.access ≡ None }
+        ensures senders { result.senders ≡ None }
     {
         Said {
             rule: *rule,
@@ -109,6 +144,7 @@ impl Said {
             targets: None,
             header: None,
             access: None,
+            senders: None,
         }
     }
 }
@@ -116,8 +152,7 @@ impl Said {
 /// The account of a rule, by the first address at which it listens: what the rule says now, and what was
 /// counted, of all its listeners together. It outlives these, which are the main thread's. The rule's
 /// name, further addresses, limit, sockets, targets, header, idle time and lists of clients change with a
-/// reload; a connection goes on by what they were when it was
-/// accepted.
+/// reload; a connection goes on by what they were when it was accepted.
 #[derive(Drop)]
 pub struct ServedRule {
     pub listen: Addr,
@@ -147,6 +182,7 @@ impl ServedRule {
             targets,
             header,
             access,
+            senders,
         } = said;
         let counts = RuleCounts::new(alloc, loops)?;
         let served = ServedRule {
@@ -159,6 +195,7 @@ impl ServedRule {
                 targets,
                 header,
                 access,
+                senders,
             }),
             picks: AtomicU64::new(0),
             accepting: AtomicU64::new(0),
@@ -180,27 +217,7 @@ impl ServedRule {
     /// What it says now. It takes no memory; refused is only a list that is held too often.
     pub fn said<R: Wait>(&self, rt: &R) -> Option<Said> {
         let said = self.said.lock(rt);
-        let listens = match &said.listens {
-            Some(list) => Some(Arc::try_clone(list).ok()?),
-            None => None,
-        };
-        let targets = match &said.targets {
-            Some(targets) => Some(Arc::try_clone(targets).ok()?),
-            None => None,
-        };
-        let access = match &said.access {
-            Some(access) => Some(Arc::try_clone(access).ok()?),
-            None => None,
-        };
-        Some(Said {
-            rule: said.rule,
-            listens,
-            limit: said.limit,
-            sockets: said.sockets,
-            targets,
-            header: said.header,
-            access,
-        })
+        said.try_clone()
     }
 
     /// Has it say this from now on.

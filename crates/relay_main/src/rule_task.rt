@@ -137,6 +137,7 @@ where
             targets,
             header,
             access,
+            senders,
         } = served.said(&self.rt)?;
         Some(Acceptance {
             served,
@@ -145,6 +146,7 @@ where
             sockets,
             targets,
             access,
+            senders,
             client,
             header,
             accepted_at: header.and_then(|_| accepted_at(sock)),

@@ -50,13 +50,18 @@ unfoldable pub shortage_text : List ℕ → Refusals → List ℕ
 shortage_text rule refused = cause_text family.RuleRefused rule (codes "no_memory") refused.no_memory
     ++ cause_text family.RuleRefused rule (codes "descriptors") refused.descriptors
 
+-- a rule's connections whose clients were to say who they are, and didn't, for each cause
+unfoldable pub unheard_text : List ℕ → Refusals → List ℕ
+unheard_text rule refused = cause_text family.RuleRefused rule (codes "no_header") refused.no_header
+    ++ cause_text family.RuleRefused rule (codes "bad_header") refused.bad_header
+
 -- a rule's refused connections, for each cause
 unfoldable pub refused_text : List ℕ → Refusals → List ℕ
 refused_text rule refused = cause_text family.RuleRefused rule (codes "denied") refused.denied
     ++ (cause_text family.RuleRefused rule (codes "full") refused.full
     ++ (cause_text family.RuleRefused rule (codes "no_target") refused.no_target
     ++ (cause_text family.RuleRefused rule (codes "rule_full") refused.rule_full
-    ++ shortage_text rule refused)))
+    ++ (shortage_text rule refused ++ unheard_text rule refused))))
 
 -- a rule's figure for a cause with its count
 abbrev pub counted_text : Family → List ℕ → List ℕ × ℕ → List ℕ

@@ -34,6 +34,10 @@ pub struct Refusals {
     pub no_memory: u64,
     /// The system's poller took none of their descriptors.
     pub descriptors: u64,
+    /// The client was to say first who it is, and no whole header came of it.
+    pub no_header: u64,
+    /// The same, and its bytes begin with no header.
+    pub bad_header: u64,
 }
 
 /// What is told of a rule. Its name stands in the text as it is, between quotation marks: neither

@@ -3,7 +3,7 @@
 ghost use Rattle.std.specs.Prelude.{◌≡◌, ◌++◌, OnOk, map};
 ghost use Rattle.relay_metrics.specs.Text.{cause_text, causes_text, defence_text, flag, of_rule};
 ghost use Rattle.relay_metrics.specs.Text.{refused_text, rule_bytes_text, rule_family_text};
-ghost use Rattle.relay_metrics.specs.Text.{rules_text, shortage_text};
+ghost use Rattle.relay_metrics.specs.Text.{rules_text, shortage_text, unheard_text};
 
 use crate::figures::{CarriedBytes, Family, Refusals, RuleFigures};
 use crate::sample::{write_rule_sample, write_sample};
@@ -137,7 +137,33 @@ fn write_refused<A: Allocator>(
         b"rule_full",
         refused.rule_full,
     )?;
-    write_shortages(into, rule, refused)
+    write_shortages(into, rule, refused)?;
+    write_headers(into, rule, refused)
+}
+
+// Those of clients that didn't say who they are.
+#[tactic(auto, unfolding(crate::specs::Text::unheard_text))]
+fn write_headers<A: Allocator>(
+    into: &mut Vec<u8, A>,
+    rule: &[u8],
+    refused: Refusals,
+) -> Result<(), OutOfMemory>
+    ensures { OnOk result (into.new.items ≡ into.old.items ++ unheard_text rule.now refused) }
+{
+    write_cause(
+        into,
+        Family::RuleRefused,
+        rule,
+        b"no_header",
+        refused.no_header,
+    )?;
+    write_cause(
+        into,
+        Family::RuleRefused,
+        rule,
+        b"bad_header",
+        refused.bad_header,
+    )
 }
 
 // Those for want of what the system gives.

@@ -25,7 +25,8 @@ abbrev pub no_lists : AccessEntry
 no_lists = record { allow = []; deny = [] }
 
 -- a rule at its own address alone, without a limit of its own and with plain sockets, whose own target is
--- its only one, isn't checked and is sent no header, and which lets all clients in
+-- its only one, isn't checked and is sent no header, and which lets all clients in and awaits a header of
+-- none
 abbrev pub rule_alone : Entry → SaidRuleEntry
 rule_alone rule = record {
   rule = rule;
@@ -35,6 +36,7 @@ rule_alone rule = record {
   balance = RoundRobin;
   access = no_lists;
   checks = None;
+  senders = [];
   header = None;
   targets = record { at = rule.target; weight = 1; backup = false } ∷ [];
 }

@@ -4,6 +4,7 @@ use Rattle.std.specs.Prelude.{◌≡◌, ◌==◌, ◌⊎◌, ℕ, Bool, true, f
 use Rattle.std.specs.Prelude.{nat_le, slice_index, Option, Some, None, is_none, option_map, Result, Ok, Err, if◌then◌else◌}
 use Rattle.std.specs.Option.{option_and_then}
 use Rattle.std.specs.String.{string_bytes}
+use Rattle.client_nets.specs.Net.{Network, network_of}
 use Rattle.config_values.specs.Addr as config
 use Rattle.relay_admin.specs.rules.Addr.{Address, address_of, tcp, tcp6, unix}
 use Rattle.relay_admin.specs.rules.Grammar.{Entry, entry_of}
@@ -159,7 +160,8 @@ pub record SaidTargetEntry : Type 0 where
   pub backup : Bool
 
 -- a rule, where it listens, how many connections of it stand at once, how its sockets are set up, its
--- targets, how these are checked and what they are told of a client, and who may connect
+-- targets, how these are checked and what they are told of a client, who may connect, and who begins with
+-- a header
 pub record SaidRuleEntry : Type 0 where
   pub rule : Entry
   pub listens : List Address
@@ -168,6 +170,7 @@ pub record SaidRuleEntry : Type 0 where
   pub balance : Balance
   pub access : AccessEntry
   pub checks : Option ChecksEntry
+  pub senders : List Network
   pub header : Option Version
   pub targets : List SaidTargetEntry
 
@@ -176,7 +179,8 @@ abbrev pub said_target_entry : Target → SaidTargetEntry
 said_target_entry target = record { at = address_of target.at; weight = target.weight; backup = target.is_backup }
 
 -- a rule, where it listens, how many connections of it stand at once, how its sockets are set up, its
--- targets, how these are checked and what they are told of a client, and who may connect
+-- targets, how these are checked and what they are told of a client, who may connect, and who begins with
+-- a header
 abbrev pub said_rule_entry : SaidRule → SaidRuleEntry
 said_rule_entry said = record {
   rule = entry_of said.rule;
@@ -186,6 +190,7 @@ said_rule_entry said = record {
   balance = said.balance;
   access = access_entry said.access;
   checks = option_map checks_entry said.checks;
+  senders = map network_of said.senders.items;
   header = said.header;
   targets = map said_target_entry said.targets.items;
 }
@@ -239,12 +244,15 @@ abbrev pub first_address : ℕ → List SaidTargetEntry → Result Address Fault
 first_address rule [] = Err (unserved (spot (place.Rule rule) key.Target))
 first_address rule (first ∷ others) = Ok first.at
 
--- with which header a connection to a target begins, if with one; no client says by one who it is
-unfoldable pub header_in : ℕ → Option ProxyEntry → Result (Option Version) Fault
-header_in rule None = Ok None
-header_in rule (Some proxy) = do
-  unread ← served_if (spot (place.Proxy rule) key.FromClient) (length proxy.from_client == 0)
-  Ok proxy.to_target
+-- with which header a connection to a target begins, if with one
+abbrev pub header_in : Option ProxyEntry → Option Version
+header_in None = None
+header_in (Some proxy) = proxy.to_target
+
+-- the networks whose clients begin with a header
+abbrev pub senders_in : Option ProxyEntry → List Network
+senders_in None = []
+senders_in (Some proxy) = proxy.from_client
 
 -- the rule with this number
 unfoldable pub rule_in : ℕ → RuleEntry → Result SaidRuleEntry Fault
@@ -252,7 +260,6 @@ rule_in n rule = do
   idle ← time_in (spot (place.Rule n) key.Idle) rule.head.idle
   limit ← pairs_in (spot (place.Rule n) key.Connections) rule.head.clients.connections
   head ← head_alone (place.Rule n) rule.head
-  header ← header_in n rule.proxy
   listens ← each_of (address_behind n) [] rule.listen
   listen ← first_listener n listens
   targets ← targets_in n rule.targets
@@ -265,7 +272,8 @@ rule_in n rule = do
     balance = rule.head.balance;
     access = rule.access;
     checks = rule.head.health;
-    header = header;
+    senders = senders_in rule.proxy;
+    header = header_in rule.proxy;
     targets = targets;
   })
 

@@ -116,6 +116,7 @@ fn says_rule(said: &SaidRule, rule: &Rule) -> bool
         && said.has_plain_sockets()
         && said.has_no_lists()
         && said.checks.is_none()
+        && said.has_no_senders()
         && said.header.is_none()
         && said.balance == Balance::RoundRobin
         && is_same_rule(&said.rule, rule)

@@ -3,6 +3,7 @@
 
 ghost use Rattle.std.specs.Prelude.{◌≡◌, ◌≤◌, ◌<◌, [], IfErr, IfOk, Some, length, map, option_map};
 ghost use Rattle.std.specs.Prelude.{slice_get};
+ghost use Rattle.client_nets.specs.Net.{network_of};
 ghost use Rattle.config_values.specs.Addr as config;
 ghost use Rattle.relay_admin.specs.rules.Addr.{address_of};
 ghost use Rattle.relay_config.specs.Entries.{access_entry, clients_entry, head_entry, rule_entry};
@@ -11,6 +12,7 @@ ghost use Rattle.relay_config.specs.Fault.{Answers, Reads};
 ghost use Rattle.relay_config.specs.declared.fault.Fault.{Fault};
 ghost use Rattle.relay_settings.specs.Meaning.{clients_alone, each_of, first_address, first_listener};
 ghost use Rattle.relay_settings.specs.Meaning.{head_alone, header_in, is_default_resolve};
+ghost use Rattle.relay_settings.specs.Meaning.{senders_in};
 ghost use Rattle.relay_settings.specs.Meaning.{address_behind};
 ghost use Rattle.relay_settings.specs.Meaning.{rule_in};
 ghost use Rattle.relay_settings.specs.Meaning.{said_rule_entry, said_target_entry};
@@ -19,6 +21,7 @@ ghost use Rattle.relay_settings.specs.Targets.{first_at};
 
 use crate::address::{address_at, pairs_in, served_if, time_in, unserved};
 use crate::targets::{MAX_TARGETS, SaidRule, Target};
+use client_nets::Net;
 use relay_admin::{Addr, Rule};
 use relay_config as config;
 use relay_config::{
@@ -36,8 +39,8 @@ pub(crate) fn rule_of(alloc: Global, number: usize, rule: &config::Rule) -> Resu
     let said = rule.head.clients.connections;
     let limit = pairs_in(Spot::of(place, Key::Connections), said)?;
     head_alone(place, &rule.head)?;
-    let header = header_of(number, &rule.proxy)?;
     let access = access_of(alloc, &rule.access)?;
+    let senders = senders_of(alloc, &rule.proxy)?;
     let listens = listens_of(alloc, number, rule.listen.as_slice())?;
     let listen = first_listener(number, listens.as_slice())?;
     let targets = targets_of(alloc, number, rule.targets.as_slice())?;
@@ -55,22 +58,35 @@ pub(crate) fn rule_of(alloc: Global, number: usize, rule: &config::Rule) -> Resu
         balance: rule.head.balance,
         access,
         checks: rule.head.health,
-        header,
+        senders,
+        header: header_of(&rule.proxy),
         targets,
     })
 }
 
-/// With which header a connection to a target begins. None is read of a client.
-#[tactic(auto, unfolding(crate::specs::Meaning::header_in))]
-fn header_of(rule: usize, proxy: &Option<Proxy>) -> Result<Option<Version>, Fault>
-    ensures { result ≡ header_in rule (option_map proxy_entry proxy.now) }
+/// With which header a connection to a target begins.
+fn header_of(proxy: &Option<Proxy>) -> Option<Version>
+    ensures { result ≡ header_in (option_map proxy_entry proxy.now) }
+{
+    match proxy {
+        Some(proxy) => proxy.to_target,
+        None => None,
+    }
+}
+
+/// The networks whose clients begin with a header, in memory of their own.
+fn senders_of(alloc: Global, proxy: &Option<Proxy>) -> Result<Vec<Net>, Fault>
+    ensures same { IfOk result (λ found.
+        map network_of found.items ≡ senders_in (option_map proxy_entry proxy.now)) }
+    ensures faults { IfErr result (λ fault. fault ≡ Fault.Memory) }
 {
     let Some(proxy) = proxy else {
-        return Ok(None);
+        return Ok(Vec::new(alloc));
     };
-    let from_none = proxy.from_client.is_empty();
-    served_if(Spot::of(Place::Proxy(rule), Key::FromClient), from_none)?;
-    Ok(proxy.to_target)
+    match Vec::from_slice(alloc, proxy.from_client.as_slice()) {
+        Ok(senders) => Ok(senders),
+        Err(_) => Err(Fault::Memory),
+    }
 }
 
 #[tactic(auto, unfolding(crate::specs::Meaning::head_alone))]

@@ -1,5 +1,5 @@
-//! A rule with where it listens, its limit, its sockets, its targets, their checks, what they are told of a client, and its lists of
-//! clients, as a file says them.
+//! A rule with where it listens, its limit, its sockets, its targets, their checks, what they are told of a
+//! client, and its lists of clients and of those that begin with a header, as a file says them.
 
 ghost use Rattle.std.specs.Prelude.{◌≡◌, ◌≤◌, ◌<◌, ◌∷◌, [], IfOk, IsTrue, Some, None, ◌↔◌, length};
 ghost use Rattle.std.specs.Prelude.{slice_get};
@@ -8,6 +8,7 @@ ghost use Rattle.relay_settings.specs.Targets.{first_at, own_target, plain_socke
 ghost use Rattle.target_pick.specs.declared.picking.Balance.TheVariants.{RoundRobin};
 
 use base_types::OutOfMemory;
+use client_nets::Net;
 use relay_admin::{Addr, Rule};
 use relay_config::{Access, Checks, Sockets, Version};
 use relay_core::PairLimit;
@@ -36,7 +37,8 @@ pub struct Target {
 }
 
 /// A rule, where it listens, how many connections of it stand at once, how its sockets are set up, its
-/// targets, how these are checked and what they are told of a client, and who may connect.
+/// targets, how these are checked and what they are told of a client, who may connect, and who begins with
+/// a header.
 #[derive(Drop)]
 pub struct SaidRule {
     /// Its own address is the first one, and so is its own target.
@@ -53,6 +55,8 @@ pub struct SaidRule {
     pub access: Access,
     /// How its targets are checked; without checks all are up.
     pub checks: Option<Checks>,
+    /// The networks whose clients begin with a header of the PROXY protocol.
+    pub senders: Vec<Net>,
     /// With which header of the PROXY protocol a connection to a target begins, if with one.
     pub header: Option<Version>,
     /// 1 to 64, in the order of the file.
@@ -76,8 +80,8 @@ fn own_target(rule: &Rule) -> Target
 
 impl SaidRule {
     /// A rule at its own address alone, without a limit of its own and with plain sockets, whose own
-    /// target is its only one, isn't checked and is sent no header, and which lets all clients in, as a
-    /// rules file says it.
+    /// target is its only one, isn't checked and is sent no header, and which lets all clients in and awaits
+    /// a header of none, as a rules file says it.
     pub fn alone(alloc: Global, rule: Rule) -> Result<SaidRule, OutOfMemory>
         ensures rule { IfOk result (λ said. said.rule ≡ rule) }
         ensures listens { IfOk result (λ said. said.listens.items ≡ rule.listen ∷ []) }
@@ -87,6 +91,7 @@ impl SaidRule {
         ensures allow { IfOk result (λ said. said.access.allow.items ≡ []) }
         ensures deny { IfOk result (λ said. said.access.deny.items ≡ []) }
         ensures checks { IfOk result (λ said. said.checks ≡ None) }
+        ensures senders { IfOk result (λ said. said.senders.items ≡ []) }
         ensures header { IfOk result (λ said. said.header ≡ None) }
         ensures targets { IfOk result (λ said. said.targets.items ≡ own_target rule ∷ []) }
     {
@@ -105,6 +110,7 @@ impl SaidRule {
                 deny: Vec::new(alloc),
             },
             checks: None,
+            senders: Vec::new(alloc),
             header: None,
             targets,
         })
@@ -147,5 +153,12 @@ impl SaidRule {
             ↔ (self.now.access.allow.items ≡ []) × (self.now.access.deny.items ≡ []) }
     {
         self.access.allow.is_empty() && self.access.deny.is_empty()
+    }
+
+    /// Whether it awaits a header of no client.
+    pub fn has_no_senders(&self) -> bool
+        ensures { IsTrue result ↔ (self.now.senders.items ≡ []) }
+    {
+        self.senders.is_empty()
     }
 }

@@ -24,6 +24,8 @@ fn web() -> Option<RuleFigures> {
             rule_full: 7,
             no_memory: 8,
             descriptors: 9,
+            no_header: 10,
+            bad_header: 11,
         },
         ends: [20, 21, 22, 23, 24, 25, 26],
         unreached: [30, 31, 32, 33, 35],

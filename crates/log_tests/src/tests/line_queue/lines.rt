@@ -71,6 +71,8 @@ const ENDS: &[(Ended, &str)] = &[
     (Ended::RuleFull, "rule full\n"),
     (Ended::NoMemory, "no memory\n"),
     (Ended::Descriptors, "descriptors\n"),
+    (Ended::NoHeader, "no header\n"),
+    (Ended::BadHeader, "bad header\n"),
     (Ended::NoTarget(Cause::Refused), "no target refused\n"),
     (
         Ended::NoTarget(Cause::Unreachable),
