@@ -124,10 +124,17 @@ fn give_health(health: Health, response: &mut Response) -> Result<(), OutOfMemor
 {
     let kind = HeaderValue::from_static("text/plain; charset=utf-8");
     match health {
-        Health::Well => return give(response, kind, b"ok\n"),
-        Health::NotListening => give(response, kind, b"not listening\n")?,
-        Health::NoTarget => give(response, kind, b"no target up\n")?,
+        Health::Well => give(response, kind, b"ok\n"),
+        Health::NotListening => give_unwell(response, kind, b"not listening\n"),
+        Health::NoTarget => give_unwell(response, kind, b"no target up\n"),
     }
+}
+
+fn give_unwell(response: &mut Response, kind: HeaderValue, text: &[u8]) -> Result<(), OutOfMemory>
+    requires { IsBlank response.old }
+    ensures { OnOk result (IsResponse 503 (typed kind.bytes) text.now response.new) }
+{
+    give(response, kind, text)?;
     response.status = StatusCode::SERVICE_UNAVAILABLE;
     Ok(())
 }

@@ -9,6 +9,7 @@ use Rattle.relay_conn.specs.declared.awaiting.AwaitStep.TheVariants as step
 use Rattle.relay_conn.specs.declared.awaiting.Awaiting.{Awaiting}
 use Rattle.relay_conn.specs.declared.judged.Judged.{Judged}
 use Rattle.relay_conn.specs.declared.judged.Judged.TheVariants as judged
+use Rattle.relay_conn.specs.declared.refused.Unheard.{Unheard}
 use Rattle.relay_conn.specs.declared.refused.Unheard.TheVariants.{Missing, Bad, Memory}
 use Rattle.relay_facts.specs.declared.connection_facts.Acceptance.{Acceptance}
 use Rattle.relay_shared.specs.declared.inbox.Counted.{Counted}
@@ -37,6 +38,14 @@ counted_awaited awaiting = awaiting.counted
 -- the moment that it awaits
 abbrev pub awaited_until : Awaiting → ℕ
 awaited_until awaiting = awaiting.until
+
+-- the token under which the poller tells of it
+abbrev pub awaited_token : Awaiting → ℕ
+awaited_token awaiting = awaiting.token
+
+-- how it ends, where it ends by itself
+abbrev pub awaited_failure : Awaiting → Unheard
+awaited_failure awaiting = awaiting.failure
 
 -- it goes on to wait only before its moment
 abbrev pub AwaitsInTime : Awaiting → Why → AwaitStep → Type 0

@@ -5,11 +5,14 @@
 //! client is the first one behind its header. No share counts them.
 
 ghost use Rattle.std.specs.Prelude.{◌≡◌, ◌↔◌, true, Some, IfOk, IfErr};
-ghost use Rattle.relay_conn.specs.Awaiting.{AwaitsInTime, awaited_until, client_awaited};
-ghost use Rattle.relay_conn.specs.Awaiting.{counted_awaited, header_moment};
+ghost use Rattle.relay_conn.specs.Awaiting.{AwaitsInTime, awaited_failure, awaited_token};
+ghost use Rattle.relay_conn.specs.Awaiting.{awaited_until, client_awaited, counted_awaited};
+ghost use Rattle.relay_conn.specs.Awaiting.{header_moment};
 ghost use Rattle.relay_conn.specs.Heard.{IsTime};
 ghost use Rattle.relay_facts.specs.Told.{IsToldBy};
+ghost use Rattle.relay_conn.specs.declared.refused.Refused.{Refused};
 ghost use Rattle.relay_conn.specs.declared.refused.Refused.TheVariants.{Poller};
+ghost use Rattle.relay_conn.specs.declared.refused.Unheard.TheVariants.{Memory};
 
 use crate::heard::stop_ahead_of;
 use crate::judged::{Judged, judged};
@@ -119,7 +122,9 @@ impl Awaiting {
     }
 
     /// The token under which the poller tells of it.
-    pub fn token(&self) -> u64 {
+    pub fn token(&self) -> u64
+        ensures { result ≡ awaited_token self.now }
+    {
         self.token
     }
 
@@ -144,6 +149,7 @@ impl Awaiting {
         ensures acceptance { client_awaited self.new ≡ client_awaited self.old }
         ensures counted { counted_awaited self.new ≡ counted_awaited self.old }
         ensures until { awaited_until self.new ≡ awaited_until self.old }
+        ensures token { awaited_token self.new ≡ awaited_token self.old }
     {
         match self.look(stop_ahead_of(Way::Up, why)) {
             Judged::Says(_, _) => AwaitStep::Whole,
@@ -171,6 +177,8 @@ impl Awaiting {
         ensures acceptance { client_awaited self.new ≡ client_awaited self.old }
         ensures counted { counted_awaited self.new ≡ counted_awaited self.old }
         ensures until { awaited_until self.new ≡ awaited_until self.old }
+        ensures token { awaited_token self.new ≡ awaited_token self.old }
+        ensures failure { awaited_failure self.new ≡ Memory }
     {
         self.failure = Unheard::Memory;
     }
@@ -181,6 +189,7 @@ impl Awaiting {
         ensures acceptance { client_awaited self.new ≡ client_awaited self.old }
         ensures counted { counted_awaited self.new ≡ counted_awaited self.old }
         ensures until { awaited_until self.new ≡ awaited_until self.old }
+        ensures token { awaited_token self.new ≡ token }
     {
         self.token = token;
         match poller.register(&mut self.sock, token) {
@@ -229,7 +238,9 @@ impl Awaiting {
     }
 
     /// Why it ends, where it ends by itself.
-    pub fn failure(&self) -> Refused {
+    pub fn failure(&self) -> Refused
+        ensures { result ≡ Refused.Header (awaited_failure self.now) }
+    {
         Refused::Header(self.failure)
     }
 

@@ -8,8 +8,9 @@ use Rattle.relay_admin.specs.declared.serve_fault.ServeFault.TheVariants as faul
 use Rattle.relay_facts.specs.Config.{SaysRule}
 use Rattle.relay_facts.specs.declared.served_rule.Said.{Said}
 use Rattle.readiness.specs.declared.tasks.Tasks.{Tasks}
-use Rattle.relay_main.specs.Followed.{StayBut}
+use Rattle.relay_main.specs.Followed.{follow_each}
 use Rattle.relay_main.specs.ListenersEnd.{AreEnded}
+use Rattle.relay_main.specs.declared.followed.Followed.{Followed}
 use Rattle.relay_main.specs.declared.main_task.MainTask.{MainTask}
 use Rattle.relay_main.specs.declared.rule_listeners.Listening.{Listening}
 use Rattle.relay_settings.specs.declared.targets.SaidRule.{SaidRule}
@@ -31,6 +32,7 @@ pub record SayRules (rules : List SaidRule) (all : List Said) : Type 0 where
       → slice_get all k ≡ Some said → SaysRule rule said
 
 module _ {R A : Type 0} where
-  -- these listeners end, and each other task stays, but for the account by which it may accept
-  abbrev pub GoOver : List Listening → Tasks (MainTask R) A → Tasks (MainTask R) A → Type 0
-  GoOver close old new = (mid : Tasks (MainTask R) A) × StayBut old mid × AreEnded close mid new
+  -- the listeners that stay follow the accounts of their rules, and then the others end: each other task
+  -- is as it was
+  abbrev pub GoOver : List Followed → List Listening → Tasks (MainTask R) A → Tasks (MainTask R) A → Type 0
+  GoOver followed close old new = AreEnded close (follow_each followed old) new

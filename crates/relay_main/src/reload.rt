@@ -104,7 +104,7 @@ impl<R: Wait + Net + Files + Clock + Eprint + Copy> MainLoop<R> {
     // Goes over to a plan of which all is bound: the listeners that stay follow their rules, the rules
     // say what is new, and the other listeners end.
     fn go_over(&mut self, rt: &R, prepared: Prepared, bound: AllBound)
-        ensures closed { GoOver prepared.plan.listeners.close.items
+        ensures closed { GoOver prepared.followed.items prepared.plan.listeners.close.items
             (tasks_of self.old.tasks) (tasks_of self.new.tasks) }
         ensures left { self.new.listening.items
             ≡ standing_in (tasks_of self.new.tasks) self.old.listening.items }

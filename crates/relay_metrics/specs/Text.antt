@@ -1,6 +1,6 @@
 -- How a snapshot is spelled: the text format of Prometheus, version 0.0.4. The figures of a family
 -- stand together, behind what is said of the family.
-use Rattle.std.specs.Prelude.{ℕ, Bool, ◌+◌, List, [], ◌∷◌, ◌++◌, codes, length, if◌then◌else◌}
+use Rattle.std.specs.Prelude.{ℕ, Bool, ◌+◌, List, [], ◌∷◌, ◌++◌, Option, Some, None, codes, length, if◌then◌else◌}
 use Rattle.std.specs.List.{flat_map, zip}
 use Rattle.std.specs.Fmt.{decimal}
 use Rattle.relay_log.specs.Ended.{cause_words, end_labels}

@@ -1,6 +1,6 @@
 -- What is read is a command of the grammar, and each command of the grammar is read from its text.
 use Rattle.std.specs.Prelude.{◌≡◌, ◌≢◌, ◌≤◌, ◌<◌, ◌^◌, ◌∷◌, ◌++◌, ◌⊎◌}
-use Rattle.std.specs.Prelude.{if◌then◌else◌, not}
+use Rattle.std.specs.Prelude.{◌&&◌, if◌then◌else◌, not}
 use Rattle.relay_admin.proofs.Words.{◌∙◌, sym, ap, refl, subst, ℕ, List, Bool, true, false, append-nil}
 use Rattle.relay_admin.proofs.Words.{codes, bytes_eq}
 use Rattle.relay_admin.proofs.Words.{Option, Some, None, IfSome, IfNone, arith, decimal, nat_tests}

@@ -12,7 +12,7 @@ use Rattle.relay_admin.specs.declared.admin.target_order.TargetOrder.{TargetOrde
 use Rattle.relay_admin.specs.declared.admin.target_order.TheConstants.{MAX_TARGET_BYTES}
 use Rattle.relay_admin.specs.declared.rules.rule.TheConstants.{MAX_NAME_BYTES}
 use Rattle.relay_admin.specs.admin.TargetOrder.{IsTargetOrder, is_target_word, order_at, order_text, order_word}
-use Rattle.relay_admin.specs.admin.TargetOrder.{room_of, rule_word, target_order_at, target_word, room_word}
+use Rattle.relay_admin.specs.admin.TargetOrder.{ordered, room_of, rule_word, target_order_at, target_word, room_word}
 use Rattle.relay_admin.specs.rules.Addr.{is_visible}
 use Rattle.relay_admin.specs.rules.Grammar.{is_name}
 use Rattle.relay_admin.proofs.GrammarBytes.{name_visible, visible_no_space}
@@ -112,11 +112,6 @@ word_of_order word order =
 
 -- ---- The three words
 
--- a target by these words
-abbrev ordered : List ℕ → List ℕ → Order → TargetOrder
-ordered rule target order =
-    record { rule = room_of MAX_NAME_BYTES rule; target = room_of MAX_TARGET_BYTES target; order = order }
-
 words_are : (rule target : List ℕ) (order : Order) → is_name rule ≡ true → is_target_word target ≡ true
     → (rule_word (ordered rule target order) ≡ rule) × (target_word (ordered rule target order) ≡ target)
 words_are rule target order is_rule is_target = (
@@ -163,12 +158,15 @@ order_sound text order e =
       is_ordered first.0.0 second.0.0 set.0 words.0 words.1,
     )
 
+-- a target by its rooms
+abbrev roomed : Order → List ℕ → List ℕ → TargetOrder
+roomed order rule target = record { rule = rule; target = target; order = order }
+
 -- a target's words are those of their rooms
 ordered_is : (order : TargetOrder) → IsTargetOrder order → ordered (rule_word order) (target_word order) order.order ≡ order
 ordered_is order is =
-    let rule = is.rule_room in
-    let target = is.target_room in
-    cc
+    ap (λ rule. roomed order.order rule (room_of MAX_TARGET_BYTES (target_word order))) (sym is.rule_room)
+    ∙ ap (λ target. roomed order.order order.rule target) (sym is.target_room)
 
 -- the text of a target's words is read
 pub order_complete : (text : List ℕ) (order : TargetOrder) → IsTargetOrder order → space ∷ text ≡ order_text order

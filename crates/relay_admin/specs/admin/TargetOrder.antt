@@ -63,16 +63,15 @@ order_at word =
     else if bytes_eq word (codes "down") then Some Down
     else None
 
+-- a target by these words, each in its room
+abbrev pub ordered : List ℕ → List ℕ → Order → TargetOrder
+ordered rule target order =
+    record { rule = room_of MAX_NAME_BYTES rule; target = room_of MAX_TARGET_BYTES target; order = order }
+
 -- a target and what is set of it, by its three words
 unfoldable pub target_order_at : List ℕ → Option TargetOrder
 target_order_at text = do
   first ← split_at_first space text
   second ← split_at_first space first.1
   order ← order_at second.1
-  if is_name first.0 && is_target_word second.0
-  then Some (record {
-    rule = room_of MAX_NAME_BYTES first.0;
-    target = room_of MAX_TARGET_BYTES second.0;
-    order = order;
-  })
-  else None
+  if is_name first.0 && is_target_word second.0 then Some (ordered first.0 second.0 order) else None
