@@ -66,6 +66,11 @@ FAULTS = (
     ('metrics = "127.0.0.1:9464"\n', f'metrics: "127.0.0.1:9464" {LISTEN}'),
     ('admin = ""\n', 'admin: "" is no path of a socket (1 to 100 bytes)'),
     ("log = true\n", "log: true is not a path in quotes or a table ({ file = .., format = .. })"),
+    ('log = { file = "-", format = "xml" }\n', 'log: format: "xml" is none of "text", "json"'),
+    ('log = { file = "-", format = 5 }\n', "log: format: 5 is not a text in quotes"),
+    ('log = { file = "-", formt = "json" }\n', 'log: unknown key "formt"; "format" is meant?'),
+    ('log = { format = "json" }\n', "log: file is missing"),
+    ('log = { file = "", format = "xml" }\n', 'log: file: "" is no path of a file (1 to 4095 bytes; - is standard error)'),
     ('[rule]\nname = "web"\n', "rule: a table is not a list of tables ([[rule]])"),
     (HEAD, 'rule "web": listen is missing'),
     ('[[rule]]\nlisten = ["unix:/a"]\n', "rule 1: name is missing"),
@@ -99,7 +104,6 @@ FAULTS = (
 # A text with what isn't carried out, and the place that is named.
 UNSERVED = (
     ('admin = { path = "/a", mode = "0660" }\n', "admin: mode"),
-    ('log = { file = "-", format = "json" }\n', "log: format"),
     ('metrics = "unix:/' + 100 * "m" + '"\n', "metrics"),
     *((HEAD + f"{key} = {value}\n" + ENDS, f'rule "web": {key}') for key, value in (
         ("connections_per_source", "5"), ("accepts_per_source", '"5/s"'), ("resolve", '"5s"'), ("resolve", '"never"'),
@@ -113,7 +117,7 @@ UNSERVED = (
     ("".join(RULE.replace("web", f"r{n}").replace("/a", f"/{n}") for n in range(65)), "rule 65"),
     # Of several the first: keys of the whole ahead of rules, and the text's own faults ahead of all.
     (HEAD + 'accepts_per_source = "5/s"\nconnections_per_source = 5\n' + ENDS, 'rule "web": connections_per_source'),
-    ('log = { file = "-", format = "json" }\n' + HEAD + 'resolve = "5s"\n' + ENDS, "log: format"),
+    ('admin = { path = "/a", mode = "0660" }\n' + HEAD + 'resolve = "5s"\n' + ENDS, "admin: mode"),
 )
 # Rules of several targets, of such that are checked, and of such that are sent a header; rules whose clients begin with one; rules with
 # several addresses, with options of sockets, and with a limit of their own.
@@ -173,7 +177,8 @@ def verdicts(checks, folder):
     for text, why in FAULTS:
         refused(checks, folder, text, why)
     two = RULE + RULE.replace("web", "ssh").replace("/a", "/c")
-    for text, count in (("", 0), (RULE, 1), (WITHOUT_MEANING, 1), (two, 2), (SIX, 1), *((text, 1) for text in TARGETS)):
+    json_log = 'log = { file = "-", format = "json" }\n'
+    for text, count in (("", 0), (RULE, 1), (json_log, 0), (WITHOUT_MEANING, 1), (two, 2), (SIX, 1), *((text, 1) for text in TARGETS)):
         checks.expect(f"check: {count} rules", (0, f"rules {count}\n", ""), run("check", "--config", written(folder, text)))
 
 
@@ -251,7 +256,8 @@ def options_win(checks, folder):
     every = (
         ("connections", "5", "--connections=6"), ("connections_per_rule", "5", "--connections-per-rule=6"),
         ("connect_timeout", '"5s"', "--connect-timeout=6"), ("replace_stale", "false", "--replace-stale"),
-        ("log", '"/dev/null"', f"--log={folder}/log"), ("metrics", '"unix:/none/m"', None), ("admin", None, None),
+        ("log", '"/dev/null"', f"--log={folder}/log"), ("log", '{ file = "/dev/null", format = "json" }', f"--log={folder}/log"),
+        ("metrics", '"unix:/none/m"', None), ("admin", None, None),
     )
     for key, value, option in every:
         more = f"{key} = {value}\n" if value else ""
@@ -288,10 +294,10 @@ def reloads(checks, folder):
         os.remove(f"{relay.folder}/config")
         checks.expect("no file", "cannot read rules", relay.ask("reload"))
         checks.expect("nothing is told so far", "", relay.errors())
-        relay.write(config(port, one, 'loops = 5\nconnections = 9\nlog = "/none/log"\n'))
+        relay.write(config(port, one, 'loops = 5\nconnections = 9\nlog = { file = "/none/log", format = "json" }\n'))
         checks.expect("new keys", "rules 1", relay.ask("reload"))
         checks.holds("the target of before", reaches(port, first), "no bytes pass")
-        told = "".join(f"reload: {key} has changed, and needs a restart\n" for key in ("connections", "loops", "log"))
+        told = "".join(f"reload: {key} has changed, and needs a restart\n" for key in ("connections", "loops", "log", "format"))
         checks.expect("what needs a restart", told, relay.errors())
         checks.expect("its end", 0, relay.stop()[0])
     first.close()

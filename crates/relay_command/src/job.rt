@@ -135,6 +135,7 @@ fn serve_job_of(
         connect_ms,
         replaces_stale: true_if(is_set(matches, "replace-stale")),
         log,
+        log_format: None,
         metrics,
     };
     Ok(Some(Job::Serve(Asked { source, words })))

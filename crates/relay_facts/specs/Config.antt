@@ -1,10 +1,15 @@
 -- The rules that a relay is asked to serve, and how large it is.
-use Rattle.std.specs.Prelude.{◌≡◌, ◌≤◌, ℕ, List, None, Some, IfNone, IfSome, length, option_map, slice_get}
+use Rattle.std.specs.Prelude.{◌≡◌, ◌≤◌, ℕ, List, None, Option, Some, IfNone, IfSome, length, option_map, slice_get}
 use Rattle.std.specs.Arc.{arc_value}
 use Rattle.std.specs.declared.alloc.Global.{Global}
 use Rattle.std.specs.declared.sync.Arc.{Arc}
 use Rattle.relay_admin.specs.declared.rules.rule.Rule.{Rule}
+use Rattle.log_writer.specs.declared.log.Log.{Log}
+use Rattle.relay_config.specs.declared.log.Format as asked
+use Rattle.relay_config.specs.declared.log.Format.TheVariants as asked_format
 use Rattle.relay_core.specs.declared.capacity.Capacity.{Capacity}
+use Rattle.relay_log.specs.declared.format.Format.{Format}
+use Rattle.relay_log.specs.declared.format.Format.TheVariants as format
 use Rattle.relay_settings.specs.Listeners.{further_listeners}
 use Rattle.relay_settings.specs.declared.asked.Source.{Source}
 use Rattle.relay_settings.specs.declared.said.Said as file
@@ -54,6 +59,16 @@ IsOfFile source config = (said : file.Said) × FileSays source said
     × (config.start.file ≡ said.settings)
     × AreServed said.rules.items config.capacity.loops.count config.rules.items
     × (config.further ≡ further_listeners said.rules.items)
+
+-- how the lines of a log are written, by what a configuration says of it: as text where it says nothing
+abbrev pub log_format : Option asked.Format → Format
+log_format (Some asked_format.Json) = format.Json
+log_format (Some asked_format.Text) = format.Text
+log_format None = format.Text
+
+-- the lines of the log are written as the settings say
+abbrev pub IsLogOf : Settings → Arc (Log Global) Global → Type 0
+IsLogOf settings log = (arc_value log).format ≡ log_format settings.log_format
 
 -- neither the words of the command line nor the file name an admin socket
 abbrev pub NamesNoAdmin : (words file : Settings) → Type 0

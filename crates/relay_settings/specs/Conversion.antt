@@ -17,6 +17,7 @@ nothing_said = record {
   connect = None;
   replaces_stale = None;
   log = None;
+  log_format = None;
   metrics = None;
 }
 

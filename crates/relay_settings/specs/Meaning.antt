@@ -23,7 +23,6 @@ use Rattle.relay_config.specs.declared.fault.Place.TheVariants as place
 use Rattle.relay_config.specs.declared.fault.Spot.{Spot}
 use Rattle.relay_config.specs.declared.fault.Wrong.TheVariants as wrong
 use Rattle.relay_config.specs.declared.log.Format.{Format}
-use Rattle.relay_config.specs.declared.log.Format.TheVariants as format
 use Rattle.relay_config.specs.declared.proxy.Version.{Version}
 use Rattle.relay_config.specs.declared.rule.TheConstants.{DEFAULT_RESOLVE_MS}
 use Rattle.relay_core.specs.Loops.{loop_count}
@@ -86,6 +85,7 @@ pub record SettingsEntry : Type 0 where
   pub connect : Option (Option ℕ)
   pub replaces_stale : Option Bool
   pub log : Option (List ℕ)
+  pub log_format : Option Format
   pub metrics : Option Address
 
 -- what settings of the program say
@@ -98,6 +98,7 @@ settings_entry settings = record {
   connect = settings.connect_ms;
   replaces_stale = settings.replaces_stale;
   log = option_map string_bytes settings.log;
+  log_format = settings.log_format;
   metrics = option_map address_of settings.metrics;
 }
 
@@ -121,14 +122,9 @@ metrics_at address = served (spot place.Top key.Metrics) (relay_address address)
 abbrev pub admin_at : AdminEntry → Result (List ℕ) Fault
 admin_at admin = served_if (spot place.Admin key.Mode) (is_none admin.mode) >>= λ it. Ok admin.path
 
--- lines of text
-abbrev pub is_text : Format → Bool
-is_text format.Text = true
-is_text other = false
-
--- where the log is, in lines of text
+-- where the log is
 abbrev pub log_at : LogEntry → Result (List ℕ) Fault
-log_at log = served_if (spot place.Log key.Format) (is_text log.format) >>= λ it. Ok log.file
+log_at log = Ok log.file
 
 -- the settings that the keys of the whole say
 unfoldable pub settings_in : ConfigEntry → Result SettingsEntry Fault
@@ -148,6 +144,7 @@ settings_in config = do
     connect = connect;
     replaces_stale = config.service.replaces_stale;
     log = log;
+    log_format = option_map (λ it. it.format) config.log;
     metrics = metrics;
   })
 

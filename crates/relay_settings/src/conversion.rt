@@ -139,6 +139,7 @@ fn says_nothing(settings: &Settings) -> bool
 {
     let has_paths = settings.admin.is_some()
         || settings.log.is_some()
+        || settings.log_format.is_some()
         || settings.metrics.is_some();
     let has_sizes = settings.loops.is_some()
         || settings.pairs.is_some()
