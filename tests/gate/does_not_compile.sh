@@ -11,7 +11,7 @@ touch "$work/crates/misuse/specs/Lib.antt" "$work/crates/misuse/proofs/Lib.antt"
 cp "$root/HANDLES" "$work/"
 below='base_types lockword_core lockword fdmutex deadline_core rwloops fd_descriptor'
 below="$below stream_base conntable readiness relay_ledger relay_admin relay_core relay_log log_writer relay_metrics"
-below="$below ip_text text_reading proxy_header target_pick config_values client_nets relay_config relay_settings"
+below="$below ip_text text_reading proxy_header target_pick config_values client_nets client_sources relay_config relay_settings"
 below="$below relay_facts relay_shared relay_conn relay_loops"
 for crate in $below; do
     (cd "$root/crates" && tar --exclude=out --exclude=must-fail --exclude=wrong-bodies -cf - "$crate") | tar -C "$work/crates" -xf -

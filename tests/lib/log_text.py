@@ -6,7 +6,7 @@ from lib.waiting import comes
 LINE = re.compile(
     r"(?P<moment>\d{4}-\d\d-\d\dT\d\d:\d\d:\d\d\.\d{3}Z) (?P<rule>\S+) (?P<client_id>\d+|-) (?P<target_id>\d+|-) "
     r"(?P<client>tcp:\S+|unix:\S*) (?P<target>tcp:\S+|unix:\S+) (?P<up>\d+) (?P<down>\d+) (?P<ms>\d+) "
-    r"(?P<how>eof|idle|closed|drained|denied|full|rule full|no memory|descriptors|no header|bad header|no target (?:refused|unreachable|timeout|descriptors|down)|"
+    r"(?P<how>eof|idle|closed|drained|denied|full|rule full|source full|source rate|no memory|descriptors|no header|bad header|no target (?:refused|unreachable|timeout|descriptors|down)|"
     r"(?:read|write|accept) (?:reset|aborted|broken-pipe|refused|other)|target (?:down|up))"
 )
 LOST = re.compile(r"lost (\d+)")

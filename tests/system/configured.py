@@ -46,7 +46,7 @@ CHECKS = "is not a table ({ every = .., timeout = .., fall = .., rise = .. })"
 NETWORK = "is no network (as 10.0.0.0/8, 2001:db8::/32, 10.0.0.1)"
 NAME = 'is no name (a letter, then letters, digits and "-", all small, at most 16)'
 # Lists that let the clients of these tests in.
-LISTS = 'allow = ["127.0.0.0/8", "2001:db8::/32"]\ndeny = ["10.0.0.0/8"]\n'
+LISTS = 'allow = ["127.0.0.0/8", "2001:db8::/32"]\ndeny = ["10.0.0.0/8"]\nconnections_per_source = 100\naccepts_per_source = "1000000/s"\n'
 # A text as a new operator may write it, and what is said of it behind `bad config: `.
 FAULTS = (
     ("admin = /run/relay.sock\n", "line 1, column 9: no TOML: invalid value, expected a string, number, boolean, date-time, array or inline table"),
@@ -102,7 +102,7 @@ UNSERVED = (
     ('log = { file = "-", format = "json" }\n', "log: format"),
     ('metrics = "unix:/' + 100 * "m" + '"\n', "metrics"),
     *((HEAD + f"{key} = {value}\n" + ENDS, f'rule "web": {key}') for key, value in (
-        ("connections_per_source", "5"), ("accepts_per_source", '"5/s"'), ("resolve", '"5s"'), ("resolve", '"never"'),
+        ("resolve", '"5s"'), ("resolve", '"never"'),
     )),
     (RULE.replace('["unix:/a"]', '["unix:/a", "unix:/c", "unix:/' + 100 * "d" + '"]'), 'rule "web": listen 3'),
     (RULE.replace("unix:/a", "unix:/" + 100 * "a"), 'rule "web": listen 1'),
@@ -112,11 +112,11 @@ UNSERVED = (
     (RULE.replace('{ at = "unix:/b" }', 63 * '{ at = "unix:/b" }, ' + '{ at = "tcp:app.internal:80" }'), 'rule "web": target 64: at'),
     ("".join(RULE.replace("web", f"r{n}").replace("/a", f"/{n}") for n in range(65)), "rule 65"),
     # Of several the first: keys of the whole ahead of rules, and the text's own faults ahead of all.
-    (HEAD + 'accepts_per_source = "5/s"\nconnections_per_source = 5\n' + ENDS, 'rule "web": connections_per_source'),
+    (HEAD + 'resolve = "5s"\n' + ENDS.replace("unix:/b", "tcp:app.internal:80"), 'rule "web": resolve'),
     ('log = { file = "-", format = "json" }\n' + HEAD + 'resolve = "5s"\n' + ENDS, "log: format"),
 )
 # Rules of several targets, of such that are checked, and of such that are sent a header; rules whose clients begin with one; rules with
-# several addresses, with options of sockets, and with a limit of their own.
+# several addresses, with options of sockets, and with limits of their own and of a source.
 TARGETS = (
     *(RULE.replace('["unix:/a"]', f'[{", ".join(addresses)}]') for addresses in (
         ('"unix:/a"', '"tcp:[::]:443"', '"tcp:0.0.0.0:443"'), [f'"unix:/{n}"' for n in range(16)],
@@ -126,6 +126,9 @@ TARGETS = (
         ("source", '"127.0.0.1"'), ("source", '"2001:db8::1"'),
     )),
     HEAD + "connections = 1\n" + ENDS, HEAD + "connections = 50000\n" + ENDS,
+    *(HEAD + f"{key} = {value}\n" + ENDS for key, value in (
+        ("connections_per_source", "1"), ("connections_per_source", "50000"), ("accepts_per_source", '"1/s"'), ("accepts_per_source", '"1000000/m"'), ("accepts_per_source", '"5/h"'),
+    )),
     *(HEAD + f"health = {keys}\n" + ENDS for keys in ("{}", '{ every = "1ms", timeout = "24h", fall = 1, rise = 100 }', "{ rise = 1 }")),
     RULE.replace('{ at = "unix:/b" }', '{ at = "unix:/b", weight = 2 }, { at = "unix:/b" }, { at = "unix:/c", backup = true }'),
     RULE.replace('"unix:/b"', '"unix:/b", weight = 0'), RULE.replace('"unix:/b"', '"unix:/b", backup = true'),

@@ -12,6 +12,7 @@ pub mod Heard
 pub mod Others
 pub mod Refused
 pub mod Relaying
+pub mod Seated
 pub mod Seeking
 pub mod SetUp
 pub mod Side

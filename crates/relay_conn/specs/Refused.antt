@@ -6,8 +6,9 @@ use Rattle.readiness.specs.declared.tasks.NoPlace.{NoPlace}
 use Rattle.readiness.specs.declared.tasks.NoPlace.TheVariants as why
 use Rattle.relay_log.specs.declared.ended.Ended.{Ended as How}
 use Rattle.relay_log.specs.declared.ended.Ended.TheVariants as how
+use Rattle.relay_facts.specs.Seats.{how_unseated}
 use Rattle.relay_conn.specs.declared.refused.Refused.{Refused}
-use Rattle.relay_conn.specs.declared.refused.Refused.TheVariants.{Places, Memory, Poller, Header, Target}
+use Rattle.relay_conn.specs.declared.refused.Refused.TheVariants.{Places, Memory, Poller, Header, Source, Target}
 use Rattle.relay_conn.specs.declared.refused.Unheard.{Unheard}
 use Rattle.relay_conn.specs.declared.refused.Unheard.TheVariants as unheard
 
@@ -34,6 +35,7 @@ how_refused Places = how.Full
 how_refused Memory = how.NoMemory
 how_refused Poller = how.Descriptors
 how_refused (Header why) = how_unheard why
+how_refused (Source why) = how_unseated why
 how_refused (Target last) = how.NoTarget last.cause
 
 -- the place of the target that was dialled last

@@ -18,6 +18,7 @@ mod leaving;
 pub mod others;
 pub mod refused;
 mod relaying;
+pub mod seated;
 pub mod seeking;
 mod seeks;
 pub mod set_up;

@@ -5,6 +5,7 @@ ghost use Rattle.relay_conn.specs.Refused as spec;
 
 use crate::trial::Unreached;
 use readiness::{HoldFault, NoPlace};
+use relay_facts::rule_sources::NoSeat;
 use relay_log::ended::Ended as How;
 
 /// Why a client isn't served that was to say first who it is.
@@ -28,6 +29,8 @@ pub enum Refused {
     Poller,
     /// The client, which was to say first who it is.
     Header(Unheard),
+    /// Its source, of which there were enough, as the client has said it.
+    Source(NoSeat),
     /// The targets, to none of which a connection could be begun: the last one, and why.
     Target(Unreached),
 }
@@ -83,6 +86,7 @@ impl Refused {
             Refused::Memory => How::NoMemory,
             Refused::Poller => How::Descriptors,
             Refused::Header(why) => how_unheard(why),
+            Refused::Source(why) => why.how(),
             Refused::Target(last) => How::NoTarget(last.cause),
         }
     }

@@ -1,8 +1,9 @@
 -- The rules that a relay is asked to serve, and how large it is.
-use Rattle.std.specs.Prelude.{◌≡◌, ◌≤◌, ℕ, List, None, Some, IfNone, IfSome, length, option_map, slice_get}
+use Rattle.std.specs.Prelude.{◌≡◌, ◌≤◌, ℕ, false, List, None, Some, IfNone, IfSome, IsSome, length, option_map, slice_get}
 use Rattle.std.specs.Arc.{arc_value}
 use Rattle.std.specs.declared.alloc.Global.{Global}
 use Rattle.std.specs.declared.sync.Arc.{Arc}
+use Rattle.client_sources.specs.Limits.{are_none}
 use Rattle.relay_admin.specs.declared.rules.rule.Rule.{Rule}
 use Rattle.relay_core.specs.declared.capacity.Capacity.{Capacity}
 use Rattle.relay_settings.specs.Listeners.{further_listeners}
@@ -20,13 +21,15 @@ use Rattle.relay_facts.specs.declared.config.Config.{Config}
 use Rattle.relay_facts.specs.declared.served_rule.Said.{Said}
 use Rattle.relay_facts.specs.declared.served_rule.ServedRule.{ServedRule}
 
--- what an account says is this rule, at its addresses, with its limit, its sockets, its targets, of which
+-- what an account says is this rule, at its addresses, with its limits, its sockets, its targets, of which
 -- one is picked and which are checked as it says, with its header for them, with its lists of clients, and
 -- with those that begin with a header
 pub record SaysRule (given : SaidRule) (said : Said) : Type 0 where
   pub rule : said.rule ≡ given.rule
   pub listens : listens_in said ≡ given.listens.items
   pub limit : said.limit ≡ given.limit
+  pub source_limits : said.source_limits ≡ given.source_limits
+  pub sources : are_none given.source_limits ≡ false → IsSome said.sources
   pub sockets : said.sockets ≡ given.sockets
   pub targets : targets_with (option_map arc_value said.targets) said.rule ≡ given.targets.items
   pub balance : IfSome said.targets (λ list. (arc_value list).balance ≡ given.balance)

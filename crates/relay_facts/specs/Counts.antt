@@ -22,20 +22,25 @@ abbrev pub cause_count_of : Cause → ℕ × ℕ → ℕ × ℕ
 cause_count_of cause = count_behind (cause_place cause)
 
 -- the count in `LoopCounts` of the clients that weren't served so, for want of a target, of room at
--- the poller, of a header or of a good one, or of memory
+-- the poller, of a header or of a good one, or of memory, or since there were enough of their source
 abbrev pub refusal_of : Ended → ℕ × ℕ → ℕ × ℕ
 refusal_of (how.NoTarget why) = count_behind 3
 refusal_of how.Descriptors = count_behind 5
 refusal_of how.NoHeader = count_behind 6
 refusal_of how.BadHeader = count_behind 7
+refusal_of how.SourceFull = count_behind 8
+refusal_of how.SourceRate = count_behind 9
 refusal_of other = count_behind 4
 
 -- the count in `RuleCounts` of the clients that were dropped so: since as many connections stood as
--- may, of the rule or on the whole, or for want of memory, or since its lists didn't let them in
+-- may, of the rule or on the whole, or for want of memory, or since its lists didn't let them in, or since
+-- there were enough of their source
 abbrev pub drop_of : Ended → ℕ × ℕ → ℕ × ℕ
 drop_of how.RuleFull = count_behind 2
 drop_of how.NoMemory = count_behind 3
 drop_of how.Denied = count_behind 4
+drop_of how.SourceFull = count_behind 5
+drop_of how.SourceRate = count_behind 6
 drop_of other = count_behind 1
 
 -- how many loops count for a rule

@@ -10,6 +10,7 @@ pub mod Listens
 pub mod LogLines
 pub mod RulesFile
 pub mod Safeguards
+pub mod Seats
 pub mod Senders
 pub mod SetOrder
 pub mod Shown

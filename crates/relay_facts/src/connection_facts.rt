@@ -11,12 +11,13 @@ ghost use Rattle.relay_facts.specs.Senders.{senders_at};
 
 use crate::counts::LoopCounts;
 use crate::header::AcceptedAt;
+use crate::rule_sources::RuleSources;
 use crate::senders::Senders;
 use crate::served_rule::{ServedRule, same_list};
 use crate::target_list::{NoneLeft, Picked, Targets};
 use relay_admin::{Addr, Rule, Shown, ShownSide};
 use relay_core::PairLimit;
-use relay_settings::{Access, Sockets, Version};
+use relay_settings::{Access, Sockets, SourceLimits, Version};
 use std::sync::Arc;
 use std::sync::atomic::{AtomicU64, AtomicUsize, Ordering};
 use target_pick::{Tried, source_number};
@@ -29,6 +30,9 @@ pub struct Acceptance {
     pub rule: Rule,
     /// How many connections of its rule might stand then, where the rule said that itself.
     pub limit: Option<PairLimit>,
+    /// How many clients of one source were let in then, and what counts them, where its rule limits that.
+    pub source_limits: SourceLimits,
+    pub sources: Option<Arc<RuleSources>>,
     /// How its sockets are set up.
     pub sockets: Sockets,
     /// Its rule's targets then; without a list the rule's own target is the only one.
@@ -54,6 +58,8 @@ impl Acceptance {
             ≡ arc_value self.now.served) }
         ensures rule { IfSome result (λ same. same.rule ≡ self.now.rule) }
         ensures limit { IfSome result (λ same. same.limit ≡ self.now.limit) }
+        ensures source_limits { IfSome result (λ same.
+            same.source_limits ≡ self.now.source_limits) }
         ensures sockets { IfSome result (λ same. same.sockets ≡ self.now.sockets) }
         ensures targets { IfSome result (λ same. list_in same ≡ list_in self.now) }
         ensures access { IfSome result (λ same. lists_in same ≡ lists_in self.now) }
@@ -64,6 +70,7 @@ impl Acceptance {
         ensures at { IfSome result (λ same. same.at ≡ self.now.at) }
     {
         let served = Arc::try_clone(&self.served).ok()?;
+        let sources = same_list(&self.sources)?;
         let targets = same_list(&self.targets)?;
         let access = same_list(&self.access)?;
         let senders = same_list(&self.senders)?;
@@ -71,6 +78,8 @@ impl Acceptance {
             served,
             rule: self.rule,
             limit: self.limit,
+            source_limits: self.source_limits,
+            sources,
             sockets: self.sockets,
             targets,
             access,

@@ -43,6 +43,8 @@ fn sums(counts: &RuleCounts) -> (u64, CarriedBytes, Refusals) {
     add(&mut refused.full, counts.full.get());
     add(&mut refused.rule_full, counts.rule_full.get());
     add(&mut refused.no_memory, counts.no_memory.get());
+    add(&mut refused.source_full, counts.source_full.get());
+    add(&mut refused.source_rate, counts.source_rate.get());
     for counted in counts.loops() {
         add(&mut connections, counted.standing());
         add(&mut bytes.up, counted.up.get());
@@ -52,6 +54,8 @@ fn sums(counts: &RuleCounts) -> (u64, CarriedBytes, Refusals) {
         add(&mut refused.descriptors, counted.no_descriptors.get());
         add(&mut refused.no_header, counted.no_header.get());
         add(&mut refused.bad_header, counted.bad_header.get());
+        add(&mut refused.source_full, counted.source_full.get());
+        add(&mut refused.source_rate, counted.source_rate.get());
     }
     (connections, bytes, refused)
 }

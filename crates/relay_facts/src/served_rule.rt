@@ -1,7 +1,8 @@
 //! A rule as a running relay serves it.
 
-ghost use Rattle.std.specs.Prelude.{◌≡◌, None, Some, IfOk, option_map};
+ghost use Rattle.std.specs.Prelude.{◌≡◌, false, None, Some, IfOk, IsSome, option_map};
 ghost use Rattle.std.specs.Arc.{arc_value};
+ghost use Rattle.client_sources.specs.Limits.{are_none, no_limits};
 ghost use Rattle.relay_facts.specs.Acceptance.{checks_with, targets_with};
 ghost use Rattle.relay_facts.specs.Admission.{allowed_by, denied_by};
 ghost use Rattle.relay_facts.specs.Config.{SaysRule};
@@ -11,12 +12,13 @@ ghost use Rattle.relay_settings.specs.Targets.{plain_sockets};
 
 use crate::counts::RuleCounts;
 use crate::listens::{Addresses, addresses_of};
+use crate::rule_sources::RuleSources;
 use crate::senders::{Senders, senders_of};
 use crate::target_list::Targets;
 use base_types::OutOfMemory;
 use relay_admin::{Addr, Rule};
 use relay_core::PairLimit;
-use relay_settings::{Access, PLAIN_SOCKETS, SaidRule, Sockets, Version};
+use relay_settings::{Access, PLAIN_SOCKETS, SaidRule, Sockets, SourceLimits, Version};
 use std::alloc::Global;
 use std::sync::atomic::{AtomicU64, Ordering};
 use std::sync::{Arc, Mutex, Wait};
@@ -29,6 +31,10 @@ pub struct Said {
     pub listens: Option<Arc<Addresses>>,
     /// How many connections of it stand at once; without it as many as of each rule.
     pub limit: Option<PairLimit>,
+    /// How many clients of one source are let in.
+    pub source_limits: SourceLimits,
+    /// What counts those; without it nobody was limited so far.
+    pub sources: Option<Arc<RuleSources>>,
     /// How the sockets of its listeners and connections are set up.
     pub sockets: Sockets,
     /// Its targets; without a list, as an account has it before its rule is read, the rule's own target
@@ -42,11 +48,11 @@ pub struct Said {
     pub senders: Option<Arc<Senders>>,
 }
 
-// The list of these targets. What the list of before counts and knows of a target stays.
+// The list of these targets. What a list of before counts and knows of a target stays.
 fn list_of(
     alloc: Global,
     said: &SaidRule,
-    before: Option<&Targets>,
+    before: Option<&Said>,
 ) -> Result<Arc<Targets>, OutOfMemory>
     ensures targets { IfOk result (λ list.
         targets_with (Some (arc_value list)) said.now.rule ≡ said.now.targets.items) }
@@ -55,7 +61,34 @@ fn list_of(
         checks_with (Some (arc_value list)) ≡ said.now.checks) }
 {
     let targets = said.targets.as_slice();
-    Targets::new(alloc, said.balance, said.checks, targets, before)
+    let list = before.and_then(|before| before.targets.as_ref());
+    let list = list.map(|list| &**list);
+    Targets::new(alloc, said.balance, said.checks, targets, list)
+}
+
+// What counts clients by their sources: the table of before, if there is one, also while nobody is
+// limited; else a new one, where somebody is.
+fn sources_of(
+    alloc: Global,
+    limits: &SourceLimits,
+    before: Option<&Said>,
+) -> Result<Option<Arc<RuleSources>>, OutOfMemory>
+    ensures there { IfOk result (λ sources.
+        are_none limits.now ≡ false → IsSome sources) }
+{
+    if let Some(
+        Said {
+            sources: Some(sources),
+            ..
+        },
+    ) = before
+    {
+        return Ok(Some(Arc::try_clone(sources)?));
+    }
+    if limits.is_none() {
+        return Ok(None);
+    }
+    Ok(Some(RuleSources::new(alloc)?))
 }
 
 // Who may connect to a rule, in memory of its own, where the rule has lists.
@@ -89,6 +122,7 @@ impl Said {
     // The same once more. It takes no memory; refused is only a list that is held too often.
     fn try_clone(&self) -> Option<Said> {
         let listens = same_list(&self.listens)?;
+        let sources = same_list(&self.sources)?;
         let targets = same_list(&self.targets)?;
         let access = same_list(&self.access)?;
         let senders = same_list(&self.senders)?;
@@ -96,6 +130,8 @@ impl Said {
             rule: self.rule,
             listens,
             limit: self.limit,
+            source_limits: self.source_limits,
+            sources,
             sockets: self.sockets,
             targets,
             header: self.header,
@@ -104,11 +140,13 @@ impl Said {
         })
     }
 
-    /// What a rule of the file says. `before` is the list of its account, if that has one.
-    pub fn of(alloc: Global, said: &SaidRule, before: Option<&Targets>) -> Result<Said, OutOfMemory>
+    /// What a rule of the file says. `before` is what its account says, if it has one: what its list of
+    /// targets and its table of sources count is counted on.
+    pub fn of(alloc: Global, said: &SaidRule, before: Option<&Said>) -> Result<Said, OutOfMemory>
         ensures { IfOk result (SaysRule said.now) }
     {
         let listens = addresses_of(alloc, said)?;
+        let sources = sources_of(alloc, &said.source_limits, before)?;
         let targets = Some(list_of(alloc, said, before)?);
         let access = access_of(alloc, said)?;
         let senders = senders_of(alloc, said)?;
@@ -116,6 +154,8 @@ impl Said {
             rule: said.rule,
             listens,
             limit: said.limit,
+            source_limits: said.source_limits,
+            sources,
             sockets: said.sockets,
             targets,
             header: said.header,
@@ -124,12 +164,13 @@ impl Said {
         })
     }
 
-    /// A rule at its own address alone, without a limit of its own and with plain sockets, whose own target
+    /// A rule at its own address alone, without limits of its own and with plain sockets, whose own target
     /// is its only one and is sent no header, and which lets all clients in and awaits a header of none.
     pub fn alone(rule: &Rule) -> Said
         ensures rule { result.rule ≡ rule.now }
         ensures listens { result.listens ≡ None }
         ensures limit { result.limit ≡ None }
+        ensures source_limits { result.source_limits ≡ no_limits }
         ensures sockets { sockets_entry result.sockets ≡ plain_sockets }
         ensures targets { result.targets ≡ None }
         ensures header { result.header ≡ None }
@@ -140,6 +181,8 @@ impl Said {
             rule: *rule,
             listens: None,
             limit: None,
+            source_limits: SourceLimits::none(),
+            sources: None,
             sockets: PLAIN_SOCKETS,
             targets: None,
             header: None,
@@ -151,7 +194,7 @@ impl Said {
 
 /// The account of a rule, by the first address at which it listens: what the rule says now, and what was
 /// counted, of all its listeners together. It outlives these, which are the main thread's. The rule's
-/// name, further addresses, limit, sockets, targets, header, idle time and lists of clients change with a
+/// name, further addresses, limits, sockets, targets, header, idle time and lists of clients change with a
 /// reload; a connection goes on by what they were when it was accepted.
 #[derive(Drop)]
 pub struct ServedRule {
@@ -178,6 +221,8 @@ impl ServedRule {
             rule,
             listens,
             limit,
+            source_limits,
+            sources,
             sockets,
             targets,
             header,
@@ -191,6 +236,8 @@ impl ServedRule {
                 rule,
                 listens,
                 limit,
+                source_limits,
+                sources,
                 sockets,
                 targets,
                 header,

@@ -26,6 +26,7 @@ use Rattle.relay_facts.specs.declared.connection_facts.Acceptance.{Acceptance}
 use Rattle.relay_facts.specs.declared.connection_facts.ConnectionFacts.{ConnectionFacts}
 use Rattle.relay_loops.specs.declared.loop_task.LoopTask.{LoopTask}
 use Rattle.relay_loops.specs.declared.loop_task.LoopTask.TheVariants as task
+use Rattle.relay_shared.specs.Inbox.{IsSeated}
 use Rattle.relay_shared.specs.declared.inbox.Counted.{Counted}
 use Rattle.target_pick.specs.Tried.{was_tried}
 use Rattle.target_pick.specs.declared.tried.Tried.{Tried}
@@ -84,13 +85,20 @@ module _ {U D R : Type 0} where
     pub counts : counted_awaited awaiting ≡ counted
     pub put : IsPut old new at (task.Awaiting awaiting)
 
+  -- a client is served so with the seat that its source has for it, or nothing is left of it
+  pub record IsServedSeated {A : Type 0} (old new : Tasks (LoopTask U D R) A) (client : Acceptance)
+      (counted : Counted) (connect_ms : Option ℕ) : Type 0 where
+    pub counts : Counted
+    pub seated : IsSeated counted counts
+    pub served : IsServedOrGone old new client counts connect_ms
+
   -- one that has said who it is is served as the one that its header tells, or nothing is left of it
   pub record IsServedAsTold {A : Type 0} (old new : Tasks (LoopTask U D R) A) (client : Acceptance)
       (counted : Counted) (connect_ms : Option ℕ) : Type 0 where
     pub header : Header
     pub told : Acceptance
     pub tells : IsToldBy header client told
-    pub served : IsServedOrGone old new told counted connect_ms
+    pub served : IsServedSeated old new told counted connect_ms
 
   -- a client that is to say who it is is awaited, or has said it, or nothing is left of it: it is never
   -- served as the one that its socket names, unless its header says so

@@ -7,7 +7,7 @@ ghost use Rattle.std.specs.Arc.{arc_value};
 ghost use Rattle.readiness.specs.EventLoop.{tasks_of};
 ghost use Rattle.readiness.specs.Tasks.{HasPlace, SameTasks};
 ghost use Rattle.relay_conn.specs.Awaiting.{awaited_until, client_awaited, counted_awaited};
-ghost use Rattle.relay_loops.specs.SetUp.{IsAwaitedOrTold};
+ghost use Rattle.relay_loops.specs.SetUp.{IsAwaitedOrTold, IsServedSeated};
 ghost use Rattle.relay_loops.specs.Turns.{IsAwaitTurn, StayArmed};
 
 use crate::arrival::Arrival;
@@ -16,9 +16,11 @@ use crate::loops::{ConnLoop, LoopHost};
 use crate::taken::Delivered;
 use proxy_header::Header;
 use readiness::{Turn, Why};
-use relay_conn::awaiting::{AwaitStep, Awaiting};
+use relay_conn::awaiting::{AwaitStep, Awaiting, ToldClient};
 use relay_conn::judged::Judged;
 use relay_conn::refused::Refused;
+use relay_conn::seated::Unseated;
+use relay_facts::clock::Moments;
 use std::mem;
 use std::net::Net;
 use std::sync::Wait;
@@ -141,10 +143,26 @@ impl<U: Ledger, D: Ledger, R: Wait + Net + Clock + Copy> LoopHost<U, D, R> {
         ensures armed { StayArmed (tasks_of tasks.old) (tasks_of tasks.new) }
     {
         match client.told(header, size) {
-            Ok(told) => self.serve_client(tasks, Delivered::told(told)),
+            Ok(told) => self.serve_seated(tasks, told),
             Err(client) => {
                 let why = client.failure();
                 self.turn_away(client, why);
+            }
+        }
+    }
+
+    // Serves a client that has said who it is, where its source has a seat for it.
+    fn serve_seated(&mut self, tasks: &mut ConnLoop<U, D, R>, client: ToldClient)
+        ensures served { IsServedSeated (tasks_of tasks.old) (tasks_of tasks.new)
+            client.acceptance client.counted (arc_value self.old.context.shared).safeguards.connect_ms }
+        ensures armed { StayArmed (tasks_of tasks.old) (tasks_of tasks.new) }
+    {
+        let now = self.context.clock.now();
+        match client.seated(&self.context.rt, now) {
+            Ok(client) => self.serve_client(tasks, Delivered::told(client)),
+            Err(Unseated { acceptance, why }) => {
+                Arrival::new(acceptance).refused(&self.context, why);
+                self.context.shared.note_end();
             }
         }
     }

@@ -55,13 +55,18 @@ unfoldable pub unheard_text : List ℕ → Refusals → List ℕ
 unheard_text rule refused = cause_text family.RuleRefused rule (codes "no_header") refused.no_header
     ++ cause_text family.RuleRefused rule (codes "bad_header") refused.bad_header
 
+-- a rule's connections of whose client's source there were enough, for each cause
+unfoldable pub by_source_text : List ℕ → Refusals → List ℕ
+by_source_text rule refused = cause_text family.RuleRefused rule (codes "source_full") refused.source_full
+    ++ cause_text family.RuleRefused rule (codes "source_rate") refused.source_rate
+
 -- a rule's refused connections, for each cause
 unfoldable pub refused_text : List ℕ → Refusals → List ℕ
 refused_text rule refused = cause_text family.RuleRefused rule (codes "denied") refused.denied
     ++ (cause_text family.RuleRefused rule (codes "full") refused.full
     ++ (cause_text family.RuleRefused rule (codes "no_target") refused.no_target
     ++ (cause_text family.RuleRefused rule (codes "rule_full") refused.rule_full
-    ++ (shortage_text rule refused ++ unheard_text rule refused))))
+    ++ (shortage_text rule refused ++ (unheard_text rule refused ++ by_source_text rule refused)))))
 
 -- a rule's figure for a cause with its count
 abbrev pub counted_text : Family → List ℕ → List ℕ × ℕ → List ℕ

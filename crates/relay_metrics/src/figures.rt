@@ -38,6 +38,10 @@ pub struct Refusals {
     pub no_header: u64,
     /// The same, and its bytes begin with no header.
     pub bad_header: u64,
+    /// As many of its source stood as may.
+    pub source_full: u64,
+    /// As many clients of its source were let in as may be in their time.
+    pub source_rate: u64,
 }
 
 /// What is told of a rule. Its name stands in the text as it is, between quotation marks: neither

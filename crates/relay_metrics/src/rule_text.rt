@@ -1,7 +1,8 @@
 //! What the text says of rules: a family's figures of all of them stand together.
 
 ghost use Rattle.std.specs.Prelude.{◌≡◌, ◌++◌, OnOk, map};
-ghost use Rattle.relay_metrics.specs.Text.{cause_text, causes_text, defence_text, flag, of_rule};
+ghost use Rattle.relay_metrics.specs.Text.{by_source_text, cause_text, causes_text, defence_text};
+ghost use Rattle.relay_metrics.specs.Text.{flag, of_rule};
 ghost use Rattle.relay_metrics.specs.Text.{refused_text, rule_bytes_text, rule_family_text};
 ghost use Rattle.relay_metrics.specs.Text.{rules_text, shortage_text, unheard_text};
 
@@ -138,7 +139,33 @@ fn write_refused<A: Allocator>(
         refused.rule_full,
     )?;
     write_shortages(into, rule, refused)?;
-    write_headers(into, rule, refused)
+    write_headers(into, rule, refused)?;
+    write_sources(into, rule, refused)
+}
+
+// Those of clients of whose source there were enough.
+#[tactic(auto, unfolding(crate::specs::Text::by_source_text))]
+fn write_sources<A: Allocator>(
+    into: &mut Vec<u8, A>,
+    rule: &[u8],
+    refused: Refusals,
+) -> Result<(), OutOfMemory>
+    ensures { OnOk result (into.new.items ≡ into.old.items ++ by_source_text rule.now refused) }
+{
+    write_cause(
+        into,
+        Family::RuleRefused,
+        rule,
+        b"source_full",
+        refused.source_full,
+    )?;
+    write_cause(
+        into,
+        Family::RuleRefused,
+        rule,
+        b"source_rate",
+        refused.source_rate,
+    )
 }
 
 // Those of clients that didn't say who they are.

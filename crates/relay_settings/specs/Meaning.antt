@@ -5,6 +5,7 @@ use Rattle.std.specs.Prelude.{nat_le, slice_index, Option, Some, None, is_none, 
 use Rattle.std.specs.Option.{option_and_then}
 use Rattle.std.specs.String.{string_bytes}
 use Rattle.client_nets.specs.Net.{Network, network_of}
+use Rattle.client_sources.specs.declared.limits.Limits.{Limits}
 use Rattle.config_values.specs.Addr as config
 use Rattle.relay_admin.specs.rules.Addr.{Address, address_of, tcp, tcp6, unix}
 use Rattle.relay_admin.specs.rules.Grammar.{Entry, entry_of}
@@ -159,13 +160,14 @@ pub record SaidTargetEntry : Type 0 where
   pub weight : ℕ
   pub backup : Bool
 
--- a rule, where it listens, how many connections of it stand at once, how its sockets are set up, its
--- targets, how these are checked and what they are told of a client, who may connect, and who begins with
--- a header
+-- a rule, where it listens, how many connections of it stand at once, how many clients of one source are let
+-- in, how its sockets are set up, its targets, how these are checked and what they are told of a client, who
+-- may connect, and who begins with a header
 pub record SaidRuleEntry : Type 0 where
   pub rule : Entry
   pub listens : List Address
   pub limit : Option ℕ
+  pub source_limits : Limits
   pub sockets : SocketsEntry
   pub balance : Balance
   pub access : AccessEntry
@@ -178,14 +180,15 @@ pub record SaidRuleEntry : Type 0 where
 abbrev pub said_target_entry : Target → SaidTargetEntry
 said_target_entry target = record { at = address_of target.at; weight = target.weight; backup = target.is_backup }
 
--- a rule, where it listens, how many connections of it stand at once, how its sockets are set up, its
--- targets, how these are checked and what they are told of a client, who may connect, and who begins with
--- a header
+-- a rule, where it listens, how many connections of it stand at once, how many clients of one source are let
+-- in, how its sockets are set up, its targets, how these are checked and what they are told of a client, who
+-- may connect, and who begins with a header
 abbrev pub said_rule_entry : SaidRule → SaidRuleEntry
 said_rule_entry said = record {
   rule = entry_of said.rule;
   listens = map address_of said.listens.items;
   limit = option_map (λ p. p.count) said.limit;
+  source_limits = said.source_limits;
   sockets = sockets_entry said.sockets;
   balance = said.balance;
   access = access_entry said.access;
@@ -200,18 +203,14 @@ abbrev pub is_default_resolve : Option ℕ → Bool
 is_default_resolve (Some ms) = ms == DEFAULT_RESOLVE_MS
 is_default_resolve None = false
 
--- how many clients of one address a rule serves: as many as of all
-unfoldable pub clients_alone : Place → ClientsEntry → Result (Unit {0}) Fault
-clients_alone here clients = do
-  each ← served_if (spot here key.ConnectionsPerSource) (is_none clients.source_connections)
-  served_if (spot here key.AcceptsPerSource) (is_none clients.source_accepts)
+-- how many clients of one source are let in
+abbrev pub source_limits_in : ClientsEntry → Limits
+source_limits_in clients = record { connections = clients.source_connections; accepts = clients.source_accepts }
 
--- what a rule says beside its lists, its name, its idle time, its limit, how its sockets are set up, how a
+-- what a rule says beside its lists, its name, its idle time, its limits, how its sockets are set up, how a
 -- target is picked and how targets are checked
 unfoldable pub head_alone : Place → HeadEntry → Result (Unit {0}) Fault
-head_alone here head = do
-  names ← served_if (spot here key.Resolve) (is_default_resolve head.resolve)
-  clients_alone here head.clients
+head_alone here head = served_if (spot here key.Resolve) (is_default_resolve head.resolve)
 
 -- the address behind these at which a rule listens
 abbrev pub address_behind : ℕ → List Address → config.Address → Result Address Fault
@@ -268,6 +267,7 @@ rule_in n rule = do
     rule = record { name = rule.head.name; listen = listen; target = target; idle = idle };
     listens = listens;
     limit = limit;
+    source_limits = source_limits_in rule.head.clients;
     sockets = rule.head.sockets;
     balance = rule.head.balance;
     access = rule.access;

@@ -113,6 +113,7 @@ fn says_rule(said: &SaidRule, rule: &Rule) -> bool
     said.is_alone()
         && said.has_one_listener()
         && said.limit.is_none()
+        && said.source_limits.is_none()
         && said.has_plain_sockets()
         && said.has_no_lists()
         && said.checks.is_none()

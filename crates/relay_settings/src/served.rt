@@ -10,9 +10,9 @@ ghost use Rattle.relay_config.specs.Entries.{access_entry, clients_entry, head_e
 ghost use Rattle.relay_config.specs.Entries.{proxy_entry, target_entry};
 ghost use Rattle.relay_config.specs.Fault.{Answers, Reads};
 ghost use Rattle.relay_config.specs.declared.fault.Fault.{Fault};
-ghost use Rattle.relay_settings.specs.Meaning.{clients_alone, each_of, first_address, first_listener};
+ghost use Rattle.relay_settings.specs.Meaning.{each_of, first_address, first_listener};
 ghost use Rattle.relay_settings.specs.Meaning.{head_alone, header_in, is_default_resolve};
-ghost use Rattle.relay_settings.specs.Meaning.{senders_in};
+ghost use Rattle.relay_settings.specs.Meaning.{senders_in, source_limits_in};
 ghost use Rattle.relay_settings.specs.Meaning.{address_behind};
 ghost use Rattle.relay_settings.specs.Meaning.{rule_in};
 ghost use Rattle.relay_settings.specs.Meaning.{said_rule_entry, said_target_entry};
@@ -22,6 +22,7 @@ ghost use Rattle.relay_settings.specs.Targets.{first_at};
 use crate::address::{address_at, pairs_in, served_if, time_in, unserved};
 use crate::targets::{MAX_TARGETS, SaidRule, Target};
 use client_nets::Net;
+use client_sources::Limits;
 use relay_admin::{Addr, Rule};
 use relay_config as config;
 use relay_config::{
@@ -54,6 +55,7 @@ pub(crate) fn rule_of(alloc: Global, number: usize, rule: &config::Rule) -> Resu
         },
         listens,
         limit,
+        source_limits: source_limits_of(&rule.head.clients),
         sockets: rule.head.sockets,
         balance: rule.head.balance,
         access,
@@ -89,13 +91,22 @@ fn senders_of(alloc: Global, proxy: &Option<Proxy>) -> Result<Vec<Net>, Fault>
     }
 }
 
+/// How many clients of one source are let in.
+fn source_limits_of(clients: &Clients) -> Limits
+    ensures { result ≡ source_limits_in (clients_entry clients.now) }
+{
+    Limits {
+        connections: clients.source_connections,
+        accepts: clients.source_accepts,
+    }
+}
+
 #[tactic(auto, unfolding(crate::specs::Meaning::head_alone))]
 fn head_alone(place: Place, head: &Head) -> Result<(), Fault>
     ensures { result ≡ head_alone place (head_entry head.now) }
 {
     let resolves = is_default_resolve(head.resolve_ms);
-    served_if(Spot::of(place, Key::Resolve), resolves)?;
-    clients_alone(place, &head.clients)
+    served_if(Spot::of(place, Key::Resolve), resolves)
 }
 
 fn is_default_resolve(resolve_ms: Option<u64>) -> bool
@@ -105,18 +116,6 @@ fn is_default_resolve(resolve_ms: Option<u64>) -> bool
         Some(ms) => ms == DEFAULT_RESOLVE_MS,
         None => false,
     }
-}
-
-#[tactic(auto, unfolding(crate::specs::Meaning::clients_alone))]
-fn clients_alone(place: Place, clients: &Clients) -> Result<(), Fault>
-    ensures { result ≡ clients_alone place (clients_entry clients.now) }
-{
-    let each = clients.source_connections.is_none();
-    served_if(Spot::of(place, Key::ConnectionsPerSource), each)?;
-    served_if(
-        Spot::of(place, Key::AcceptsPerSource),
-        clients.source_accepts.is_none(),
-    )
 }
 
 /// The same lists, in memory of their own.

@@ -1,14 +1,16 @@
-//! A rule with where it listens, its limit, its sockets, its targets, their checks, what they are told of a
+//! A rule with where it listens, its limits, its sockets, its targets, their checks, what they are told of a
 //! client, and its lists of clients and of those that begin with a header, as a file says them.
 
 ghost use Rattle.std.specs.Prelude.{◌≡◌, ◌≤◌, ◌<◌, ◌∷◌, [], IfOk, IsTrue, Some, None, ◌↔◌, length};
 ghost use Rattle.std.specs.Prelude.{slice_get};
+ghost use Rattle.client_sources.specs.Limits.{no_limits};
 ghost use Rattle.relay_config.specs.Entries.{sockets_entry};
 ghost use Rattle.relay_settings.specs.Targets.{first_at, own_target, plain_sockets};
 ghost use Rattle.target_pick.specs.declared.picking.Balance.TheVariants.{RoundRobin};
 
 use base_types::OutOfMemory;
 use client_nets::Net;
+use client_sources::Limits;
 use relay_admin::{Addr, Rule};
 use relay_config::{Access, Checks, Sockets, Version};
 use relay_core::PairLimit;
@@ -36,9 +38,9 @@ pub struct Target {
     pub is_backup: bool,
 }
 
-/// A rule, where it listens, how many connections of it stand at once, how its sockets are set up, its
-/// targets, how these are checked and what they are told of a client, who may connect, and who begins with
-/// a header.
+/// A rule, where it listens, how many connections of it stand at once, how many clients of one source are let
+/// in, how its sockets are set up, its targets, how these are checked and what they are told of a client, who
+/// may connect, and who begins with a header.
 #[derive(Drop)]
 pub struct SaidRule {
     /// Its own address is the first one, and so is its own target.
@@ -47,6 +49,8 @@ pub struct SaidRule {
     pub listens: Vec<Addr>,
     /// How many connections of it stand at once; without it as many as of each rule.
     pub limit: Option<PairLimit>,
+    /// How many clients of one source are let in.
+    pub source_limits: Limits,
     /// How the sockets of its listeners, of its clients and to its targets are set up.
     pub sockets: Sockets,
     /// By what a client's is picked.
@@ -79,13 +83,14 @@ fn own_target(rule: &Rule) -> Target
 }
 
 impl SaidRule {
-    /// A rule at its own address alone, without a limit of its own and with plain sockets, whose own
+    /// A rule at its own address alone, without limits of its own and with plain sockets, whose own
     /// target is its only one, isn't checked and is sent no header, and which lets all clients in and awaits
     /// a header of none, as a rules file says it.
     pub fn alone(alloc: Global, rule: Rule) -> Result<SaidRule, OutOfMemory>
         ensures rule { IfOk result (λ said. said.rule ≡ rule) }
         ensures listens { IfOk result (λ said. said.listens.items ≡ rule.listen ∷ []) }
         ensures limit { IfOk result (λ said. said.limit ≡ None) }
+        ensures source_limits { IfOk result (λ said. said.source_limits ≡ no_limits) }
         ensures sockets { IfOk result (λ said. sockets_entry said.sockets ≡ plain_sockets) }
         ensures balance { IfOk result (λ said. said.balance ≡ RoundRobin) }
         ensures allow { IfOk result (λ said. said.access.allow.items ≡ []) }
@@ -103,6 +108,7 @@ impl SaidRule {
             rule,
             listens,
             limit: None,
+            source_limits: Limits::none(),
             sockets: PLAIN_SOCKETS,
             balance: Balance::RoundRobin,
             access: Access {

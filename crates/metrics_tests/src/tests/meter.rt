@@ -26,6 +26,8 @@ fn web() -> Option<RuleFigures> {
             descriptors: 9,
             no_header: 10,
             bad_header: 11,
+            source_full: 12,
+            source_rate: 13,
         },
         ends: [20, 21, 22, 23, 24, 25, 26],
         unreached: [30, 31, 32, 33, 35],

@@ -62,6 +62,8 @@ pollrelay_rule_refused_total{rule=\"web\",cause=\"no_memory\"} 8\n\
 pollrelay_rule_refused_total{rule=\"web\",cause=\"descriptors\"} 9\n\
 pollrelay_rule_refused_total{rule=\"web\",cause=\"no_header\"} 10\n\
 pollrelay_rule_refused_total{rule=\"web\",cause=\"bad_header\"} 11\n\
+pollrelay_rule_refused_total{rule=\"web\",cause=\"source_full\"} 12\n\
+pollrelay_rule_refused_total{rule=\"web\",cause=\"source_rate\"} 13\n\
 pollrelay_rule_refused_total{rule=\"db-0123456789abc\",cause=\"denied\"} 0\n\
 pollrelay_rule_refused_total{rule=\"db-0123456789abc\",cause=\"full\"} 0\n\
 pollrelay_rule_refused_total{rule=\"db-0123456789abc\",cause=\"no_target\"} 0\n\
@@ -70,6 +72,8 @@ pollrelay_rule_refused_total{rule=\"db-0123456789abc\",cause=\"no_memory\"} 0\n\
 pollrelay_rule_refused_total{rule=\"db-0123456789abc\",cause=\"descriptors\"} 0\n\
 pollrelay_rule_refused_total{rule=\"db-0123456789abc\",cause=\"no_header\"} 0\n\
 pollrelay_rule_refused_total{rule=\"db-0123456789abc\",cause=\"bad_header\"} 0\n\
+pollrelay_rule_refused_total{rule=\"db-0123456789abc\",cause=\"source_full\"} 0\n\
+pollrelay_rule_refused_total{rule=\"db-0123456789abc\",cause=\"source_rate\"} 0\n\
 # HELP pollrelay_rule_ends_total Connections that ended, by cause.\n\
 # TYPE pollrelay_rule_ends_total counter\n\
 pollrelay_rule_ends_total{rule=\"web\",cause=\"eof\"} 20\n\

@@ -69,6 +69,8 @@ const ENDS: &[(Ended, &str)] = &[
     (Ended::Denied, "denied\n"),
     (Ended::Full, "full\n"),
     (Ended::RuleFull, "rule full\n"),
+    (Ended::SourceFull, "source full\n"),
+    (Ended::SourceRate, "source rate\n"),
     (Ended::NoMemory, "no memory\n"),
     (Ended::Descriptors, "descriptors\n"),
     (Ended::NoHeader, "no header\n"),
