@@ -11,7 +11,7 @@ touch "$work/crates/misuse/specs/Lib.antt" "$work/crates/misuse/proofs/Lib.antt"
 cp "$root/HANDLES" "$work/"
 below='base_types lockword_core lockword fdmutex deadline_core rwloops fd_descriptor'
 below="$below stream_base conntable readiness relay_ledger relay_admin relay_core relay_log log_writer relay_metrics"
-below="$below ip_text text_reading proxy_header target_pick config_values client_nets relay_config relay_settings"
+below="$below ip_text text_reading proxy_header target_pick config_values client_nets client_sources relay_config relay_settings"
 below="$below relay_facts relay_shared relay_conn relay_loops"
 for crate in $below; do
     (cd "$root/crates" && tar --exclude=out --exclude=must-fail --exclude=wrong-bodies -cf - "$crate") | tar -C "$work/crates" -xf -
@@ -72,7 +72,7 @@ refuses() {
 
 # The compiler looks at what is spent twice only where nothing is let go, and at both only where all else is well: hence three looks,
 # each at all crates.
-begin base_types lockword rwloops fd_descriptor relay_conn
+begin base_types lockword rwloops fd_descriptor log_writer relay_facts relay_shared relay_conn
 
 # A half after the unlock, and a value spent twice.
 module spent_twice << 'END'
@@ -155,12 +155,44 @@ where
 }
 END
 
+# A connection ends once, and its entry in the index goes to one holder of its id.
+module ended_twice << 'END'
+//! A connection goes into its end, and what was entered into the index into its id.
+
+use log_writer::Log;
+use relay_conn::connection::Connection;
+use relay_facts::books::LoopBooks;
+use relay_shared::index::{Entered, Gone};
+use relay_shared::standing::RelayIndex;
+use std::sync::ledger::Ledger;
+use std::sync::{Arc, Mutex, Wait};
+use std::time::Clock;
+
+pub fn connection_ended_twice<U: Ledger, D: Ledger, R: Wait + Clock + Copy>(
+    connection: Connection<U, D, R>,
+    rt: &R,
+    index: &Mutex<RelayIndex>,
+    books: &mut LoopBooks<U, D>,
+    log: &Option<Arc<Log>>,
+) -> (Gone, Gone) {
+    let first = connection.end(rt, index, books, log, 1);
+    let second = connection.end(rt, index, books, log, 2); // refused: borrow-e0382
+    (first, second)
+}
+
+pub fn entry_kept_twice(entered: Entered) -> (u64, u64) {
+    let first = entered.keep();
+    let second = entered.keep(); // refused: borrow-e0382
+    (first, second)
+}
+END
+
 # A side of a connection that ends is closed once.
 edited relay_conn/src/connection.rt 's|^            target\.close(rt);$|&\n            target.close(rt); // refused: borrow-e0382|'
 holds_mark relay_conn/src/connection.rt
 refuses 'values that are spent twice'
 
-begin lockword relay_conn relay_loops
+begin lockword relay_shared relay_conn relay_loops
 
 # A value that must be spent, and is let go.
 module let_go << 'END'
@@ -186,6 +218,25 @@ pub fn close(closing: Closing<u64, u64>) {} // refused: linear-value-let-go
 pub fn drain(drains: Drains<u64, u64>) {} // refused: linear-value-let-go
 
 pub fn duty_to_destroy(last: Last<u64, u64>) {} // refused: linear-value-let-go
+END
+
+# What a relay's threads owe one another.
+module owed << 'END'
+//! An entry in the index, a question of a session, the answer that it is owed, and the path of a bind can't be dropped.
+
+use relay_shared::bound_path::{BoundPath, BoundPaths};
+use relay_shared::index::Entered;
+use relay_shared::requests::{Request, Ticket};
+
+pub fn entry(entered: Entered) {} // refused: linear-value-let-go
+
+pub fn question(request: Request) {} // refused: linear-value-let-go
+
+pub fn answer_that_is_owed(ticket: Ticket) {} // refused: linear-value-let-go
+
+pub fn path(bound: BoundPath) {} // refused: linear-value-let-go
+
+pub fn paths(bound: BoundPaths) {} // refused: linear-value-let-go
 END
 
 # A side of a connection that ends is closed.

@@ -1,13 +1,14 @@
 """Runs tests in tiers, and proves nothing: what is proved, `rt ci` says.
 
-    sh tests/run.sh [--lanes N] [--list] [PART]..        the quick tier, or those parts
-    sh tests/run.sh [--lanes N] [--list] full            the full tier too
-    sh tests/run.sh [--lanes N] [--list] outside         of the quick tier what tries the program from outside
+    sh tests/run.sh [--lanes N] [--list] [--table FILE] [PART]..        the quick tier, or those parts
+    sh tests/run.sh [--lanes N] [--list] [--table FILE] full            the full tier too
+    sh tests/run.sh [--lanes N] [--list] [--table FILE] outside         of the quick tier what tries the program from outside
 
 The quick tier is the rows of the table in tests/README.md that are quick, among them those that run the tests of crates, built as
 `rt try` builds them, with checks in place of proofs, and those that try the relay from outside, on a program that is built the same
 way; the tests of each crate that no row names; and each program on its stored input that is no row of its own. A part has a line: how it ended, its seconds, and how many it passed. A part that failed is
 told with the end of what it said, and with the command that runs it alone. The last line is `N passed, M failed`.
+With `--table` the file has, once all have ended, the date, the commit, the machine, and a row for each part.
 
 It needs the kit's rt on the path, python3, and what the rows of the table name.
 """
@@ -25,6 +26,7 @@ import time
 from collections import namedtuple
 
 sys.path.insert(1, f"{sys.path[0]}/..")
+from lib import run_table
 from lib.places import ROOT
 
 # What a test may take on a machine that is full of other work, in seconds.
@@ -192,6 +194,7 @@ class Run:
     def __init__(self, chosen, lanes):
         self.waiting, self.lanes, self.running = chosen, lanes, []
         self.passed = self.failed = 0
+        self.ended = []
         self.program = os.environ.get("POLLRELAY")
         self.is_built = self.program is not None
 
@@ -214,6 +217,7 @@ class Run:
     def end(self, part):
         passed, failed = part.counts()
         self.passed, self.failed = self.passed + passed, self.failed + failed
+        self.ended.append(run_table.Ended(part.name, part.seconds(), passed, failed))
         word = "FAILED" if failed else "ok"
         print(f"{word:6}  {part.name:18} {part.seconds():5.0f} s  {passed} passed, {failed} failed", flush=True)
         if failed:
@@ -238,6 +242,7 @@ class Run:
         """A part that can't run has failed."""
         self.waiting.remove(part)
         self.failed += 1
+        self.ended.append(run_table.Ended(part.name, None, 0, 1))
         print(f"FAILED  {part.name:18}     not run, since {why}", flush=True)
 
     def run(self):
@@ -276,15 +281,21 @@ def main():
     options.add_argument("parts", nargs="*", metavar="PART", help="parts, or outside, or a tier: quick, full")
     options.add_argument("--lanes", type=int, default=PROCESSORS, metavar="N")
     options.add_argument("--list", action="store_true", help="say which parts there are")
+    options.add_argument("--table", type=argparse.FileType("w", encoding="utf-8"), metavar="FILE", help="write how each part ended")
     given = options.parse_args()
     if given.list:
         print_list(chosen_parts(given.parts) if given.parts else parts())
         return 0
     chosen = chosen_parts(given.parts)
+    names, opening = [it.name for it in chosen], run_table.opening(given.parts)
     print("Runs tests, and proves nothing: `rt ci` proves.", flush=True)
     began, run = time.monotonic(), Run(chosen, max(1, given.lanes))
     run.run()
-    print(f"in {time.monotonic() - began:.0f} s, with nothing proved")
+    took = time.monotonic() - began
+    if given.table:
+        with given.table as file:
+            file.write(run_table.table(opening, names, run.ended, took))
+    print(f"in {took:.0f} s, with nothing proved")
     print(f"{run.passed} passed, {run.failed} failed")
     return 1 if run.failed else 0
 

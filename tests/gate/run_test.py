@@ -5,11 +5,13 @@ import ast
 import contextlib
 import io
 import os
+import re
 import sys
 import unittest
 from unittest import mock
 
 import run
+from lib import run_table
 from lib.made import MadeFolder
 
 
@@ -131,6 +133,33 @@ class Runs(MadeFolder):
             self.assertEqual(run.part_of(run.Row("x", "full", 1, needs, "sh x", "y")).lacking, lacking)
         os.environ["POLLRELAY"] = "/bin/true"
         self.assertIsNone(run.part_of(run.Row("x", "full", 1, ["proved program"], "sh x", "y")).lacking)
+
+    def table_of(self, *rows, words=()):
+        """What the runner returns for a table of these parts, and the text that it writes."""
+        self.write("tests/README.md", "\n".join(rows))
+        path = f"{self.folder}/table"
+        with mock.patch.object(sys, "argv", ["run.py", "--table", path, *words]), contextlib.redirect_stdout(io.StringIO()):
+            status = run.main()
+        with open(path, encoding="utf-8") as file:
+            return status, file.read()
+
+    def test_a_table_has_each_part_with_its_counts(self):
+        rows = ("| `well` | quick | 9 |  | `echo 1207 passed, 0 failed` | x |", "| `ill` | full | 9 |  | `sh -c 'echo 4 passed, 2 failed; exit 1'` | x |", "| `mute` | quick | 9 |  | `true` | x |", "| `lacks` | quick | 9 | out/it | `true` | x |")
+        status, text = self.table_of(*rows, words=["full"])
+        self.assertEqual(re.findall(r"^\| `(\w+)` \| ([\w ]+) \| ([\d,]+) \| (\d+) \|$", text, re.M), [("ill", "0", "4", "2"), ("lacks", "not run", "0", "1"), ("mute", "0", "1", "0"), ("well", "0", "1,207", "0")])
+        self.assertEqual((status, text.count("\n")), (1, 8))
+        self.assertRegex(text, r"^`sh tests/run\.sh full` of \d{4}-\d\d-\d\d, .*commit.*, on \d+ processors, \d+ GiB of memory, Linux \S+, .*: 1,212 passed, 3 failed, in \d+ s\.\n\n\| Part ")
+
+    def test_a_table_without_a_part_is_not_written(self):
+        ended = [run_table.Ended("one", 1, 2, 0)]
+        self.assertIn("| `one` | 1 | 2 | 0 |", run_table.table("", ["one"], ended, 3))
+        with self.assertRaises(KeyError):
+            run_table.table("", ["one", "two"], ended, 3)
+
+    def test_a_table_that_cannot_be_written_is_refused_before_any_part_runs(self):
+        with self.assertRaises(SystemExit), contextlib.redirect_stderr(io.StringIO()):
+            with mock.patch.object(sys, "argv", ["run.py", "--table", f"{self.folder}/none/table", "one"]):
+                run.main()
 
     def test_an_unknown_part_is_refused(self):
         with mock.patch.object(sys, "argv", ["run.py", "nobody"]), self.assertRaises(SystemExit) as refused:

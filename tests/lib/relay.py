@@ -34,9 +34,9 @@ class Session:
         return said[:-1]
 
     def reply(self, asked):
-        """The lines of the next reply, which is one to this line: that to `show` has many."""
+        """The lines of the next reply, which is one to this line: those to `show` and `targets` have many."""
         lines = [self.line(asked)]
-        while asked == "show" and lines[-1].startswith("show "):
+        while lines[-1].startswith({"show": "show ", "targets": "target "}.get(asked, "\n")):
             lines.append(self.line(asked))
         return lines
 
@@ -132,6 +132,13 @@ class Relay:
 
     def ids(self):
         return [int(word) for word in self.ask("list").split()[1:]]
+
+    def has_standing(self, count):
+        """Whether it lists so many connections, and has no more at its targets: one leaves the list before it is counted no more, and
+        its target last."""
+        listed = sum(" side client " in line for line in self.ask("show").splitlines())
+        targets = [line.split() for line in self.ask("targets").splitlines() if line.startswith("target ")]
+        return listed == count and sum(int(words[words.index("connections") + 1]) for words in targets) <= count
 
     def totals(self):
         return totals_of(self.ask("totals").removeprefix("totals "))

@@ -46,7 +46,7 @@ CHECKS = "is not a table ({ every = .., timeout = .., fall = .., rise = .. })"
 NETWORK = "is no network (as 10.0.0.0/8, 2001:db8::/32, 10.0.0.1)"
 NAME = 'is no name (a letter, then letters, digits and "-", all small, at most 16)'
 # Lists that let the clients of these tests in.
-LISTS = 'allow = ["127.0.0.0/8", "2001:db8::/32"]\ndeny = ["10.0.0.0/8"]\n'
+LISTS = 'allow = ["127.0.0.0/8", "2001:db8::/32"]\ndeny = ["10.0.0.0/8"]\nconnections_per_source = 100\naccepts_per_source = "1000000/s"\n'
 # A text as a new operator may write it, and what is said of it behind `bad config: `.
 FAULTS = (
     ("admin = /run/relay.sock\n", "line 1, column 9: no TOML: invalid value, expected a string, number, boolean, date-time, array or inline table"),
@@ -66,6 +66,11 @@ FAULTS = (
     ('metrics = "127.0.0.1:9464"\n', f'metrics: "127.0.0.1:9464" {LISTEN}'),
     ('admin = ""\n', 'admin: "" is no path of a socket (1 to 100 bytes)'),
     ("log = true\n", "log: true is not a path in quotes or a table ({ file = .., format = .. })"),
+    ('log = { file = "-", format = "xml" }\n', 'log: format: "xml" is none of "text", "json"'),
+    ('log = { file = "-", format = 5 }\n', "log: format: 5 is not a text in quotes"),
+    ('log = { file = "-", formt = "json" }\n', 'log: unknown key "formt"; "format" is meant?'),
+    ('log = { format = "json" }\n', "log: file is missing"),
+    ('log = { file = "", format = "xml" }\n', 'log: file: "" is no path of a file (1 to 4095 bytes; - is standard error)'),
     ('[rule]\nname = "web"\n', "rule: a table is not a list of tables ([[rule]])"),
     (HEAD, 'rule "web": listen is missing'),
     ('[[rule]]\nlisten = ["unix:/a"]\n', "rule 1: name is missing"),
@@ -99,13 +104,9 @@ FAULTS = (
 # A text with what isn't carried out, and the place that is named.
 UNSERVED = (
     ('admin = { path = "/a", mode = "0660" }\n', "admin: mode"),
-    ('log = { file = "-", format = "json" }\n', "log: format"),
     ('metrics = "unix:/' + 100 * "m" + '"\n', "metrics"),
     *((HEAD + f"{key} = {value}\n" + ENDS, f'rule "web": {key}') for key, value in (
-        ("connections_per_source", "5"), ("accepts_per_source", '"5/s"'), ("resolve", '"5s"'), ("resolve", '"never"'),
-    )),
-    *((HEAD + f"proxy_protocol = {{ {keys} }}\n" + ENDS, 'rule "web": proxy_protocol: from_client') for keys in (
-        'from_client = ["0.0.0.0/0"]', 'to_target = "v2", from_client = ["::1"]',
+        ("resolve", '"5s"'), ("resolve", '"never"'),
     )),
     (RULE.replace('["unix:/a"]', '["unix:/a", "unix:/c", "unix:/' + 100 * "d" + '"]'), 'rule "web": listen 3'),
     (RULE.replace("unix:/a", "unix:/" + 100 * "a"), 'rule "web": listen 1'),
@@ -115,12 +116,11 @@ UNSERVED = (
     (RULE.replace('{ at = "unix:/b" }', 63 * '{ at = "unix:/b" }, ' + '{ at = "tcp:app.internal:80" }'), 'rule "web": target 64: at'),
     ("".join(RULE.replace("web", f"r{n}").replace("/a", f"/{n}") for n in range(65)), "rule 65"),
     # Of several the first: keys of the whole ahead of rules, and the text's own faults ahead of all.
-    (HEAD + 'accepts_per_source = "5/s"\nconnections_per_source = 5\n' + ENDS, 'rule "web": connections_per_source'),
-    (HEAD + 'proxy_protocol = { from_client = ["10.0.0.0/8"] }\nresolve = "5s"\n' + ENDS, 'rule "web": resolve'),
-    ('log = { file = "-", format = "json" }\n' + HEAD + 'resolve = "5s"\n' + ENDS, "log: format"),
+    (HEAD + 'resolve = "5s"\n' + ENDS.replace("unix:/b", "tcp:app.internal:80"), 'rule "web": resolve'),
+    ('admin = { path = "/a", mode = "0660" }\n' + HEAD + 'resolve = "5s"\n' + ENDS, "admin: mode"),
 )
-# Rules of several targets, of such that are checked, and of such that are sent a header; rules with several addresses, with options of
-# sockets, and with a limit of their own.
+# Rules of several targets, of such that are checked, and of such that are sent a header; rules whose clients begin with one; rules with
+# several addresses, with options of sockets, and with limits of their own and of a source.
 TARGETS = (
     *(RULE.replace('["unix:/a"]', f'[{", ".join(addresses)}]') for addresses in (
         ('"unix:/a"', '"tcp:[::]:443"', '"tcp:0.0.0.0:443"'), [f'"unix:/{n}"' for n in range(16)],
@@ -130,11 +130,16 @@ TARGETS = (
         ("source", '"127.0.0.1"'), ("source", '"2001:db8::1"'),
     )),
     HEAD + "connections = 1\n" + ENDS, HEAD + "connections = 50000\n" + ENDS,
+    *(HEAD + f"{key} = {value}\n" + ENDS for key, value in (
+        ("connections_per_source", "1"), ("connections_per_source", "50000"), ("accepts_per_source", '"1/s"'), ("accepts_per_source", '"1000000/m"'), ("accepts_per_source", '"5/h"'),
+    )),
     *(HEAD + f"health = {keys}\n" + ENDS for keys in ("{}", '{ every = "1ms", timeout = "24h", fall = 1, rise = 100 }', "{ rise = 1 }")),
     RULE.replace('{ at = "unix:/b" }', '{ at = "unix:/b", weight = 2 }, { at = "unix:/b" }, { at = "unix:/c", backup = true }'),
     RULE.replace('"unix:/b"', '"unix:/b", weight = 0'), RULE.replace('"unix:/b"', '"unix:/b", backup = true'),
     RULE.replace('{ at = "unix:/b" }', ", ".join(64 * ['{ at = "unix:/b", weight = 65535 }'])),
-    *(HEAD + f"proxy_protocol = {keys}\n" + ENDS for keys in ('{ to_target = "v1" }', '{ to_target = "v2" }', "{}")),
+    *(HEAD + f"proxy_protocol = {keys}\n" + ENDS for keys in (
+        '{ to_target = "v1" }', '{ to_target = "v2" }', "{}", '{ from_client = ["0.0.0.0/0"] }', '{ to_target = "v2", from_client = ["::1", "10.0.0.1"] }',
+    )),
     *(HEAD + f'balance = "{word}"\n' + ENDS for word in ("round-robin", "least-connections", "first", "source")),
 )
 # Addresses of IPv6, one with the number of a scope.
@@ -175,7 +180,8 @@ def verdicts(checks, folder):
     for text, why in FAULTS:
         refused(checks, folder, text, why)
     two = RULE + RULE.replace("web", "ssh").replace("/a", "/c")
-    for text, count in (("", 0), (RULE, 1), (WITHOUT_MEANING, 1), (two, 2), (SIX, 1), *((text, 1) for text in TARGETS)):
+    json_log = 'log = { file = "-", format = "json" }\n'
+    for text, count in (("", 0), (RULE, 1), (json_log, 0), (WITHOUT_MEANING, 1), (two, 2), (SIX, 1), *((text, 1) for text in TARGETS)):
         checks.expect(f"check: {count} rules", (0, f"rules {count}\n", ""), run("check", "--config", written(folder, text)))
 
 
@@ -231,7 +237,7 @@ def served(checks, folder):
         checks.expect("its end", 0, relay.stop()[0])
         with open(f"{relay.folder}/log", encoding="utf-8") as file:
             checks.holds("its log has a line", " web " in file.read(), "it has none")
-    checks.expect("the sample", (0, "rules 4\n", ""), run("check", "--config", SAMPLE))
+    checks.expect("the sample", (0, "rules 5\n", ""), run("check", "--config", SAMPLE))
     target.close()
 
 
@@ -253,7 +259,8 @@ def options_win(checks, folder):
     every = (
         ("connections", "5", "--connections=6"), ("connections_per_rule", "5", "--connections-per-rule=6"),
         ("connect_timeout", '"5s"', "--connect-timeout=6"), ("replace_stale", "false", "--replace-stale"),
-        ("log", '"/dev/null"', f"--log={folder}/log"), ("metrics", '"unix:/none/m"', None), ("admin", None, None),
+        ("log", '"/dev/null"', f"--log={folder}/log"), ("log", '{ file = "/dev/null", format = "json" }', f"--log={folder}/log"),
+        ("metrics", '"unix:/none/m"', None), ("admin", None, None),
     )
     for key, value, option in every:
         more = f"{key} = {value}\n" if value else ""
@@ -290,10 +297,10 @@ def reloads(checks, folder):
         os.remove(f"{relay.folder}/config")
         checks.expect("no file", "cannot read rules", relay.ask("reload"))
         checks.expect("nothing is told so far", "", relay.errors())
-        relay.write(config(port, one, 'loops = 5\nconnections = 9\nlog = "/none/log"\n'))
+        relay.write(config(port, one, 'loops = 5\nconnections = 9\nlog = { file = "/none/log", format = "json" }\n'))
         checks.expect("new keys", "rules 1", relay.ask("reload"))
         checks.holds("the target of before", reaches(port, first), "no bytes pass")
-        told = "".join(f"reload: {key} has changed, and needs a restart\n" for key in ("connections", "loops", "log"))
+        told = "".join(f"reload: {key} has changed, and needs a restart\n" for key in ("connections", "loops", "log", "format"))
         checks.expect("what needs a restart", told, relay.errors())
         checks.expect("its end", 0, relay.stop()[0])
     first.close()

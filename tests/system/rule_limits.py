@@ -10,14 +10,13 @@ words    an option for all rules leaves a rule's own limit.
 reloads  a reload raises, lowers, takes away and brings a limit, for new clients alone; a refused one changes nothing.
 outlived connections that stand count, though their listener was closed and came back.
 """
-import contextlib
 import sys
 
 sys.path.insert(1, f"{sys.path[0]}/..")
+from lib.configured_relay import relay, reload
 from lib.counting_target import CountingTarget
 from lib.log_text import logged
 from lib.metrics import scrape
-from lib.relay import Relay
 from lib.sockets import connect, some_address
 from lib.stages import run_script
 from lib.waiting import comes
@@ -29,19 +28,6 @@ TARGET = CountingTarget("T")
 def rule(listen, own=None, name="web"):
     limit = "" if own is None else f"connections = {own}\n"
     return f'[[rule]]\nname = "{name}"\nlisten = ["{listen}"]\ntarget = [{{ at = "{TARGET.address}" }}]\n{limit}'
-
-
-def config(*rules, more=""):
-    return f'admin = "{{folder}}/admin.sock"\nlog = "{{folder}}/log"\nloops = 2\n{more}{"".join(rules)}'
-
-
-def relay(*rules, more="", **given):
-    return contextlib.closing(Relay(config(*rules, more=more), form="config", **given))
-
-
-def reload(it, *rules, more=""):
-    it.write(config(*rules, more=more))
-    return it.ask("reload")
 
 
 def served(address):
@@ -68,7 +54,7 @@ def close(clients):
 
 def stands(it, count):
     """Whether so many connections stand before long."""
-    return comes(lambda: sum(" side client " in line for line in it.ask("show").splitlines()) == count)
+    return comes(lambda: it.has_standing(count))
 
 
 def own(checks, _):

@@ -17,17 +17,17 @@ finish    a finish lets the clients that wait at each address in.
 given     each address takes the socket that the relay was started with there, whose path stays, and binds where none was given.
 many      a rule with 16 addresses, and 64 rules with two each, whose descriptors the start counts.
 """
-import contextlib
 import json
 import os
 import socket
 import sys
 
 sys.path.insert(1, f"{sys.path[0]}/..")
+from lib.configured_relay import relay, reload
 from lib.counting_target import CountingTarget
 from lib.log_text import logged
 from lib.metrics import scrape
-from lib.relay import Relay, StartFault
+from lib.relay import StartFault
 from lib.sockets import connect, free_port, has_ipv6, listener, some_address
 from lib.stages import run_script
 from lib.tried import is_refused
@@ -40,19 +40,6 @@ PATH = "unix:{folder}/"
 
 def rule(*listens, target=A, name="web", more=""):
     return f'[[rule]]\nname = "{name}"\nlisten = {json.dumps(listens)}\ntarget = [{{ at = "{target.address}" }}]\n{more}'
-
-
-def config(*rules, more=""):
-    return f'admin = "{{folder}}/admin.sock"\nlog = "{{folder}}/log"\nloops = 2\n{more}{"".join(rules)}'
-
-
-def relay(*rules, more="", **given):
-    return contextlib.closing(Relay(config(*rules, more=more), form="config", **given))
-
-
-def reload(it, *rules, more=""):
-    it.write(config(*rules, more=more))
-    return it.ask("reload")
 
 
 def placed(it, address):

@@ -19,11 +19,11 @@ import socket
 import sys
 
 sys.path.insert(1, f"{sys.path[0]}/..")
+from lib.configured_relay import relay, reload
 from lib.counting_target import CountingTarget
 from lib.held_sockets import held_sockets, queue_of
 from lib.log_text import logged
 from lib.metrics import scrape
-from lib.relay import Relay
 from lib.sockets import connect, has_ipv6, listener, some_address, tcp_address
 from lib.stages import run_script
 from lib.waiting import comes
@@ -38,19 +38,6 @@ PATH = "unix:{folder}/web"
 def rule(listen, *targets, name="web", more=""):
     tables = ", ".join(f'{{ at = "{getattr(it, "address", it)}" }}' for it in targets or (A,))
     return f'[[rule]]\nname = "{name}"\nlisten = {json.dumps([listen])}\ntarget = [{tables}]\n{more}'
-
-
-def config(*rules, more=""):
-    return f'admin = "{{folder}}/admin.sock"\nlog = "{{folder}}/log"\nloops = 2\n{more}{"".join(rules)}'
-
-
-def relay(*rules, more="", **given):
-    return contextlib.closing(Relay(config(*rules, more=more), form="config", **given))
-
-
-def reload(it, *rules, more=""):
-    it.write(config(*rules, more=more))
-    return it.ask("reload")
 
 
 def got(it, address):

@@ -32,6 +32,7 @@ PLAN = [("rough", "never", 2), ("rough", 60_000, 2)]
 COMMANDS = {
     "close {id}": 2, "drain {id}": 2, "deadline {id} {ms}": 16, "deadline {id} never": 20,
     "show {id}": 16, "show": 1, "list": 4, "totals": 4, "frob": 2, "list {id}": 2,
+    "targets": 1, "target nobody {id} down": 2, "target nobody {id}": 1,
 }
 
 

@@ -192,7 +192,7 @@ def _(stack, checks):
 @trial("bad config: ..")
 def _(stack, checks):
     folder = stack.enter_context(tempfile.TemporaryDirectory())
-    faults = (("no time", "idle", '"30x"', "is no time"), ("what isn't served", "connections_per_source", "5", "this version doesn't serve it"))
+    faults = (("no time", "idle", '"30x"', "is no time"), ("what isn't served", "resolve", '"5s"', "this version doesn't serve it"))
     for name, key, value, why in faults:
         with open(f"{folder}/config", "w", encoding="ascii") as file:
             file.write(f'[[rule]]\nname = "web"\nlisten = ["unix:/a"]\ntarget = [{{ at = "unix:/b" }}]\n{key} = {value}\n')
@@ -309,6 +309,29 @@ def _(stack, checks):
     checks.holds("clients are served", comes_back(made.web), "")
 
 
+@trial("the same with bad header")
+def _(stack, checks):
+    made = Configured(stack, 'proxy_protocol = { from_client = ["127.0.0.0/8"] }\n')
+    client = stack.enter_context(connect(made.web))
+    client.sendall(b"GET / HTTP/1.1\r\n")
+    checks.holds("it is closed", is_closed(client), "")
+    checks.holds("the log", made.ends("bad header") and "127.0.0.1" in made.logged()[0], made.logged())
+    made.relay.write(made.text(""))
+    checks.expect("a reload without the list", (0, "rules 1"), ctl(made.relay.admin, "reload"))
+    checks.holds("clients are served", comes_back(made.web), "")
+
+
+@trial("the same after 5 seconds, with no header")
+def _(stack, checks):
+    made = Configured(stack, 'proxy_protocol = { from_client = ["127.0.0.0/8"] }\n')
+    checks.holds("it is closed", is_closed(stack.enter_context(connect(made.web))), "")
+    checks.holds("the log", made.ends("no header") and "127.0.0.1" in made.logged()[0], made.logged())
+    with connect(made.web) as client:
+        client.sendall(b"PROXY UNKNOWN\r\nhello")
+        client.settimeout(SECONDS)
+        checks.expect("one that sends a header is served", b"hello", client.recv(5))
+
+
 @trial("the same with full")
 def _(stack, checks):
     made = Made(stack, None, "never", "--connections", "1")
@@ -324,6 +347,25 @@ def _(stack, checks):
     made.client()
     checks.holds("it is closed", is_closed(stack.enter_context(connect(made.web))), "")
     checks.holds("the log", made.ends("rule full"), made.logged())
+
+
+@trial("the same with source full")
+def _(stack, checks):
+    made = Configured(stack, "connections_per_source = 1\n")
+    first = stack.enter_context(connect(made.web))
+    first.sendall(b"hello")
+    first.settimeout(SECONDS)
+    checks.expect("the first is served", b"hello", first.recv(5))
+    checks.holds("it is closed", is_closed(stack.enter_context(connect(made.web))), "")
+    checks.holds("the log", made.ends("source full") and "127.0.0.1" in made.logged()[0], made.logged())
+
+
+@trial("the same with source rate")
+def _(stack, checks):
+    made = Configured(stack, 'accepts_per_source = "1/h"\n')
+    stack.enter_context(connect(made.web))
+    checks.holds("it is closed", is_closed(stack.enter_context(connect(made.web))), "")
+    checks.holds("the log", made.ends("source rate") and "127.0.0.1" in made.logged()[0], made.logged())
 
 
 @trial("connections end with idle while bytes pass one way")

@@ -26,6 +26,15 @@ fn admits_found(allow: &[Net], deny: &[Net], found: IpAddr) -> bool
     allow.is_empty() || lists(allow, found)
 }
 
+/// Whether one of the networks has the address. An IPv4-mapped one is looked up as the IPv4 address in it.
+pub fn lists_client(nets: &[Net], address: IpAddr) -> bool
+    ensures { (found : IpAddr) → IsLookedUpAs address found
+        → (IsTrue result ↔ IsListed nets.now found) }
+{
+    let found = address.to_canonical();
+    lists(nets, found)
+}
+
 /// Whether one of the networks has the address.
 pub fn lists(nets: &[Net], address: IpAddr) -> bool
     ensures { IsTrue result ↔ IsListed nets.now address }

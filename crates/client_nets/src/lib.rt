@@ -4,5 +4,5 @@
 mod admit;
 mod net;
 
-pub use admit::{admits, lists};
+pub use admit::{admits, lists, lists_client};
 pub use net::Net;

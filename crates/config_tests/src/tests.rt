@@ -9,4 +9,5 @@ mod nets;
 mod picks;
 mod rule_faults;
 mod rule_keys;
+mod sources;
 mod values;

@@ -6,6 +6,7 @@ use Rattle.config_values.specs.Ip.{ipv4_at, ipv6_at}
 use Rattle.config_values.specs.Mode.{SpellsMode, mode_at}
 use Rattle.config_values.specs.Rate.{SpellsRate, rate_at}
 use Rattle.config_values.specs.Time.{SpellsTime, time_at}
+use Rattle.config_values.specs.declared.rate.Rate.{Rate}
 
 -- a time is read from a text that spells it, and from no other
 abbrev pub TimesAreRead : Type 0
@@ -13,7 +14,7 @@ TimesAreRead = (text : List ℕ) (ms : ℕ) → (time_at text ≡ Some ms) ↔ S
 
 -- so is a rate
 abbrev pub RatesAreRead : Type 0
-RatesAreRead = (text : List ℕ) (rate : ℕ) → (rate_at text ≡ Some rate) ↔ SpellsRate text rate
+RatesAreRead = (text : List ℕ) (rate : Rate) → (rate_at text ≡ Some rate) ↔ SpellsRate text rate
 
 -- so is a mode
 abbrev pub ModesAreRead : Type 0

@@ -19,5 +19,5 @@ pub use addr_text::MAX_ADDR_BYTES;
 pub use host_name::{MAX_LABEL_BYTES, MAX_NAME_BYTES, is_host_name};
 pub use ip::{ip_of, is_mapped};
 pub use mode::mode_of;
-pub use rate::{MAX_RATE, rate_of};
+pub use rate::{MAX_RATE, Rate, rate_of};
 pub use time::{DAY_MS, time_of};

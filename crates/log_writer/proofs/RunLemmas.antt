@@ -71,7 +71,7 @@ each_line_is_written_or_told log pushes run few =
 
 pub the_last_batch_tells_the_rest : TheLastBatchTellsTheRest
 the_last_batch_tells_the_rest log pushes entries empty told =
-    sym (append-assoc log.written log.queue.bytes (lost_text log.queue.lost))
-    ∙ ap (λ (t : List ℕ). t ++ lost_text log.queue.lost)
+    sym (append-assoc log.written log.queue.bytes (lost_text log.queue.format log.queue.lost))
+    ∙ ap (λ (t : List ℕ). t ++ lost_text log.queue.format log.queue.lost)
     (ap (λ (w : List ℕ). w ++ log.queue.bytes)
     (sym (append-nil log.written) ∙ ap (λ (b : List ℕ). log.written ++ b) (sym empty)) ∙ told.text)

@@ -43,4 +43,5 @@ EachLineIsWrittenOrTold = (log : LogState) (pushes : List Push) → HasLogRun lo
 abbrev pub TheLastBatchTellsTheRest : Type 0
 TheLastBatchTellsTheRest = (log : LogState) (pushes : List Push) (entries : List Entry) →
     log.batch ≡ [] → AreEntriesOf log.queue pushes (passed_on log) entries →
-    log.written ++ all_text log.queue ≡ flat_map text_of entries ++ lost_text log.queue.lost
+    log.written ++ all_text log.queue
+    ≡ flat_map (text_of log.queue.format) entries ++ lost_text log.queue.format log.queue.lost

@@ -6,8 +6,8 @@ ghost use Rattle.log_writer.specs.Run.{EachLineIsWrittenOrTold, TheLastBatchTell
 ghost use Rattle.log_writer.specs.declared.log_file.TheConstants.{STANDARD_ERROR};
 
 /// However pushes, refills and writes follow each other, and wherever writes stop, the device holds
-/// the lines in order, each once, with a line `lost N` exactly where N were lost; what it doesn't
-/// hold yet is what is left of the batch and what waits. For fewer than 2^64 pushes.
+/// the lines in order, each once, with a line `lost N`, in JSON its object, exactly where N were lost;
+/// what it doesn't hold yet is what is left of the batch and what waits. For fewer than 2^64 pushes.
 pub fn each_line_is_written_or_told()
     ensures { EachLineIsWrittenOrTold }
 {}

@@ -14,6 +14,7 @@ use crate::batch::Batch;
 use crate::counts::Counts;
 use crate::turn::{Next, Turn, must_wake};
 use crate::waiting::Waiting;
+use relay_log::format::Format;
 use relay_log::line::LogLine;
 use std::alloc::{Allocator, Global};
 use std::io::Write;
@@ -30,6 +31,8 @@ pub const PAUSE_MS: u64 = 1_000;
 /// `laws` and the queue's own crate say that of each step.
 #[derive(Drop)]
 pub struct Log<A: Allocator = Global> {
+    /// How its lines are written.
+    pub format: Format,
     alloc: A,
     waiting: Mutex<Waiting<A>>,
     changed: Condvar,
@@ -37,11 +40,15 @@ pub struct Log<A: Allocator = Global> {
 }
 
 impl<A: Allocator + Copy> Log<A> {
-    /// A log into which nothing was pushed. It takes no memory, and starts no thread.
-    pub fn new(alloc: A) -> Log<A> {
+    /// A log of lines in this format, into which nothing was pushed. It takes no memory, and starts no
+    /// thread.
+    pub fn new(alloc: A, format: Format) -> Log<A>
+        ensures format { result.format ≡ format }
+    {
         Log {
+            format,
             alloc,
-            waiting: Mutex::new(Waiting::new(alloc)),
+            waiting: Mutex::new(Waiting::new(alloc, format)),
             changed: Condvar::new(),
             is_over: AtomicBool::new(false),
         }
@@ -53,7 +60,7 @@ impl<A: Allocator + Copy> Log<A> {
     /// that is written says so. After the end was asked for, a line may be left unwritten.
     pub fn push<R: Wait>(&self, rt: &R, line: &LogLine<'_>) {
         let mut text = Vec::new(self.alloc);
-        let has_text = line.write(self.alloc, &mut text).is_ok();
+        let has_text = self.format.write(line, self.alloc, &mut text).is_ok();
         let is_first = {
             let mut waiting = self.waiting.lock(rt);
             let before = waiting.len();

@@ -1,6 +1,7 @@
 //! The log's thread, from its start to its end.
 
-ghost use Rattle.std.specs.Prelude.{◌≡◌, None, false};
+ghost use Rattle.std.specs.Prelude.{◌≡◌, None, IfOk, false};
+ghost use Rattle.log_writer.specs.Thread.{log_of};
 
 use crate::log::Log;
 use base_types::OutOfMemory;
@@ -46,6 +47,7 @@ impl LogThread {
     where
         R: Wait + Threads + Clock + Copy + Send + 'static,
         W: Write + Drop + Send + 'static,
+        ensures { IfOk result (λ thread. log_of thread ≡ log) }
     {
         let Ok(own) = Arc::try_clone(&log) else {
             return Err(OutOfMemory);

@@ -7,6 +7,7 @@ ghost use Rattle.log_writer.specs.Batch.{Refills, Finishes};
 
 use crate::batch::Batch;
 use crate::counts::Counts;
+use relay_log::format::Format;
 use relay_log::queue::{LogQueue, Lost};
 use std::alloc::Allocator;
 
@@ -19,8 +20,9 @@ pub(crate) struct Waiting<A: Allocator> {
 }
 
 impl<A: Allocator> Waiting<A> {
-    /// Nothing waits yet.
-    pub(crate) fn new(alloc: A) -> Waiting<A>
+    /// Nothing waits yet, in a queue of this format.
+    pub(crate) fn new(alloc: A, format: Format) -> Waiting<A>
+        ensures format { result.queue.format ≡ format }
         ensures bytes { result.queue.bytes ≡ [] }
         ensures lost { result.queue.lost ≡ 0 }
         ensures pushed { result.counts.pushed ≡ 0 }
@@ -28,7 +30,7 @@ impl<A: Allocator> Waiting<A> {
         ensures goes_on { result.is_ended ≡ false }
     {
         Waiting {
-            queue: LogQueue::new(alloc),
+            queue: LogQueue::new(alloc, format),
             counts: Counts::none(),
             is_ended: false,
         }

@@ -1,6 +1,5 @@
 -- What a request is answered with.
-use Rattle.std.specs.Prelude.{◌≡◌, ◌≢◌, ◌⊎◌, ℕ, Bool, List, [], ◌∷◌, ◌++◌, codes}
-use Rattle.std.specs.Prelude.{if◌then◌else◌}
+use Rattle.std.specs.Prelude.{◌≡◌, ◌≢◌, ◌⊎◌, ℕ, List, [], ◌∷◌, ◌++◌, codes}
 use Rattle.http.specs.declared.request.Request.{Request}
 use Rattle.http.specs.Request.{head_of}
 use Rattle.http_server.specs.declared.response.Response.{Response}
@@ -10,7 +9,9 @@ use Rattle.relay_metrics.specs.declared.figures.Figures.{Figures}
 use Rattle.metrics_server.specs.declared.place.Place.{Place}
 use Rattle.metrics_server.specs.declared.place.Place.TheVariants as place
 use Rattle.metrics_server.specs.declared.service.MetricsService.{MetricsService}
-use Rattle.relay_metrics.specs.Figures.{all_listen}
+use Rattle.relay_metrics.specs.Figures.{health_of}
+use Rattle.relay_metrics.specs.declared.figures.Health.{Health}
+use Rattle.relay_metrics.specs.declared.figures.Health.TheVariants.{NoTarget, NotListening, Well}
 use Rattle.relay_metrics.specs.Text.{metrics_text}
 
 -- the figures that a service holds: those that were read for its last answer with figures
@@ -54,12 +55,20 @@ well = codes "ok" ++ 10 ∷ []
 abbrev pub unwell : List ℕ
 unwell = codes "not listening" ++ 10 ∷ []
 
--- the status and the text of a relay that is well, or that isn't
-abbrev pub health_status : Bool → ℕ
-health_status is_well = if is_well then 200 else 503
+-- what says that of a rule no target is up
+abbrev pub untargeted : List ℕ
+untargeted = codes "no target up" ++ 10 ∷ []
 
-abbrev pub health_text : Bool → List ℕ
-health_text is_well = if is_well then well else unwell
+-- the status and the text of a relay that is well, or that isn't
+abbrev pub health_status : Health → ℕ
+health_status Well = 200
+health_status NotListening = 503
+health_status NoTarget = 503
+
+abbrev pub health_text : Health → List ℕ
+health_text Well = well
+health_text NotListening = unwell
+health_text NoTarget = untargeted
 
 -- the one field that says which methods a place has
 abbrev pub allowed : List (List ℕ × List ℕ)
@@ -71,16 +80,16 @@ pub record Gives (type content method : List ℕ) (response : Response) : Type 0
   pub refused : ¬ (IsReading method) → IsResponse 405 allowed [] response
 
 -- who reads whether all is well is told by the status, and in words; anybody else who may
-pub record TellsHealth (is_well : Bool) (method : List ℕ) (response : Response) : Type 0 where
+pub record TellsHealth (health : Health) (method : List ℕ) (response : Response) : Type 0 where
   pub read : IsReading method →
-      IsResponse (health_status is_well) (typed plain_type) (health_text is_well) response
+      IsResponse (health_status health) (typed plain_type) (health_text health) response
   pub refused : ¬ (IsReading method) → IsResponse 405 allowed [] response
 
 -- what a place answers, where these figures were read
 abbrev pub IsAnswerAt : Place → Figures → List ℕ → Response → Type 0
 IsAnswerAt place.Metrics read method response =
     Gives figures_type (metrics_text read) method response
-IsAnswerAt place.Health read method response = TellsHealth (all_listen read) method response
+IsAnswerAt place.Health read method response = TellsHealth (health_of read) method response
 IsAnswerAt place.Elsewhere read method response = IsResponse 404 [] [] response
 
 -- a request is answered by the place that its path names

@@ -8,7 +8,7 @@ ghost use Rattle.http.specs.Request.{head_of};
 ghost use Rattle.http_server.specs.Response.{IsBlank, IsResponse};
 ghost use Rattle.metrics_server.specs.Answer.{Gives, TellsHealth, allowed, health_status};
 ghost use Rattle.metrics_server.specs.Answer.{health_text, plain_type, typed};
-ghost use Rattle.relay_metrics.specs.Figures.{all_listen};
+ghost use Rattle.relay_metrics.specs.Figures.{health_of};
 ghost use Rattle.relay_metrics.specs.Text.{metrics_text};
 
 use crate::place::{Place, is_reading, place_of};
@@ -16,11 +16,12 @@ use base_types::OutOfMemory;
 use bytes::{BufMut, Bytes};
 use http::{HeaderName, HeaderValue, Method, Request, StatusCode};
 use http_server::{Response, Service};
-use relay_metrics::{Figures, Metered};
+use relay_metrics::{Figures, Health, Metered};
 use std::alloc::{AllocError, Global};
 
 /// The pages, for any number of connections: `/metrics` with the text of figures that are read for
-/// each request, and `/healthz`, which is well where those of this moment say that all rules listen.
+/// each request, and `/healthz`, which is well where those of this moment say that all rules listen, and
+/// have a target that is up.
 #[derive(Drop)]
 pub struct MetricsService<M: Metered + Drop> {
     metered: M,
@@ -88,13 +89,13 @@ impl<M: Metered + Drop> MetricsService<M> {
     fn answer_health(&mut self, method: &Method, response: &mut Response) -> Result<(), OutOfMemory>
         requires { IsBlank response.old }
         ensures { OnOk result
-            (TellsHealth (all_listen (figures_of self.new)) method.now response.new) }
+            (TellsHealth (health_of (figures_of self.new)) method.now response.new) }
     {
         if !is_reading(method) {
             return not_allowed(response);
         }
         self.metered.read(&mut self.figures)?;
-        give_health(self.figures.all_listen(), response)
+        give_health(self.figures.health(), response)
     }
 }
 
@@ -116,16 +117,24 @@ impl<M: Metered + Drop> Service for MetricsService<M> {
     }
 }
 
-fn give_health(is_well: bool, response: &mut Response) -> Result<(), OutOfMemory>
+fn give_health(health: Health, response: &mut Response) -> Result<(), OutOfMemory>
     requires { IsBlank response.old }
-    ensures { OnOk result (IsResponse (health_status is_well) (typed plain_type)
-        (health_text is_well) response.new) }
+    ensures { OnOk result (IsResponse (health_status health) (typed plain_type)
+        (health_text health) response.new) }
 {
     let kind = HeaderValue::from_static("text/plain; charset=utf-8");
-    if is_well {
-        return give(response, kind, b"ok\n");
+    match health {
+        Health::Well => give(response, kind, b"ok\n"),
+        Health::NotListening => give_unwell(response, kind, b"not listening\n"),
+        Health::NoTarget => give_unwell(response, kind, b"no target up\n"),
     }
-    give(response, kind, b"not listening\n")?;
+}
+
+fn give_unwell(response: &mut Response, kind: HeaderValue, text: &[u8]) -> Result<(), OutOfMemory>
+    requires { IsBlank response.old }
+    ensures { OnOk result (IsResponse 503 (typed kind.bytes) text.now response.new) }
+{
+    give(response, kind, text)?;
     response.status = StatusCode::SERVICE_UNAVAILABLE;
     Ok(())
 }

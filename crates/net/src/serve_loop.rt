@@ -41,6 +41,7 @@ pub(crate) struct LoopHost<T: Task<R>, R: Runs> {
 
 impl<T: Task<R>, R: Runs> Host for LoopHost<T, R> {
     ghost use Rattle.std.specs.Prelude.{None};
+    ghost use Rattle.net.specs.ServeLoop.{cell_on};
 
     type Task = Served<T, R>;
 
@@ -48,6 +49,8 @@ impl<T: Task<R>, R: Runs> Host for LoopHost<T, R> {
     ghost awaited = { λ _. None };
 
     // The first token has the deadlines of the connection, the second the time of the task.
+    ghost has_cell = { λ _ task side cell. cell ≡ cell_on task side };
+
     fn cell<'a>(&self, task: &'a Served<T, R>, side: Side) -> Option<&'a PollCell> {
         match side {
             Side::First => Some(&*task.cell),

@@ -1,7 +1,7 @@
 //! Sockets that never wait, and a poller that tells the descriptors in a table what is ready and
 //! what time it is: Go's network poller, over `epoll`.
 //!
-//! `addr`, `peer`, `local`, `sock`, `open`, `from_source`, `v6_listener` and `socket_options` have the sockets, over
+//! `addr`, `peer`, `local`, `sock`, `open`, `from_source`, `peeking`, `v6_listener` and `socket_options` have the sockets, over
 //! `raw_address` and `raw_socket`, `resources` what a descriptor makes of them, and `last_codes` and `noted_listen` the numbers of the system's errors. `batch`
 //! and `poll_timeout` decide what a poll's events say and how long a poll waits, `poller` polls,
 //! `holding` puts sockets into its table, and `timer_alarms` has deadlines wake it.
@@ -24,6 +24,7 @@ mod loop_token;
 mod named_tasks;
 mod noted_listen;
 mod open;
+mod peeking;
 mod peer;
 mod poll_timeout;
 mod polled_events;

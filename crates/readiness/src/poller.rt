@@ -118,6 +118,15 @@ impl<A: Allocator> Poller<A> {
         or_other(sock.register_at(self.poll.registry(), token))
     }
 
+    /// Has turns tell no more of a connection, which may then be registered anew. What the last wait said
+    /// of it stays said.
+    pub fn deregister(&self, sock: &mut Sock) -> Result<(), DevKind>
+        ensures same { sock.new ≡ sock.old }
+        ensures kinds { IfErr result (λ kind. kind ≡ DevKind.Other) }
+    {
+        or_other(sock.deregister_at(self.poll.registry()))
+    }
+
     /// Has turns tell of a listener under this token, until the listener is dropped.
     pub fn register_listener(&self, listen: &mut Listen, token: u64) -> Result<(), DevKind>
         ensures same { listen.new ≡ listen.old }

@@ -70,6 +70,15 @@ impl Sock {
         }
     }
 
+    pub(crate) fn deregister_at(&mut self, registry: &Registry) -> io::Result<()>
+        ensures same { self.new ≡ self.old }
+    {
+        match self {
+            Sock::Tcp(tcp) => registry.deregister(&mut tcp.stream),
+            Sock::Unix(unix) => registry.deregister(&mut unix.stream),
+        }
+    }
+
     /// The peer's address, as the system's accept gave it. A socket that comes from `connect` has
     /// none, nor has a Unix one whose peer has no path, or one of more than 100 bytes.
     pub fn peer(&self) -> Option<Addr>

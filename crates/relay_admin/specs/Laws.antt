@@ -11,6 +11,7 @@ use Rattle.relay_admin.specs.rules.Reading.{address_at}
 use Rattle.relay_admin.specs.admin.Command.{SpellsCommand}
 use Rattle.relay_admin.specs.admin.Reply.{Exchange, questions_of}
 use Rattle.relay_admin.specs.admin.Shown.{Particulars, AreParticulars, shown_text}
+use Rattle.relay_admin.specs.admin.ShownTarget.{AreTargetFacts, TargetFacts, shown_target_text}
 use Rattle.relay_admin.specs.admin.Transcript.{IsTranscriptOf, ended}
 
 -- addresses of one text are one address, and one address has one text
@@ -61,3 +62,8 @@ OneDialogueAText =
 abbrev pub OneLineAShow : Type 0
 OneLineAShow = (p : Particulars) → AreParticulars p
     → (line : List ℕ) × Lacks line_feed line × (shown_text p ≡ line ++ line_feed ∷ [])
+
+-- what is shown of a target is one line
+abbrev pub OneLineATarget : Type 0
+OneLineATarget = (t : TargetFacts) → AreTargetFacts t
+    → (line : List ℕ) × Lacks line_feed line × (shown_target_text t ≡ line ++ line_feed ∷ [])

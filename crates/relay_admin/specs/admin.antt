@@ -10,4 +10,6 @@ pub mod Refusal
 pub mod Reply
 pub mod ReplyBytes
 pub mod Shown
+pub mod ShownTarget
+pub mod TargetOrder
 pub mod Transcript

@@ -8,7 +8,8 @@
 //! | a question that is answered later | `session_desk`: an `Option`; `answers`: its variant of `LateAnswer` |
 //! | a reply | `reply_text`: its words; `reply`: which answer has it |
 //! | a reply that refuses | `refusal`: its first word, if it is none of those there |
-//! | a word of what is shown | `shown`: its field, and its place in the line |
+//! | a word of what is shown | `shown`, `shown_target`: its field, and its place in the line |
+//! | something to set of a target | `target_order`: its variant, its word |
 //! | a reply that comes in parts | `listing`: its parts; `line_reply`: which answer has it |
 
 pub mod answers;
@@ -27,4 +28,6 @@ pub mod reply_bytes;
 pub mod reply_text;
 pub mod session_desk;
 pub mod shown;
+pub mod shown_target;
 pub mod stepwise;
+pub mod target_order;

@@ -7,6 +7,9 @@ ghost use Rattle.relay_admin.specs.declared.admin.reply_text.TheConstants.{BAD_C
 ghost use Rattle.relay_admin.specs.declared.admin.reply_text.TheConstants.{CANNOT_LISTEN, CLOSED};
 ghost use Rattle.relay_admin.specs.declared.admin.reply_text.TheConstants.{CANNOT_READ, DEVICE};
 ghost use Rattle.relay_admin.specs.declared.admin.reply_text.TheConstants.{DONE, DRAINING};
+ghost use Rattle.relay_admin.specs.declared.admin.reply_text.TheConstants.{NO_SUCH_RULE};
+ghost use Rattle.relay_admin.specs.declared.admin.reply_text.TheConstants.{NO_SUCH_TARGET};
+ghost use Rattle.relay_admin.specs.declared.admin.target_order.TheConstants.{MAX_TARGET_BYTES};
 ghost use Rattle.relay_admin.specs.declared.admin.reply_text.TheConstants.{NO_SUCH_CONNECTION};
 ghost use Rattle.relay_admin.specs.declared.admin.reply_text.TheConstants.{OUT_OF_MEMORY, SHOWN_ALL};
 ghost use Rattle.relay_admin.specs.declared.rules.addr.TheConstants.{MAX_ADDR_BYTES};
@@ -16,8 +19,8 @@ ghost use Rattle.relay_admin.specs.declared.rules.rule.TheConstants.{MAX_IDLE_MS
 ghost use Rattle.relay_admin.specs.admin.Later.{LastLaterIsAsAtOnce, LaterIsAsAtOnce};
 ghost use Rattle.relay_admin.specs.admin.Refusal.{BadCommandsAreRefused, RepliesTellRefusals};
 ghost use Rattle.relay_admin.specs.Laws.{NoRulesWithFault, OneCommandALine, OneDialogueAText};
-ghost use Rattle.relay_admin.specs.Laws.{OneFault, OneLineAShow, OneListOfRules, OneRuleALine};
-ghost use Rattle.relay_admin.specs.Laws.{OneTextAnAddress, ReadsItsText};
+ghost use Rattle.relay_admin.specs.Laws.{OneFault, OneLineAShow, OneLineATarget, OneListOfRules};
+ghost use Rattle.relay_admin.specs.Laws.{OneRuleALine, OneTextAnAddress, ReadsItsText};
 
 /// Two addresses are one exactly where their texts are one.
 pub fn one_text_an_address()
@@ -58,6 +61,11 @@ pub fn a_show_is_one_line()
     ensures { OneLineAShow }
 {}
 
+/// So is what is shown of a target.
+pub fn a_target_is_one_line()
+    ensures { OneLineATarget }
+{}
+
 /// A reply tells its reader whether the command was carried out: of a desk's replies
 /// [`reply_refuses`](crate::reply_refuses) is true of exactly those to answers that refuse.
 pub fn a_reply_tells_whether_it_refuses()
@@ -80,6 +88,7 @@ pub fn the_limits_of_rules_in_figures()
 pub fn the_limits_of_a_session_in_figures()
     ensures lines { MAX_LINES ≡ 65536 }
     ensures line_bytes { MAX_LINE_BYTES ≡ 64 }
+    ensures target_bytes { MAX_TARGET_BYTES ≡ 52 }
     ensures id { MAX_ID ≡ 4503599627370494 }
     ensures deadline_ms { MAX_DEADLINE_MS ≡ 86400000 }
 {}
@@ -96,6 +105,8 @@ pub fn the_fixed_replies_in_words()
     ensures draining { DRAINING.now ≡ codes "error 409 draining" ++ 10 ∷ [] }
     ensures busy { BUSY.now ≡ codes "error 409 busy" ++ 10 ∷ [] }
     ensures device { DEVICE.now ≡ codes "error 503 device" ++ 10 ∷ [] }
+    ensures unknown_rule { NO_SUCH_RULE.now ≡ codes "error 404 no such rule" ++ 10 ∷ [] }
+    ensures unknown_target { NO_SUCH_TARGET.now ≡ codes "error 404 no such target" ++ 10 ∷ [] }
     ensures no_memory { OUT_OF_MEMORY.now ≡ codes "error 507 out of memory" ++ 10 ∷ [] }
     ensures cannot_read { CANNOT_READ.now ≡ codes "cannot read rules" ++ 10 ∷ [] }
     ensures cannot_listen { CANNOT_LISTEN.now ≡ codes "cannot listen " }

@@ -8,14 +8,16 @@ mod rules;
 mod serve_fault;
 mod text;
 
-pub use admin::answers::{CloseAnswer, LateAnswer, ReloadAnswer, SteerAnswer, TotalBytes};
+pub use admin::answers::{
+    CloseAnswer, LateAnswer, ReloadAnswer, SteerAnswer, TargetAnswer, TotalBytes,
+};
 pub use admin::command::Command;
 pub use admin::desk::DeskAnswer;
 pub use admin::dialogue::Dialogue;
 pub use admin::end::AdminEnd;
 pub use admin::line_answer::{LineIs, line_is};
 pub use admin::line_reply::{LineReply, line_reply_to};
-pub use admin::listing::{Listing, NextPart, Part, part_of};
+pub use admin::listing::{Listing, NextPart, Part, part_of, target_part_of};
 pub use admin::next_line::NextLine;
 pub use admin::refusal::{reply_breaks_off, reply_is_whole, reply_refuses};
 pub use admin::reply::reply_in;
@@ -23,7 +25,9 @@ pub use admin::reply_bytes::Reply;
 pub use admin::reply_text::BAD_COMMAND;
 pub use admin::session_desk::SessionDesk;
 pub use admin::shown::{Shown, ShownSide, peer_name};
+pub use admin::shown_target::{LastFailure, ShownTarget, TargetState};
 pub use admin::stepwise::AdminSession;
+pub use admin::target_order::{MAX_TARGET_BYTES, Order, TargetOrder};
 pub use rules::addr::{Addr, MAX_ADDR_BYTES, addr_of, is_same_addr};
 pub use rules::file::{MAX_BYTES, MAX_RULES, Rules, RulesFault};
 pub use rules::rule::Rule;

@@ -1,6 +1,6 @@
 -- What the words of the command line ask for.
 use Rattle.std.specs.Prelude.{ℕ, Bool, true, false, List, [], ◌∷◌, Option, Some, None, codes, if◌then◌else◌}
-use Rattle.std.specs.Prelude.{nat_eq, nat_le}
+use Rattle.std.specs.Prelude.{is_some, nat_eq, nat_le}
 use Rattle.std.specs.Prelude.{◌-◌, ◌++◌, length, option_map, slice_get, take, unwrap_or}
 use Rattle.std.specs.Option.{option_and_then, option_map_or}
 use Rattle.std.specs.List.{list_any}
@@ -34,14 +34,14 @@ origin_of (source.Config path) = Config (string_bytes path)
 
 -- a job with its texts; of a relay, as far as words say it: where it is steered, how many loops and
 -- pairs it has, where its log and its metrics are, how many milliseconds a target has, how many pairs a
--- rule, and whether stale sockets give way
+-- rule, whether stale sockets give way, and whether the format of the log is said
 pub data Asked : Type 0 where
   Trace : Asked
   Check : Origin → Asked
   Convert : (rules : Text) → Asked
   Serve : Origin → (admin : Option Text) → (loops pairs : Option ℕ) → (log : Option Text) →
       (metrics : Option Address) → (connect_ms : Option (Option ℕ)) → (per_rule : Option ℕ) →
-      (replaces_stale : Option Bool) → Asked
+      (replaces_stale : Option Bool) → (says_format : Bool) → Asked
   Ctl : (admin line : Text) → Asked
   Help : Asked
   Version : Asked
@@ -55,7 +55,7 @@ asked_of (job.Serve asked) =
     (option_map (λ l. l.count) asked.words.loops) (option_map (λ p. p.count) asked.words.pairs)
     (option_map string_bytes asked.words.log) (option_map address_of asked.words.metrics)
     asked.words.connect_ms (option_map (λ p. p.count) asked.words.per_rule)
-    asked.words.replaces_stale
+    asked.words.replaces_stale (is_some asked.words.log_format)
 asked_of (job.Ctl admin line) = Ctl (string_bytes admin) (string_bytes line)
 asked_of job.Help = Help
 asked_of job.Version = Version
@@ -112,16 +112,21 @@ abbrev pub operand : Text → Bool → Rule
 operand name has_to_be =
     record (new_rule name) { action = Some Set; required = has_to_be }
 
--- `ctl` with the path of an admin socket and one to three words
+-- `ctl` with the path of an admin socket, and the first of its words
+abbrev pub ctl_named : App
+ctl_named =
+    with_rule
+    (with_rule (new_app (codes "ctl")) (required_option (codes "admin")))
+    (operand (codes "command") true)
+
+-- the same with up to three words more
 abbrev pub ctl_app : App
 ctl_app =
     with_rule
     (with_rule
-    (with_rule
-    (with_rule (new_app (codes "ctl")) (required_option (codes "admin")))
-    (operand (codes "command") true))
-    (operand (codes "first") false))
-    (operand (codes "second") false)
+    (with_rule ctl_named (operand (codes "first") false))
+    (operand (codes "second") false))
+    (operand (codes "third") false)
 
 -- the program's name, which doesn't stand ahead of the words; it has a command `help` of its own
 abbrev pub named_app : App
@@ -220,7 +225,7 @@ abbrev pub true_if : Bool → Option Bool
 true_if true = Some true
 true_if false = None
 
--- the job of `serve` by such a file, with its options, or none
+-- the job of `serve` by such a file, with its options, or none; no option says the format of the log
 abbrev pub job_of_origin : Origin → List Row → Option Asked
 job_of_origin origin rows = do
   admin ← admin_given origin (first_of (codes "admin") rows)
@@ -231,7 +236,7 @@ job_of_origin origin rows = do
   connect_ms ← connect_given (first_of (codes "connect-timeout") rows)
   per_rule ← pairs_given (first_of (codes "connections-per-rule") rows)
   Some (Serve origin admin loops pairs log metrics connect_ms per_rule
-      (true_if (is_set (codes "replace-stale") rows)))
+      (true_if (is_set (codes "replace-stale") rows)) false)
 
 -- the job of `serve` with its options, or none
 abbrev pub served_job : List Row → Option Asked
@@ -254,6 +259,7 @@ spaced (Some word) = codes " " ++ word
 abbrev pub line_in : List Row → Text
 line_in rows = value_of (codes "command") rows
     ++ spaced (first_of (codes "first") rows) ++ spaced (first_of (codes "second") rows)
+    ++ spaced (first_of (codes "third") rows)
 
 -- the job of a command with its options, or none
 abbrev pub named_job : Text → List Row → Option Asked

@@ -4,8 +4,9 @@ ghost use Rattle.std.specs.Prelude.{◌≡◌, IfOk, false};
 ghost use Rattle.clap.specs.Walk.{rule_of};
 ghost use Rattle.clap.specs.Simple.{app_of};
 ghost use Rattle.clap.specs.declared.builder.command.Command.TheViews.{out-Command};
-ghost use Rattle.relay_command.specs.CommandLine.{check_app, convert_app, ctl_app, flag_option, operand};
-ghost use Rattle.relay_command.specs.CommandLine.{optional_option, program, required_option};
+ghost use Rattle.relay_command.specs.CommandLine.{check_app, convert_app, ctl_app, ctl_named};
+ghost use Rattle.relay_command.specs.CommandLine.{flag_option, operand, optional_option};
+ghost use Rattle.relay_command.specs.CommandLine.{program, required_option};
 ghost use Rattle.relay_command.specs.CommandLine.{serve_app, serve_needs, serve_watched};
 ghost use Rattle.relay_command.specs.CommandLine as spec;
 
@@ -99,15 +100,24 @@ fn word<'a>(alloc: Global, name: &'a str, has_to_be: bool) -> Arg<'a>
         .action(ArgAction::Set)
 }
 
-fn ctl<'a>(alloc: Global) -> Result<Command<'a>, OutOfMemory>
-    ensures app { IfOk result (λ command. app_of command ≡ ctl_app) }
+// `ctl` with the path of an admin socket, and the first of its words.
+fn ctl_named<'a>(alloc: Global) -> Result<Command<'a>, OutOfMemory>
+    ensures app { IfOk result (λ command. app_of command ≡ ctl_named) }
     ensures local { IfOk result (λ command. (out-Command command).has_globals ≡ false) }
 {
     Command::new(alloc, "ctl")
         .arg(option(alloc, "admin"))?
-        .arg(word(alloc, "command", true))?
+        .arg(word(alloc, "command", true))
+}
+
+fn ctl<'a>(alloc: Global) -> Result<Command<'a>, OutOfMemory>
+    ensures app { IfOk result (λ command. app_of command ≡ ctl_app) }
+    ensures local { IfOk result (λ command. (out-Command command).has_globals ≡ false) }
+{
+    ctl_named(alloc)?
         .arg(word(alloc, "first", false))?
-        .arg(word(alloc, "second", false))
+        .arg(word(alloc, "second", false))?
+        .arg(word(alloc, "third", false))
 }
 
 // The commands that read a file, or a script.

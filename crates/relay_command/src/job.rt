@@ -135,6 +135,7 @@ fn serve_job_of(
         connect_ms,
         replaces_stale: true_if(is_set(matches, "replace-stale")),
         log,
+        log_format: None,
         metrics,
     };
     Ok(Some(Job::Serve(Asked { source, words })))
@@ -186,6 +187,7 @@ fn line_of(alloc: Global, matches: &ArgMatches<'_>) -> Result<String, OutOfMemor
     let mut line = value(alloc, matches, "command")?;
     add_word(&mut line, given(matches, "first"))?;
     add_word(&mut line, given(matches, "second"))?;
+    add_word(&mut line, given(matches, "third"))?;
     Ok(line)
 }
 
@@ -241,7 +243,7 @@ fn options_of<'a>(words: &'a [&'a str]) -> &'a [&'a str]
 /// a number from 1 to 64 in digits without a zero ahead, `--connections`, with one from 1 to
 /// 50,000, `--log`, with the path of a file, `--metrics`, with an address as the rules file has it,
 /// `--connect-timeout`, with a number up to 86,400,000, `--connections-per-rule`, with one from 1
-/// to 50,000, and `--replace-stale`, alone; `ctl` with `--admin` and one to three words asks for
+/// to 50,000, and `--replace-stale`, alone; `ctl` with `--admin` and one to four words asks for
 /// [`Job::Ctl`]; `help` and `version` stand alone. A value follows its option as the next word,
 /// which begins with no `-`, or behind a `=`. A `--` ends the options: what follows it is an
 /// operand, and no command has one. The only fault is want of memory.

@@ -24,7 +24,8 @@ pollrelay convert --rules FILE
 pollrelay ctl --admin PATH WORD..
     has a relay carry out an admin command, and prints its reply:
     list, totals, show, show ID, close ID, drain ID, deadline ID MS,
-    deadline ID never, reload, finish MS, stop
+    deadline ID never, targets, target RULE ADDRESS auto|up|drain|down,
+    reload, finish MS, stop
 pollrelay trace
     runs a script of the lock word on standard input; without a word, likewise
 pollrelay help, pollrelay version

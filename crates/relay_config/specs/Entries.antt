@@ -3,6 +3,7 @@ use Rattle.std.specs.Prelude.{ℕ, Bool, List, map, Option, option_map, string_b
 use Rattle.client_nets.specs.Net.{Network, network_of}
 use Rattle.config_values.specs.Addr.{Address, address_of}
 use Rattle.config_values.specs.Ip.{Ip, ip_view}
+use Rattle.config_values.specs.declared.rate.Rate.{Rate}
 use Rattle.target_pick.specs.declared.picking.Balance.{Balance}
 use Rattle.relay_config.specs.declared.access.Access.{Access}
 use Rattle.relay_config.specs.declared.admin.Admin.{Admin}
@@ -30,7 +31,7 @@ pub record TargetEntry : Type 0 where
 pub record ClientsEntry : Type 0 where
   pub connections : Option ℕ
   pub source_connections : Option ℕ
-  pub source_accepts : Option ℕ
+  pub source_accepts : Option Rate
 
 -- how the sockets of a rule's connections are set up
 pub record SocketsEntry : Type 0 where

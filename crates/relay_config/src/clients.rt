@@ -9,9 +9,10 @@ use crate::config::MAX_CONNECTIONS;
 use crate::fault::{Fault, Key, Place};
 use crate::spelled::rate_in;
 use crate::values::number_in;
+use config_values::Rate;
 use toml::Table;
 
-/// How many clients a rule serves. A source is an IP address.
+/// How many clients a rule serves. A source is an IPv4 address, or a network of IPv6 of 64 bits.
 #[derive(Clone, Copy, Debug, PartialEq, Eq, Drop)]
 pub struct Clients {
     /// How many of its connections may stand at once: 1 to 50,000; with `None` as many as those of
@@ -19,8 +20,8 @@ pub struct Clients {
     pub connections: Option<u32>,
     /// How many of them may be of one source: 1 to 50,000; with `None` all.
     pub source_connections: Option<u32>,
-    /// How many clients of one source are taken in a second: 1 to 1,000,000; with `None` all.
-    pub source_accepts: Option<u64>,
+    /// How many clients of one source are let in, in how many seconds; with `None` all.
+    pub source_accepts: Option<Rate>,
 }
 
 /// How many clients the rule at a place serves.

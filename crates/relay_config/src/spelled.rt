@@ -17,7 +17,7 @@ use crate::log::Format;
 use crate::proxy::Version;
 use crate::table::value_at;
 use crate::values::text_of;
-use config_values::{Addr, addr_of, ip_of, is_mapped, mode_of, rate_of, time_of};
+use config_values::{Addr, Rate, addr_of, ip_of, is_mapped, mode_of, rate_of, time_of};
 use std::net::IpAddr;
 use target_pick::Balance;
 use toml::{Table, Value};
@@ -124,7 +124,7 @@ pub(crate) fn mode_in(table: &Table, place: Place, key: Key) -> Result<Option<u1
 }
 
 /// The rate at a key, if the table has one.
-pub(crate) fn rate_in(table: &Table, place: Place, key: Key) -> Result<Option<u64>, Fault>
+pub(crate) fn rate_in(table: &Table, place: Place, key: Key) -> Result<Option<Rate>, Fault>
     ensures { result ≡ if_there (spelled rate_at (spot place key))
         (at_key key (table_view table.now)) }
 {

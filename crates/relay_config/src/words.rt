@@ -14,7 +14,7 @@ pub(crate) fn wanted(key: Key) -> &'static str
             "no time (as 500ms, 30s, 5m, 2h, at most a day; or never)",
         Key::Connections | Key::ConnectionsPerRule | Key::ConnectionsPerSource =>
             "not from 1 to 50000",
-        Key::AcceptsPerSource => "no rate (as 100/s, from 1/s to 1000000/s)",
+        Key::AcceptsPerSource => "no rate (as 100/s, 30/m, 5/h; at most 1000000)",
         Key::Keepalive => "no time of whole seconds (as 30s, 5m, at most 32767s; or never)",
         Key::Loops => "not from 1 to 64",
         Key::Weight => "not from 0 to 65535",

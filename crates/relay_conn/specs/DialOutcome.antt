@@ -4,6 +4,8 @@ use Rattle.readiness.specs.declared.agenda.Why.{Why}
 use Rattle.readiness.specs.declared.agenda.Why.TheVariants as why
 use Rattle.relay_conn.specs.declared.dialing.DialStep.{DialStep}
 use Rattle.relay_conn.specs.declared.dialing.DialStep.TheVariants as step
+use Rattle.relay_log.specs.declared.ended.Cause.{Cause}
+use Rattle.relay_log.specs.declared.ended.Cause.TheVariants.{Unreachable}
 use Rattle.relay_log.specs.declared.ended.Ended.{Ended as How}
 use Rattle.relay_log.specs.declared.ended.Ended.TheVariants as how
 use Rattle.target_pick.specs.declared.health.Outcome.{Outcome}
@@ -13,6 +15,11 @@ use Rattle.target_pick.specs.declared.health.Outcome.TheVariants.{Connected, Fai
 abbrev pub is_unreached : Option How → Bool
 is_unreached (Some (how.NoTarget cause)) = true
 is_unreached other = false
+
+-- why its target wasn't reached, where it ended so
+abbrev pub failure_cause : Option How → Cause
+failure_cause (Some (how.NoTarget cause)) = cause
+failure_cause other = Unreachable
 
 -- a loop tells that this moment has come
 abbrev pub tells_time : Why → Option ℕ → Bool

@@ -1,4 +1,5 @@
 pub mod Asked
+pub mod Awaiting
 pub mod Cause
 pub mod Connection
 pub mod Deadlines
@@ -7,10 +8,12 @@ pub mod Dialing
 pub mod Dialled
 pub mod Flow
 pub mod GoneOn
+pub mod HeaderMoment
 pub mod Heard
 pub mod Others
 pub mod Refused
 pub mod Relaying
+pub mod Seated
 pub mod Seeking
 pub mod SetUp
 pub mod Side

@@ -15,7 +15,8 @@ use relay_facts::books::LoopBooks;
 use relay_facts::clock::Moments;
 use relay_facts::connection_facts::ConnectionFacts;
 use relay_facts::log_lines::tell_end;
-use relay_log::ended::Ended as How;
+use relay_facts::outcomes::Came;
+use relay_log::ended::{Cause, Ended as How};
 use relay_shared::inbox::Counted;
 use relay_shared::index::Gone;
 use relay_shared::standing::RelayIndex;
@@ -72,9 +73,10 @@ fn note_step<R: Wait + Clock>(
     log: &Option<Arc<Log>>,
     facts: &ConnectionFacts,
     outcome: Option<Outcome>,
+    cause: Cause,
 ) {
     if let Some(outcome) = outcome {
-        facts.note_outcome(rt, log, outcome);
+        facts.note_outcome(rt, log, &Came::of_connect(outcome, cause));
     }
 }
 
@@ -152,7 +154,8 @@ impl<U: Ledger, D: Ledger, R: Wait + Clock + Copy> Connection<U, D, R> {
             Some(Phase::Relaying(relaying)) => return relaying.go_on(books, why, memory),
             Some(Phase::Dialing(dialing)) => {
                 let step = dialing.go_on(dials, why);
-                note_step(&dials.rt, log, &self.facts, dialing.outcome(step, why));
+                let outcome = dialing.outcome(step, why);
+                note_step(&dials.rt, log, &self.facts, outcome, dialing.cause());
                 step
             }
             Some(Phase::Seeking(seeking)) => {

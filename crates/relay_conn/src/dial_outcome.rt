@@ -5,7 +5,7 @@ ghost use Rattle.relay_conn.specs.DialOutcome as spec;
 
 use crate::dialing::{DialStep, Dialing};
 use readiness::Why;
-use relay_log::ended::Ended as How;
+use relay_log::ended::{Cause, Ended as How};
 use std::sync::Wait;
 use std::sync::ledger::Ledger;
 use std::time::Clock;
@@ -43,6 +43,16 @@ impl<U: Ledger, D: Ledger, R: Wait + Clock + Copy> Dialing<U, D, R> {
             DialStep::Failed if is_unreached(self.failure) => Some(Outcome::Failed),
             DialStep::Late if tells_time(why, self.connect_by) => Some(Outcome::Failed),
             _ => None,
+        }
+    }
+
+    /// Why its target wasn't reached, where such a step says that it wasn't.
+    pub(crate) fn cause(&self) -> Cause
+        ensures { result ≡ spec.failure_cause self.now.failure }
+    {
+        match self.failure {
+            Some(How::NoTarget(cause)) => cause,
+            _ => Cause::Unreachable,
         }
     }
 }

@@ -5,7 +5,19 @@ ghost use Rattle.relay_conn.specs.Refused as spec;
 
 use crate::trial::Unreached;
 use readiness::{HoldFault, NoPlace};
+use relay_facts::rule_sources::NoSeat;
 use relay_log::ended::Ended as How;
+
+/// Why a client isn't served that was to say first who it is.
+#[derive(Clone, Copy, Debug, PartialEq, Eq, Drop)]
+pub enum Unheard {
+    /// No whole header came in time, or before its stream ended.
+    Missing,
+    /// Its bytes begin with no header.
+    Bad,
+    /// There was no memory to go on with it.
+    Memory,
+}
 
 /// What refused a connection. It can't be dropped, so that it is told.
 pub enum Refused {
@@ -15,8 +27,23 @@ pub enum Refused {
     Memory,
     /// The system's poller, which took one of its sockets no more.
     Poller,
+    /// The client, which was to say first who it is.
+    Header(Unheard),
+    /// Its source, of which there were enough, as the client has said it.
+    Source(NoSeat),
     /// The targets, to none of which a connection could be begun: the last one, and why.
     Target(Unreached),
+}
+
+// How it is told of a client that said nothing, or no header.
+fn how_unheard(why: Unheard) -> How
+    ensures { result ≡ spec.how_unheard why }
+{
+    match why {
+        Unheard::Missing => How::NoHeader,
+        Unheard::Bad => How::BadHeader,
+        Unheard::Memory => How::NoMemory,
+    }
 }
 
 impl Refused {
@@ -58,6 +85,8 @@ impl Refused {
             Refused::Places => How::Full,
             Refused::Memory => How::NoMemory,
             Refused::Poller => How::Descriptors,
+            Refused::Header(why) => how_unheard(why),
+            Refused::Source(why) => why.how(),
             Refused::Target(last) => How::NoTarget(last.cause),
         }
     }

@@ -10,6 +10,7 @@ ghost use Rattle.relay_facts.specs.Targets.{IsNext, IsNoneLeft};
 use crate::dialled::{Dialled, NotDialled, dial};
 use log_writer::Log;
 use relay_facts::connection_facts::Acceptance;
+use relay_facts::outcomes::Came;
 use relay_facts::target_list::Picked;
 use relay_log::ended::Cause;
 use std::net::Net;
@@ -90,7 +91,8 @@ fn note_failure<R: Wait + Clock>(
     why: &NotDialled,
 ) {
     if !why.is_shortage {
-        acceptance.note_outcome(rt, log, picked.place, Outcome::Failed);
+        let came = Came::of_connect(Outcome::Failed, why.cause);
+        acceptance.note_outcome(rt, log, picked.place, &came);
     }
 }
 

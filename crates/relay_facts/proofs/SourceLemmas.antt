@@ -3,6 +3,8 @@ use Rattle.std.proofs.Common.{◌≡◌, ◌∙◌, List, [], ◌∷◌, Option,
 use Rattle.std.specs.Prelude.{IfOk, map, option_map}
 use Rattle.client_nets.specs.Net.{network_of}
 use Rattle.client_nets.specs.declared.net.Net.{Net}
+use Rattle.client_sources.specs.Limits.{no_limits}
+use Rattle.client_sources.specs.declared.limits.Limits.{Limits}
 use Rattle.relay_admin.specs.declared.rules.addr.Addr.{Addr}
 use Rattle.relay_admin.specs.declared.rules.rule.Rule.{Rule}
 use Rattle.relay_admin.specs.rules.Addr.{address_of}
@@ -26,39 +28,43 @@ use Rattle.relay_settings.specs.declared.targets.Target.{Target}
 use Rattle.target_pick.specs.declared.picking.Balance.{Balance}
 use Rattle.target_pick.specs.declared.picking.Balance.TheVariants.{RoundRobin}
 
-abbrev entry_with : Rule → List Addr → Option PairLimit → SocketsEntry → Balance → List Net → List Net → Option Checks → Option Version
+abbrev entry_with : Rule → List Addr → Option PairLimit → Limits → SocketsEntry → Balance → List Net → List Net → Option Checks → List Net → Option Version
     → List Target → SaidRuleEntry
-entry_with rule listens limit sockets balance allow deny checks header targets = record {
+entry_with rule listens limit by_source sockets balance allow deny checks senders header targets = record {
   rule = entry_of rule;
   listens = map address_of listens;
   limit = option_map (λ p. p.count) limit;
+  source_limits = by_source;
   sockets = sockets;
   balance = balance;
   access = record { allow = map network_of allow; deny = map network_of deny };
   checks = option_map checks_entry checks;
+  senders = map network_of senders;
   header = header;
   targets = map said_target_entry targets;
 }
 
 pub alone_entry : (said : SaidRule) (rule : Rule) → said.rule ≡ rule → said.listens.items ≡ rule.listen ∷ []
-    → said.limit ≡ None → sockets_entry said.sockets ≡ plain_sockets → said.balance ≡ RoundRobin
+    → said.limit ≡ None → said.source_limits ≡ no_limits → sockets_entry said.sockets ≡ plain_sockets → said.balance ≡ RoundRobin
     → said.access.allow.items ≡ [] → said.access.deny.items ≡ []
-    → said.checks ≡ None → said.header ≡ None → said.targets.items ≡ own_target rule ∷ []
+    → said.checks ≡ None → said.senders.items ≡ [] → said.header ≡ None → said.targets.items ≡ own_target rule ∷ []
     → said_rule_entry said ≡ entry_alone rule
-alone_entry said rule same listens limit sockets balance allow deny checks header targets =
+alone_entry said rule same listens limit by_source sockets balance allow deny checks senders header targets =
     let own = rule.listen ∷ [] in
     let told = sockets_entry said.sockets in
     let nets = said.access in
-    ap (λ r. entry_with r said.listens.items said.limit told said.balance nets.allow.items nets.deny.items said.checks said.header said.targets.items) same
-    ∙ ap (λ l. entry_with rule l said.limit told said.balance nets.allow.items nets.deny.items said.checks said.header said.targets.items) listens
-    ∙ ap (λ l. entry_with rule own l told said.balance nets.allow.items nets.deny.items said.checks said.header said.targets.items) limit
-    ∙ ap (λ s. entry_with rule own None s said.balance nets.allow.items nets.deny.items said.checks said.header said.targets.items) sockets
-    ∙ ap (λ b. entry_with rule own None plain_sockets b nets.allow.items nets.deny.items said.checks said.header said.targets.items) balance
-    ∙ ap (λ ns. entry_with rule own None plain_sockets RoundRobin ns nets.deny.items said.checks said.header said.targets.items) allow
-    ∙ ap (λ ns. entry_with rule own None plain_sockets RoundRobin [] ns said.checks said.header said.targets.items) deny
-    ∙ ap (λ c. entry_with rule own None plain_sockets RoundRobin [] [] c said.header said.targets.items) checks
-    ∙ ap (λ h. entry_with rule own None plain_sockets RoundRobin [] [] None h said.targets.items) header
-    ∙ ap (λ ts. entry_with rule own None plain_sockets RoundRobin [] [] None None ts) targets
+    ap (λ r. entry_with r said.listens.items said.limit said.source_limits told said.balance nets.allow.items nets.deny.items said.checks said.senders.items said.header said.targets.items) same
+    ∙ ap (λ l. entry_with rule l said.limit said.source_limits told said.balance nets.allow.items nets.deny.items said.checks said.senders.items said.header said.targets.items) listens
+    ∙ ap (λ l. entry_with rule own l said.source_limits told said.balance nets.allow.items nets.deny.items said.checks said.senders.items said.header said.targets.items) limit
+    ∙ ap (λ b. entry_with rule own None b told said.balance nets.allow.items nets.deny.items said.checks said.senders.items said.header said.targets.items) by_source
+    ∙ ap (λ s. entry_with rule own None no_limits s said.balance nets.allow.items nets.deny.items said.checks said.senders.items said.header said.targets.items) sockets
+    ∙ ap (λ b. entry_with rule own None no_limits plain_sockets b nets.allow.items nets.deny.items said.checks said.senders.items said.header said.targets.items) balance
+    ∙ ap (λ ns. entry_with rule own None no_limits plain_sockets RoundRobin ns nets.deny.items said.checks said.senders.items said.header said.targets.items) allow
+    ∙ ap (λ ns. entry_with rule own None no_limits plain_sockets RoundRobin [] ns said.checks said.senders.items said.header said.targets.items) deny
+    ∙ ap (λ c. entry_with rule own None no_limits plain_sockets RoundRobin [] [] c said.senders.items said.header said.targets.items) checks
+    ∙ ap (λ ns. entry_with rule own None no_limits plain_sockets RoundRobin [] [] None ns said.header said.targets.items) senders
+    ∙ ap (λ h. entry_with rule own None no_limits plain_sockets RoundRobin [] [] None [] h said.targets.items) header
+    ∙ ap (λ ts. entry_with rule own None no_limits plain_sockets RoundRobin [] [] None [] None ts) targets
 
 -- a start by what a file says, whose rules are served, is one of that file
 pub of_file : (made : Result Config ServeFault) (source : Source) (said : Said) (start : Start) (rules : List SaidRule)

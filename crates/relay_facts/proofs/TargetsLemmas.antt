@@ -6,6 +6,7 @@ use Rattle.std.proofs.lemmas.Bool.{cases_eq}
 use Rattle.std.proofs.lemmas.List.{length-map}
 use Rattle.std.proofs.lemmas.List.Elements.{All-cons, All-nil}
 use Rattle.std.proofs.lemmas.Option.{slice_get-map}
+use Rattle.relay_admin.specs.declared.admin.target_order.Order.TheVariants.{Auto}
 use Rattle.relay_facts.specs.Targets.{AreSeen, IsNoneLeft, IsSeenAs, is_seen_down, target_of}
 use Rattle.relay_facts.specs.declared.target_list.CountedTarget.{CountedTarget}
 use Rattle.relay_settings.specs.declared.targets.Target.{Target}
@@ -21,7 +22,7 @@ module _ {X : Type 0} where
   one_at (x ∷ xs) zero within = (x, refl)
   one_at (x ∷ xs) (suc place) within = one_at xs place (omega (arith, within))
 
-  within_of : (xs : List X) (place : ℕ) (x : X) → slice_get xs place ≡ Some x → place < length xs
+  pub within_of : (xs : List X) (place : ℕ) (x : X) → slice_get xs place ≡ Some x → place < length xs
   within_of [] place x is = absurd (cc)
   within_of (y ∷ xs) zero x is = omega arith
   within_of (y ∷ xs) (suc place) x is = let rest = within_of xs place x is in omega (arith, rest)
@@ -118,7 +119,16 @@ only_seen target tried is zero other one there here =
     let its : seen_tried target ≡ one = cc in
     subst (λ (t : Target). IsSeenAs false (was_tried tried 0) t one) same
     (subst (λ (s : Seen). IsSeenAs false (was_tried tried 0) target s) its
-    (record { weight = refl; is_backup = refl; is_up = λ _. refl; is_drained = refl; was_tried = sym is }))
+    (record {
+      order = Auto;
+      is_healthy = true;
+      unchecked = λ _. refl;
+      weight = refl;
+      is_backup = refl;
+      is_up = refl;
+      is_drained = refl;
+      was_tried = sym is;
+    }))
 only_seen target tried is (suc place) other one there here = absurd (cc)
 
 -- where a rule's only target was tried, none is left, and none was down

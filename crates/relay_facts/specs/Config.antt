@@ -1,10 +1,16 @@
 -- The rules that a relay is asked to serve, and how large it is.
-use Rattle.std.specs.Prelude.{◌≡◌, ◌≤◌, ℕ, List, None, Some, IfNone, IfSome, length, option_map, slice_get}
+use Rattle.std.specs.Prelude.{◌≡◌, ◌≤◌, ℕ, false, List, None, Option, Some, IfNone, IfSome, IsSome, length, option_map, slice_get}
 use Rattle.std.specs.Arc.{arc_value}
 use Rattle.std.specs.declared.alloc.Global.{Global}
 use Rattle.std.specs.declared.sync.Arc.{Arc}
+use Rattle.client_sources.specs.Limits.{are_none}
 use Rattle.relay_admin.specs.declared.rules.rule.Rule.{Rule}
+use Rattle.log_writer.specs.declared.log.Log.{Log}
+use Rattle.relay_config.specs.declared.log.Format as asked
+use Rattle.relay_config.specs.declared.log.Format.TheVariants as asked_format
 use Rattle.relay_core.specs.declared.capacity.Capacity.{Capacity}
+use Rattle.relay_log.specs.declared.format.Format.{Format}
+use Rattle.relay_log.specs.declared.format.Format.TheVariants as format
 use Rattle.relay_settings.specs.Listeners.{further_listeners}
 use Rattle.relay_settings.specs.declared.asked.Source.{Source}
 use Rattle.relay_settings.specs.declared.said.Said as file
@@ -14,17 +20,21 @@ use Rattle.relay_facts.specs.Acceptance.{checks_with, targets_with}
 use Rattle.relay_facts.specs.Admission.{allowed_by, denied_by}
 use Rattle.relay_facts.specs.Counts.{loops_of}
 use Rattle.relay_facts.specs.Listens.{listens_in}
+use Rattle.relay_facts.specs.Senders.{nets_with}
 use Rattle.relay_facts.specs.Source.{FileSays}
 use Rattle.relay_facts.specs.declared.config.Config.{Config}
 use Rattle.relay_facts.specs.declared.served_rule.Said.{Said}
 use Rattle.relay_facts.specs.declared.served_rule.ServedRule.{ServedRule}
 
--- what an account says is this rule, at its addresses, with its limit, its sockets, its targets, of which one is picked and which
--- are checked as it says, with its header for them, and with its lists of clients
+-- what an account says is this rule, at its addresses, with its limits, its sockets, its targets, of which
+-- one is picked and which are checked as it says, with its header for them, with its lists of clients, and
+-- with those that begin with a header
 pub record SaysRule (given : SaidRule) (said : Said) : Type 0 where
   pub rule : said.rule ≡ given.rule
   pub listens : listens_in said ≡ given.listens.items
   pub limit : said.limit ≡ given.limit
+  pub source_limits : said.source_limits ≡ given.source_limits
+  pub sources : are_none given.source_limits ≡ false → IsSome said.sources
   pub sockets : said.sockets ≡ given.sockets
   pub targets : targets_with (option_map arc_value said.targets) said.rule ≡ given.targets.items
   pub balance : IfSome said.targets (λ list. (arc_value list).balance ≡ given.balance)
@@ -32,6 +42,20 @@ pub record SaysRule (given : SaidRule) (said : Said) : Type 0 where
   pub header : said.header ≡ given.header
   pub allow : allowed_by (option_map arc_value said.access) ≡ given.access.allow.items
   pub deny : denied_by (option_map arc_value said.access) ≡ given.access.deny.items
+  pub senders : nets_with (option_map arc_value said.senders) ≡ given.senders.items
+
+-- two say the same, in lists of memory of their own or held in common
+pub record IsSame (one other : Said) : Type 0 where
+  pub rule : other.rule ≡ one.rule
+  pub listens : option_map arc_value other.listens ≡ option_map arc_value one.listens
+  pub limit : other.limit ≡ one.limit
+  pub source_limits : other.source_limits ≡ one.source_limits
+  pub sources : option_map arc_value other.sources ≡ option_map arc_value one.sources
+  pub sockets : other.sockets ≡ one.sockets
+  pub targets : option_map arc_value other.targets ≡ option_map arc_value one.targets
+  pub header : other.header ≡ one.header
+  pub access : option_map arc_value other.access ≡ option_map arc_value one.access
+  pub senders : option_map arc_value other.senders ≡ option_map arc_value one.senders
 
 -- a rule is served at its own address, and so many loops count for it
 abbrev pub ServesRule : Rule → ℕ → ServedRule → Type 0
@@ -51,6 +75,16 @@ IsOfFile source config = (said : file.Said) × FileSays source said
     × (config.start.file ≡ said.settings)
     × AreServed said.rules.items config.capacity.loops.count config.rules.items
     × (config.further ≡ further_listeners said.rules.items)
+
+-- how the lines of a log are written, by what a configuration says of it: as text where it says nothing
+abbrev pub log_format : Option asked.Format → Format
+log_format (Some asked_format.Json) = format.Json
+log_format (Some asked_format.Text) = format.Text
+log_format None = format.Text
+
+-- the lines of the log are written as the settings say
+abbrev pub IsLogOf : Settings → Arc (Log Global) Global → Type 0
+IsLogOf settings log = (arc_value log).format ≡ log_format settings.log_format
 
 -- neither the words of the command line nor the file name an admin socket
 abbrev pub NamesNoAdmin : (words file : Settings) → Type 0

@@ -1,7 +1,11 @@
 -- The targets of a rule, and which of them is a client's next.
-use Rattle.std.specs.Prelude.{◌≡◌, ◌≢◌, ◌&&◌, ◌<◌, ℕ, Bool, true, false, not, List, Some, map, length}
-use Rattle.std.specs.Prelude.{All, IsSomeAnd, is_some, nat_lt, slice_get}
+use Rattle.std.specs.Prelude.{◌≡◌, ◌≢◌, ◌&&◌, ◌||◌, ◌<◌, ℕ, Bool, true, false, not, List, Some, map, length}
+use Rattle.std.specs.Prelude.{All, IsSomeAnd, is_some, nat_lt, slice_get, take}
 use Rattle.std.specs.List.{list_any}
+use Rattle.std.specs.Option.{option_map_or}
+use Rattle.relay_admin.specs.declared.admin.target_order.Order.{Order}
+use Rattle.relay_admin.specs.rules.Addr.{address_of, same_address}
+use Rattle.relay_facts.specs.SetOrder.{is_drained_by, is_up_by}
 use Rattle.relay_facts.specs.declared.target_list.CountedTarget.{CountedTarget}
 use Rattle.relay_facts.specs.declared.target_list.Picked.{Picked}
 use Rattle.relay_settings.specs.declared.targets.Target.{Target}
@@ -24,13 +28,35 @@ targets_of targets = map target_of targets.all.items
 abbrev pub are_checked : Targets → Bool
 are_checked targets = is_some targets.checks
 
--- what is known of a target when one is picked: one that isn't checked is up; whether another is, an
--- atomic says, of which a proof knows no value
+-- the target at the place is checked, so that outcomes count for its health
+abbrev pub HasHealthAt : Targets → ℕ → Type 0
+HasHealthAt targets place =
+    IsSomeAnd (slice_get targets.all.items place) (λ counted. is_some counted.health ≡ true)
+
+-- it gets clients; one without a weight gets none
+abbrev pub has_weight : Target → Bool
+has_weight target = nat_lt 0 target.weight
+
+-- one of these targets has the address of that one
+abbrev pub has_address_of : List Target → Target → Bool
+has_address_of targets target =
+    list_any (λ one. same_address (address_of one.at) (address_of target.at)) targets
+
+-- a target ahead of the place has the address of the one there
+abbrev pub is_repeated : List Target → ℕ → Bool
+is_repeated targets place = option_map_or (has_address_of (take place targets)) (slice_get targets place) false
+
+-- what is known of a target when one is picked: what an operator has set of it, and whether its checks
+-- say that it is up, two atomics say, of which a proof knows no value; one that isn't checked is up, unless
+-- an operator has set otherwise
 pub record IsSeenAs (checked before : Bool) (target : Target) (seen : Seen) : Type 0 where
+  pub order : Order
+  pub is_healthy : Bool
+  pub unchecked : checked ≡ false → is_healthy ≡ true
   pub weight : seen.weight ≡ target.weight
   pub is_backup : seen.is_backup ≡ target.is_backup
-  pub is_up : checked ≡ false → seen.is_up ≡ true
-  pub is_drained : seen.is_drained ≡ false
+  pub is_up : seen.is_up ≡ is_up_by order is_healthy
+  pub is_drained : seen.is_drained ≡ is_drained_by order
   pub was_tried : seen.was_tried ≡ before
 
 -- the same of each, by its place
@@ -40,12 +66,12 @@ pub record AreSeen (checked : Bool) (targets : List Target) (tried : Tried) (see
   pub each : (place : ℕ) (target : Target) (one : Seen) → slice_get targets place ≡ Some target
       → slice_get seen place ≡ Some one → IsSeenAs checked (was_tried tried place) target one
 
--- it is down, and would take the client otherwise
+-- it is down or drained, and would take the client otherwise
 abbrev pub is_seen_down : Seen → Bool
-is_seen_down seen = not seen.is_up && (not seen.was_tried && nat_lt 0 seen.weight)
+is_seen_down seen = (not seen.is_up || seen.is_drained) && (not seen.was_tried && nat_lt 0 seen.weight)
 
 -- no target may take the client, by what was known of each at that moment, and it is told whether one
--- of them was down that would have taken the client otherwise
+-- of them was down or drained that would have taken the client otherwise
 pub record IsNoneLeft (checked : Bool) (targets : List Target) (tried : Tried) (down : Bool) : Type 0
   where
     pub seen : List Seen

@@ -1,10 +1,11 @@
 //! What a relay is asked to be.
 
-ghost use Rattle.std.specs.Prelude.{◌≡◌, ◌≢◌, IfOk, IfErr, codes, is_some, true};
+ghost use Rattle.std.specs.Prelude.{◌≡◌, ◌≢◌, IfOk, IfErr, IfSome, codes, is_some, true};
 ghost use Rattle.relay_admin.specs.ServeFault.{IsFileFault};
 ghost use Rattle.std.specs.Arc.{arc_value};
 ghost use Rattle.relay_admin.specs.rules.Verdict.{verdict_line};
-ghost use Rattle.relay_facts.specs.Config.{AreServed, IsCapacity, IsOfFile, NamesNoAdmin, ServesRule};
+ghost use Rattle.relay_facts.specs.Config.{AreServed, IsCapacity, IsLogOf, IsOfFile, NamesNoAdmin};
+ghost use Rattle.relay_facts.specs.Config.{ServesRule, log_format};
 ghost use Rattle.relay_facts.specs.Safeguards.{safeguards_of};
 ghost use Rattle.relay_facts.specs.Source.{SaysNoSettings};
 ghost use Rattle.relay_settings.specs.Listeners.{further_listeners};
@@ -20,6 +21,7 @@ use base_types::OutOfMemory;
 use log_writer::Log;
 use relay_admin::{ServeFault, Verdict};
 use relay_core::Capacity;
+use relay_log::format::Format;
 use relay_settings::{Asked, Said, SaidRule, Settings, further_listeners, in_force};
 use std::alloc::Global;
 use std::fs::Files;
@@ -48,6 +50,28 @@ pub struct Config {
     pub safeguards: Safeguards,
     /// Where its lines go. Who wants them written starts the log's thread.
     pub log: Option<Arc<Log>>,
+}
+
+// How the lines of a log are written, by what a configuration says of it.
+fn log_format(said: Option<relay_config::Format>) -> Format
+    ensures { result ≡ log_format said }
+{
+    match said {
+        Some(relay_config::Format::Json) => Format::Json,
+        Some(relay_config::Format::Text) | None => Format::Text,
+    }
+}
+
+// The log that settings ask for, if they do.
+fn log_of(alloc: Global, settings: &Settings) -> Result<Option<Arc<Log>>, OutOfMemory>
+    ensures some { IfOk result (λ log. is_some log ≡ is_some settings.now.log) }
+    ensures format { IfOk result (λ log. IfSome log (IsLogOf settings.now)) }
+{
+    if settings.log.is_none() {
+        return Ok(None);
+    }
+    let log = Arc::new(alloc, Log::new(alloc, log_format(settings.log_format)))?;
+    Ok(Some(log))
 }
 
 // The account of a rule.
@@ -123,6 +147,7 @@ impl Config {
         ensures safeguards { IfOk result (λ config.
             config.safeguards ≡ safeguards_of config.settings) }
         ensures log { IfOk result (λ config. is_some config.log ≡ is_some config.settings.log) }
+        ensures format { IfOk result (λ config. IfSome config.log (IsLogOf config.settings)) }
         ensures faults { IfErr result (λ fault. IsFileFault fault) }
     {
         let Said { settings, rules } = said_by(rt, alloc, &asked.source)?;
@@ -152,6 +177,7 @@ fn config_of<R: Threads>(
     ensures capacity { IfOk result (λ config. IsCapacity config.settings config.capacity) }
     ensures safeguards { IfOk result (λ config. config.safeguards ≡ safeguards_of config.settings) }
     ensures log { IfOk result (λ config. is_some config.log ≡ is_some config.settings.log) }
+    ensures format { IfOk result (λ config. IfSome config.log (IsLogOf config.settings)) }
     ensures faults { IfErr result (λ fault. IsFileFault fault) }
 {
     let settings = settings_in_force(alloc, &start.asked, &start.file)?;
@@ -159,10 +185,7 @@ fn config_of<R: Threads>(
     let capacity = settings.capacity(rt);
     let safeguards = Safeguards::of(&settings);
     let rules = served_rules(alloc, rules, capacity.loops.count)?;
-    let log = match settings.log {
-        Some(_) => Some(Arc::new(alloc, Log::new(alloc))?),
-        None => None,
-    };
+    let log = log_of(alloc, &settings)?;
     Ok(Config {
         rules,
         start,

@@ -7,14 +7,17 @@ ghost use Rattle.relay_facts.specs.Acceptance.{IsPicked, IsTargetOf, address_in,
 ghost use Rattle.relay_facts.specs.Acceptance.{checked_in, targets_in};
 ghost use Rattle.relay_facts.specs.Admission.{lists_in};
 ghost use Rattle.relay_facts.specs.Targets.{IsNext, IsNoneLeft};
+ghost use Rattle.relay_facts.specs.Senders.{senders_at};
 
 use crate::counts::LoopCounts;
 use crate::header::AcceptedAt;
-use crate::served_rule::ServedRule;
+use crate::rule_sources::RuleSources;
+use crate::senders::Senders;
+use crate::served_rule::{ServedRule, same_list};
 use crate::target_list::{NoneLeft, Picked, Targets};
 use relay_admin::{Addr, Rule, Shown, ShownSide};
 use relay_core::PairLimit;
-use relay_settings::{Access, Sockets, Version};
+use relay_settings::{Access, Sockets, SourceLimits, Version};
 use std::sync::Arc;
 use std::sync::atomic::{AtomicU64, AtomicUsize, Ordering};
 use target_pick::{Tried, source_number};
@@ -27,17 +30,22 @@ pub struct Acceptance {
     pub rule: Rule,
     /// How many connections of its rule might stand then, where the rule said that itself.
     pub limit: Option<PairLimit>,
+    /// How many clients of one source were let in then, and what counts them, where its rule limits that.
+    pub source_limits: SourceLimits,
+    pub sources: Option<Arc<RuleSources>>,
     /// How its sockets are set up.
     pub sockets: Sockets,
     /// Its rule's targets then; without a list the rule's own target is the only one.
     pub targets: Option<Arc<Targets>>,
     /// Who might connect to its rule then; without lists all clients.
     pub access: Option<Arc<Access>>,
-    /// The client's address; an unnamed Unix socket has none.
+    /// Whose clients began with a header then; without a list none did.
+    pub senders: Option<Arc<Senders>>,
+    /// The client's address, once it has told one by a header that; an unnamed Unix socket has none.
     pub client: Option<Addr>,
     /// With which header its connection to a target begins, if with one.
     pub header: Option<Version>,
-    /// Where it was accepted, as far as such a header says it.
+    /// Where it was accepted, as far as such a header says it; or where its own header says so.
     pub accepted_at: Option<AcceptedAt>,
     /// The moment, in nanoseconds of the relay's clock.
     pub at: u64,
@@ -50,30 +58,32 @@ impl Acceptance {
             ≡ arc_value self.now.served) }
         ensures rule { IfSome result (λ same. same.rule ≡ self.now.rule) }
         ensures limit { IfSome result (λ same. same.limit ≡ self.now.limit) }
+        ensures source_limits { IfSome result (λ same.
+            same.source_limits ≡ self.now.source_limits) }
         ensures sockets { IfSome result (λ same. same.sockets ≡ self.now.sockets) }
         ensures targets { IfSome result (λ same. list_in same ≡ list_in self.now) }
         ensures access { IfSome result (λ same. lists_in same ≡ lists_in self.now) }
+        ensures senders { IfSome result (λ same. senders_at same ≡ senders_at self.now) }
         ensures client { IfSome result (λ same. same.client ≡ self.now.client) }
         ensures header { IfSome result (λ same. same.header ≡ self.now.header) }
         ensures accepted_at { IfSome result (λ same. same.accepted_at ≡ self.now.accepted_at) }
         ensures at { IfSome result (λ same. same.at ≡ self.now.at) }
     {
         let served = Arc::try_clone(&self.served).ok()?;
-        let targets = match &self.targets {
-            Some(targets) => Some(Arc::try_clone(targets).ok()?),
-            None => None,
-        };
-        let access = match &self.access {
-            Some(access) => Some(Arc::try_clone(access).ok()?),
-            None => None,
-        };
+        let sources = same_list(&self.sources)?;
+        let targets = same_list(&self.targets)?;
+        let access = same_list(&self.access)?;
+        let senders = same_list(&self.senders)?;
         Some(Acceptance {
             served,
             rule: self.rule,
             limit: self.limit,
+            source_limits: self.source_limits,
+            sources,
             sockets: self.sockets,
             targets,
             access,
+            senders,
             client: self.client,
             header: self.header,
             accepted_at: self.accepted_at,

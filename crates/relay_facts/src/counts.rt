@@ -109,10 +109,15 @@ pub struct LoopCounts {
     pub up: Counter,
     pub down: Counter,
     /// The connections that weren't, since there is no target, no memory, or no room at the system's
-    /// poller.
+    /// poller; or since the client was to say who it is, and said nothing or no header, or named a source
+    /// of which there were enough.
     pub no_target: Counter,
     pub no_memory: Counter,
     pub no_descriptors: Counter,
+    pub no_header: Counter,
+    pub bad_header: Counter,
+    pub source_full: Counter,
+    pub source_rate: Counter,
     pub ends: EndCounts,
     pub causes: CauseCounts,
 }
@@ -128,6 +133,10 @@ impl LoopCounts {
             no_target: Counter::new(),
             no_memory: Counter::new(),
             no_descriptors: Counter::new(),
+            no_header: Counter::new(),
+            bad_header: Counter::new(),
+            source_full: Counter::new(),
+            source_rate: Counter::new(),
             ends: EndCounts::new(),
             causes: CauseCounts::new(),
         }
@@ -144,7 +153,8 @@ impl LoopCounts {
         self.causes.note(how);
     }
 
-    /// A client wasn't served, since there is no target, or memory or the poller refused.
+    /// A client wasn't served, since there is no target, memory or the poller refused, its header is
+    /// missing or bad, or there were enough of the source that it names.
     pub fn note_refused(&self, how: Ended) {
         self.refusals(how).add(1);
         self.causes.note(how);
@@ -157,6 +167,10 @@ impl LoopCounts {
         match how {
             Ended::NoTarget(_) => &self.no_target,
             Ended::Descriptors => &self.no_descriptors,
+            Ended::NoHeader => &self.no_header,
+            Ended::BadHeader => &self.bad_header,
+            Ended::SourceFull => &self.source_full,
+            Ended::SourceRate => &self.source_rate,
             _ => &self.no_memory,
         }
     }
@@ -174,12 +188,14 @@ impl LoopCounts {
 pub struct RuleCounts {
     /// The clients that were accepted, and of those the ones that were dropped, since as many
     /// connections stood as may, on the whole or of the rule, or memory was refused, or the rule's
-    /// lists didn't let them in.
+    /// lists didn't let them in, or there were enough of their source.
     pub accepted: Counter,
     pub full: Counter,
     pub rule_full: Counter,
     pub no_memory: Counter,
     pub denied: Counter,
+    pub source_full: Counter,
+    pub source_rate: Counter,
     /// The rows of accepts that failed one after the other.
     pub accept_faults: Counter,
     pub(crate) by_loop: Vec<LoopCounts>,
@@ -203,6 +219,8 @@ impl RuleCounts {
             rule_full: Counter::new(),
             no_memory: Counter::new(),
             denied: Counter::new(),
+            source_full: Counter::new(),
+            source_rate: Counter::new(),
             accept_faults: Counter::new(),
             by_loop,
         })
@@ -221,6 +239,8 @@ impl RuleCounts {
             Ended::RuleFull => &self.rule_full,
             Ended::NoMemory => &self.no_memory,
             Ended::Denied => &self.denied,
+            Ended::SourceFull => &self.source_full,
+            Ended::SourceRate => &self.source_rate,
             _ => &self.full,
         }
     }

@@ -1,8 +1,10 @@
 //! What the targets of a new list have of the list before: connections stand there still, and a
 //! target that was down is.
 
-ghost use Rattle.std.specs.Prelude.{◌≡◌, is_some, IfOk};
+ghost use Rattle.std.specs.Prelude.{◌≡◌, is_some, IfOk, option_copied};
+ghost use Rattle.relay_facts.specs.KnownTargets as spec;
 
+use crate::target_counts::TargetCounts;
 use crate::target_health::TargetHealth;
 use crate::target_list::{CountedTarget, Targets};
 use base_types::OutOfMemory;
@@ -10,42 +12,52 @@ use relay_admin::{Addr, is_same_addr};
 use relay_settings::Checks;
 use std::alloc::Global;
 use std::sync::Arc;
-use std::sync::atomic::AtomicU64;
 
-// The first of these at this address.
-fn target_at<'a>(all: &'a [CountedTarget], at: &Addr) -> Option<&'a CountedTarget> {
-    for counted in all {
-        if is_same_addr(&counted.target.at, at) {
-            return Some(counted);
-        }
+/// The first of these at this address.
+pub(crate) fn target_at<'a>(all: &'a [CountedTarget], at: &Addr) -> Option<&'a CountedTarget>
+    ensures { option_copied result ≡ spec.listed_at at.now all.now }
+{
+    all.iter().find(|one| is_same_addr(&one.target.at, at))
+}
+
+// What is counted at this address: by these targets, or by those of the list before.
+#[tactic(auto, using(crate::proofs::KnownLemmas::of_made, crate::proofs::KnownLemmas::of_none, crate::proofs::KnownLemmas::of_before))]
+fn counted_at<'a>(
+    made: &'a [CountedTarget],
+    before: Option<&'a Targets>,
+    at: &Addr,
+) -> Option<&'a CountedTarget>
+    ensures { option_copied result ≡ spec.counted_at made.now (option_copied before.entry) at.now }
+{
+    if let Some(counted) = target_at(made, at) {
+        return Some(counted);
     }
-    None
+    target_at(before?.all.as_slice(), at)
 }
 
 /// What is counted at this address from now on: what those targets count there, if one has it.
-pub(crate) fn count_at(
+pub(crate) fn counts_at(
     alloc: Global,
     at: &Addr,
+    made: &[CountedTarget],
     before: Option<&Targets>,
-) -> Result<Arc<AtomicU64>, OutOfMemory> {
-    if let Some(before) = before {
-        if let Some(counted) = target_at(before.all.as_slice(), at) {
-            return Ok(Arc::try_clone(&counted.standing)?);
-        }
+) -> Result<Arc<TargetCounts>, OutOfMemory> {
+    match counted_at(made, before, at) {
+        Some(counted) => Ok(Arc::try_clone(&counted.counts)?),
+        None => Ok(Arc::new(alloc, TargetCounts::new())?),
     }
-    Ok(Arc::new(alloc, AtomicU64::new(0))?)
 }
 
 // The health that is known at this address: of these targets, or of those of the list before.
+#[tactic(auto, using(crate::proofs::KnownLemmas::known_none, crate::proofs::KnownLemmas::known_of))]
 fn known_at<'a>(
     made: &'a [CountedTarget],
     before: Option<&'a Targets>,
     at: &Addr,
-) -> Option<&'a Arc<TargetHealth>> {
-    if let Some(counted) = target_at(made, at) {
-        return counted.health.as_ref();
-    }
-    target_at(before?.all.as_slice(), at)?.health.as_ref()
+) -> Option<&'a Arc<TargetHealth>>
+    ensures { option_copied result ≡ spec.known_at made.now (option_copied before.entry) at.now }
+{
+    counted_at(made, before, at)?.health.as_ref()
 }
 
 // The same health, where these checks have its limits. Else its state stays, and outcomes are counted

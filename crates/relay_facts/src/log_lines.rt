@@ -1,7 +1,8 @@
 //! The lines that a connection's end, a refused client and a target that goes down or comes up bring to
 //! the log.
 
-ghost use Rattle.std.specs.Prelude.{◌≡◌, ◌/◌, Option, Some, None, IfOk, OnErr, option_map};
+ghost use Rattle.std.specs.Prelude.{◌≡◌, ◌-◌, ◌/◌, ◌^◌, Option, Some, None, IfOk, OnErr, min};
+ghost use Rattle.std.specs.Prelude.{option_map};
 ghost use Rattle.std.specs.Duration.{as_nanos};
 ghost use Rattle.relay_facts.specs.LogLines.{IsMsOfDay, ended_of};
 ghost use Rattle.relay_admin.specs.rules.Addr.{address_of, address_text};
@@ -20,15 +21,28 @@ use std::io;
 use std::sync::Wait;
 use std::time::{Clock, Duration};
 
+// The milliseconds since 1970 by a calendar that has told what passed; 0 where it couldn't.
+fn ms_told(told: io::Result<Duration>) -> u64
+    ensures told { IfOk told (λ passed. result ≡ min (as_nanos passed / 1000000) (2 ^ 64 - 1)) }
+    ensures untold { OnErr told (result ≡ 0) }
+{
+    match told {
+        Ok(passed) => u64::try_from(passed.as_millis()).unwrap_or(u64::MAX),
+        Err(_) => 0,
+    }
+}
+
 // The moment by a calendar that has told what passed since 1970; where it couldn't, the first of all.
 fn moment_of(told: io::Result<Duration>) -> Moment
     ensures told { IfOk told (λ passed. IsMsOfDay (as_nanos passed / 1000000) result.ms_of_day) }
     ensures untold { OnErr told (result.ms_of_day ≡ 0) }
 {
-    match told {
-        Ok(passed) => Moment::from_millis(u64::try_from(passed.as_millis()).unwrap_or(u64::MAX)),
-        Err(_) => Moment::from_millis(0),
-    }
+    Moment::from_millis(ms_told(told))
+}
+
+/// The moment by the calendar, in milliseconds since 1970; 0 where it can't be read.
+pub fn calendar_ms<R: Clock>(rt: &R) -> u64 {
+    ms_told(rt.since_1970())
 }
 
 // What a line says of how it went, beside who and when.

@@ -1,14 +1,63 @@
-//! What came of clients' connects and of checks: their targets' health has it, and the log is told of
-//! what that changes.
+//! What came of clients' connects and of checks: their targets' counts and health have it, and the log is
+//! told of what that changes.
+
+ghost use Rattle.std.specs.Prelude.{◌≡◌};
+ghost use Rattle.relay_facts.specs.declared.outcomes.Attempt.{Attempt};
 
 use crate::connection_facts::{Acceptance, ConnectionFacts};
-use crate::log_lines::tell_change;
+use crate::log_lines::{calendar_ms, tell_change};
 use crate::target_list::Targets;
 use log_writer::Log;
 use relay_admin::Rule;
+use relay_log::ended::Cause;
 use std::sync::{Arc, Wait};
 use std::time::Clock;
 use target_pick::Outcome;
+
+/// By what a target was tried.
+#[derive(Clone, Copy, Debug, PartialEq, Eq, Drop)]
+pub enum Attempt {
+    /// A check.
+    Check,
+    /// A client's connect.
+    Connect,
+}
+
+/// What came of a check of a target, or of a client's connect to it; and why, where it failed.
+#[derive(Clone, Copy, Debug, PartialEq, Eq, Drop)]
+pub struct Came {
+    pub outcome: Outcome,
+    pub of: Attempt,
+    pub cause: Cause,
+}
+
+impl Came {
+    /// What came of a check.
+    pub fn of_check(outcome: Outcome, cause: Cause) -> Came
+        ensures outcome { result.outcome ≡ outcome }
+        ensures of { result.of ≡ Attempt.Check }
+        ensures cause { result.cause ≡ cause }
+    {
+        Came {
+            outcome,
+            of: Attempt::Check,
+            cause,
+        }
+    }
+
+    /// What came of a client's connect.
+    pub fn of_connect(outcome: Outcome, cause: Cause) -> Came
+        ensures outcome { result.outcome ≡ outcome }
+        ensures of { result.of ≡ Attempt.Connect }
+        ensures cause { result.cause ≡ cause }
+    {
+        Came {
+            outcome,
+            of: Attempt::Connect,
+            cause,
+        }
+    }
+}
 
 /// Notes what came of a check of the target at this place of this rule, or of a client's connect to
 /// it.
@@ -18,11 +67,12 @@ pub fn note_outcome<R: Wait + Clock>(
     rule: &Rule,
     targets: &Targets,
     place: usize,
-    outcome: Outcome,
+    came: &Came,
 ) {
-    let Some(change) = targets.note(place, outcome) else {
+    let Some(change) = targets.note(place, came) else {
         return;
     };
+    targets.begin_anew(place, calendar_ms(rt));
     if let (Some(log), Some(target)) = (log, targets.address(place)) {
         tell_change(rt, log, rule, &target, change);
     }
@@ -35,18 +85,18 @@ impl Acceptance {
         rt: &R,
         log: &Option<Arc<Log>>,
         place: usize,
-        outcome: Outcome,
+        came: &Came,
     ) {
         if let Some(targets) = &self.targets {
-            note_outcome(rt, log, &self.rule, targets, place, outcome);
+            note_outcome(rt, log, &self.rule, targets, place, came);
         }
     }
 }
 
 impl ConnectionFacts {
     /// Notes what came of the connect to the target that is tried.
-    pub fn note_outcome<R: Wait + Clock>(&self, rt: &R, log: &Option<Arc<Log>>, outcome: Outcome) {
+    pub fn note_outcome<R: Wait + Clock>(&self, rt: &R, log: &Option<Arc<Log>>, came: &Came) {
         self.acceptance
-            .note_outcome(rt, log, self.target_place(), outcome);
+            .note_outcome(rt, log, self.target_place(), came);
     }
 }

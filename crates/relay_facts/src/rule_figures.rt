@@ -1,6 +1,9 @@
-//! What the metrics tell of a rule: the sums of what all loops count, and which of its targets are up.
+//! What the metrics tell of a rule: the sums of what all loops count, and what is known of its targets.
 
-ghost use Rattle.std.specs.Prelude.{◌≡◌, ◌+◌, ◌-◌, ◌^◌, min};
+ghost use Rattle.std.specs.Prelude.{◌≡◌, ◌+◌, ◌-◌, ◌^◌, OnOk, min};
+ghost use Rattle.relay_facts.specs.Counts.{NoneFalls};
+ghost use Rattle.relay_facts.specs.TargetFigures.{TellsOfSaid};
+ghost use Rattle.relay_facts.specs.declared.served_rule.Said.{Said};
 
 use crate::counts::{Counter, RuleCounts};
 use crate::served_rule::ServedRule;
@@ -17,9 +20,11 @@ fn add(sum: &mut u64, count: u64)
 }
 
 // Adds to sums those counts, place by place.
-fn add_each(sums: &mut [u64], counters: &[Counter]) {
-    for (sum, counter) in sums.iter_mut().zip(counters) {
-        add(sum, counter.get());
+fn add_each(sums: &mut [u64], counters: &[Counter])
+    ensures { NoneFalls sums.old sums.new }
+{
+    for place in 0..sums.len().min(counters.len()) {
+        add(&mut sums[place], counters[place].get());
     }
 }
 
@@ -43,6 +48,8 @@ fn sums(counts: &RuleCounts) -> (u64, CarriedBytes, Refusals) {
     add(&mut refused.full, counts.full.get());
     add(&mut refused.rule_full, counts.rule_full.get());
     add(&mut refused.no_memory, counts.no_memory.get());
+    add(&mut refused.source_full, counts.source_full.get());
+    add(&mut refused.source_rate, counts.source_rate.get());
     for counted in counts.loops() {
         add(&mut connections, counted.standing());
         add(&mut bytes.up, counted.up.get());
@@ -50,8 +57,23 @@ fn sums(counts: &RuleCounts) -> (u64, CarriedBytes, Refusals) {
         add(&mut refused.no_target, counted.no_target.get());
         add(&mut refused.no_memory, counted.no_memory.get());
         add(&mut refused.descriptors, counted.no_descriptors.get());
+        add(&mut refused.no_header, counted.no_header.get());
+        add(&mut refused.bad_header, counted.bad_header.get());
+        add(&mut refused.source_full, counted.source_full.get());
+        add(&mut refused.source_rate, counted.source_rate.get());
     }
     (connections, bytes, refused)
+}
+
+// Whether a target of a rule is up; a rule of which that can't be told counts as served.
+fn has_target<R: Wait>(rt: &R, served: &ServedRule) -> bool {
+    let Some(said) = served.said(rt) else {
+        return true;
+    };
+    match &said.targets {
+        Some(targets) => targets.has_one_up(),
+        None => true,
+    }
 }
 
 /// What is told of a rule at this moment.
@@ -68,15 +90,18 @@ pub fn rule_figures<R: Wait>(rt: &R, served: &ServedRule) -> RuleFigures {
         unreached,
         accept_faults: served.counts.accept_faults.get(),
         is_listening: served.is_listening(rt),
+        has_target: has_target(rt, served),
     }
 }
 
-/// Puts what is told of the targets of a rule at this moment behind these, where they are checked.
+/// Puts what is told of the targets of a rule at this moment behind these.
 pub fn add_target_figures<R: Wait>(
     rt: &R,
     served: &ServedRule,
     figures: &mut Vec<TargetFigures>,
-) -> Result<(), OutOfMemory> {
+) -> Result<(), OutOfMemory>
+    ensures { OnOk result ((said : Said) × TellsOfSaid said figures.old.items figures.new.items) }
+{
     let Some(said) = served.said(rt) else {
         return Err(OutOfMemory);
     };

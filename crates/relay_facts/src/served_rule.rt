@@ -1,21 +1,24 @@
 //! A rule as a running relay serves it.
 
-ghost use Rattle.std.specs.Prelude.{◌≡◌, None, IfOk, IfSome, option_map};
+ghost use Rattle.std.specs.Prelude.{◌≡◌, false, None, Some, IfOk, IfSome, IsSome, option_map};
 ghost use Rattle.std.specs.Arc.{arc_value};
+ghost use Rattle.client_sources.specs.Limits.{are_none, no_limits};
 ghost use Rattle.relay_facts.specs.Acceptance.{checks_with, targets_with};
 ghost use Rattle.relay_facts.specs.Admission.{allowed_by, denied_by};
-ghost use Rattle.relay_facts.specs.Config.{SaysRule};
+ghost use Rattle.relay_facts.specs.Config.{IsSame, SaysRule};
 ghost use Rattle.relay_facts.specs.Counts.{loops_of};
 ghost use Rattle.relay_config.specs.Entries.{sockets_entry};
 ghost use Rattle.relay_settings.specs.Targets.{plain_sockets};
 
 use crate::counts::RuleCounts;
 use crate::listens::{Addresses, addresses_of};
+use crate::rule_sources::RuleSources;
+use crate::senders::{Senders, senders_of};
 use crate::target_list::Targets;
 use base_types::OutOfMemory;
 use relay_admin::{Addr, Rule};
 use relay_core::PairLimit;
-use relay_settings::{Access, PLAIN_SOCKETS, SaidRule, Sockets, Version};
+use relay_settings::{Access, PLAIN_SOCKETS, SaidRule, Sockets, SourceLimits, Version};
 use std::alloc::Global;
 use std::sync::atomic::{AtomicU64, Ordering};
 use std::sync::{Arc, Mutex, Wait};
@@ -28,36 +31,64 @@ pub struct Said {
     pub listens: Option<Arc<Addresses>>,
     /// How many connections of it stand at once; without it as many as of each rule.
     pub limit: Option<PairLimit>,
+    /// How many clients of one source are let in.
+    pub source_limits: SourceLimits,
+    /// What counts those; without it nobody was limited so far.
+    pub sources: Option<Arc<RuleSources>>,
     /// How the sockets of its listeners and connections are set up.
     pub sockets: Sockets,
-    /// Its targets; without a list the rule's own target is the only one.
+    /// Its targets; without a list, as an account has it before its rule is read, the rule's own target
+    /// is the only one.
     pub targets: Option<Arc<Targets>>,
     /// With which header a connection to a target begins, if with one.
     pub header: Option<Version>,
     /// Who may connect to it; without lists all clients may.
     pub access: Option<Arc<Access>>,
+    /// Whose clients begin with a header; without a list none does.
+    pub senders: Option<Arc<Senders>>,
 }
 
-// The list of these targets, where a rule needs one: a client of a rule that is alone with a target
-// which isn't checked is picked none. What the list of before counts and knows of a target stays.
+// The list of these targets. What a list of before counts and knows of a target stays.
 fn list_of(
     alloc: Global,
     said: &SaidRule,
-    before: Option<&Targets>,
-) -> Result<Option<Arc<Targets>>, OutOfMemory>
+    before: Option<&Said>,
+) -> Result<Arc<Targets>, OutOfMemory>
     ensures targets { IfOk result (λ list.
-        targets_with (option_map arc_value list) said.now.rule ≡ said.now.targets.items) }
-    ensures balance { IfOk result (λ list.
-        IfSome list (λ list. (arc_value list).balance ≡ said.now.balance)) }
+        targets_with (Some (arc_value list)) said.now.rule ≡ said.now.targets.items) }
+    ensures balance { IfOk result (λ list. (arc_value list).balance ≡ said.now.balance) }
     ensures checks { IfOk result (λ list.
-        checks_with (option_map arc_value list) ≡ said.now.checks) }
+        checks_with (Some (arc_value list)) ≡ said.now.checks) }
 {
-    if said.is_alone() && said.checks.is_none() {
+    let targets = said.targets.as_slice();
+    let list = before.and_then(|before| before.targets.as_ref());
+    let list = list.map(|list| &**list);
+    Targets::new(alloc, said.balance, said.checks, targets, list)
+}
+
+// What counts clients by their sources: the table of before, if there is one, also while nobody is
+// limited; else a new one, where somebody is.
+fn sources_of(
+    alloc: Global,
+    limits: &SourceLimits,
+    before: Option<&Said>,
+) -> Result<Option<Arc<RuleSources>>, OutOfMemory>
+    ensures there { IfOk result (λ sources.
+        are_none limits.now ≡ false → IsSome sources) }
+{
+    if let Some(
+        Said {
+            sources: Some(sources),
+            ..
+        },
+    ) = before
+    {
+        return Ok(Some(Arc::try_clone(sources)?));
+    }
+    if limits.is_none() {
         return Ok(None);
     }
-    let targets = said.targets.as_slice();
-    let list = Targets::new(alloc, said.balance, said.checks, targets, before)?;
-    Ok(Some(list))
+    Ok(Some(RuleSources::new(alloc)?))
 }
 
 // Who may connect to a rule, in memory of its own, where the rule has lists.
@@ -76,53 +107,97 @@ fn access_of(alloc: Global, said: &SaidRule) -> Result<Option<Arc<Access>>, OutO
     Ok(Some(access))
 }
 
+/// The same list held once more, unless it is held too often.
+pub(crate) fn same_list<T>(list: &Option<Arc<T>>) -> Option<Option<Arc<T>>>
+    ensures { IfSome result (λ same.
+        option_map arc_value same ≡ option_map arc_value list.now) }
+{
+    match list {
+        Some(list) => Some(Some(Arc::try_clone(list).ok()?)),
+        None => Some(None),
+    }
+}
+
 impl Said {
-    /// What a rule of the file says. `before` is the list of its account, if that has one.
-    pub fn of(alloc: Global, said: &SaidRule, before: Option<&Targets>) -> Result<Said, OutOfMemory>
+    // The same once more. It takes no memory; refused is only a list that is held too often.
+    fn try_clone(&self) -> Option<Said>
+        ensures { IfSome result (IsSame self.now) }
+    {
+        let listens = same_list(&self.listens)?;
+        let sources = same_list(&self.sources)?;
+        let targets = same_list(&self.targets)?;
+        let access = same_list(&self.access)?;
+        let senders = same_list(&self.senders)?;
+        Some(Said {
+            rule: self.rule,
+            listens,
+            limit: self.limit,
+            source_limits: self.source_limits,
+            sources,
+            sockets: self.sockets,
+            targets,
+            header: self.header,
+            access,
+            senders,
+        })
+    }
+
+    /// What a rule of the file says. `before` is what its account says, if it has one: what its list of
+    /// targets and its table of sources count is counted on.
+    pub fn of(alloc: Global, said: &SaidRule, before: Option<&Said>) -> Result<Said, OutOfMemory>
         ensures { IfOk result (SaysRule said.now) }
     {
         let listens = addresses_of(alloc, said)?;
-        let targets = list_of(alloc, said, before)?;
+        let sources = sources_of(alloc, &said.source_limits, before)?;
+        let targets = Some(list_of(alloc, said, before)?);
         let access = access_of(alloc, said)?;
+        let senders = senders_of(alloc, said)?;
         Ok(Said {
             rule: said.rule,
             listens,
             limit: said.limit,
+            source_limits: said.source_limits,
+            sources,
             sockets: said.sockets,
             targets,
             header: said.header,
             access,
+            senders,
         })
     }
 
-    /// A rule at its own address alone, without a limit of its own and with plain sockets, whose own target
-    /// is its only one and is sent no header, and which lets all clients in.
+    /// A rule at its own address alone, without limits of its own and with plain sockets, whose own target
+    /// is its only one and is sent no header, and which lets all clients in and awaits a header of none.
     pub fn alone(rule: &Rule) -> Said
         ensures rule { result.rule ≡ rule.now }
         ensures listens { result.listens ≡ None }
         ensures limit { result.limit ≡ None }
+        ensures source_limits { result.source_limits ≡ no_limits }
         ensures sockets { sockets_entry result.sockets ≡ plain_sockets }
         ensures targets { result.targets ≡ None }
         ensures header { result.header ≡ None }
         ensures access { result.access ≡ None }
+        ensures senders { result.senders ≡ None }
     {
         Said {
             rule: *rule,
             listens: None,
             limit: None,
+            source_limits: SourceLimits::none(),
+            sources: None,
             sockets: PLAIN_SOCKETS,
             targets: None,
             header: None,
             access: None,
+            senders: None,
         }
     }
 }
 
 /// The account of a rule, by the first address at which it listens: what the rule says now, and what was
 /// counted, of all its listeners together. It outlives these, which are the main thread's. The rule's
-/// name, further addresses, limit, sockets, targets, header, idle time and lists of clients change with a
-/// reload; a connection goes on by what they were when it was
-/// accepted.
+/// name, further addresses, limits, sockets, targets, header, idle time and lists of clients change with a
+/// reload; a connection goes on by what they were when it was accepted.
 #[derive(Drop)]
 pub struct ServedRule {
     pub listen: Addr,
@@ -133,6 +208,8 @@ pub struct ServedRule {
     accepting: AtomicU64,
     /// How many of its connections stand, those that wait for their loops among them.
     standing: AtomicU64,
+    /// Its number among accounts; 0 before it has one.
+    number: AtomicU64,
     pub counts: RuleCounts,
 }
 
@@ -146,10 +223,13 @@ impl ServedRule {
             rule,
             listens,
             limit,
+            source_limits,
+            sources,
             sockets,
             targets,
             header,
             access,
+            senders,
         } = said;
         let counts = RuleCounts::new(alloc, loops)?;
         let served = ServedRule {
@@ -158,14 +238,18 @@ impl ServedRule {
                 rule,
                 listens,
                 limit,
+                source_limits,
+                sources,
                 sockets,
                 targets,
                 header,
                 access,
+                senders,
             }),
             picks: AtomicU64::new(0),
             accepting: AtomicU64::new(0),
             standing: AtomicU64::new(0),
+            number: AtomicU64::new(0),
             counts,
         };
         match Arc::new(alloc, served) {
@@ -182,32 +266,22 @@ impl ServedRule {
     /// What it says now. It takes no memory; refused is only a list that is held too often.
     pub fn said<R: Wait>(&self, rt: &R) -> Option<Said> {
         let said = self.said.lock(rt);
-        let listens = match &said.listens {
-            Some(list) => Some(Arc::try_clone(list).ok()?),
-            None => None,
-        };
-        let targets = match &said.targets {
-            Some(targets) => Some(Arc::try_clone(targets).ok()?),
-            None => None,
-        };
-        let access = match &said.access {
-            Some(access) => Some(Arc::try_clone(access).ok()?),
-            None => None,
-        };
-        Some(Said {
-            rule: said.rule,
-            listens,
-            limit: said.limit,
-            sockets: said.sockets,
-            targets,
-            header: said.header,
-            access,
-        })
+        said.try_clone()
     }
 
     /// Has it say this from now on.
     pub fn say<R: Wait>(&self, rt: &R, said: Said) {
         *self.said.lock(rt) = said;
+    }
+
+    /// Its number among accounts, from 1 on; 0 before it has one.
+    pub fn number(&self) -> u64 {
+        self.number.load(Ordering::SeqCst)
+    }
+
+    /// This is its number from now on. An account that stays over a reload keeps it.
+    pub fn set_number(&self, number: u64) {
+        self.number.store(number, Ordering::SeqCst);
     }
 
     /// How many targets were picked by it before, this time not counted.

@@ -2,19 +2,19 @@
 
 ghost use Rattle.std.specs.Prelude.{◌≤◌, ◌<◌, length};
 
+use crate::target_counts::TargetCounts;
 use crate::target_health::TargetHealth;
 use relay_admin::Addr;
 use relay_settings::{Checks, Target};
 use std::sync::Arc;
-use std::sync::atomic::AtomicU64;
 use target_pick::{Balance, Tried};
 
-/// A target, how many connections stand at it, and its health. A later list with the same address
-/// goes on with both.
+/// A target, what is counted of it, and its health. A later list with the same address goes on with
+/// both.
 #[derive(Drop)]
 pub(crate) struct CountedTarget {
     pub(crate) target: Target,
-    pub(crate) standing: Arc<AtomicU64>,
+    pub(crate) counts: Arc<TargetCounts>,
     /// One that isn't checked has none, and is up.
     pub(crate) health: Option<Arc<TargetHealth>>,
 }
@@ -34,7 +34,7 @@ pub struct Targets {
 /// That no target may take a client.
 #[derive(Clone, Copy, Debug, PartialEq, Eq, Drop)]
 pub struct NoneLeft {
-    /// Whether one that wasn't tried for the client was seen down.
+    /// Whether one that wasn't tried for the client was seen down or drained.
     pub down: bool,
 }
 

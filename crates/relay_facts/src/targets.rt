@@ -1,55 +1,67 @@
-//! A rule's targets: how many connections stand at each, which are up, and which one is a client's
-//! next.
+//! A rule's targets: how many connections stand at each, which are up or drained, and which one is a
+//! client's next.
 
-ghost use Rattle.std.specs.Prelude.{◌≡◌, ◌≤◌, ◌<◌, Bool, false, length, slice_get};
-ghost use Rattle.std.specs.Prelude.{IfOk, IfErr, option_map};
+ghost use Rattle.std.specs.Prelude.{◌≡◌, ◌≤◌, ◌<◌, Bool, true, false, length, slice_get};
+ghost use Rattle.std.specs.Prelude.{None, IfOk, IfErr, IfSome, option_map};
 ghost use Rattle.std.specs.List.{list_any};
 ghost use Rattle.std.specs.Arc.{arc_value};
-ghost use Rattle.relay_facts.specs.Targets.{AreSeen, IsNext, IsNoneLeft, IsPick, IsSeenAs};
-ghost use Rattle.relay_facts.specs.Targets.{are_checked, is_seen_down, targets_of};
+ghost use Rattle.relay_admin.specs.rules.Addr.{address_of, same_address};
+ghost use Rattle.relay_facts.specs.TargetHealth.{TellsChange};
+ghost use Rattle.relay_facts.specs.Targets.{AreSeen, HasHealthAt, IsNext, IsNoneLeft, IsPick, IsSeenAs};
+ghost use Rattle.relay_facts.specs.Targets.{are_checked, is_repeated, is_seen_down, targets_of};
 ghost use Rattle.target_pick.specs.Tried.{was_tried};
 
-use crate::known_targets::{count_at, health_at};
+use crate::known_targets::{counts_at, health_at};
+use crate::outcomes::Came;
+use crate::set_order::{is_drained_by, is_up_by};
 use crate::target_health::Change;
 use crate::target_list::{CountedTarget, NoneLeft, Picked, Targets};
-use arrayvec::{ArrayString, ArrayVec};
+use arrayvec::ArrayVec;
 use base_types::OutOfMemory;
 use relay_admin::{Addr, is_same_addr};
-use relay_metrics::TargetFigures;
 use relay_settings::{Checks, MAX_TARGETS, Target};
 use std::alloc::Global;
 use std::sync::Arc;
-use std::sync::atomic::Ordering;
-use target_pick::{Balance, Outcome, Seen, Tried, pick, takers};
+use target_pick::{Balance, Seen, Tried, pick, takers};
 
-// Whether a target is up by its health.
-fn is_up(counted: &CountedTarget) -> bool {
+/// Whether a target is up by its health.
+pub(crate) fn is_healthy(counted: &CountedTarget) -> bool
+    ensures { counted.now.health ≡ None → result ≡ true }
+{
     match &counted.health {
         Some(health) => health.is_up(),
         None => true,
     }
 }
 
+// Whether one is seen healthy, of a rule whose targets are checked or not.
+fn is_seen_healthy(counted: &CountedTarget, is_checked: bool) -> bool
+    ensures { is_checked ≡ false → result ≡ true }
+{
+    !is_checked || is_healthy(counted)
+}
+
 // What is known of a target, of a rule whose targets are checked or not.
 fn seen_as(counted: &CountedTarget, is_checked: bool, was_tried: bool) -> Seen
     ensures { IsSeenAs is_checked was_tried counted.now.target result }
 {
-    let standing = counted.standing.load(Ordering::SeqCst);
+    let order = counted.counts.order.get();
+    let is_healthy = is_seen_healthy(counted, is_checked);
     Seen {
         weight: counted.target.weight,
         is_backup: counted.target.is_backup,
-        is_up: !is_checked || is_up(counted),
-        is_drained: false,
+        is_up: is_up_by(order, is_healthy),
+        is_drained: is_drained_by(order),
         was_tried,
-        connections: u32::try_from(standing).unwrap_or(u32::MAX),
+        connections: u32::try_from(counted.counts.standing()).unwrap_or(u32::MAX),
     }
 }
 
-// Whether a target would take a client if it weren't down.
+// Whether a target would take a client if it weren't down or drained.
 fn is_seen_down(target: &Seen) -> bool
     ensures { result ≡ is_seen_down target.now }
 {
-    !target.is_up && !target.was_tried && target.weight > 0
+    (!target.is_up || target.is_drained) && !target.was_tried && target.weight > 0
 }
 
 // Whether one of these would.
@@ -59,9 +71,17 @@ fn some_down(seen: &[Seen]) -> bool
     seen.iter().any(|one| is_seen_down(one))
 }
 
+// Whether one of these is at this address.
+fn some_at(all: &[CountedTarget], at: &Addr) -> bool
+    ensures { result ≡ list_any
+        (λ one. same_address (address_of one.target.at) (address_of at.now)) all.now }
+{
+    all.iter().any(|one| is_same_addr(&one.target.at, at))
+}
+
 impl Targets {
-    /// These targets, in this order, which are checked so. One at whose address connections stand by
-    /// a list before has them still, and the health that it had.
+    /// These targets, in this order, which are checked so. One at whose address connections stand by a
+    /// list before has them still, its counts, what is set of it and the health that it had.
     pub fn new(
         alloc: Global,
         balance: Balance,
@@ -77,11 +97,11 @@ impl Targets {
     {
         let mut all = Vec::new(alloc);
         for target in said {
-            let standing = count_at(alloc, &target.at, before)?;
+            let counts = counts_at(alloc, &target.at, all.as_slice(), before)?;
             let health = health_at(alloc, &target.at, checks, all.as_slice(), before)?;
             all.push(CountedTarget {
                 target: *target,
-                standing,
+                counts,
                 health,
             })?;
         }
@@ -177,65 +197,40 @@ impl Targets {
         Some(self.all.get(place)?.target.at)
     }
 
-    /// Whether a target ahead of this place has this address.
-    pub fn stands_before(&self, place: usize, at: &Addr) -> bool {
-        for before in 0..place.min(self.all.len()) {
-            if is_same_addr(&self.all[before].target.at, at) {
-                return true;
-            }
-        }
-        false
-    }
-
-    // The target at this place as figures tell of it, of a rule with this name. One that isn't
-    // checked, and one whose address stands before it, have none.
-    fn figures(&self, rule: ArrayString<16>, place: usize) -> Option<TargetFigures> {
-        let counted = self.all.get(place)?;
-        let health = counted.health.as_ref()?;
-        if self.stands_before(place, &counted.target.at) {
-            return None;
-        }
-        Some(TargetFigures {
-            rule,
-            target: counted.target.at.text(),
-            is_up: health.is_up(),
-        })
-    }
-
-    /// Puts what figures tell of these targets, of a rule with this name, behind others.
-    pub(crate) fn add_figures(
-        &self,
-        rule: ArrayString<16>,
-        figures: &mut Vec<TargetFigures>,
-    ) -> Result<(), OutOfMemory> {
-        for place in 0..self.all.len() {
-            if let Some(one) = self.figures(rule, place) {
-                figures.push(one)?;
-            }
-        }
-        Ok(())
+    /// Whether a target ahead of this place has its address: they are one, which is told of once.
+    pub fn is_repeated(&self, place: usize) -> bool
+        ensures { result ≡ is_repeated (targets_of self.now) place }
+    {
+        let Some(counted) = self.all.get(place) else {
+            return false;
+        };
+        some_at(&self.all.as_slice()[..place], &counted.target.at)
     }
 
     /// One connection more stands at the target of this place. Each is left once.
     pub(crate) fn enter(&self, place: usize) {
         if let Some(counted) = self.all.get(place) {
-            counted.standing.fetch_add(1, Ordering::SeqCst);
+            counted.counts.enter();
         }
     }
 
     /// One that stood there is over, or tries another target.
     pub(crate) fn leave(&self, place: usize) {
         if let Some(counted) = self.all.get(place) {
-            counted.standing.fetch_sub(1, Ordering::SeqCst);
+            counted.counts.leave();
         }
     }
 
     /// Notes what came of a check of the target at this place, or of a client's connect, and says how
-    /// that has changed its state, if it has. Of a target that isn't checked nothing is noted.
-    pub(crate) fn note(&self, place: usize, outcome: Outcome) -> Option<Change> {
+    /// that has changed its health, if it has. One that isn't checked has none.
+    pub(crate) fn note(&self, place: usize, came: &Came) -> Option<Change>
+        ensures change { IfSome result (TellsChange came.now.outcome) }
+        ensures checked { IfSome result (λ _. HasHealthAt self.now place) }
+    {
         let counted = self.all.get(place)?;
+        counted.counts.note(came);
         match &counted.health {
-            Some(health) => health.note(outcome),
+            Some(health) => health.note(came.outcome),
             None => None,
         }
     }

@@ -2,6 +2,7 @@
 use Rattle.std.proofs.Common.{◌≡◌, ◌∙◌, sym, ap, ℕ, ◌+◌, ◌<◌, ◌^◌, List, [], ◌∷◌, ◌++◌, arith, length-append, replicate}
 use Rattle.std.specs.Prelude.{sum_by, flat_map}
 use Rattle.std.proofs.lemmas.Grind.{common_steps}
+use Rattle.relay_log.specs.declared.format.Format.{Format}
 use Rattle.relay_log.specs.Queue.{Queue, one_more, entry_text}
 use Rattle.relay_log.specs.Conservation.{Push, Entry, pushes_of, text_of, said_lost}
 use Rattle.relay_log.specs.Conservation.{EachPushIsTold}
@@ -48,9 +49,11 @@ each_push_is_told queue _ out (queues {old} {new} {pushes} line run is) small =
       entries ++ entry ∷ [],
       record {
         text =
-            ap (λ (q : Queue). out ++ q.bytes) is ∙ sym (append-assoc out old.bytes (entry_text old.lost line))
-            ∙ ap (λ (t : List ℕ). t ++ entry_text old.lost line) told.text
-            ∙ sym (flat_map-push text_of entries entry);
+            ap (λ (q : Queue). out ++ q.bytes) is
+            ∙ sym (append-assoc out old.bytes (entry_text old.format old.lost line))
+            ∙ ap (λ (t : List ℕ). t ++ entry_text old.format old.lost line) told.text
+            ∙ sym (flat_map-push (text_of old.format) entries entry)
+            ∙ ap (λ (f : Format). flat_map (text_of f) (entries ++ entry ∷ [])) (sym (ap (λ (q : Queue). q.format) is));
         pushed =
             ap (λ (p : List Push). p ++ queued line ∷ []) told.pushed
             ∙ append-assoc (flat_map pushes_of entries) (replicate old.lost lost) (queued line ∷ [])
@@ -77,7 +80,9 @@ each_push_is_told queue _ out (loses {old} {new} {pushes} run is) small =
     ap (λ (q : Queue). q.lost) is ∙ one_more-below old.lost (omega (arith, told.count, longer, small)) in (
       entries,
       record {
-        text = ap (λ (q : Queue). out ++ q.bytes) is ∙ told.text;
+        text =
+            ap (λ (q : Queue). out ++ q.bytes) is ∙ told.text
+            ∙ ap (λ (f : Format). flat_map (text_of f) entries) (sym (ap (λ (q : Queue). q.format) is));
         pushed =
             ap (λ (p : List Push). p ++ lost ∷ []) told.pushed
             ∙ append-assoc (flat_map pushes_of entries) (replicate old.lost lost) (lost ∷ [])
@@ -92,7 +97,8 @@ each_push_is_told queue pushes _ (takes {old} {new} {out} run is) small =
       before.0,
       record {
         text =
-            ap (λ (q : Queue). (out ++ old.bytes) ++ q.bytes) is ∙ append-nil (out ++ old.bytes) ∙ told.text;
+            ap (λ (q : Queue). (out ++ old.bytes) ++ q.bytes) is ∙ append-nil (out ++ old.bytes) ∙ told.text
+            ∙ ap (λ (f : Format). flat_map (text_of f) before.0) (sym (ap (λ (q : Queue). q.format) is));
         pushed =
             told.pushed ∙ ap (λ (n : ℕ). flat_map pushes_of before.0 ++ replicate n lost)
             (sym (ap (λ (q : Queue). q.lost) is));

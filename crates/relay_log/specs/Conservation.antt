@@ -1,6 +1,7 @@
 -- Runs of pushes and takes, and what they leave.
 use Rattle.std.specs.Prelude.{◌≡◌, ◌+◌, ◌<◌, ◌^◌, ℕ, List, [], ◌∷◌, ◌++◌, length, replicate, sum_by}
 use Rattle.std.specs.Prelude.{flat_map}
+use Rattle.relay_log.specs.declared.format.Format.{Format}
 use Rattle.relay_log.specs.Queue.{Queue, TakesIn, Loses, Takes, entry_text}
 
 -- how a push went: its line was taken in, or lost
@@ -27,9 +28,9 @@ pub record Entry : Type 0 where
 abbrev pub pushes_of : Entry → List Push
 pushes_of entry = replicate entry.lost_before lost ++ queued entry.line ∷ []
 
--- the bytes of an entry
-abbrev pub text_of : Entry → List ℕ
-text_of entry = entry_text entry.lost_before entry.line
+-- the bytes of an entry of a queue in a format
+abbrev pub text_of : Format → Entry → List ℕ
+text_of format entry = entry_text format entry.lost_before entry.line
 
 -- how many lines were lost, as an entry says
 abbrev pub said_lost : Entry → ℕ
@@ -38,7 +39,7 @@ said_lost entry = entry.lost_before
 -- what was taken and what waits are these entries; they, and the lines lost since, are all pushes
 pub record AreEntriesOf (queue : Queue) (pushes : List Push) (out : List ℕ) (entries : List Entry)
     : Type 0 where
-  pub text : out ++ queue.bytes ≡ flat_map text_of entries
+  pub text : out ++ queue.bytes ≡ flat_map (text_of queue.format) entries
   pub pushed : pushes ≡ flat_map pushes_of entries ++ replicate queue.lost lost
   pub count : length entries + sum_by said_lost entries + queue.lost ≡ length pushes
 

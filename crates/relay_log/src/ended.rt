@@ -103,9 +103,9 @@ impl Cause {
     }
 }
 
-/// How a connection ended, or what else a line tells. `Denied`, `Full`, `RuleFull`, `NoMemory` and
-/// `Descriptors` are of clients that were refused, `NoTarget` of those and of connections whose
-/// targets weren't reached later.
+/// How a connection ended, or what else a line tells. `Denied`, `Full`, `RuleFull`, `SourceFull`,
+/// `SourceRate`, `NoMemory`, `Descriptors`, `NoHeader` and `BadHeader` are of clients that were refused, `NoTarget` of those and
+/// of connections whose targets weren't reached later.
 #[derive(Clone, Copy, Debug, PartialEq, Eq, Drop)]
 pub enum Ended {
     /// Both ends of file were passed on.
@@ -126,10 +126,18 @@ pub enum Ended {
     Full,
     /// As many connections of its rule stood as may.
     RuleFull,
+    /// As many connections of its source stood as may.
+    SourceFull,
+    /// As many clients of its source were let in as may be in their time.
+    SourceRate,
     /// Memory was refused for the connection.
     NoMemory,
     /// The system's poller took none of its descriptors.
     Descriptors,
+    /// The client was to say first who it is, and no whole header came of it.
+    NoHeader,
+    /// The client was to say first who it is, and its bytes begin with no header.
+    BadHeader,
     /// The target wasn't reached.
     NoTarget(Cause),
     /// No connection: an accept failed, the first in a row.
@@ -151,6 +159,8 @@ impl Ended {
             Ended::Idle => 1,
             Ended::Closed | Ended::Denied | Ended::Full | Ended::RuleFull => 2,
             Ended::NoMemory | Ended::Descriptors | Ended::Accept(_) => 2,
+            Ended::SourceFull | Ended::SourceRate => 2,
+            Ended::NoHeader | Ended::BadHeader => 2,
             Ended::TargetDown | Ended::TargetUp => 2,
             Ended::Drained => 3,
             Ended::Read(_) => 4,
@@ -181,8 +191,12 @@ impl Ended {
             Ended::Denied => into.extend_from_slice(b"denied"),
             Ended::Full => into.extend_from_slice(b"full"),
             Ended::RuleFull => into.extend_from_slice(b"rule full"),
+            Ended::SourceFull => into.extend_from_slice(b"source full"),
+            Ended::SourceRate => into.extend_from_slice(b"source rate"),
             Ended::NoMemory => into.extend_from_slice(b"no memory"),
             Ended::Descriptors => into.extend_from_slice(b"descriptors"),
+            Ended::NoHeader => into.extend_from_slice(b"no header"),
+            Ended::BadHeader => into.extend_from_slice(b"bad header"),
             Ended::NoTarget(cause) => write_both(into, b"no target ", cause.word()),
             Ended::Accept(why) => write_failed(into, b"accept ", why),
             Ended::TargetDown => into.extend_from_slice(b"target down"),

@@ -1,4 +1,4 @@
-//! The line of a log that tells of one connection.
+//! The line of a log that tells of one connection, and how it is written as text.
 
 ghost use Rattle.std.specs.Prelude.{◌≡◌, ◌++◌, ◌∷◌, [], IfOk, OnOk, OnErr};
 ghost use Rattle.std.specs.Fmt.{decimal};
@@ -12,7 +12,7 @@ use itoa::Buffer;
 use std::alloc::Allocator;
 
 /// What a log says of a connection that ended or was refused. The texts are the caller's; in none
-/// of them stands a space or a line feed, so that a line reads back as its fields.
+/// of them stands a space or a line feed, so that a line of text reads back as its fields.
 #[derive(Clone, Copy)]
 pub struct LogLine<'a> {
     pub moment: Moment,
@@ -33,8 +33,8 @@ pub struct LogLine<'a> {
 }
 
 impl<'a> LogLine<'a> {
-    /// Puts the line behind what the vector holds, with its line feed; or nothing, where memory is
-    /// refused. The memory of one line more is taken and given back.
+    /// Puts the line as text behind what the vector holds, with its line feed; or nothing, where memory
+    /// is refused. The memory of one line more is taken and given back.
     pub fn write<A: Allocator + Copy>(
         &self,
         alloc: A,

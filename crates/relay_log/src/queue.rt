@@ -2,14 +2,15 @@
 //! or no memory is lost, and the next line that finds both says how many were.
 //!
 //! A line goes in whole or not at all, behind what waits. Nothing in the queue is changed by a line
-//! that is lost but the count of them.
+//! that is lost but the count of them. How many were lost is said in the format of the queue, which
+//! never changes.
 
 ghost use Rattle.std.specs.Prelude.{◌≡◌, ◌≤◌, ◌↔◌, ◌++◌, [], length, take};
 ghost use Rattle.std.specs.Prelude.{OnOk, OnErr, Err};
 ghost use Rattle.relay_log.specs.Queue.{HasRoom, TakesIn, Loses, Takes, IsEmpty};
 ghost use Rattle.relay_log.specs.Queue.{all_text, entry_text, lost_text};
 
-use crate::words::LOST;
+use crate::format::Format;
 use base_types::OutOfMemory;
 use itoa::Buffer;
 use std::alloc::Allocator;
@@ -31,6 +32,7 @@ pub enum Lost {
 /// The bytes that wait, and how many lines were lost since the last one that was taken in.
 #[derive(Drop)]
 pub struct LogQueue<A: Allocator> {
+    format: Format,
     waiting: Vec<u8, A>,
     lost: u64,
 }
@@ -41,18 +43,21 @@ impl<A: Allocator> Model for LogQueue<A> {
 
     ghost Value = { Queue };
 
-    ghost view = { λ q. record { bytes = q.waiting.items; lost = q.lost } };
+    ghost view = { λ q. record { format = q.format; bytes = q.waiting.items; lost = q.lost } };
 
     ghost invariant = { λ q. (length q.waiting.items ≤ 65536) × (q.lost < 2 ^ 64) };
 }
 
 impl<A: Allocator> LogQueue<A> {
-    /// A queue in which nothing waits and of which nothing was lost. It takes no memory.
-    pub fn new(alloc: A) -> LogQueue<A>
+    /// A queue of lines in this format, in which nothing waits and of which nothing was lost. It takes
+    /// no memory.
+    pub fn new(alloc: A, format: Format) -> LogQueue<A>
+        ensures format { result.format ≡ format }
         ensures bytes { result.bytes ≡ [] }
         ensures lost { result.lost ≡ 0 }
     {
         LogQueue {
+            format,
             waiting: Vec::new(alloc),
             lost: 0,
         }
@@ -81,12 +86,12 @@ impl<A: Allocator> LogQueue<A> {
         ensures lost { OnErr result (Loses self.old self.new) }
     {
         let room = MOST_QUEUED_BYTES - self.waiting.len();
-        let said = lost_len(self.lost);
+        let said = lost_len(self.format, self.lost);
         if line.len() > room || said > room - line.len() {
             self.lose();
             return Err(Lost::NoRoom);
         }
-        match write_entry(&mut self.waiting, self.lost, line) {
+        match write_entry(&mut self.waiting, self.format, self.lost, line) {
             Ok(()) => self.lost = 0,
             Err(_) => {
                 self.lose();
@@ -120,37 +125,40 @@ impl<A: Allocator> LogQueue<A> {
         ensures nothing_left { OnOk result (IsEmpty self.new) }
         ensures taken { OnErr result (into.new.items ≡ self.old.bytes) }
         ensures left { OnErr result (Takes self.old self.new) }
+        ensures format { self.new.format ≡ self.old.format }
     {
         self.take(into);
-        write_entry(into, self.lost, &[])?;
+        write_entry(into, self.format, self.lost, &[])?;
         self.lost = 0;
         Ok(())
     }
 }
 
 // How many bytes say that so many lines were lost.
-fn lost_len(lost: u64) -> usize
-    ensures value { result ≡ length (lost_text lost) }
-    ensures most { result ≤ 26 }
+fn lost_len(format: Format, lost: u64) -> usize
+    ensures value { result ≡ length (lost_text format lost) }
+    ensures most { result ≤ 30 }
 {
     if lost == 0 {
         return 0;
     }
     let mut buffer = Buffer::new();
-    LOST.len() + buffer.format(lost).len() + 1
+    format.before_lost().len() + buffer.format(lost).len() + format.behind_lost().len()
 }
 
 // Puts the line behind what the vector holds, and ahead of it how many lines were lost.
 fn write_entry<A: Allocator>(
     into: &mut Vec<u8, A>,
+    format: Format,
     lost: u64,
     line: &[u8],
 ) -> Result<(), OutOfMemory>
-    ensures written { OnOk result (into.new.items ≡ into.old.items ++ entry_text lost line.now) }
+    ensures written { OnOk result
+        (into.new.items ≡ into.old.items ++ entry_text format lost line.now) }
     ensures kept { OnErr result (into.new.items ≡ into.old.items) }
 {
     let before = into.len();
-    let wrote = write_parts(into, lost, line);
+    let wrote = write_parts(into, format, lost, line);
     if wrote.is_err() {
         into.truncate(before);
     }
@@ -160,17 +168,19 @@ fn write_entry<A: Allocator>(
 // The same, but for what it leaves where memory is refused: a part may stand there.
 fn write_parts<A: Allocator>(
     into: &mut Vec<u8, A>,
+    format: Format,
     lost: u64,
     line: &[u8],
 ) -> Result<(), OutOfMemory>
-    ensures written { OnOk result (into.new.items ≡ into.old.items ++ entry_text lost line.now) }
+    ensures written { OnOk result
+        (into.new.items ≡ into.old.items ++ entry_text format lost line.now) }
     ensures before { take (length into.old.items) into.new.items ≡ into.old.items }
 {
     if lost > 0 {
         let mut buffer = Buffer::new();
-        into.extend_from_slice(LOST)?;
+        into.extend_from_slice(format.before_lost())?;
         into.extend_from_slice(buffer.format(lost).as_bytes())?;
-        into.extend_from_slice(b"\n")?;
+        into.extend_from_slice(format.behind_lost())?;
     }
     into.extend_from_slice(line)
 }

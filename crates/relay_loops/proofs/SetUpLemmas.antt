@@ -69,16 +69,18 @@ module _ {U D R : Type 0} where
       → IfOk made (IsSetUp facts place connect_by) → IfOk made (λ connection. counted_in connection ≡ its)
       → IfOk made (λ connection. IfDialing connection.phase (IsBegunWith trial place))
       → (arc_value facts).acceptance.rule ≡ client.rule
+      → (arc_value facts).acceptance.client ≡ client.client
       → list_in (arc_value facts).acceptance ≡ list_in client
       → first_bytes (arc_value facts).acceptance ≡ first_bytes client
       → IsFirstTrial (arc_value facts).acceptance trial → its ≡ counted → IsIdleEnd connect_ms connect_by → place ≡ at
       → IfOk made (IsConnectionFor client counted connect_ms at)
-  for_client (Err refused) client counted its connect_ms at place facts connect_by trial set_up counts begun rule targets
-      told first same time here = tt
-  for_client (Ok connection) client counted its connect_ms at place facts connect_by trial set_up counts begun rule targets
-      told first same time here = record {
+  for_client (Err refused) client counted its connect_ms at place facts connect_by trial set_up counts begun rule named
+      targets told first same time here = tt
+  for_client (Ok connection) client counted its connect_ms at place facts connect_by trial set_up counts begun rule named
+      targets told first same time here = record {
         facts = facts;
         rule = rule;
+        named = named;
         targets = targets;
         told = told;
         trial = trial;

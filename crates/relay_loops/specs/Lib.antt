@@ -1,3 +1,4 @@
+pub mod LoopTask
 pub mod Requests
 pub mod SetUp
 pub mod Taken

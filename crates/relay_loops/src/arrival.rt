@@ -27,6 +27,15 @@ impl Arrival {
         &self.acceptance
     }
 
+    /// It is to say first who it is: whoever awaits that makes an arrival of it again, once it has or
+    /// fails.
+    pub(crate) fn awaited(self) -> Acceptance
+        ensures { result ≡ self.acceptance }
+    {
+        let Arrival { acceptance } = self;
+        acceptance
+    }
+
     /// Its connection is served.
     pub(crate) fn served<R: Wait + Clock + Copy>(self, context: &LoopContext<R>) {
         let Arrival { acceptance } = self;

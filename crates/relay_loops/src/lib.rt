@@ -3,6 +3,8 @@
 #![tactic(auto)]
 
 mod arrival;
+mod awaiting;
+mod loop_task;
 mod loops;
 mod requests;
 mod seeking;

@@ -11,6 +11,7 @@ ghost use Rattle.relay_loops.specs.Turns as spec;
 ghost use Rattle.relay_loops.specs.Turns.{IsTurnOf, StayArmed, IsPollerFault};
 ghost use Rattle.relay_shared.specs.Index.{gone_id};
 
+use crate::loop_task::LoopTask;
 use crate::taken::Taken;
 use fd_descriptor::PollCell;
 use readiness::{EventLoop, Host, Side, Turn, Why};
@@ -38,8 +39,8 @@ use std::sync::ledger::{Blank, Ledger};
 use std::sync::{Arc, Wait};
 use std::time::Clock;
 
-/// A loop whose tasks are connections.
-pub(crate) type ConnLoop<U, D, R> = EventLoop<Connection<U, D, R>>;
+/// A loop whose tasks are connections, and clients that are to say first who they are.
+pub(crate) type ConnLoop<U, D, R> = EventLoop<LoopTask<U, D, R>>;
 
 /// What a loop's thread knows of its relay: it sets connections up by it, and ends them.
 #[derive(Drop)]
@@ -93,32 +94,43 @@ pub(crate) struct LoopHost<U: Ledger, D: Ledger, R: Wait + Clock + Copy> {
     spare: Inbox,
     /// Which of its connections seek a target.
     pub(crate) dials: Dials<R>,
+    /// Which of its clients have said who they are, and are to be served before its next turn.
+    pub(crate) heads: Vec<u64>,
     /// It is lent to each task while that goes on.
     memory: LoopMemory,
 }
 
 impl<U: Ledger, D: Ledger, R: Wait + Clock + Copy> Host for LoopHost<U, D, R> {
-    ghost use Rattle.relay_conn.specs.Connection.{awaited_by};
+    ghost use Rattle.std.specs.Prelude.{None};
+    ghost use Rattle.relay_loops.specs.LoopTask.{awaited_by_task};
 
-    type Task = Connection<U, D, R>;
+    type Task = LoopTask<U, D, R>;
 
-    ghost awaited = { awaited_by };
+    ghost awaited = { awaited_by_task };
 
-    // Its descriptors have no timers: a connection keeps its own time.
-    fn cell<'a>(&self, _task: &'a Connection<U, D, R>, _side: Side) -> Option<&'a PollCell> {
+    // Its descriptors have no timers: a task keeps its own time.
+    ghost has_cell = { λ _ _ _ cell. cell ≡ None };
+
+    fn cell<'a>(&self, _task: &'a LoopTask<U, D, R>, _side: Side) -> Option<&'a PollCell> {
         None
     }
 
-    fn resume(&mut self, task: &mut Connection<U, D, R>, why: Why) -> Turn {
-        self.go_on_with(task, why)
+    fn resume(&mut self, task: &mut LoopTask<U, D, R>, why: Why) -> Turn {
+        match task {
+            LoopTask::Awaiting(client) => self.await_on(client, why),
+            LoopTask::Connection(connection) => self.go_on_with(connection, why),
+        }
     }
 
-    fn until(&self, task: &Connection<U, D, R>) -> Option<u64> {
-        task.until()
+    fn until(&self, task: &LoopTask<U, D, R>) -> Option<u64> {
+        match task {
+            LoopTask::Awaiting(client) => Some(client.until()),
+            LoopTask::Connection(connection) => connection.until(),
+        }
     }
 
-    fn over(&mut self, task: Connection<U, D, R>) {
-        let _ = self.end(task);
+    fn over(&mut self, task: LoopTask<U, D, R>) {
+        self.end_task(task);
     }
 }
 
@@ -185,7 +197,7 @@ impl<U: Ledger, D: Ledger, R: Wait + Net + Clock + Copy> LoopHost<U, D, R> {
         }
     }
 
-    // Turns until the relay stops, or the poller fails. What seeks a target by a turn has it before
+    // Turns until the relay stops, or the poller fails. Who has said who it is is served first. What seeks a target by a turn has it before
     // requests look at it, and what does by a request before the next turn, which may sleep.
     fn turn_until_stop(&mut self, tasks: &mut ConnLoop<U, D, R>) -> Result<(), ServeFault>
         ensures faults { IfErr result IsPollerFault }
@@ -201,6 +213,7 @@ impl<U: Ledger, D: Ledger, R: Wait + Net + Clock + Copy> LoopHost<U, D, R> {
             if self.context.shared.is_stopped() {
                 return Ok(());
             }
+            self.serve_heads(tasks);
             self.dial_seekers(tasks);
             self.empty_inbox(tasks);
             self.dial_seekers(tasks);
@@ -247,6 +260,7 @@ where
     let mut host = LoopHost {
         context,
         dials,
+        heads: Vec::new(alloc),
         books: LoopBooks::<U, D>::new(up, down, published),
         spare: match Inbox::new(alloc) {
             Ok(inbox) => inbox,

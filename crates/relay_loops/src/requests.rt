@@ -8,15 +8,16 @@ ghost use Rattle.readiness.specs.TaskAlarms.{AreArmed, AreArmedBut, KeepsArmed};
 ghost use Rattle.readiness.specs.Tasks.{task_in, OthersKept, SameTasks};
 ghost use Rattle.readiness.specs.Tasks.{gave_way_in, ComesNext};
 ghost use Rattle.readiness.specs.declared.tasks.Turn.{Turn};
-ghost use Rattle.relay_conn.specs.Connection.{awaited_by};
+ghost use Rattle.relay_loops.specs.LoopTask.{awaited_by_task, connection_at};
 ghost use Rattle.relay_loops.specs.Requests.{IsHere, TellsDrain, TellsDeadline, TellsClose};
 ghost use Rattle.relay_loops.specs.Turns.{StayArmed};
 ghost use Rattle.relay_shared.specs.Requests.{IsCarriedOut, unknown_answer};
 ghost use Rattle.relay_shared.specs.declared.requests.Asks.{Asks};
 
+use crate::loop_task::LoopTask;
 use crate::loops::{ConnLoop, LoopHost};
 use deadline_core::Deadline;
-use readiness::{Turn, Why, side_of};
+use readiness::{Host, Turn, Why, side_of};
 use relay_shared::requests::{Answer, Asks, Question, Request};
 use std::sync::Wait;
 use std::sync::ledger::Ledger;
@@ -31,7 +32,7 @@ fn is_here<U: Ledger, D: Ledger, R: Wait + Clock + Copy>(
     ensures { result ≡ true ↔ IsHere (tasks_of tasks.now) question.now }
 {
     match tasks.task(question.token) {
-        Some(task) => task.id(side_of(question.token)) == question.id,
+        Some(task) => task.has_id(side_of(question.token), question.id),
         None => false,
     }
 }
@@ -60,7 +61,7 @@ impl<U: Ledger, D: Ledger, R: Wait + Clock + Copy> LoopHost<U, D, R> {
         ensures closed { IsHere (tasks_of tasks.old) question → question.asks ≡ Asks.Close
             → task_in (tasks_of tasks.new) question.token ≡ None }
         ensures ended { IsHere (tasks_of tasks.old) question → question.asks ≡ Asks.Close
-            → TellsClose (task_in (tasks_of tasks.old) question.token) result }
+            → TellsClose (connection_at (tasks_of tasks.old) question.token) result }
         ensures others { OthersKept (tasks_of tasks.old) (tasks_of tasks.new) question.token }
         ensures armed { StayArmed (tasks_of tasks.old) (tasks_of tasks.new) }
     {
@@ -78,26 +79,30 @@ impl<U: Ledger, D: Ledger, R: Wait + Clock + Copy> LoopHost<U, D, R> {
 
     // Ends the connection with this token.
     fn close_asked(&mut self, tasks: &mut ConnLoop<U, D, R>, token: u64) -> Answer
-        ensures told { TellsClose (task_in (tasks_of tasks.old) token) result }
+        ensures told { TellsClose (connection_at (tasks_of tasks.old) token) result }
         ensures closed { task_in (tasks_of tasks.new) token ≡ None }
         ensures others { OthersKept (tasks_of tasks.old) (tasks_of tasks.new) token }
         ensures armed { StayArmed (tasks_of tasks.old) (tasks_of tasks.new) }
     {
         match tasks.take(token) {
-            Some(task) => Answer::Close(Some(self.end(task))),
+            Some(LoopTask::Connection(task)) => Answer::Close(Some(self.end(task))),
+            Some(other) => {
+                self.end_task(other);
+                Answer::Close(None)
+            }
             None => Answer::Close(None),
         }
     }
 
     // Drains a side of the connection with this token.
     fn drain_asked(&mut self, tasks: &mut ConnLoop<U, D, R>, token: u64) -> Answer
-        ensures told { TellsDrain (task_in (tasks_of tasks.old) token) (side_in token) result }
+        ensures told { TellsDrain (connection_at (tasks_of tasks.old) token) (side_in token) result }
         ensures others { OthersKept (tasks_of tasks.old) (tasks_of tasks.new) token }
         ensures armed { StayArmed (tasks_of tasks.old) (tasks_of tasks.new) }
     {
         let rt = self.context.rt;
         match tasks.task_mut(token) {
-            Some(task) => Answer::Drain(Some(task.drain(&rt, side_of(token)))),
+            Some(task) => Answer::Drain(task.drain(&rt, side_of(token))),
             None => Answer::Drain(None),
         }
     }
@@ -110,17 +115,17 @@ impl<U: Ledger, D: Ledger, R: Wait + Clock + Copy> LoopHost<U, D, R> {
         deadline: Deadline,
         now: u64,
     ) -> Answer
-        ensures told { TellsDeadline (task_in (tasks_of tasks.old) token) result }
+        ensures told { TellsDeadline (connection_at (tasks_of tasks.old) token) result }
         ensures others { OthersKept (tasks_of tasks.old) (tasks_of tasks.new) token }
         ensures armed { StayArmed (tasks_of tasks.old) (tasks_of tasks.new) }
     {
         let Some(task) = tasks.task_mut(token) else {
             return Answer::Deadline(None);
         };
-        let done = task.set_deadline(side_of(token), deadline);
-        let turn = self.go_on_with(task, Why::Time { now });
+        let told = task.set_deadline(side_of(token), deadline);
+        let turn = self.resume(task, Why::Time { now });
         self.follow(tasks, token, turn);
-        Answer::Deadline(Some(done))
+        Answer::Deadline(told)
     }
 
     // Has a task go on, or ends it, as it has said between two turns; one that stays is timed.
@@ -130,8 +135,8 @@ impl<U: Ledger, D: Ledger, R: Wait + Clock + Copy> LoopHost<U, D, R> {
         ensures comes { turn ≡ Turn.Again → gave_way_in (tasks_of tasks.old) token ≡ Some false
             → ComesNext (tasks_of tasks.new) token }
         ensures others { OthersKept (tasks_of tasks.old) (tasks_of tasks.new) token }
-        ensures armed { AreArmedBut awaited_by (Some (place_in token)) (tasks_of tasks.old)
-            → AreArmed awaited_by (tasks_of tasks.new) }
+        ensures armed { AreArmedBut awaited_by_task (Some (place_in token)) (tasks_of tasks.old)
+            → AreArmed awaited_by_task (tasks_of tasks.new) }
     {
         self.carry_on(tasks, token, turn);
         tasks.keep_time(&*self, token);
@@ -151,7 +156,7 @@ impl<U: Ledger, D: Ledger, R: Wait + Clock + Copy> LoopHost<U, D, R> {
             Turn::Again => tasks.again(token),
             Turn::Over => {
                 if let Some(task) = tasks.take(token) {
-                    let _ = self.end(task);
+                    self.end_task(task);
                 }
             }
         }

@@ -8,6 +8,7 @@ ghost use Rattle.relay_conn.specs.Others.{seekers_in};
 ghost use Rattle.relay_conn.specs.Seeking.{token_of_next};
 ghost use Rattle.relay_loops.specs.Turns.{StayArmed};
 
+use crate::loop_task::LoopTask;
 use crate::loops::{ConnLoop, LoopHost};
 use relay_conn::seeking::NextTarget;
 use relay_conn::trial::Trial;
@@ -65,7 +66,7 @@ impl<U: Ledger, D: Ledger, R: Wait + Net + Clock + Copy> LoopHost<U, D, R> {
         ensures armed { StayArmed (tasks_of tasks.old) (tasks_of tasks.new) }
     {
         match tasks.task_mut(token) {
-            Some(task) => task.next_trial(&self.context.rt, &self.context.shared.log),
+            Some(task) => task.next_trial(&self.context),
             None => None,
         }
     }
@@ -112,8 +113,10 @@ impl<U: Ledger, D: Ledger, R: Wait + Net + Clock + Copy> LoopHost<U, D, R> {
     {
         if let Some(task) = tasks.take(token) {
             let mut task = task;
-            task.give_up(how);
-            let _ = self.end(task);
+            if let LoopTask::Connection(connection) = &mut task {
+                connection.give_up(how);
+            }
+            self.end_task(task);
         }
     }
 }

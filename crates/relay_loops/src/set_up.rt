@@ -1,16 +1,19 @@
 //! Setting a connection up for an accepted socket.
 
-ghost use Rattle.std.specs.Prelude.{◌≡◌, ◌⊎◌, IfOk, IfErr, IfSome, OnOk, OnErr};
+ghost use Rattle.std.specs.Prelude.{◌≡◌, IfOk, IfErr, IfSome, OnOk, OnErr};
 ghost use Rattle.std.specs.Arc.{arc_value};
 ghost use Rattle.readiness.specs.EventLoop.{tasks_of};
 ghost use Rattle.readiness.specs.Tasks.{HasPlace, IsPut, SameTasks, next_place};
 ghost use Rattle.relay_conn.specs.Deadlines.{IsIdleEnd};
 ghost use Rattle.relay_facts.specs.Acceptance.{list_in};
 ghost use Rattle.relay_facts.specs.Header.{first_bytes};
-ghost use Rattle.relay_loops.specs.SetUp.{IsConnectionFor, IsFirstTrial, IsRefusedFor, IsServed};
+ghost use Rattle.relay_facts.specs.Senders.{IsAwaited};
+ghost use Rattle.relay_loops.specs.SetUp.{IsConnectionFor, IsFirstTrial, IsAwaitedOrTold, IsRefusedFor};
+ghost use Rattle.relay_loops.specs.SetUp.{IsServed, IsServedOrGone};
 ghost use Rattle.relay_ledger.specs.Book.{OpensOne};
 ghost use Rattle.relay_loops.specs.Turns.{StayArmed};
 
+use crate::loop_task::LoopTask;
 use crate::loops::{ConnLoop, LoopContext, LoopHost};
 use crate::taken::Delivered;
 use readiness::{Poller, Sock};
@@ -79,6 +82,8 @@ impl<R: Wait + Net + Clock + Copy> LoopContext<R> {
             IsFirstTrial (arc_value begins.facts).acceptance begins.target) }
         ensures rule { IfOk result (λ begins.
             (arc_value begins.facts).acceptance.rule ≡ acceptance.now.rule) }
+        ensures named { IfOk result (λ begins.
+            (arc_value begins.facts).acceptance.client ≡ acceptance.now.client) }
         ensures targets { IfOk result (λ begins.
             list_in (arc_value begins.facts).acceptance ≡ list_in acceptance.now) }
         ensures first { IfOk result (λ begins.
@@ -109,6 +114,8 @@ impl<R: Wait + Net + Clock + Copy> LoopContext<R> {
             IsFirstTrial (arc_value begins.facts).acceptance begins.target) }
         ensures rule { IfOk result (λ begins.
             (arc_value begins.facts).acceptance.rule ≡ acceptance.now.rule) }
+        ensures named { IfOk result (λ begins.
+            (arc_value begins.facts).acceptance.client ≡ acceptance.now.client) }
         ensures targets { IfOk result (λ begins.
             list_in (arc_value begins.facts).acceptance ≡ list_in acceptance.now) }
         ensures first { IfOk result (λ begins.
@@ -162,17 +169,17 @@ impl<U: Ledger, D: Ledger, R: Wait + Net + Clock + Copy> LoopHost<U, D, R> {
         }
     }
 
-    // Has a connection be a task of its loop, which goes on by its first event or at its moment.
-    // Where there is no place for it, it ends.
-    fn put(&mut self, tasks: &mut ConnLoop<U, D, R>, connection: Connection<U, D, R>)
+    /// Puts a task into its loop, which goes on by its first event or at its moment. Where there is no
+    /// place for it, it ends.
+    pub(crate) fn put(&mut self, tasks: &mut ConnLoop<U, D, R>, task: LoopTask<U, D, R>)
         ensures put { HasPlace (tasks_of tasks.old) → IsPut (tasks_of tasks.old) (tasks_of tasks.new)
-            (next_place (tasks_of tasks.old)) connection }
+            (next_place (tasks_of tasks.old)) task }
         ensures kept { HasPlace (tasks_of tasks.old) → self.new ≡ self.old }
         ensures armed { StayArmed (tasks_of tasks.old) (tasks_of tasks.new) }
     {
-        match tasks.put(connection) {
+        match tasks.put(task) {
             Ok(place) => tasks.keep_time(&*self, place.first),
-            Err(connection) => drop(self.end(connection)),
+            Err(task) => self.end_task(task),
         }
     }
 
@@ -191,16 +198,33 @@ impl<U: Ledger, D: Ledger, R: Wait + Net + Clock + Copy> LoopHost<U, D, R> {
         ensures armed { StayArmed (tasks_of tasks.old) (tasks_of tasks.new) }
     {
         let connection = self.connection(tasks, sock, acceptance, counted)?;
-        self.put(tasks, connection);
+        self.put(tasks, LoopTask::Connection(connection));
         Ok(())
     }
 
-    /// Sets a connection up. Where that is refused its socket is dropped, and its rule is told why.
+    /// Sets a connection up; or awaits its client's header before, where the client is to say first who it
+    /// is.
     pub(crate) fn set_up(&mut self, tasks: &mut ConnLoop<U, D, R>, delivered: Delivered)
-        ensures served { IsServed (tasks_of tasks.old) (tasks_of tasks.new)
+        ensures served { (IsAwaited delivered.arrival.acceptance → ⊥)
+            → IsServedOrGone (tasks_of tasks.old) (tasks_of tasks.new) delivered.arrival.acceptance
+            delivered.counted (arc_value self.old.context.shared).safeguards.connect_ms }
+        ensures awaited { IsAwaited delivered.arrival.acceptance
+            → IsAwaitedOrTold (tasks_of tasks.old) (tasks_of tasks.new) delivered.arrival.acceptance
+            delivered.counted (arc_value self.old.context.shared).safeguards.connect_ms }
+        ensures armed { StayArmed (tasks_of tasks.old) (tasks_of tasks.new) }
+    {
+        if delivered.arrival.acceptance().is_awaited() {
+            self.await_client(tasks, delivered);
+        } else {
+            self.serve_client(tasks, delivered);
+        }
+    }
+
+    /// Sets a connection up. Where that is refused its socket is dropped, and its rule is told why.
+    pub(crate) fn serve_client(&mut self, tasks: &mut ConnLoop<U, D, R>, delivered: Delivered)
+        ensures served { IsServedOrGone (tasks_of tasks.old) (tasks_of tasks.new)
             delivered.arrival.acceptance delivered.counted
-            (arc_value self.old.context.shared).safeguards.connect_ms
-            ⊎ SameTasks (tasks_of tasks.old) (tasks_of tasks.new) }
+            (arc_value self.old.context.shared).safeguards.connect_ms }
         ensures armed { StayArmed (tasks_of tasks.old) (tasks_of tasks.new) }
     {
         let Delivered {

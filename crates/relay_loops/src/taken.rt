@@ -6,6 +6,7 @@ ghost use Rattle.relay_shared.specs.Inbox.{IsTaken, requests_in, sockets_in};
 
 use crate::arrival::Arrival;
 use readiness::Sock;
+use relay_conn::awaiting::ToldClient;
 use relay_shared::inbox::{Accepted, Counted, Inbox};
 use relay_shared::requests::Request;
 
@@ -23,6 +24,23 @@ pub(crate) struct Delivered {
 }
 
 impl Delivered {
+    /// One that has said who it is.
+    pub(crate) fn told(client: ToldClient) -> Delivered
+        ensures acceptance { result.arrival.acceptance ≡ client.acceptance }
+        ensures counted { result.counted ≡ client.counted }
+    {
+        let ToldClient {
+            sock,
+            acceptance,
+            counted,
+        } = client;
+        Delivered {
+            sock,
+            arrival: Arrival::new(acceptance),
+            counted,
+        }
+    }
+
     fn of(accepted: Accepted) -> Delivered
         ensures { accepted_of result ≡ accepted }
     {

@@ -1,5 +1,5 @@
--- Tasks that stay, but for the accounts by which they accept.
-use Rattle.std.proofs.Common.{◌≡◌, ◌∙◌, ◌<◌, ◌+◌, ◌++◌, ◌∷◌, [], List, length, get_or, map, refl, subst, sym, ap, ℕ, Option, Some, None, take}
+-- Tasks that follow the accounts of their rules.
+use Rattle.std.proofs.Common.{◌≡◌, ◌∙◌, ◌<◌, ◌+◌, ◌++◌, ◌∷◌, [], List, length, get_or, map, sym, ap, ℕ, Option, Some, None, take}
 use Rattle.std.specs.List.{cons_option, filter_map, slice_index_or}
 use Rattle.std.specs.Prelude.{option_map}
 use Rattle.std.specs.Arc.{arc_value}
@@ -11,48 +11,28 @@ use Rattle.std.specs.declared.sync.Arc.{Arc}
 use Rattle.readiness.specs.Lends.{with_task}
 use Rattle.readiness.specs.Tasks.{task_in}
 use Rattle.readiness.specs.declared.tasks.Tasks.{Tasks}
-use Rattle.readiness.proofs.LendLemmas.{each_named}
 use Rattle.relay_facts.specs.declared.served_rule.ServedRule.{ServedRule}
 use Rattle.relay_main.specs.Accounts.{account_at}
-use Rattle.relay_main.specs.Followed.{StaysBut, StayBut, followed_by, following, follows, token_for}
+use Rattle.relay_main.specs.Followed.{follow_task, followed_by, following, follows, token_for}
 use Rattle.relay_main.specs.declared.followed.Followed.{Followed}
 use Rattle.relay_main.specs.declared.main_task.MainTask.{MainTask}
-use Rattle.relay_main.specs.declared.main_task.MainTask.TheVariants as task
 use Rattle.relay_main.specs.declared.rule_listeners.Listening.{Listening}
 use Rattle.relay_main.specs.declared.wanted_listeners.WantedListener.{WantedListener}
 
-module _ {R : Type 0} where
-  -- what is the same stays
-  pub stays_same : (found : Option (MainTask R)) → StaysBut found found
-  stays_same None = refl
-  stays_same (Some (task.Rule accepts)) = (accepts.served, refl)
-  stays_same (Some (task.Admin admin)) = refl
-  stays_same (Some (task.Check check)) = refl
-  stays_same (Some (task.Session place)) = refl
-
-  -- what stays through one step and through the next stays
-  pub stays_on : (old mid new : Option (MainTask R)) → StaysBut old mid → StaysBut mid new → StaysBut old new
-  stays_on None mid new first second = subst (λ found. StaysBut found new) first second
-  stays_on (Some (task.Rule accepts)) mid new first second = subst (λ found. StaysBut found new) first.1 second
-  stays_on (Some (task.Admin admin)) mid new first second = subst (λ found. StaysBut found new) first second
-  stays_on (Some (task.Check check)) mid new first second = subst (λ found. StaysBut found new) first second
-  stays_on (Some (task.Session place)) mid new first second = subst (λ found. StaysBut found new) first second
-
-module _ {R : Type 0} where
-  -- a task that follows stays
-  pub stays_following : (account : Arc ServedRule Global) (old : MainTask R) → StaysBut (Some old) (Some (following account old))
-  stays_following account (task.Rule accepts) = (account, refl)
-  stays_following account (task.Admin admin) = refl
-  stays_following account (task.Check check) = refl
-  stays_following account (task.Session place) = refl
-
 module _ {R A : Type 0} where
-  -- where one follows each task stays
-  pub stay_following : (tasks : Tasks (MainTask R) A) (token : ℕ) (old new : MainTask R) (account : Arc ServedRule Global)
-      → task_in tasks token ≡ Some old → new ≡ following account old → StayBut tasks (with_task tasks token new)
-  stay_following tasks token old new account is follows =
-      each_named StaysBut stays_same old new
-      (subst (λ (t : MainTask R). StaysBut (Some old) (Some t)) (sym follows) (stays_following account old)) tasks token is
+  -- the task that a token names follows
+  pub follows_task : (tasks : Tasks (MainTask R) A) (token : ℕ) (account : Arc ServedRule Global) (old new : MainTask R)
+      → task_in tasks token ≡ Some old → new ≡ following account old
+      → with_task tasks token new ≡ follow_task token account (task_in tasks token) tasks
+  follows_task tasks token account old new is follows =
+      ap (with_task tasks token) follows
+      ∙ ap (λ (found : Option (MainTask R)). follow_task token account found tasks) (sym is)
+
+  -- where it names none all stay
+  pub follows_none : (tasks : Tasks (MainTask R) A) (token : ℕ) (account : Arc ServedRule Global)
+      → task_in tasks token ≡ None → tasks ≡ follow_task token account (task_in tasks token) tasks
+  follows_none tasks token account none =
+      ap (λ (found : Option (MainTask R)). follow_task token account found tasks) (sym none)
 
 module _ (standing : List Listening) (accounts : List (Arc ServedRule Global)) where
   -- a listener that doesn't stand follows no account

@@ -4,5 +4,6 @@ pub mod DrainedLemmas
 pub mod EndingLemmas
 pub mod FollowedLemmas
 pub mod ListeningLemmas
+pub mod MoreLemmas
 pub mod ReloadLemmas
 pub mod SeatLemmas

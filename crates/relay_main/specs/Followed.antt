@@ -1,9 +1,10 @@
 -- Listeners that stay over a reload, by the accounts of their rules.
-use Rattle.std.specs.Prelude.{◌≡◌, ℕ, List, Option, Some, find, option_map}
+use Rattle.std.specs.Prelude.{ℕ, List, [], ◌∷◌, Option, Some, None, find, option_map}
 use Rattle.std.specs.Option.{option_and_then}
 use Rattle.std.specs.Arc.{arc_value}
 use Rattle.std.specs.declared.alloc.Global.{Global}
 use Rattle.std.specs.declared.sync.Arc.{Arc}
+use Rattle.readiness.specs.Lends.{with_task}
 use Rattle.readiness.specs.Tasks.{task_in}
 use Rattle.readiness.specs.declared.tasks.Tasks.{Tasks}
 use Rattle.relay_admin.specs.declared.rules.addr.Addr.{Addr}
@@ -31,17 +32,23 @@ follows standing accounts wanted = option_and_then
     (λ token. option_map (λ account. (token, arc_value account)) (account_at wanted.rule.listen accounts))
     (token_for wanted.listen standing)
 
--- the task is as it was, but for the account by which it may accept
-abbrev pub StaysBut : {R : Type 0} → Option (MainTask R) → Option (MainTask R) → Type 0
-StaysBut (Some (task.Rule accepts)) new =
-    (account : Arc ServedRule Global) × (new ≡ Some (task.Rule (record accepts { served = account })))
-StaysBut old new = new ≡ old
-
--- each task is so
-abbrev pub StayBut : {R A : Type 0} → Tasks (MainTask R) A → Tasks (MainTask R) A → Type 0
-StayBut old new = (token : ℕ) → StaysBut (task_in old token) (task_in new token)
-
 -- a task that accepts by a rule accepts by this account; any other is as it was
 abbrev pub following : {R : Type 0} → Arc ServedRule Global → MainTask R → MainTask R
 following account (task.Rule accepts) = task.Rule (record accepts { served = account })
 following account other = other
+
+module _ {R A : Type 0} where
+  -- the task that a token names, if it names one, follows an account
+  abbrev pub follow_task : ℕ → Arc ServedRule Global → Option (MainTask R) → Tasks (MainTask R) A
+      → Tasks (MainTask R) A
+  follow_task token account None tasks = tasks
+  follow_task token account (Some task) tasks = with_task tasks token (following account task)
+
+  -- the task of a listener that stays follows the account of its rule
+  abbrev pub follow_one : Followed → Tasks (MainTask R) A → Tasks (MainTask R) A
+  follow_one one tasks = follow_task one.token one.served (task_in tasks one.token) tasks
+
+  -- those of all of these do
+  abbrev pub follow_each : List Followed → Tasks (MainTask R) A → Tasks (MainTask R) A
+  follow_each [] tasks = tasks
+  follow_each (one ∷ more) tasks = follow_each more (follow_one one tasks)

@@ -8,6 +8,8 @@ pub mod Finishing
 pub mod Followed
 pub mod ListenersEnd
 pub mod Listening
+pub mod MainTask
+pub mod More
 pub mod Opening
 pub mod Pauses
 pub mod Plan
@@ -17,4 +19,5 @@ pub mod RuleTask
 pub mod Session
 pub mod SessionDesk
 pub mod Sessions
+pub mod TargetsDesk
 pub mod WantedListeners

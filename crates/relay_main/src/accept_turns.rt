@@ -47,12 +47,12 @@ fn begins_row(pause_ms: u64) -> bool
 impl<R: Wait + Clock + Copy, C: Moments> MainHost<R, C> {
     /// Has a rule's task go on. One that has ended is closed, also where it was drained: else its
     /// clients would wait in the system's queue, and nobody would come for them.
-    pub(crate) fn resume_rule(&mut self, task: &mut RuleTask<R>) -> Turn
+    pub(crate) fn resume_rule(&self, task: &mut RuleTask<R>) -> Turn
         ensures served { task.new.served ≡ task.old.served }
         ensures place { task.new.place ≡ task.old.place }
         ensures paused { IsSome task.new.paused_until → result ≡ Turn.Waits }
     {
-        if self.is_paused(task.place, &mut task.paused_until) {
+        if self.is_paused(&mut task.paused_until) {
             return Turn::Waits;
         }
         let (step, fault) = accept_on(self.rt, &self.clock, &*self.shared, task);
@@ -60,7 +60,7 @@ impl<R: Wait + Clock + Copy, C: Moments> MainHost<R, C> {
             AcceptStep::Pauses(ms) => {
                 task.note_listening(false);
                 self.note_fault(task, fault, begins_row(ms));
-                self.pause(task.place, &mut task.paused_until, ms);
+                self.pause(&mut task.paused_until, ms);
             }
             AcceptStep::Ended(AcceptEnded::TooManyFaults(_)) => self.begin_anew(task),
             AcceptStep::Ended(_) => task.note_listening(false),
@@ -83,12 +83,12 @@ impl<R: Wait + Clock + Copy, C: Moments> MainHost<R, C> {
 
     // Accepts failed too often in a row. The task begins anew after a pause, since its clients would
     // wait in the system's queue, and nobody would come for them.
-    fn begin_anew(&mut self, task: &mut RuleTask<R>)
+    fn begin_anew(&self, task: &mut RuleTask<R>)
         ensures anew { task.new.accepting ≡ 0 }
         ensures served { task.new.served ≡ task.old.served }
         ensures place { task.new.place ≡ task.old.place }
     {
-        self.pause(task.place, &mut task.paused_until, RESTART_MS);
+        self.pause(&mut task.paused_until, RESTART_MS);
         task.accepting = Accepting::new();
     }
 
@@ -126,16 +126,16 @@ impl<R: Wait + Clock + Copy, C: Moments> MainHost<R, C> {
         ensures place { task.new.place ≡ task.old.place }
         ensures paused { IsSome task.new.paused_until → result ≡ Turn.Waits }
     {
-        if self.is_paused(task.place, &mut task.paused_until) {
+        if self.is_paused(&mut task.paused_until) {
             return Turn::Waits;
         }
         let step = task.accepting.resume(&mut task.door);
         self.take_callers(&mut task.door);
         match step {
-            AcceptStep::Pauses(ms) => self.pause(task.place, &mut task.paused_until, ms),
+            AcceptStep::Pauses(ms) => self.pause(&mut task.paused_until, ms),
             AcceptStep::Ended(_) => {
                 task.accepting = Accepting::new();
-                self.pause(task.place, &mut task.paused_until, RESTART_MS);
+                self.pause(&mut task.paused_until, RESTART_MS);
             }
             AcceptStep::Waits | AcceptStep::Again => {}
         }

@@ -7,8 +7,9 @@
 //! and says nothing by itself.
 
 ghost use Rattle.std.specs.Prelude.{◌≡◌, ◌↔◌, Some, None, OnSome, IfNone, IsSome};
-ghost use Rattle.relay_main.specs.Checks.{IsDue, Rests, dial_in, outcome_of};
+ghost use Rattle.relay_main.specs.Checks.{IsDue, Rests, check_cause, dial_in, outcome_of};
 ghost use Rattle.relay_main.specs.declared.check_task.CheckStep.{CheckStep};
+ghost use Rattle.relay_log.specs.declared.ended.Cause.{Cause};
 ghost use Rattle.relay_main.specs.declared.check_task.Dial.{Dial};
 ghost use Rattle.target_pick.specs.declared.health.Outcome.{Outcome};
 
@@ -19,6 +20,7 @@ use relay_core::pause_end;
 use relay_facts::header::own_header;
 use relay_facts::served_rule::ServedRule;
 use relay_facts::target_list::Targets;
+use relay_log::ended::Cause;
 use relay_settings::{Checks, Version};
 use rwloops::{DevKind, TryWrite};
 use std::net::IpAddr;
@@ -43,8 +45,8 @@ pub(crate) struct Checked {
 pub(crate) enum Dial {
     /// A connection was begun.
     Begun(WriteHalf),
-    /// It failed, by the target's fault.
-    Failed,
+    /// It failed, by the target's fault, for this cause.
+    Failed(Cause),
     /// There was no descriptor or no memory for it, which says nothing of the target.
     Refused,
 }
@@ -71,6 +73,8 @@ pub struct CheckTask {
     next_at: u64,
     /// The moment that it awaits: that one, or when the check under way is late.
     until: u64,
+    /// Why the last check failed that did.
+    cause: Cause,
 }
 
 // What a connection came to that isn't being made any more.
@@ -80,6 +84,16 @@ fn outcome_of(made: Result<(), DevKind>) -> Outcome
     match made {
         Ok(()) => Outcome::Passed,
         Err(_) => Outcome::Failed,
+    }
+}
+
+// Why a connection isn't made of which the system says this.
+fn check_cause(kind: DevKind) -> Cause
+    ensures { result ≡ check_cause kind }
+{
+    match kind {
+        DevKind::Refused => Cause::Refused,
+        _ => Cause::Unreachable,
     }
 }
 
@@ -107,7 +121,15 @@ impl CheckTask {
             dial: None,
             next_at: now,
             until: now,
+            cause: Cause::Unreachable,
         }
+    }
+
+    /// Why the last check failed that did.
+    pub(crate) fn cause(&self) -> Cause
+        ensures { result ≡ self.now.cause }
+    {
+        self.cause
     }
 
     /// The moment that it awaits.
@@ -162,8 +184,9 @@ impl CheckTask {
             return None;
         }
         let made = half.connected();
-        if made.is_ok() {
-            greet(half, self.checked.header);
+        match made {
+            Ok(()) => greet(half, self.checked.header),
+            Err(kind) => self.cause = check_cause(kind),
         }
         let outcome = outcome_of(made);
         self.rest();
@@ -175,10 +198,12 @@ impl CheckTask {
         ensures checked { self.new.checked ≡ self.old.checked }
         ensures place { self.new.place ≡ self.old.place }
         ensures late { IsSome (dial_in self.old) → result ≡ CheckStep.Ends Outcome.Failed }
+        ensures timeout { IsSome (dial_in self.old) → self.new.cause ≡ Cause.Timeout }
         ensures rests { Rests self.new }
         ensures due { Rests self.old → (result ≡ CheckStep.IsDue) × IsDue self.new now }
     {
         if self.dial.is_some() {
+            self.cause = Cause::Timeout;
             self.rest();
             return CheckStep::Ends(Outcome::Failed);
         }
@@ -201,7 +226,8 @@ impl CheckTask {
         ensures checked { self.new.checked ≡ self.old.checked }
         ensures place { self.new.place ≡ self.old.place }
         ensures ends { OnSome result (Rests self.new) }
-        ensures failed { dial ≡ Dial.Failed → result ≡ Some Outcome.Failed }
+        ensures failed { (cause : Cause) → dial ≡ Dial.Failed cause
+            → (result ≡ Some Outcome.Failed) × (self.new.cause ≡ cause) }
         ensures refused { dial ≡ Dial.Refused → result ≡ None }
     {
         match dial {
@@ -209,7 +235,8 @@ impl CheckTask {
                 self.dial = Some(half);
                 self.look()
             }
-            Dial::Failed => {
+            Dial::Failed(cause) => {
+                self.cause = cause;
                 self.rest();
                 Some(Outcome::Failed)
             }

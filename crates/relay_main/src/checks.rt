@@ -1,9 +1,13 @@
 //! The checks of targets: a task for each target of a rule that has checks. The tasks follow the rules,
 //! at the start and behind each reload. Where memory is refused for one, that is tried again.
 
-ghost use Rattle.std.specs.Prelude.{◌≡◌, None, [], IfErr, false};
+ghost use Rattle.std.specs.Prelude.{◌≡◌, ◌<◌, ◌⊎◌, None, Some, [], IfErr, true, false, length};
+ghost use Rattle.readiness.specs.EventLoop.{tasks_of};
+ghost use Rattle.readiness.specs.Tasks.{task_in};
 ghost use Rattle.relay_admin.specs.declared.serve_fault.ServeFault.{ServeFault};
-ghost use Rattle.relay_main.specs.Checks.{dial_in, turn_of};
+ghost use Rattle.std.specs.IoError.{error_kind};
+ghost use Rattle.relay_main.specs.Checks.{IsDialOf, IsToFollow, connect_cause, dial_in, dialled_of};
+ghost use Rattle.relay_main.specs.Checks.{moment_behind, turn_of};
 
 use crate::check_task::{CheckStep, CheckTask, Checked, Dial};
 use crate::main_host::MainHost;
@@ -14,24 +18,39 @@ use readiness::{Poller, Turn, Why};
 use relay_admin::{Addr, ServeFault};
 use relay_core::{has_come, pause_end};
 use relay_facts::clock::Moments;
-use relay_facts::outcomes::note_outcome;
+use relay_facts::outcomes::{Came, note_outcome};
+use relay_log::ended::Cause;
 use relay_shared::shortage::is_shortage;
 use relay_shared::socket_options::connect_out;
 use std::alloc::Global;
+use std::io;
+use std::io::ErrorKind;
 use std::net::{IpAddr, Net};
 use std::sync::Wait;
 use std::time::Clock;
-use target_pick::Outcome;
 
 /// How long after memory was refused for a task it is tried again.
 const RETRY_MS: u64 = 1_000;
 
+// Why a connect that failed at once did.
+fn connect_cause(error: &io::Error) -> Cause
+    ensures { result ≡ connect_cause (error_kind error.now) }
+{
+    match error.kind() {
+        ErrorKind::ConnectionRefused => Cause::Refused,
+        ErrorKind::TimedOut => Cause::Timeout,
+        _ => Cause::Unreachable,
+    }
+}
+
 // Begins a connection to a target, of whose socket the poller tells under this token.
-fn dial<R: Net>(rt: &R, alloc: Global, poller: &Poller, dialled: &Dialled, token: u64) -> Dial {
+fn dial<R: Net>(rt: &R, alloc: Global, poller: &Poller, dialled: &Dialled, token: u64) -> Dial
+    ensures { IsDialOf dialled.now.at result }
+{
     let mut sock = match connect_out(rt, &dialled.at, dialled.source) {
         Ok(sock) => sock,
         Err(error) if is_shortage(&error) => return Dial::Refused,
-        Err(_) => return Dial::Failed,
+        Err(error) => return Dial::Failed(connect_cause(&error)),
     };
     if poller.register(&mut sock, token).is_err() {
         return Dial::Refused;
@@ -73,13 +92,16 @@ impl<R: Wait + Clock + Copy, C: Moments> MainHost<R, C> {
                 // One that finds no room is due again once it would be late.
                 let _ = self.due.push(task.place.first);
             }
-            CheckStep::Ends(outcome) => self.note_check(&task.checked, outcome),
+            CheckStep::Ends(outcome) => {
+                let came = Came::of_check(outcome, task.cause());
+                self.note_check(&task.checked, &came);
+            }
         }
         turn_after(step)
     }
 
     // Notes what came of a check.
-    fn note_check(&self, checked: &Checked, outcome: Outcome) {
+    fn note_check(&self, checked: &Checked, came: &Came) {
         let rule = checked.served.rule(&self.rt);
         note_outcome(
             &self.rt,
@@ -87,7 +109,7 @@ impl<R: Wait + Clock + Copy, C: Moments> MainHost<R, C> {
             &rule,
             &checked.targets,
             checked.place,
-            outcome,
+            came,
         );
     }
 }
@@ -98,6 +120,8 @@ impl CheckTask {
         ensures place { self.new.place ≡ self.old.place }
         ensures dial { dial_in self.new ≡ dial_in self.old }
         ensures other { result ≡ false → self.new ≡ self.old }
+        ensures one { result ≡ true → 0 < length wanted.old.items }
+        ensures none { result ≡ false → wanted.new ≡ wanted.old }
     {
         match place_among(wanted.as_slice(), &self.checked) {
             Some(place) => {
@@ -126,6 +150,10 @@ impl<R: Wait + Clock + Copy> MainLoop<R> {
     // check. It may be of a new list of the rule's, and of a new account.
     fn takes_wanted(&mut self, token: u64, wanted: &mut Vec<Checked>) -> bool
         ensures kept { self.new.checking ≡ self.old.checking }
+        ensures listening { self.new.listening ≡ self.old.listening }
+        ensures paths { self.new.paths ≡ self.old.paths }
+        ensures one { result ≡ true → 0 < length wanted.old.items }
+        ensures none { result ≡ false → wanted.new ≡ wanted.old }
     {
         match self.tasks.task_mut(token) {
             Some(MainTask::Check(task)) => task.takes_one(wanted),
@@ -134,7 +162,11 @@ impl<R: Wait + Clock + Copy> MainLoop<R> {
     }
 
     // Ends the checks that aren't among these, and takes those that are out of them.
-    fn end_others(&mut self, wanted: &mut Vec<Checked>) {
+    fn end_others(&mut self, wanted: &mut Vec<Checked>)
+        ensures all { wanted.old.items ≡ [] → self.new.checking.items ≡ [] }
+        ensures listening { self.new.listening ≡ self.old.listening }
+        ensures paths { self.new.paths ≡ self.old.paths }
+    {
         let mut at = 0;
         while at < self.checking.len() {
             let token = self.checking[at];
@@ -180,7 +212,11 @@ impl<R: Wait + Clock + Copy> MainLoop<R> {
     }
 
     /// Has the tasks follow the rules, where these may have changed since.
-    pub(crate) fn follow_checks(&mut self, now: u64) {
+    pub(crate) fn follow_checks(&mut self, now: u64)
+        ensures early { (IsToFollow self.old.follow_at now → ⊥) → self.new ≡ self.old }
+        ensures again { IsToFollow self.old.follow_at now → (self.new.follow_at ≡ None)
+            ⊎ (self.new.follow_at ≡ Some (moment_behind now 1000)) }
+    {
         if !has_come(self.follow_at, now) {
             return;
         }
@@ -193,6 +229,8 @@ impl<R: Wait + Clock + Copy> MainLoop<R> {
     /// Ends all checks for good.
     pub(crate) fn end_checks(&mut self)
         ensures none { self.new.follow_at ≡ None }
+        ensures all { self.new.checking.items ≡ [] }
+        ensures listening { self.new.listening ≡ self.old.listening }
     {
         let mut none = Vec::new(self.alloc);
         self.end_others(&mut none);
@@ -200,7 +238,9 @@ impl<R: Wait + Clock + Copy> MainLoop<R> {
     }
 
     // To where the check that has this token connects, and from where.
-    fn dialled_by(&self, token: u64) -> Option<Dialled> {
+    fn dialled_by(&self, token: u64) -> Option<Dialled>
+        ensures { result ≡ dialled_of (task_in (tasks_of self.now.tasks) token) }
+    {
         match self.tasks.task(token) {
             Some(MainTask::Check(task)) => Some(Dialled {
                 at: task.checked.at,
@@ -234,7 +274,8 @@ impl<R: Wait + Net + Clock + Copy> MainLoop<R> {
             return;
         };
         if let Some(outcome) = task.begin(dial) {
-            self.host.note_check(&task.checked, outcome);
+            let came = Came::of_check(outcome, task.cause());
+            self.host.note_check(&task.checked, &came);
         }
         self.tasks.keep_time(&self.host, token);
     }

@@ -1,10 +1,8 @@
 //! By which account a rule's task accepts, which counts it. A listener that stays over a reload may come
 //! to another rule, or its rule to another account: then its task follows.
 
-ghost use Rattle.std.specs.Prelude.{◌≡◌, IfErr, IfOk, IfSome, IsNone, filter_map, map};
+ghost use Rattle.std.specs.Prelude.{◌≡◌, IfErr, IfOk, filter_map, map};
 ghost use Rattle.readiness.specs.EventLoop.{tasks_of};
-ghost use Rattle.readiness.specs.Lends.{with_task};
-ghost use Rattle.readiness.specs.Tasks.{task_in};
 ghost use Rattle.relay_admin.specs.declared.serve_fault.ServeFault.{ServeFault};
 ghost use Rattle.relay_main.specs.Followed as spec;
 
@@ -100,8 +98,10 @@ impl<R: Wait + Copy> MainTask<R> {
 impl<R: Wait + Clock + Copy> MainLoop<R> {
     /// Has each of these accept by its account from now on.
     pub(crate) fn follow_accounts(&mut self, all: Vec<Followed>)
-        ensures stay { spec.StayBut (tasks_of self.old.tasks) (tasks_of self.new.tasks) }
+        ensures follow { tasks_of self.new.tasks
+            ≡ spec.follow_each all.items (tasks_of self.old.tasks) }
         ensures listening { self.new.listening ≡ self.old.listening }
+        ensures paths { self.new.paths ≡ self.old.paths }
     {
         for one in all {
             self.follow_account(one);
@@ -110,13 +110,9 @@ impl<R: Wait + Clock + Copy> MainLoop<R> {
 
     // Has the rule's task that this token names accept by this account from now on.
     fn follow_account(&mut self, one: Followed)
-        ensures follows { IfSome (task_in (tasks_of self.old.tasks) one.token) (λ task.
-            tasks_of self.new.tasks ≡ with_task (tasks_of self.old.tasks) one.token
-            (spec.following one.served task)) }
-        ensures gone { IsNone (task_in (tasks_of self.old.tasks) one.token)
-            → self.new.tasks ≡ self.old.tasks }
-        ensures stay { spec.StayBut (tasks_of self.old.tasks) (tasks_of self.new.tasks) }
+        ensures follow { tasks_of self.new.tasks ≡ spec.follow_one one (tasks_of self.old.tasks) }
         ensures listening { self.new.listening ≡ self.old.listening }
+        ensures paths { self.new.paths ≡ self.old.paths }
     {
         let Followed { token, served } = one;
         if let Some(task) = self.tasks.task_mut(token) {

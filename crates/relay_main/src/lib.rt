@@ -25,6 +25,7 @@ mod session;
 mod session_desk;
 mod session_state;
 mod sessions;
+mod targets_desk;
 mod wanted_checks;
 mod wanted_listeners;
 

@@ -1,11 +1,11 @@
 //! The main thread's loop: it accepts by all rules, checks targets, and serves the admin sessions,
 //! until the relay stops or has finished.
 
-ghost use Rattle.std.specs.Prelude.{◌≡◌, ◌↔◌, ℕ, true, false, Some, None, [], IfOk, IfErr, OnOk};
+ghost use Rattle.std.specs.Prelude.{◌≡◌, ◌↔◌, ℕ, true, Some, None, [], IfOk, IfErr, OnOk};
 ghost use Rattle.std.specs.Prelude.{List, length};
 ghost use Rattle.std.specs.Arc.{arc_value};
 ghost use Rattle.readiness.specs.EventLoop.{tasks_of};
-ghost use Rattle.readiness.specs.Tasks.{ComesNext, SameTasks, StillCome, gave_way_in, task_in};
+ghost use Rattle.readiness.specs.Tasks.{task_in};
 ghost use Rattle.relay_main.specs.Binding.{IsBindFault, StillStand};
 ghost use Rattle.relay_main.specs.Opening.{IsAdmin, IsAdminFault};
 ghost use Rattle.relay_admin.specs.ServeFault.{IsRunFault};
@@ -48,6 +48,8 @@ pub struct MainLoop<R: Wait + Clock + Copy> {
     pub(crate) paths: BoundPaths,
     /// The accounts of rules that a reload left out, and of which connections stood then.
     pub(crate) gone: Vec<Arc<ServedRule>>,
+    /// How many accounts have a number, by which sessions look at their targets.
+    pub(crate) numbered: u64,
     /// The tokens of the tasks that check targets.
     pub(crate) checking: Vec<u64>,
     /// When these are to follow the rules, if they are.
@@ -86,6 +88,7 @@ impl<R: Wait + Clock + Copy> MainLoop<R> {
             listening: Vec::new(alloc),
             paths: BoundPaths::none(alloc),
             gone: Vec::new(alloc),
+            numbered: 0,
             checking: Vec::new(alloc),
             follow_at: Some(0),
             admin: 0,
@@ -106,6 +109,7 @@ impl<R: Wait + Clock + Copy> MainLoop<R> {
             listening: _,
             paths,
             gone: _,
+            numbered: _,
             checking: _,
             follow_at: _,
             admin: _,
@@ -116,16 +120,6 @@ impl<R: Wait + Clock + Copy> MainLoop<R> {
         let ended = end_tasks(&mut tasks, &mut host);
         let MainHost { rt, shared, .. } = host;
         (rt, shared, ended, paths)
-    }
-}
-
-// Has the tasks of these listeners go on.
-fn all_again<T>(tasks: &mut EventLoop<T>, listening: &[Listening])
-    ensures kept { SameTasks (tasks_of tasks.old) (tasks_of tasks.new) }
-    ensures others { StillCome (tasks_of tasks.old) (tasks_of tasks.new) }
-{
-    for one in listening {
-        tasks.again(one.token);
     }
 }
 
@@ -140,6 +134,7 @@ impl<R: Wait + Net + Files + Clock + Eprint + Copy> MainLoop<R> {
         let accounts = self.accounts(&rt)?;
         let wanted = self.wanted(&rt, accounts.as_slice())?;
         let _bound = self.bind_all(&rt, accounts.as_slice(), wanted.as_slice(), 0)?;
+        self.begin_targets(accounts.as_slice());
         Ok(())
     }
 
@@ -191,17 +186,6 @@ impl<R: Wait + Net + Files + Clock + Eprint + Copy> MainLoop<R> {
         Ok(())
     }
 
-    // Has all accept tasks go on.
-    fn accept_again(&mut self)
-        ensures kept { SameTasks (tasks_of self.old.tasks) (tasks_of self.new.tasks) }
-        ensures admin { gave_way_in (tasks_of self.old.tasks) self.old.admin ≡ Some false
-            → ComesNext (tasks_of self.new.tasks) self.old.admin }
-        ensures others { StillCome (tasks_of self.old.tasks) (tasks_of self.new.tasks) }
-    {
-        self.tasks.again(self.admin);
-        all_again(&mut self.tasks, self.listening.as_slice());
-    }
-
     /// Turns until an admin session says stop, until the relay has finished, or the poller fails.
     pub fn turn_until_stop(&mut self, sessions: &mut Sessions) -> Result<(), ServeFault>
         ensures faults { IfErr result (λ fault. IsRunFault fault) }
@@ -217,9 +201,6 @@ impl<R: Wait + Net + Files + Clock + Eprint + Copy> MainLoop<R> {
             sessions.serve(self);
             if self.is_over(self.host.shared.is_stopped(), sessions.are_held()) {
                 return Ok(());
-            }
-            if self.host.takes_unarmed() {
-                self.accept_again();
             }
         }
         unreachable!()

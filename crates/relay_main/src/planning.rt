@@ -49,7 +49,7 @@ fn rules_of(alloc: Global, all: &[SaidRule]) -> Result<Vec<Rule>, ServeFault>
     Ok(rules)
 }
 
-// What the account of this rule, among those, is to say. Connections that its list counts now are
+// What the account of this rule, among those, is to say. What it counts now by targets and by sources is
 // counted on.
 fn said_of<R: Wait>(
     rt: &R,
@@ -66,10 +66,7 @@ fn said_of<R: Wait>(
     let Some(before) = served.said(rt) else {
         return Err(ServeFault::Memory);
     };
-    match &before.targets {
-        Some(list) => Ok(Said::of(alloc, rule, Some(list))?),
-        None => Ok(Said::of(alloc, rule, None)?),
-    }
+    Ok(Said::of(alloc, rule, Some(&before))?)
 }
 
 // What the accounts of these rules, among those, are to say.

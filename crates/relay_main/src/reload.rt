@@ -8,8 +8,9 @@ ghost use Rattle.relay_main.specs.Binding.{StillStand};
 ghost use Rattle.relay_admin.specs.declared.admin.answers.ReloadAnswer.{ReloadAnswer};
 ghost use Rattle.relay_admin.specs.declared.rules.verdict.Verdict.{Verdict};
 ghost use Rattle.relay_main.specs.ListenersEnd.{AreEnded};
-ghost use Rattle.relay_main.specs.Reload.{GoOver, answer_of_fault};
+ghost use Rattle.relay_main.specs.Reload.{GoOver, answer_of_fault, paths_left};
 ghost use Rattle.relay_main.specs.RuleListeners.{standing_in};
+ghost use Rattle.relay_shared.specs.BoundPath.{paths_in};
 
 use crate::accounts::account_at;
 use crate::binding::AllBound;
@@ -20,6 +21,7 @@ use crate::planning::Prepared;
 use crate::rule_listeners::Listening;
 use relay_admin::{ReloadAnswer, ServeFault, Verdict};
 use relay_facts::config::Start;
+use relay_facts::log_lines::calendar_ms;
 use relay_facts::served_rule::{Said, ServedRule};
 use relay_facts::source::said_by;
 use relay_settings::{SETTINGS, SaidRule, Settings, needs_restart, rule_count};
@@ -42,17 +44,36 @@ fn answer_of_fault(fault: ServeFault) -> ReloadAnswer
     }
 }
 
+// Has an account say this from this moment on, by the calendar. What an operator has set of its targets is
+// over, as its list is.
+fn say_now<R: Wait>(rt: &R, served: &ServedRule, said: Said, now: u64) {
+    if let Some(targets) = &said.targets {
+        let before = served.said(rt);
+        let list = before.as_ref().and_then(|before| before.targets.as_ref());
+        targets.follow(list.map(|list| &**list), now);
+    }
+    served.say(rt, said);
+}
+
 // Has the accounts of rules, among those, say this.
-fn say_all<R: Wait>(rt: &R, accounts: &[Arc<ServedRule>], all: Vec<Said>, _bound: &AllBound) {
+fn say_all<R: Wait + Clock>(
+    rt: &R,
+    accounts: &[Arc<ServedRule>],
+    all: Vec<Said>,
+    _bound: &AllBound,
+) {
+    let now = calendar_ms(rt);
     for said in all {
         if let Some(served) = account_at(accounts, &said.rule.listen) {
-            served.say(rt, said);
+            say_now(rt, served, said, now);
         }
     }
 }
 
 // Removes the paths of these listeners.
-fn remove_paths_of<R: Files>(rt: &R, paths: &mut BoundPaths, listeners: &[Listening]) {
+fn remove_paths_of<R: Files>(rt: &R, paths: &mut BoundPaths, listeners: &[Listening])
+    ensures { paths_in paths.new ≡ paths_left listeners.now (paths_in paths.old) }
+{
     for one in listeners {
         paths.remove_at(rt, &one.listen);
     }
@@ -86,10 +107,12 @@ impl<R: Wait + Net + Files + Clock + Eprint + Copy> MainLoop<R> {
     // Goes over to a plan of which all is bound: the listeners that stay follow their rules, the rules
     // say what is new, and the other listeners end.
     fn go_over(&mut self, rt: &R, prepared: Prepared, bound: AllBound)
-        ensures closed { GoOver prepared.plan.listeners.close.items
+        ensures closed { GoOver prepared.followed.items prepared.plan.listeners.close.items
             (tasks_of self.old.tasks) (tasks_of self.new.tasks) }
         ensures left { self.new.listening.items
             ≡ standing_in (tasks_of self.new.tasks) self.old.listening.items }
+        ensures paths { paths_in self.new.paths
+            ≡ paths_left prepared.plan.listeners.close.items (paths_in self.old.paths) }
     {
         let Prepared {
             plan,
@@ -117,6 +140,7 @@ impl<R: Wait + Net + Files + Clock + Eprint + Copy> MainLoop<R> {
         ensures closed { AreEnded close.now (tasks_of self.old.tasks) (tasks_of self.new.tasks) }
         ensures left { self.new.listening.items
             ≡ standing_in (tasks_of self.new.tasks) self.old.listening.items }
+        ensures paths { paths_in self.new.paths ≡ paths_left close.now (paths_in self.old.paths) }
     {
         self.end_rules(close, LastClients::AreReset);
         self.forget_closed();
@@ -128,6 +152,7 @@ impl<R: Wait + Net + Files + Clock + Eprint + Copy> MainLoop<R> {
         ensures left { self.new.listening.items
             ≡ standing_in (tasks_of self.old.tasks) self.old.listening.items }
         ensures tasks { self.new.tasks ≡ self.old.tasks }
+        ensures paths { self.new.paths ≡ self.old.paths }
     {
         let tasks = &self.tasks;
         self.listening.retain(|one| tasks.task(one.token).is_some());

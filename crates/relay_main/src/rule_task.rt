@@ -1,12 +1,14 @@
 //! A rule's task of the main thread's loop: it accepts from the rule's listener, and delivers to the
 //! loops.
 
-ghost use Rattle.std.specs.Prelude.{◌≡◌, ◌↔◌, ⊤, true, None, Err, IfSome, IsNone, OnOk};
+ghost use Rattle.std.specs.Prelude.{◌≡◌, ◌↔◌, ⊤, true, None, Err, IfSome, IsNone, OnOk, option_map};
+ghost use Rattle.readiness.specs.Sockets as sockets;
 ghost use Rattle.readiness.specs.EventLoop.{tasks_of};
 ghost use Rattle.readiness.specs.Tasks.{task_in};
 ghost use Rattle.relay_main.specs.Closing.{WasClosed};
 ghost use Rattle.relay_main.specs.RuleListeners.{token_with};
 ghost use Rattle.relay_main.specs.RuleTask.{listener_in};
+ghost use Rattle.relay_shared.specs.Addr.{rule_address};
 ghost use Rattle.rwloops.specs.declared.fault.Fault.{Fault};
 ghost use Rattle.fd_descriptor.specs.TaskHalf.{KeepsHalf, descriptor_of_half};
 ghost use Rattle.relay_shared.specs.Drained.{WasDrained};
@@ -133,18 +135,24 @@ where
             rule,
             listens: _,
             limit,
+            source_limits,
+            sources,
             sockets,
             targets,
             header,
             access,
+            senders,
         } = served.said(&self.rt)?;
         Some(Acceptance {
             served,
             rule,
             limit,
+            source_limits,
+            sources,
             sockets,
             targets,
             access,
+            senders,
             client,
             header,
             accepted_at: header.and_then(|_| accepted_at(sock)),
@@ -182,7 +190,9 @@ where
 }
 
 // The client's address, in the terms of rules.
-fn peer_of(sock: &Sock) -> Option<relay_admin::Addr> {
+fn peer_of(sock: &Sock) -> Option<relay_admin::Addr>
+    ensures { result ≡ option_map rule_address (sockets.peer_of sock.now) }
+{
     match sock.peer() {
         Some(addr) => Some(rule_address(&addr)),
         None => None,
@@ -190,7 +200,9 @@ fn peer_of(sock: &Sock) -> Option<relay_admin::Addr> {
 }
 
 // Where it was accepted over TCP: the system is asked, since the listener may be at all addresses.
-fn accepted_at(sock: &Sock) -> Option<AcceptedAt> {
+fn accepted_at(sock: &Sock) -> Option<AcceptedAt>
+    ensures { IfSome result (λ at. sockets.is_tcp sock.now ≡ true) }
+{
     match sock.local() {
         Some(readiness::Addr::Tcp(bytes, port)) => Some(AcceptedAt::Tcp(bytes, port)),
         Some(readiness::Addr::Tcp6(ip, _, port)) => Some(AcceptedAt::Tcp6(ip, port)),

@@ -17,7 +17,8 @@ use crate::main_task::MainTask;
 use crate::rule_task::RuleTask;
 use deadline_core::Deadline;
 use relay_admin::{
-    CloseAnswer, LateAnswer, ReloadAnswer, SessionDesk, Shown, SteerAnswer, TotalBytes,
+    CloseAnswer, LateAnswer, ReloadAnswer, SessionDesk, Shown, ShownTarget, SteerAnswer,
+    TargetAnswer, TargetOrder, TotalBytes,
 };
 use relay_core::idle_deadline;
 use relay_facts::clock::Moments;
@@ -255,5 +256,17 @@ where
 
     fn finish(&mut self, after_ms: u64) {
         self.main.finish(after_ms);
+    }
+
+    fn targets_to_show(&mut self, alloc: Global) -> Result<Vec<u64>, AllocError> {
+        self.main.target_numbers(alloc)
+    }
+
+    fn look_at_target(&mut self, number: u64) -> Option<ShownTarget> {
+        self.main.shown_target(number)
+    }
+
+    fn set_target(&mut self, order: TargetOrder) -> TargetAnswer {
+        self.main.set_target(&order)
     }
 }

@@ -1,8 +1,10 @@
 //! The targets that are to be checked: of each rule that has checks, each address once.
 
-ghost use Rattle.std.specs.Prelude.{◌≡◌, ◌<◌, IfSome, IfErr, length};
+ghost use Rattle.std.specs.Prelude.{◌≡◌, ◌<◌, IfSome, IfErr, OnSome, length};
+ghost use Rattle.std.specs.Arc.{arc_value};
 ghost use Rattle.relay_admin.specs.declared.serve_fault.ServeFault.{ServeFault};
-ghost use Rattle.relay_main.specs.Checks.{IsSameCheck};
+ghost use Rattle.relay_main.specs.Checks.{IsCheckOf, IsSameCheck};
+ghost use Rattle.relay_main.specs.More.{HasMore, HasOneMore};
 
 use crate::check_task::Checked;
 use relay_admin::{ServeFault, is_same_addr};
@@ -31,22 +33,24 @@ pub(crate) fn place_among(all: &[Checked], one: &Checked) -> Option<usize>
     None
 }
 
-// Puts the target at this place of the list of a rule that says this behind these, where it is to be
-// checked. None says that memory was refused.
-fn add_target(
-    all: &mut Vec<Checked>,
+// The check of the target at this place of the list of a rule that says this, if it is to be checked. None
+// says that memory was refused.
+fn checked_at(
     served: &Arc<ServedRule>,
     targets: &Arc<Targets>,
     said: &Said,
     place: usize,
-) -> Option<()> {
+) -> Option<Option<Checked>>
+    ensures { IfSome result (λ found. IfSome found (λ one. (one.place ≡ place)
+        × IsCheckOf (arc_value served.now) (arc_value targets.now) said.now one)) }
+{
     let (Some(checks), Some(at)) = (targets.checks(), targets.address(place)) else {
-        return Some(());
+        return Some(None);
     };
-    if targets.stands_before(place, &at) {
-        return Some(());
+    if targets.is_repeated(place) {
+        return Some(None);
     }
-    let checked = Checked {
+    Some(Some(Checked {
         served: Arc::try_clone(served).ok()?,
         targets: Arc::try_clone(targets).ok()?,
         place,
@@ -54,8 +58,26 @@ fn add_target(
         checks,
         header: said.header,
         source: said.sockets.source,
-    };
-    all.push(checked).ok()
+    }))
+}
+
+// Puts that behind these.
+fn add_target(
+    all: &mut Vec<Checked>,
+    served: &Arc<ServedRule>,
+    targets: &Arc<Targets>,
+    said: &Said,
+    place: usize,
+) -> Option<()>
+    ensures { OnSome result (HasOneMore (λ one. (one.place ≡ place)
+        × IsCheckOf (arc_value served.now) (arc_value targets.now) said.now one)
+        all.old.items all.new.items) }
+{
+    let found = checked_at(served, targets, said, place)?;
+    match found {
+        Some(checked) => all.push(checked).ok(),
+        None => Some(()),
+    }
 }
 
 // Puts all of the list of a rule that says this, which are to be checked, behind these, each address once.
@@ -65,7 +87,11 @@ fn add_each(
     served: &Arc<ServedRule>,
     targets: &Arc<Targets>,
     said: &Said,
-) -> Option<()> {
+) -> Option<()>
+    ensures { OnSome result (HasMore
+        (IsCheckOf (arc_value served.now) (arc_value targets.now) said.now)
+        all.old.items all.new.items) }
+{
     for place in 0..targets.len() {
         add_target(all, served, targets, said, place)?;
     }

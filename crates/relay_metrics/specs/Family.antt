@@ -24,6 +24,9 @@ name_text family.RuleNoTarget = codes "pollrelay_rule_no_target_total"
 name_text family.RuleAcceptFaults = codes "pollrelay_rule_accept_faults_total"
 name_text family.RuleListening = codes "pollrelay_rule_listening"
 name_text family.TargetUp = codes "pollrelay_target_up"
+name_text family.TargetConnections = codes "pollrelay_target_connections"
+name_text family.TargetConnects = codes "pollrelay_target_connects_total"
+name_text family.TargetFailures = codes "pollrelay_target_connect_failures_total"
 
 -- what a reader is told that its figures are
 unfoldable pub help_text : Family → List ℕ
@@ -47,6 +50,9 @@ help_text family.RuleNoTarget = codes "Clients whose target wasn't reached, by c
 help_text family.RuleAcceptFaults = codes "Rows of accepts that failed."
 help_text family.RuleListening = codes "Whether clients are accepted: 1, or 0."
 help_text family.TargetUp = codes "Whether a checked target is up: 1, or 0."
+help_text family.TargetConnections = codes "Connections that stand at a target now."
+help_text family.TargetConnects = codes "Clients' connects to a target that were made."
+help_text family.TargetFailures = codes "Clients' connects to a target that failed."
 
 -- a gauge may fall, a counter never does
 unfoldable pub kind_text : Family → List ℕ
@@ -56,6 +62,7 @@ kind_text family.ConnectionsLimit = codes "gauge"
 kind_text family.RuleConnections = codes "gauge"
 kind_text family.RuleListening = codes "gauge"
 kind_text family.TargetUp = codes "gauge"
+kind_text family.TargetConnections = codes "gauge"
 kind_text _ = codes "counter"
 
 -- a line that says something of a name: a word, the name, a space, the text and a line feed

@@ -1,8 +1,10 @@
 -- A snapshot of a relay's figures.
-use Rattle.std.specs.Prelude.{◌≡◌, Bool, []}
+use Rattle.std.specs.Prelude.{◌≡◌, Bool, [], if◌then◌else◌}
 use Rattle.std.specs.List.{list_all}
 use Rattle.relay_metrics.specs.declared.figures.CarriedBytes.{CarriedBytes}
 use Rattle.relay_metrics.specs.declared.figures.Figures.{Figures}
+use Rattle.relay_metrics.specs.declared.figures.Health.{Health}
+use Rattle.relay_metrics.specs.declared.figures.Health.TheVariants.{NoTarget, NotListening, Well}
 
 -- nothing was carried
 abbrev pub IsNone : CarriedBytes → Type 0
@@ -25,3 +27,12 @@ pub record IsBlank (f : Figures) : Type 0 where
 -- all rules accept clients
 abbrev pub all_listen : Figures → Bool
 all_listen figures = list_all (λ rule. rule.is_listening) figures.rules.items
+
+-- of each rule a target is up
+abbrev pub all_have_targets : Figures → Bool
+all_have_targets figures = list_all (λ rule. rule.has_target) figures.rules.items
+
+-- all rules serve clients; or one doesn't accept them, or of one no target is up
+abbrev pub health_of : Figures → Health
+health_of figures =
+    if all_listen figures then (if all_have_targets figures then Well else NoTarget) else NotListening

@@ -1,6 +1,6 @@
 -- How a snapshot is spelled: the text format of Prometheus, version 0.0.4. The figures of a family
 -- stand together, behind what is said of the family.
-use Rattle.std.specs.Prelude.{ℕ, Bool, ◌+◌, List, [], ◌∷◌, ◌++◌, codes, length, if◌then◌else◌}
+use Rattle.std.specs.Prelude.{ℕ, Bool, ◌+◌, List, [], ◌∷◌, ◌++◌, Option, Some, None, codes, length, if◌then◌else◌}
 use Rattle.std.specs.List.{flat_map, zip}
 use Rattle.std.specs.Fmt.{decimal}
 use Rattle.relay_log.specs.Ended.{cause_words, end_labels}
@@ -50,13 +50,27 @@ unfoldable pub shortage_text : List ℕ → Refusals → List ℕ
 shortage_text rule refused = cause_text family.RuleRefused rule (codes "no_memory") refused.no_memory
     ++ cause_text family.RuleRefused rule (codes "descriptors") refused.descriptors
 
--- a rule's refused connections, for each cause
-unfoldable pub refused_text : List ℕ → Refusals → List ℕ
-refused_text rule refused = cause_text family.RuleRefused rule (codes "denied") refused.denied
+-- a rule's connections whose clients were to say who they are, and didn't, for each cause
+unfoldable pub unheard_text : List ℕ → Refusals → List ℕ
+unheard_text rule refused = cause_text family.RuleRefused rule (codes "no_header") refused.no_header
+    ++ cause_text family.RuleRefused rule (codes "bad_header") refused.bad_header
+
+-- a rule's connections of whose client's source there were enough, for each cause
+unfoldable pub by_source_text : List ℕ → Refusals → List ℕ
+by_source_text rule refused = cause_text family.RuleRefused rule (codes "source_full") refused.source_full
+    ++ cause_text family.RuleRefused rule (codes "source_rate") refused.source_rate
+
+-- a rule's connections that its lists, a limit or the state of its targets refused, for each cause
+unfoldable pub by_rule_text : List ℕ → Refusals → List ℕ
+by_rule_text rule refused = cause_text family.RuleRefused rule (codes "denied") refused.denied
     ++ (cause_text family.RuleRefused rule (codes "full") refused.full
     ++ (cause_text family.RuleRefused rule (codes "no_target") refused.no_target
-    ++ (cause_text family.RuleRefused rule (codes "rule_full") refused.rule_full
-    ++ shortage_text rule refused)))
+    ++ cause_text family.RuleRefused rule (codes "rule_full") refused.rule_full))
+
+-- a rule's refused connections, for each cause
+unfoldable pub refused_text : List ℕ → Refusals → List ℕ
+refused_text rule refused = by_rule_text rule refused
+    ++ (shortage_text rule refused ++ (unheard_text rule refused ++ by_source_text rule refused))
 
 -- a rule's figure for a cause with its count
 abbrev pub counted_text : Family → List ℕ → List ℕ × ℕ → List ℕ
@@ -118,14 +132,33 @@ rules_text rules = rule_family_text family.RuleConnections rules
     ++ (rule_family_text family.RuleRefused rules
     ++ (rule_family_text family.RuleEnds rules ++ defence_text rules))))
 
--- whether a target is up that is checked
-unfoldable pub target_text : TargetFigures → List ℕ
-target_text t =
-    rule_sample_text family.TargetUp t.rule.bytes (codes "target") (escaped t.target.bytes) (flag t.is_up)
+-- a figure of a target
+unfoldable pub target_text : Family → TargetFigures → ℕ → List ℕ
+target_text f t n = rule_sample_text f t.rule.bytes (codes "target") (escaped t.target.bytes) n
 
--- the family of targets, in their order
+-- whether it is up, where it is checked
+unfoldable pub up_of_target : TargetFigures → Option Bool → List ℕ
+up_of_target t None = []
+up_of_target t (Some up) = target_text family.TargetUp t (flag up)
+
+-- a target's figures in a family of targets; in other families it has none
+unfoldable pub of_each_target : Family → TargetFigures → List ℕ
+of_each_target family.TargetUp t = up_of_target t t.is_up
+of_each_target family.TargetConnections t = target_text family.TargetConnections t t.connections
+of_each_target family.TargetConnects t = target_text family.TargetConnects t t.connects
+of_each_target family.TargetFailures t = target_text family.TargetFailures t t.failures
+of_each_target _ t = []
+
+-- a family of targets: the figures of each, in their order
+unfoldable pub target_family_text : Family → List TargetFigures → List ℕ
+target_family_text f targets = head_text f ++ flat_map (of_each_target f) targets
+
+-- the families of targets
 unfoldable pub targets_text : List TargetFigures → List ℕ
-targets_text targets = head_text family.TargetUp ++ flat_map target_text targets
+targets_text targets = target_family_text family.TargetUp targets
+    ++ (target_family_text family.TargetConnections targets
+    ++ (target_family_text family.TargetConnects targets
+    ++ target_family_text family.TargetFailures targets))
 
 -- the whole text
 unfoldable pub metrics_text : Figures → List ℕ

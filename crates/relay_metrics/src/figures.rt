@@ -5,7 +5,7 @@ ghost use Rattle.std.specs.Prelude.{◌≡◌, ◌++◌, OnOk};
 ghost use Rattle.relay_metrics.specs.Family.{name_text, help_text, kind_text};
 ghost use Rattle.relay_metrics.specs.Family.{comment_text, head_text};
 ghost use Rattle.relay_metrics.specs.Figures.{IsBlank};
-ghost use Rattle.relay_metrics.specs.Figures.{all_listen};
+ghost use Rattle.relay_metrics.specs.Figures.{all_have_targets, all_listen, health_of};
 
 use arrayvec::ArrayString;
 use base_types::OutOfMemory;
@@ -34,6 +34,14 @@ pub struct Refusals {
     pub no_memory: u64,
     /// The system's poller took none of their descriptors.
     pub descriptors: u64,
+    /// The client was to say first who it is, and no whole header came of it.
+    pub no_header: u64,
+    /// The same, and its bytes begin with no header.
+    pub bad_header: u64,
+    /// As many of its source stood as may.
+    pub source_full: u64,
+    /// As many clients of its source were let in as may be in their time.
+    pub source_rate: u64,
 }
 
 /// What is told of a rule. Its name stands in the text as it is, between quotation marks: neither
@@ -55,18 +63,37 @@ pub struct RuleFigures {
     pub accept_faults: u64,
     /// Whether clients are accepted, as they should be.
     pub is_listening: bool,
+    /// Whether a target of it is up.
+    pub has_target: bool,
 }
 
 /// The most bytes of a target's address, as a configuration spells it.
 pub const MAX_TARGET_BYTES: usize = 105;
 
-/// What is told of a target that is checked. No two have one rule and one address.
+/// What is told of a target. No two have one rule and one address.
 #[derive(Clone, Copy, Debug, PartialEq, Eq, Drop)]
 pub struct TargetFigures {
     /// The name of its rule.
     pub rule: ArrayString<16>,
     pub target: ArrayString<MAX_TARGET_BYTES>,
-    pub is_up: bool,
+    /// Whether it is up, where it is checked.
+    pub is_up: Option<bool>,
+    /// The connections that stand at it now.
+    pub connections: u64,
+    /// The clients' connects to it that were made, and those that failed.
+    pub connects: u64,
+    pub failures: u64,
+}
+
+/// Whether all rules serve clients.
+#[derive(Clone, Copy, Debug, PartialEq, Eq, Drop)]
+pub enum Health {
+    /// They do.
+    Well,
+    /// One doesn't accept clients.
+    NotListening,
+    /// Of one no target is up.
+    NoTarget,
 }
 
 /// What is told of a relay. It is made once, and filled anew for each reader, in the same memory.
@@ -88,7 +115,7 @@ pub struct Figures {
     pub log_lost_lines: u64,
     /// One for each rule, in the order of the text; no name stands there twice.
     pub rules: Vec<RuleFigures>,
-    /// One for each target that is checked, rule by rule.
+    /// One for each target, rule by rule.
     pub targets: Vec<TargetFigures>,
 }
 
@@ -112,11 +139,32 @@ impl Figures {
         }
     }
 
-    /// Whether all rules accept clients.
-    pub fn all_listen(&self) -> bool
+    // Whether all rules accept clients.
+    fn all_listen(&self) -> bool
         ensures { result ≡ all_listen self.now }
     {
         self.rules.iter().all(|rule| rule.is_listening)
+    }
+
+    // Whether of each rule a target is up.
+    fn all_have_targets(&self) -> bool
+        ensures { result ≡ all_have_targets self.now }
+    {
+        self.rules.iter().all(|rule| rule.has_target)
+    }
+
+    /// Whether all rules serve clients; and if not, the first of these reasons.
+    pub fn health(&self) -> Health
+        ensures { result ≡ health_of self.now }
+    {
+        if !self.all_listen() {
+            return Health::NotListening;
+        }
+        if self.all_have_targets() {
+            Health::Well
+        } else {
+            Health::NoTarget
+        }
     }
 }
 
@@ -142,6 +190,9 @@ pub(crate) enum Family {
     RuleAcceptFaults,
     RuleListening,
     TargetUp,
+    TargetConnections,
+    TargetConnects,
+    TargetFailures,
 }
 
 impl Family {
@@ -169,6 +220,9 @@ impl Family {
             Family::RuleAcceptFaults => b"pollrelay_rule_accept_faults_total",
             Family::RuleListening => b"pollrelay_rule_listening",
             Family::TargetUp => b"pollrelay_target_up",
+            Family::TargetConnections => b"pollrelay_target_connections",
+            Family::TargetConnects => b"pollrelay_target_connects_total",
+            Family::TargetFailures => b"pollrelay_target_connect_failures_total",
         }
     }
 
@@ -198,6 +252,9 @@ impl Family {
             Family::RuleAcceptFaults => b"Rows of accepts that failed.",
             Family::RuleListening => b"Whether clients are accepted: 1, or 0.",
             Family::TargetUp => b"Whether a checked target is up: 1, or 0.",
+            Family::TargetConnections => b"Connections that stand at a target now.",
+            Family::TargetConnects => b"Clients' connects to a target that were made.",
+            Family::TargetFailures => b"Clients' connects to a target that failed.",
         }
     }
 
@@ -212,6 +269,7 @@ impl Family {
             Family::RuleConnections => b"gauge",
             Family::RuleListening => b"gauge",
             Family::TargetUp => b"gauge",
+            Family::TargetConnections => b"gauge",
             _ => b"counter",
         }
     }

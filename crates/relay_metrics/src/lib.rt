@@ -11,5 +11,7 @@ mod sample;
 mod target_text;
 mod text;
 
-pub use figures::{CarriedBytes, Figures, MAX_TARGET_BYTES, Refusals, RuleFigures, TargetFigures};
+pub use figures::{
+    CarriedBytes, Figures, Health, MAX_TARGET_BYTES, Refusals, RuleFigures, TargetFigures,
+};
 pub use metered::Metered;

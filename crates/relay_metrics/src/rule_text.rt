@@ -1,9 +1,10 @@
 //! What the text says of rules: a family's figures of all of them stand together.
 
 ghost use Rattle.std.specs.Prelude.{◌≡◌, ◌++◌, OnOk, map};
-ghost use Rattle.relay_metrics.specs.Text.{cause_text, causes_text, defence_text, flag, of_rule};
+ghost use Rattle.relay_metrics.specs.Text.{by_rule_text, by_source_text, cause_text, causes_text, defence_text};
+ghost use Rattle.relay_metrics.specs.Text.{flag, of_rule};
 ghost use Rattle.relay_metrics.specs.Text.{refused_text, rule_bytes_text, rule_family_text};
-ghost use Rattle.relay_metrics.specs.Text.{rules_text, shortage_text};
+ghost use Rattle.relay_metrics.specs.Text.{rules_text, shortage_text, unheard_text};
 
 use crate::figures::{CarriedBytes, Family, Refusals, RuleFigures};
 use crate::sample::{write_rule_sample, write_sample};
@@ -121,6 +122,21 @@ fn write_refused<A: Allocator>(
 ) -> Result<(), OutOfMemory>
     ensures { OnOk result (into.new.items ≡ into.old.items ++ refused_text rule.now refused) }
 {
+    write_by_rule(into, rule, refused)?;
+    write_shortages(into, rule, refused)?;
+    write_headers(into, rule, refused)?;
+    write_sources(into, rule, refused)
+}
+
+// Those that its lists, a limit or the state of its targets refused.
+#[tactic(auto, unfolding(crate::specs::Text::by_rule_text))]
+fn write_by_rule<A: Allocator>(
+    into: &mut Vec<u8, A>,
+    rule: &[u8],
+    refused: Refusals,
+) -> Result<(), OutOfMemory>
+    ensures { OnOk result (into.new.items ≡ into.old.items ++ by_rule_text rule.now refused) }
+{
     write_cause(into, Family::RuleRefused, rule, b"denied", refused.denied)?;
     write_cause(into, Family::RuleRefused, rule, b"full", refused.full)?;
     write_cause(
@@ -136,8 +152,57 @@ fn write_refused<A: Allocator>(
         rule,
         b"rule_full",
         refused.rule_full,
+    )
+}
+
+// Those of clients of whose source there were enough.
+#[tactic(auto, unfolding(crate::specs::Text::by_source_text))]
+fn write_sources<A: Allocator>(
+    into: &mut Vec<u8, A>,
+    rule: &[u8],
+    refused: Refusals,
+) -> Result<(), OutOfMemory>
+    ensures { OnOk result (into.new.items ≡ into.old.items ++ by_source_text rule.now refused) }
+{
+    write_cause(
+        into,
+        Family::RuleRefused,
+        rule,
+        b"source_full",
+        refused.source_full,
     )?;
-    write_shortages(into, rule, refused)
+    write_cause(
+        into,
+        Family::RuleRefused,
+        rule,
+        b"source_rate",
+        refused.source_rate,
+    )
+}
+
+// Those of clients that didn't say who they are.
+#[tactic(auto, unfolding(crate::specs::Text::unheard_text))]
+fn write_headers<A: Allocator>(
+    into: &mut Vec<u8, A>,
+    rule: &[u8],
+    refused: Refusals,
+) -> Result<(), OutOfMemory>
+    ensures { OnOk result (into.new.items ≡ into.old.items ++ unheard_text rule.now refused) }
+{
+    write_cause(
+        into,
+        Family::RuleRefused,
+        rule,
+        b"no_header",
+        refused.no_header,
+    )?;
+    write_cause(
+        into,
+        Family::RuleRefused,
+        rule,
+        b"bad_header",
+        refused.bad_header,
+    )
 }
 
 // Those for want of what the system gives.

@@ -5,7 +5,11 @@ use denote.Param.SendFields.{declared_send, declared_sync}
 use Rattle.std.proofs.Crossing.{crosses}
 use Rattle.std.proofs.MapsCrossing as maps
 use Rattle.readiness.specs.contracts.sock.Sock as sock
+use Rattle.relay_facts.specs.contracts.counts.RuleCounts as counts
+use Rattle.relay_facts.specs.contracts.rule_sources.RuleSources as sources
+use Rattle.relay_facts.specs.contracts.served_rule.Said as said
 use Rattle.relay_facts.specs.contracts.served_rule.ServedRule as rule
+use Rattle.relay_facts.specs.contracts.target_list.Targets as targets
 use Rattle.relay_facts.specs.contracts.connection_facts.Acceptance as acceptance
 use Rattle.relay_facts.specs.contracts.connection_facts.ConnectionFacts as conn_facts
 use Rattle.relay_shared.specs.contracts.inbox.Counted as counted
@@ -22,20 +26,49 @@ use Rattle.relay_server.specs.contracts.threads.LoopStart as loop_start
 sock_send : IsSend sock.the_row
 sock_send = search (sendable, crosses) depth 60 fits 100000
 
+targets_send : IsSend targets.the_row
+targets_send = search (sendable, crosses) depth 60 fits 100000
+
+targets_sync : IsSync targets.the_row
+targets_sync = search (sendable, crosses) depth 60 fits 100000
+
+counts_send : IsSend counts.the_row
+counts_send = search (sendable, crosses) depth 60 fits 100000
+
+counts_sync : IsSync counts.the_row
+counts_sync = search (sendable, crosses) depth 60 fits 100000
+
+sources_send : IsSend sources.the_row
+sources_send = search (sendable, crosses) depth 60 fits 100000
+
+sources_sync : IsSync sources.the_row
+sources_sync = search (sendable, crosses) depth 60 fits 100000
+
+ruleset of_lists = (targets_send, targets_sync, sources_send, sources_sync, sendable, crosses)
+
+-- one search for each field of `Said`, in its order
+said_send : IsSend said.the_row
+said_send = declared_send said.the_type (search of_lists depth 60 fits 100000, (search of_lists depth 60 fits 100000, (search of_lists depth 60 fits 100000, (search of_lists depth 60 fits 100000, (search of_lists depth 60 fits 100000, (search of_lists depth 60 fits 100000, (search of_lists depth 60 fits 100000, (search of_lists depth 60 fits 100000, (search of_lists depth 60 fits 100000, (search of_lists depth 60 fits 100000, tt))))))))))
+
+ruleset of_rules = (said_send, counts_send, counts_sync, sendable, crosses)
+
+-- one search for each field of `ServedRule`, in its order
 rule_send : IsSend rule.the_row
-rule_send = search (sendable, crosses) depth 60 fits 100000
+rule_send = declared_send rule.the_type (search of_rules depth 60 fits 100000, (search of_rules depth 60 fits 100000, (search of_rules depth 60 fits 100000, (search of_rules depth 60 fits 100000, (search of_rules depth 60 fits 100000, (search of_rules depth 60 fits 100000, (search of_rules depth 60 fits 100000, tt)))))))
 
 rule_sync : IsSync rule.the_row
-rule_sync = search (sendable, crosses) depth 60 fits 100000
+rule_sync = declared_sync rule.the_type (search of_rules depth 60 fits 100000, (search of_rules depth 60 fits 100000, (search of_rules depth 60 fits 100000, (search of_rules depth 60 fits 100000, (search of_rules depth 60 fits 100000, (search of_rules depth 60 fits 100000, (search of_rules depth 60 fits 100000, tt)))))))
+
+ruleset of_clients = (rule_send, rule_sync, targets_send, targets_sync, sources_send, sources_sync, sendable, crosses)
 
 acceptance_send : IsSend acceptance.the_row
-acceptance_send = search (rule_send, rule_sync, sendable, crosses) depth 60 fits 100000
+acceptance_send = search of_clients depth 60 fits 100000
 
 acceptance_sync : IsSync acceptance.the_row
-acceptance_sync = search (rule_send, rule_sync, sendable, crosses) depth 60 fits 100000
+acceptance_sync = search of_clients depth 60 fits 100000
 
 counted_send : IsSend counted.the_row
-counted_send = search (rule_send, rule_sync, sendable, crosses) depth 60 fits 100000
+counted_send = search of_clients depth 60 fits 100000
 
 accepted_send : IsSend accepted.the_row
 accepted_send = declared_send accepted.the_type (sock_send, (acceptance_send, (counted_send, tt)))

@@ -2,6 +2,7 @@
 use Rattle.std.specs.Prelude.{ℕ, List, [], ◌∷◌, None, map, false}
 use Rattle.relay_admin.specs.rules.Fault.{SaysRules}
 use Rattle.relay_admin.specs.rules.Grammar.{Entry}
+use Rattle.client_sources.specs.Limits.{no_limits}
 use Rattle.relay_config.specs.Entries.{AccessEntry}
 use Rattle.relay_settings.specs.Meaning.{SaidEntry, SaidRuleEntry, SaysAll, SettingsEntry}
 use Rattle.relay_settings.specs.Targets.{plain_sockets}
@@ -17,6 +18,7 @@ nothing_said = record {
   connect = None;
   replaces_stale = None;
   log = None;
+  log_format = None;
   metrics = None;
 }
 
@@ -24,17 +26,20 @@ nothing_said = record {
 abbrev pub no_lists : AccessEntry
 no_lists = record { allow = []; deny = [] }
 
--- a rule at its own address alone, without a limit of its own and with plain sockets, whose own target is
--- its only one, isn't checked and is sent no header, and which lets all clients in
+-- a rule at its own address alone, without limits of its own and with plain sockets, whose own target is
+-- its only one, isn't checked and is sent no header, and which lets all clients in and awaits a header of
+-- none
 abbrev pub rule_alone : Entry → SaidRuleEntry
 rule_alone rule = record {
   rule = rule;
   listens = rule.listen ∷ [];
   limit = None;
+  source_limits = no_limits;
   sockets = plain_sockets;
   balance = RoundRobin;
   access = no_lists;
   checks = None;
+  senders = [];
   header = None;
   targets = record { at = rule.target; weight = 1; backup = false } ∷ [];
 }

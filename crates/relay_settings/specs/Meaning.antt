@@ -4,6 +4,8 @@ use Rattle.std.specs.Prelude.{◌≡◌, ◌==◌, ◌⊎◌, ℕ, Bool, true, f
 use Rattle.std.specs.Prelude.{nat_le, slice_index, Option, Some, None, is_none, option_map, Result, Ok, Err, if◌then◌else◌}
 use Rattle.std.specs.Option.{option_and_then}
 use Rattle.std.specs.String.{string_bytes}
+use Rattle.client_nets.specs.Net.{Network, network_of}
+use Rattle.client_sources.specs.declared.limits.Limits.{Limits}
 use Rattle.config_values.specs.Addr as config
 use Rattle.relay_admin.specs.rules.Addr.{Address, address_of, tcp, tcp6, unix}
 use Rattle.relay_admin.specs.rules.Grammar.{Entry, entry_of}
@@ -22,7 +24,6 @@ use Rattle.relay_config.specs.declared.fault.Place.TheVariants as place
 use Rattle.relay_config.specs.declared.fault.Spot.{Spot}
 use Rattle.relay_config.specs.declared.fault.Wrong.TheVariants as wrong
 use Rattle.relay_config.specs.declared.log.Format.{Format}
-use Rattle.relay_config.specs.declared.log.Format.TheVariants as format
 use Rattle.relay_config.specs.declared.proxy.Version.{Version}
 use Rattle.relay_config.specs.declared.rule.TheConstants.{DEFAULT_RESOLVE_MS}
 use Rattle.relay_core.specs.Loops.{loop_count}
@@ -85,6 +86,7 @@ pub record SettingsEntry : Type 0 where
   pub connect : Option (Option ℕ)
   pub replaces_stale : Option Bool
   pub log : Option (List ℕ)
+  pub log_format : Option Format
   pub metrics : Option Address
 
 -- what settings of the program say
@@ -97,6 +99,7 @@ settings_entry settings = record {
   connect = settings.connect_ms;
   replaces_stale = settings.replaces_stale;
   log = option_map string_bytes settings.log;
+  log_format = settings.log_format;
   metrics = option_map address_of settings.metrics;
 }
 
@@ -120,14 +123,9 @@ metrics_at address = served (spot place.Top key.Metrics) (relay_address address)
 abbrev pub admin_at : AdminEntry → Result (List ℕ) Fault
 admin_at admin = served_if (spot place.Admin key.Mode) (is_none admin.mode) >>= λ it. Ok admin.path
 
--- lines of text
-abbrev pub is_text : Format → Bool
-is_text format.Text = true
-is_text other = false
-
--- where the log is, in lines of text
+-- where the log is
 abbrev pub log_at : LogEntry → Result (List ℕ) Fault
-log_at log = served_if (spot place.Log key.Format) (is_text log.format) >>= λ it. Ok log.file
+log_at log = Ok log.file
 
 -- the settings that the keys of the whole say
 unfoldable pub settings_in : ConfigEntry → Result SettingsEntry Fault
@@ -147,6 +145,7 @@ settings_in config = do
     connect = connect;
     replaces_stale = config.service.replaces_stale;
     log = log;
+    log_format = option_map (λ it. it.format) config.log;
     metrics = metrics;
   })
 
@@ -158,16 +157,19 @@ pub record SaidTargetEntry : Type 0 where
   pub weight : ℕ
   pub backup : Bool
 
--- a rule, where it listens, how many connections of it stand at once, how its sockets are set up, its
--- targets, how these are checked and what they are told of a client, and who may connect
+-- a rule, where it listens, how many connections of it stand at once, how many clients of one source are let
+-- in, how its sockets are set up, its targets, how these are checked and what they are told of a client, who
+-- may connect, and who begins with a header
 pub record SaidRuleEntry : Type 0 where
   pub rule : Entry
   pub listens : List Address
   pub limit : Option ℕ
+  pub source_limits : Limits
   pub sockets : SocketsEntry
   pub balance : Balance
   pub access : AccessEntry
   pub checks : Option ChecksEntry
+  pub senders : List Network
   pub header : Option Version
   pub targets : List SaidTargetEntry
 
@@ -175,17 +177,20 @@ pub record SaidRuleEntry : Type 0 where
 abbrev pub said_target_entry : Target → SaidTargetEntry
 said_target_entry target = record { at = address_of target.at; weight = target.weight; backup = target.is_backup }
 
--- a rule, where it listens, how many connections of it stand at once, how its sockets are set up, its
--- targets, how these are checked and what they are told of a client, and who may connect
+-- a rule, where it listens, how many connections of it stand at once, how many clients of one source are let
+-- in, how its sockets are set up, its targets, how these are checked and what they are told of a client, who
+-- may connect, and who begins with a header
 abbrev pub said_rule_entry : SaidRule → SaidRuleEntry
 said_rule_entry said = record {
   rule = entry_of said.rule;
   listens = map address_of said.listens.items;
   limit = option_map (λ p. p.count) said.limit;
+  source_limits = said.source_limits;
   sockets = sockets_entry said.sockets;
   balance = said.balance;
   access = access_entry said.access;
   checks = option_map checks_entry said.checks;
+  senders = map network_of said.senders.items;
   header = said.header;
   targets = map said_target_entry said.targets.items;
 }
@@ -195,18 +200,14 @@ abbrev pub is_default_resolve : Option ℕ → Bool
 is_default_resolve (Some ms) = ms == DEFAULT_RESOLVE_MS
 is_default_resolve None = false
 
--- how many clients of one address a rule serves: as many as of all
-unfoldable pub clients_alone : Place → ClientsEntry → Result (Unit {0}) Fault
-clients_alone here clients = do
-  each ← served_if (spot here key.ConnectionsPerSource) (is_none clients.source_connections)
-  served_if (spot here key.AcceptsPerSource) (is_none clients.source_accepts)
+-- how many clients of one source are let in
+abbrev pub source_limits_in : ClientsEntry → Limits
+source_limits_in clients = record { connections = clients.source_connections; accepts = clients.source_accepts }
 
--- what a rule says beside its lists, its name, its idle time, its limit, how its sockets are set up, how a
+-- what a rule says beside its lists, its name, its idle time, its limits, how its sockets are set up, how a
 -- target is picked and how targets are checked
 unfoldable pub head_alone : Place → HeadEntry → Result (Unit {0}) Fault
-head_alone here head = do
-  names ← served_if (spot here key.Resolve) (is_default_resolve head.resolve)
-  clients_alone here head.clients
+head_alone here head = served_if (spot here key.Resolve) (is_default_resolve head.resolve)
 
 -- the address behind these at which a rule listens
 abbrev pub address_behind : ℕ → List Address → config.Address → Result Address Fault
@@ -239,12 +240,15 @@ abbrev pub first_address : ℕ → List SaidTargetEntry → Result Address Fault
 first_address rule [] = Err (unserved (spot (place.Rule rule) key.Target))
 first_address rule (first ∷ others) = Ok first.at
 
--- with which header a connection to a target begins, if with one; no client says by one who it is
-unfoldable pub header_in : ℕ → Option ProxyEntry → Result (Option Version) Fault
-header_in rule None = Ok None
-header_in rule (Some proxy) = do
-  unread ← served_if (spot (place.Proxy rule) key.FromClient) (length proxy.from_client == 0)
-  Ok proxy.to_target
+-- with which header a connection to a target begins, if with one
+abbrev pub header_in : Option ProxyEntry → Option Version
+header_in None = None
+header_in (Some proxy) = proxy.to_target
+
+-- the networks whose clients begin with a header
+abbrev pub senders_in : Option ProxyEntry → List Network
+senders_in None = []
+senders_in (Some proxy) = proxy.from_client
 
 -- the rule with this number
 unfoldable pub rule_in : ℕ → RuleEntry → Result SaidRuleEntry Fault
@@ -252,7 +256,6 @@ rule_in n rule = do
   idle ← time_in (spot (place.Rule n) key.Idle) rule.head.idle
   limit ← pairs_in (spot (place.Rule n) key.Connections) rule.head.clients.connections
   head ← head_alone (place.Rule n) rule.head
-  header ← header_in n rule.proxy
   listens ← each_of (address_behind n) [] rule.listen
   listen ← first_listener n listens
   targets ← targets_in n rule.targets
@@ -261,11 +264,13 @@ rule_in n rule = do
     rule = record { name = rule.head.name; listen = listen; target = target; idle = idle };
     listens = listens;
     limit = limit;
+    source_limits = source_limits_in rule.head.clients;
     sockets = rule.head.sockets;
     balance = rule.head.balance;
     access = rule.access;
     checks = rule.head.health;
-    header = header;
+    senders = senders_in rule.proxy;
+    header = header_in rule.proxy;
     targets = targets;
   })
 

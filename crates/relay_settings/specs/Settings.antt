@@ -17,6 +17,7 @@ pub record SaysNothing (settings : Settings) : Type 0 where
   pub connect : settings.connect_ms ≡ None
   pub stale : settings.replaces_stale ≡ None
   pub log : settings.log ≡ None
+  pub log_format : settings.log_format ≡ None
   pub metrics : settings.metrics ≡ None
 
 -- these are in force: of each what the words of the command line say, else what the file says
@@ -30,4 +31,5 @@ pub record AreInForce (words file settings : Settings) : Type 0 where
   pub stale : settings.replaces_stale ≡ first_said words.replaces_stale file.replaces_stale
   pub log : option_map string_bytes settings.log
       ≡ first_said (option_map string_bytes words.log) (option_map string_bytes file.log)
+  pub log_format : settings.log_format ≡ first_said words.log_format file.log_format
   pub metrics : settings.metrics ≡ first_said words.metrics file.metrics

@@ -6,6 +6,8 @@ use Rattle.relay_admin.specs.rules.Addr.{address_of, same_address}
 use Rattle.relay_config.specs.Fault.{key_word}
 use Rattle.relay_config.specs.declared.fault.Key.{Key}
 use Rattle.relay_config.specs.declared.fault.Key.TheVariants as key
+use Rattle.relay_config.specs.declared.log.Format.{Format}
+use Rattle.relay_config.specs.declared.log.Format.TheVariants as format
 use Rattle.relay_settings.specs.declared.settings.Settings.{Settings}
 use Rattle.relay_settings.specs.declared.telling.Setting.{Setting}
 use Rattle.relay_settings.specs.declared.telling.Setting.TheVariants as setting
@@ -19,6 +21,7 @@ key_of_setting setting.ConnectionsPerRule = key.ConnectionsPerRule
 key_of_setting setting.ConnectTimeout = key.ConnectTimeout
 key_of_setting setting.ReplaceStale = key.ReplaceStale
 key_of_setting setting.Log = key.Log
+key_of_setting setting.LogFormat = key.Format
 key_of_setting setting.Metrics = key.Metrics
 
 -- a letter of an option, by that of its key: a hyphen for "_"
@@ -38,6 +41,7 @@ says settings setting.ConnectionsPerRule = is_some settings.per_rule
 says settings setting.ConnectTimeout = is_some settings.connect_ms
 says settings setting.ReplaceStale = is_some settings.replaces_stale
 says settings setting.Log = is_some settings.log
+says settings setting.LogFormat = is_some settings.log_format
 says settings setting.Metrics = is_some settings.metrics
 
 -- both are said and are one, or neither is said
@@ -51,6 +55,11 @@ abbrev pub same_truth : Bool → Bool → Bool
 same_truth true other = other
 same_truth false other = not other
 
+-- the log is to be JSON; where nothing is said, it is text
+abbrev pub is_json : Option Format → Bool
+is_json (Some format.Json) = true
+is_json other = false
+
 -- both settings say the same here
 abbrev pub say_same : Setting → Settings → Settings → Bool
 say_same setting.Admin one other = same_said bytes_eq (option_map string_bytes one.admin) (option_map string_bytes other.admin)
@@ -60,5 +69,6 @@ say_same setting.ConnectionsPerRule one other = same_said (λ a b. a.count == b.
 say_same setting.ConnectTimeout one other = same_said (same_said (λ a b. a == b)) one.connect_ms other.connect_ms
 say_same setting.ReplaceStale one other = same_said same_truth one.replaces_stale other.replaces_stale
 say_same setting.Log one other = same_said bytes_eq (option_map string_bytes one.log) (option_map string_bytes other.log)
+say_same setting.LogFormat one other = same_truth (is_json one.log_format) (is_json other.log_format)
 say_same setting.Metrics one other =
     same_said same_address (option_map address_of one.metrics) (option_map address_of other.metrics)

@@ -113,9 +113,11 @@ fn says_rule(said: &SaidRule, rule: &Rule) -> bool
     said.is_alone()
         && said.has_one_listener()
         && said.limit.is_none()
+        && said.source_limits.is_none()
         && said.has_plain_sockets()
         && said.has_no_lists()
         && said.checks.is_none()
+        && said.has_no_senders()
         && said.header.is_none()
         && said.balance == Balance::RoundRobin
         && is_same_rule(&said.rule, rule)
@@ -138,6 +140,7 @@ fn says_nothing(settings: &Settings) -> bool
 {
     let has_paths = settings.admin.is_some()
         || settings.log.is_some()
+        || settings.log_format.is_some()
         || settings.metrics.is_some();
     let has_sizes = settings.loops.is_some()
         || settings.pairs.is_some()

@@ -6,7 +6,7 @@ ghost use Rattle.config_values.specs.Addr as config;
 ghost use Rattle.relay_admin.specs.rules.Addr.{address_of};
 ghost use Rattle.relay_config.specs.Entries.{admin_entry, config_entry, log_entry};
 ghost use Rattle.relay_config.specs.Fault.{Answers, Reads};
-ghost use Rattle.relay_settings.specs.Meaning.{admin_at, if_said, is_text, log_at, loops_at, metrics_at};
+ghost use Rattle.relay_settings.specs.Meaning.{admin_at, if_said, log_at, loops_at, metrics_at};
 ghost use Rattle.relay_settings.specs.Meaning.{settings_entry, settings_in, time_in};
 ghost use Rattle.relay_config.specs.Fault as fault;
 ghost use Rattle.relay_config.specs.declared.fault.Key.TheVariants as key;
@@ -43,6 +43,7 @@ pub(crate) fn settings_of(alloc: Global, config: &Config) -> Result<Settings, Fa
         connect_ms,
         replaces_stale: config.service.replaces_stale,
         log,
+        log_format: format_of(&config.log),
         metrics,
     })
 }
@@ -94,15 +95,6 @@ fn admin_of(alloc: Global, said: &Option<Admin>) -> Result<Option<String>, Fault
     }
 }
 
-fn is_text(format: Format) -> bool
-    ensures { result ≡ is_text format }
-{
-    match format {
-        Format::Text => true,
-        Format::Json => false,
-    }
-}
-
 fn log_of(alloc: Global, said: &Option<Log>) -> Result<Option<String>, Fault>
     ensures { Answers (option_map string_bytes) result
         (if_said log_at (option_map log_entry said.now)) }
@@ -110,9 +102,17 @@ fn log_of(alloc: Global, said: &Option<Log>) -> Result<Option<String>, Fault>
     let Some(log) = said else {
         return Ok(None);
     };
-    served_if(Spot::of(Place::Log, Key::Format), is_text(log.format))?;
     match String::from_str(alloc, log.file.as_str()) {
         Ok(file) => Ok(Some(file)),
         Err(_) => Err(Fault::Memory),
+    }
+}
+
+fn format_of(said: &Option<Log>) -> Option<Format>
+    ensures { result ≡ option_map (λ log. log.format) (option_map log_entry said.now) }
+{
+    match said {
+        Some(log) => Some(log.format),
+        None => None,
     }
 }

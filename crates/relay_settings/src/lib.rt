@@ -19,6 +19,7 @@ mod telling;
 pub use address::relay_addr_of;
 pub use asked::{Asked, Source};
 pub use check::{bad_config, check_config, rule_count};
+pub use client_sources::Limits as SourceLimits;
 pub use conversion::convert;
 pub use listeners::further_listeners;
 pub use relay_config::{Access, Checks, Sockets, Version};

@@ -3,14 +3,16 @@
 
 ghost use Rattle.std.specs.Prelude.{◌≡◌, ◌≤◌, ◌<◌, [], IfErr, IfOk, Some, length, map, option_map};
 ghost use Rattle.std.specs.Prelude.{slice_get};
+ghost use Rattle.client_nets.specs.Net.{network_of};
 ghost use Rattle.config_values.specs.Addr as config;
 ghost use Rattle.relay_admin.specs.rules.Addr.{address_of};
 ghost use Rattle.relay_config.specs.Entries.{access_entry, clients_entry, head_entry, rule_entry};
 ghost use Rattle.relay_config.specs.Entries.{proxy_entry, target_entry};
 ghost use Rattle.relay_config.specs.Fault.{Answers, Reads};
 ghost use Rattle.relay_config.specs.declared.fault.Fault.{Fault};
-ghost use Rattle.relay_settings.specs.Meaning.{clients_alone, each_of, first_address, first_listener};
+ghost use Rattle.relay_settings.specs.Meaning.{each_of, first_address, first_listener};
 ghost use Rattle.relay_settings.specs.Meaning.{head_alone, header_in, is_default_resolve};
+ghost use Rattle.relay_settings.specs.Meaning.{senders_in, source_limits_in};
 ghost use Rattle.relay_settings.specs.Meaning.{address_behind};
 ghost use Rattle.relay_settings.specs.Meaning.{rule_in};
 ghost use Rattle.relay_settings.specs.Meaning.{said_rule_entry, said_target_entry};
@@ -19,6 +21,8 @@ ghost use Rattle.relay_settings.specs.Targets.{first_at};
 
 use crate::address::{address_at, pairs_in, served_if, time_in, unserved};
 use crate::targets::{MAX_TARGETS, SaidRule, Target};
+use client_nets::Net;
+use client_sources::Limits;
 use relay_admin::{Addr, Rule};
 use relay_config as config;
 use relay_config::{
@@ -36,8 +40,8 @@ pub(crate) fn rule_of(alloc: Global, number: usize, rule: &config::Rule) -> Resu
     let said = rule.head.clients.connections;
     let limit = pairs_in(Spot::of(place, Key::Connections), said)?;
     head_alone(place, &rule.head)?;
-    let header = header_of(number, &rule.proxy)?;
     let access = access_of(alloc, &rule.access)?;
+    let senders = senders_of(alloc, &rule.proxy)?;
     let listens = listens_of(alloc, number, rule.listen.as_slice())?;
     let listen = first_listener(number, listens.as_slice())?;
     let targets = targets_of(alloc, number, rule.targets.as_slice())?;
@@ -51,26 +55,50 @@ pub(crate) fn rule_of(alloc: Global, number: usize, rule: &config::Rule) -> Resu
         },
         listens,
         limit,
+        source_limits: source_limits_of(&rule.head.clients),
         sockets: rule.head.sockets,
         balance: rule.head.balance,
         access,
         checks: rule.head.health,
-        header,
+        senders,
+        header: header_of(&rule.proxy),
         targets,
     })
 }
 
-/// With which header a connection to a target begins. None is read of a client.
-#[tactic(auto, unfolding(crate::specs::Meaning::header_in))]
-fn header_of(rule: usize, proxy: &Option<Proxy>) -> Result<Option<Version>, Fault>
-    ensures { result ≡ header_in rule (option_map proxy_entry proxy.now) }
+/// With which header a connection to a target begins.
+fn header_of(proxy: &Option<Proxy>) -> Option<Version>
+    ensures { result ≡ header_in (option_map proxy_entry proxy.now) }
+{
+    match proxy {
+        Some(proxy) => proxy.to_target,
+        None => None,
+    }
+}
+
+/// The networks whose clients begin with a header, in memory of their own.
+fn senders_of(alloc: Global, proxy: &Option<Proxy>) -> Result<Vec<Net>, Fault>
+    ensures same { IfOk result (λ found.
+        map network_of found.items ≡ senders_in (option_map proxy_entry proxy.now)) }
+    ensures faults { IfErr result (λ fault. fault ≡ Fault.Memory) }
 {
     let Some(proxy) = proxy else {
-        return Ok(None);
+        return Ok(Vec::new(alloc));
     };
-    let from_none = proxy.from_client.is_empty();
-    served_if(Spot::of(Place::Proxy(rule), Key::FromClient), from_none)?;
-    Ok(proxy.to_target)
+    match Vec::from_slice(alloc, proxy.from_client.as_slice()) {
+        Ok(senders) => Ok(senders),
+        Err(_) => Err(Fault::Memory),
+    }
+}
+
+/// How many clients of one source are let in.
+fn source_limits_of(clients: &Clients) -> Limits
+    ensures { result ≡ source_limits_in (clients_entry clients.now) }
+{
+    Limits {
+        connections: clients.source_connections,
+        accepts: clients.source_accepts,
+    }
 }
 
 #[tactic(auto, unfolding(crate::specs::Meaning::head_alone))]
@@ -78,8 +106,7 @@ fn head_alone(place: Place, head: &Head) -> Result<(), Fault>
     ensures { result ≡ head_alone place (head_entry head.now) }
 {
     let resolves = is_default_resolve(head.resolve_ms);
-    served_if(Spot::of(place, Key::Resolve), resolves)?;
-    clients_alone(place, &head.clients)
+    served_if(Spot::of(place, Key::Resolve), resolves)
 }
 
 fn is_default_resolve(resolve_ms: Option<u64>) -> bool
@@ -89,18 +116,6 @@ fn is_default_resolve(resolve_ms: Option<u64>) -> bool
         Some(ms) => ms == DEFAULT_RESOLVE_MS,
         None => false,
     }
-}
-
-#[tactic(auto, unfolding(crate::specs::Meaning::clients_alone))]
-fn clients_alone(place: Place, clients: &Clients) -> Result<(), Fault>
-    ensures { result ≡ clients_alone place (clients_entry clients.now) }
-{
-    let each = clients.source_connections.is_none();
-    served_if(Spot::of(place, Key::ConnectionsPerSource), each)?;
-    served_if(
-        Spot::of(place, Key::AcceptsPerSource),
-        clients.source_accepts.is_none(),
-    )
 }
 
 /// The same lists, in memory of their own.

@@ -7,6 +7,7 @@ ghost use Rattle.relay_settings.specs.Settings.{AreInForce, SaysNothing, first_s
 use base_types::OutOfMemory;
 use config_values::DAY_MS;
 use relay_admin::Addr;
+use relay_config::Format;
 use relay_core::{Capacity, Loops, PairLimit};
 use std::alloc::Global;
 use std::thread::Threads;
@@ -33,6 +34,8 @@ pub struct Settings {
     pub replaces_stale: Option<bool>,
     /// The path of its log, else it has none.
     pub log: Option<String>,
+    /// How the lines of its log are written, else as text. No word of a command line says it.
+    pub log_format: Option<Format>,
     /// Where its metrics are served, else nowhere.
     pub metrics: Option<Addr>,
 }
@@ -79,6 +82,7 @@ pub fn in_force(alloc: Global, words: &Settings, file: &Settings) -> Result<Sett
         connect_ms: first_said(words.connect_ms, file.connect_ms),
         replaces_stale: first_said(words.replaces_stale, file.replaces_stale),
         log,
+        log_format: first_said(words.log_format, file.log_format),
         metrics: first_said(words.metrics, file.metrics),
     })
 }
@@ -96,6 +100,7 @@ impl Settings {
             connect_ms: None,
             replaces_stale: None,
             log: None,
+            log_format: None,
             metrics: None,
         }
     }

@@ -1,13 +1,16 @@
-//! A rule with where it listens, its limit, its sockets, its targets, their checks, what they are told of a client, and its lists of
-//! clients, as a file says them.
+//! A rule with where it listens, its limits, its sockets, its targets, their checks, what they are told of a
+//! client, and its lists of clients and of those that begin with a header, as a file says them.
 
 ghost use Rattle.std.specs.Prelude.{◌≡◌, ◌≤◌, ◌<◌, ◌∷◌, [], IfOk, IsTrue, Some, None, ◌↔◌, length};
 ghost use Rattle.std.specs.Prelude.{slice_get};
+ghost use Rattle.client_sources.specs.Limits.{no_limits};
 ghost use Rattle.relay_config.specs.Entries.{sockets_entry};
 ghost use Rattle.relay_settings.specs.Targets.{first_at, own_target, plain_sockets};
 ghost use Rattle.target_pick.specs.declared.picking.Balance.TheVariants.{RoundRobin};
 
 use base_types::OutOfMemory;
+use client_nets::Net;
+use client_sources::Limits;
 use relay_admin::{Addr, Rule};
 use relay_config::{Access, Checks, Sockets, Version};
 use relay_core::PairLimit;
@@ -35,8 +38,9 @@ pub struct Target {
     pub is_backup: bool,
 }
 
-/// A rule, where it listens, how many connections of it stand at once, how its sockets are set up, its
-/// targets, how these are checked and what they are told of a client, and who may connect.
+/// A rule, where it listens, how many connections of it stand at once, how many clients of one source are let
+/// in, how its sockets are set up, its targets, how these are checked and what they are told of a client, who
+/// may connect, and who begins with a header.
 #[derive(Drop)]
 pub struct SaidRule {
     /// Its own address is the first one, and so is its own target.
@@ -45,6 +49,8 @@ pub struct SaidRule {
     pub listens: Vec<Addr>,
     /// How many connections of it stand at once; without it as many as of each rule.
     pub limit: Option<PairLimit>,
+    /// How many clients of one source are let in.
+    pub source_limits: Limits,
     /// How the sockets of its listeners, of its clients and to its targets are set up.
     pub sockets: Sockets,
     /// By what a client's is picked.
@@ -53,6 +59,8 @@ pub struct SaidRule {
     pub access: Access,
     /// How its targets are checked; without checks all are up.
     pub checks: Option<Checks>,
+    /// The networks whose clients begin with a header of the PROXY protocol.
+    pub senders: Vec<Net>,
     /// With which header of the PROXY protocol a connection to a target begins, if with one.
     pub header: Option<Version>,
     /// 1 to 64, in the order of the file.
@@ -75,18 +83,20 @@ fn own_target(rule: &Rule) -> Target
 }
 
 impl SaidRule {
-    /// A rule at its own address alone, without a limit of its own and with plain sockets, whose own
-    /// target is its only one, isn't checked and is sent no header, and which lets all clients in, as a
-    /// rules file says it.
+    /// A rule at its own address alone, without limits of its own and with plain sockets, whose own
+    /// target is its only one, isn't checked and is sent no header, and which lets all clients in and awaits
+    /// a header of none, as a rules file says it.
     pub fn alone(alloc: Global, rule: Rule) -> Result<SaidRule, OutOfMemory>
         ensures rule { IfOk result (λ said. said.rule ≡ rule) }
         ensures listens { IfOk result (λ said. said.listens.items ≡ rule.listen ∷ []) }
         ensures limit { IfOk result (λ said. said.limit ≡ None) }
+        ensures source_limits { IfOk result (λ said. said.source_limits ≡ no_limits) }
         ensures sockets { IfOk result (λ said. sockets_entry said.sockets ≡ plain_sockets) }
         ensures balance { IfOk result (λ said. said.balance ≡ RoundRobin) }
         ensures allow { IfOk result (λ said. said.access.allow.items ≡ []) }
         ensures deny { IfOk result (λ said. said.access.deny.items ≡ []) }
         ensures checks { IfOk result (λ said. said.checks ≡ None) }
+        ensures senders { IfOk result (λ said. said.senders.items ≡ []) }
         ensures header { IfOk result (λ said. said.header ≡ None) }
         ensures targets { IfOk result (λ said. said.targets.items ≡ own_target rule ∷ []) }
     {
@@ -98,6 +108,7 @@ impl SaidRule {
             rule,
             listens,
             limit: None,
+            source_limits: Limits::none(),
             sockets: PLAIN_SOCKETS,
             balance: Balance::RoundRobin,
             access: Access {
@@ -105,6 +116,7 @@ impl SaidRule {
                 deny: Vec::new(alloc),
             },
             checks: None,
+            senders: Vec::new(alloc),
             header: None,
             targets,
         })
@@ -147,5 +159,12 @@ impl SaidRule {
             ↔ (self.now.access.allow.items ≡ []) × (self.now.access.deny.items ≡ []) }
     {
         self.access.allow.is_empty() && self.access.deny.is_empty()
+    }
+
+    /// Whether it awaits a header of no client.
+    pub fn has_no_senders(&self) -> bool
+        ensures { IsTrue result ↔ (self.now.senders.items ≡ []) }
+    {
+        self.senders.is_empty()
     }
 }

@@ -6,15 +6,16 @@ ghost use Rattle.std.specs.Str.{bytes_eq};
 ghost use Rattle.std.specs.String.{string_bytes};
 ghost use Rattle.relay_admin.specs.rules.Addr.{address_of, same_address};
 ghost use Rattle.relay_config.specs.Fault.{key_word};
-ghost use Rattle.relay_settings.specs.Telling.{key_of_setting, option_word};
+ghost use Rattle.relay_settings.specs.Telling.{is_json, key_of_setting, option_word};
 ghost use Rattle.relay_settings.specs.Telling.{same_said, same_truth, say_same, says};
 
 use crate::settings::Settings;
 use relay_admin::{Addr, is_same_addr};
-use relay_config::Key;
+use relay_config::{Format, Key};
 use relay_core::{Loops, PairLimit};
 
-/// A setting that has an option of the command line and a key of the configuration.
+/// A setting that has a key of the configuration, and an option of the command line: but for the
+/// format of the log, which a configuration alone says.
 #[derive(Clone, Copy, Debug, PartialEq, Eq, Drop)]
 pub enum Setting {
     Admin,
@@ -24,11 +25,12 @@ pub enum Setting {
     ConnectTimeout,
     ReplaceStale,
     Log,
+    LogFormat,
     Metrics,
 }
 
 /// All of them, in the order in which they are told.
-pub const SETTINGS: [Setting; 8] = [
+pub const SETTINGS: [Setting; 9] = [
     Setting::Connections,
     Setting::ConnectionsPerRule,
     Setting::ConnectTimeout,
@@ -37,10 +39,12 @@ pub const SETTINGS: [Setting; 8] = [
     Setting::Metrics,
     Setting::Admin,
     Setting::Log,
+    Setting::LogFormat,
 ];
 
 impl Setting {
-    /// The option of the command line, without its dashes.
+    /// The option of the command line, without its dashes; for the format of the log, which has none,
+    /// the word of its key.
     pub fn option(self) -> &'static str
         ensures { result.now ≡ option_word self }
     {
@@ -52,6 +56,7 @@ impl Setting {
             Setting::ConnectTimeout => "connect-timeout",
             Setting::ReplaceStale => "replace-stale",
             Setting::Log => "log",
+            Setting::LogFormat => "format",
             Setting::Metrics => "metrics",
         }
     }
@@ -68,6 +73,7 @@ impl Setting {
             Setting::ConnectTimeout => Key::ConnectTimeout.word(),
             Setting::ReplaceStale => Key::ReplaceStale.word(),
             Setting::Log => Key::Log.word(),
+            Setting::LogFormat => Key::Format.word(),
             Setting::Metrics => Key::Metrics.word(),
         }
     }
@@ -85,6 +91,7 @@ fn says(settings: &Settings, setting: Setting) -> bool
         Setting::ConnectTimeout => settings.connect_ms.is_some(),
         Setting::ReplaceStale => settings.replaces_stale.is_some(),
         Setting::Log => settings.log.is_some(),
+        Setting::LogFormat => settings.log_format.is_some(),
         Setting::Metrics => settings.metrics.is_some(),
     }
 }
@@ -176,6 +183,22 @@ fn same_flag(one: Option<bool>, other: Option<bool>) -> bool
     }
 }
 
+fn is_json(format: Option<Format>) -> bool
+    ensures { result ≡ is_json format }
+{
+    match format {
+        Some(Format::Json) => true,
+        Some(Format::Text) | None => false,
+    }
+}
+
+// Where no format is said, the log is text.
+fn same_format(one: Option<Format>, other: Option<Format>) -> bool
+    ensures { result ≡ same_truth (is_json one) (is_json other) }
+{
+    is_json(one) == is_json(other)
+}
+
 fn say_same(setting: Setting, one: &Settings, other: &Settings) -> bool
     ensures { result ≡ say_same setting one.now other.now }
 {
@@ -187,6 +210,7 @@ fn say_same(setting: Setting, one: &Settings, other: &Settings) -> bool
         Setting::ConnectTimeout => same_time(one.connect_ms, other.connect_ms),
         Setting::ReplaceStale => same_flag(one.replaces_stale, other.replaces_stale),
         Setting::Log => same_text(&one.log, &other.log),
+        Setting::LogFormat => same_format(one.log_format, other.log_format),
         Setting::Metrics => same_addr(&one.metrics, &other.metrics),
     }
 }

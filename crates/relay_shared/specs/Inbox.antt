@@ -1,9 +1,19 @@
 -- What waits in the inbox of a loop.
-use Rattle.std.specs.Prelude.{◌≡◌, ◌++◌, ◌∷◌, [], List}
+use Rattle.std.specs.Prelude.{◌≡◌, ◌++◌, ◌∷◌, [], List, Option}
+use Rattle.relay_facts.specs.declared.rule_sources.Seat.{Seat}
 use Rattle.relay_shared.specs.declared.inbox.Accepted.{Accepted}
+use Rattle.relay_shared.specs.declared.inbox.Counted.{Counted}
 use Rattle.relay_shared.specs.declared.inbox.Inbox.{Inbox}
 use Rattle.relay_shared.specs.declared.requests.Posted.{Posted}
 use Rattle.relay_shared.specs.declared.requests.Request.{Request}
+
+-- what counts a client counts it by this seat too
+abbrev pub seated : Option Seat → Counted → Counted
+seated seat counted = record counted { seat = seat }
+
+-- the same but for the seat
+abbrev pub IsSeated : Counted → Counted → Type 0
+IsSeated old new = (seat : Option Seat) × (new ≡ seated seat old)
 
 -- the sockets in an inbox, the one that came first ahead
 abbrev pub sockets_in : Inbox → List Accepted

@@ -2,12 +2,13 @@
 
 ghost use Rattle.std.specs.Prelude.{◌≡◌, ◌++◌, ◌∷◌, [], IfSome, IfNone, IfOk, OnOk, OnErr, IfErr, OnSome};
 ghost use Rattle.std.specs.Arc.{arc_value};
-ghost use Rattle.relay_shared.specs.Inbox.{IsLeft, IsTaken, sockets_in, requests_in};
+ghost use Rattle.relay_shared.specs.Inbox.{IsLeft, IsTaken, seated, sockets_in, requests_in};
 
 use crate::requests::{Posted, Request};
 use readiness::{LoopRemote, Sock};
 use relay_core::MAX_SESSIONS;
 use relay_facts::connection_facts::Acceptance;
+use relay_facts::rule_sources::Seat;
 use relay_facts::served_rule::ServedRule;
 use std::alloc::{AllocError, Global};
 use std::collections::VecDeque;
@@ -20,11 +21,17 @@ pub struct Counted {
     connections: Arc<AtomicU64>,
     /// Its rule, which counts it too.
     served: Arc<ServedRule>,
+    /// Its source, which counts it too, where its rule limits how many of a source are let in.
+    seat: Option<Seat>,
 }
 
 impl Counted {
     /// One connection more. It takes no memory; refused is only a count that is held too often.
-    pub(crate) fn new(connections: &Arc<AtomicU64>, served: &Arc<ServedRule>) -> Option<Counted>
+    pub(crate) fn new(
+        connections: &Arc<AtomicU64>,
+        served: &Arc<ServedRule>,
+        seat: Option<Seat>,
+    ) -> Option<Counted>
         ensures own { IfSome result (λ counted. arc_value counted.served
             ≡ arc_value served.now) }
     {
@@ -35,7 +42,15 @@ impl Counted {
         Some(Counted {
             connections,
             served,
+            seat,
         })
+    }
+
+    /// From now on its source counts it too, by this seat.
+    pub fn sit(&mut self, seat: Option<Seat>)
+        ensures { self.new ≡ seated seat self.old }
+    {
+        self.seat = seat;
     }
 }
 
@@ -46,6 +61,7 @@ impl Drop for Counted {
         let Counted {
             connections: _,
             served: _,
+            seat: _,
         } = self;
     }
 }

@@ -5,8 +5,8 @@ ghost use Rattle.std.specs.Prelude.{◌≡◌, IfErr, IfOk};
 use crate::inbox::{Accepted, Counted, Inbox, Woken};
 use crate::requests::Request;
 use readiness::{LoopDriver, LoopRemote, Sock};
-use relay_facts::admission::Admitted;
 use relay_facts::counts::Counter;
+use relay_facts::seats::Seated;
 use relay_facts::totals::{PublishedTotals, Totals};
 use std::alloc::{AllocError, Global};
 use std::mem;
@@ -47,11 +47,11 @@ impl LoopHandle {
         self.connections.load(Ordering::SeqCst)
     }
 
-    /// Delivers an accepted socket, whose client was let in, and wakes the loop. Where there is no
-    /// memory for it, it is dropped.
-    pub fn deliver<R: Wait>(&self, rt: &R, sock: Sock, admitted: Admitted) -> Option<Woken> {
-        let Admitted { acceptance } = admitted;
-        let counted = Counted::new(&self.connections, &acceptance.served)?;
+    /// Delivers an accepted socket, whose client was let in and has a seat where it needs one, and wakes
+    /// the loop. Where there is no memory for it, it is dropped.
+    pub fn deliver<R: Wait>(&self, rt: &R, sock: Sock, seated: Seated) -> Option<Woken> {
+        let Seated { acceptance, seat } = seated;
+        let counted = Counted::new(&self.connections, &acceptance.served, seat)?;
         let accepted = Accepted {
             sock,
             acceptance,

@@ -1,7 +1,7 @@
 //! What the relay's threads share.
 //!
 //! Locks are held for a few steps, and taken in this order: the rules', the index's, a rule's or a
-//! cell's, a remote's. Those of the inboxes and of the slots are held alone.
+//! cell's, a remote's. Those of the inboxes, of the slots and of tables of sources are held alone.
 
 ghost use Rattle.std.specs.Prelude.{◌≡◌, ◌↔◌, ◌⊎◌, ◌<◌, ◌≤◌, Err, min, length};
 ghost use Rattle.std.specs.Prelude.{IfErr, IfOk, OnOk, IfSome, IfNone, OnSome};
@@ -9,7 +9,7 @@ ghost use Rattle.std.specs.Arc.{arc_value};
 ghost use Rattle.relay_admin.specs.declared.serve_fault.ServeFault.{ServeFault};
 ghost use Rattle.relay_facts.specs.Admission.{IsLetIn};
 ghost use Rattle.relay_log.specs.declared.ended.Ended.{Ended};
-ghost use Rattle.relay_shared.specs.Drop.{IsDrop};
+ghost use Rattle.relay_shared.specs.Drop.{IsDrop, IsWantOfRoom};
 ghost use Rattle.relay_shared.specs.Placing.{IsFewest, LacksLoops, sum_of};
 
 use crate::inbox::Woken;
@@ -142,9 +142,24 @@ impl Shared {
         self.loops.get(place)
     }
 
+    // The loop that gets one client more of the rule of this one; or why none does.
+    fn loop_for(&self, acceptance: &Acceptance) -> Result<&LoopHandle, Ended>
+        ensures { IfErr result IsWantOfRoom }
+    {
+        let standing = acceptance.served.standing();
+        if self.safeguards.is_at_limit(acceptance.limit, standing) {
+            return Err(Ended::RuleFull);
+        }
+        let counts = self.counts();
+        match self.fewest(counts.as_slice()) {
+            Some(handle) => Ok(handle),
+            None => Err(Ended::Full),
+        }
+    }
+
     /// Delivers a socket that was accepted just now to the loop with the fewest connections. One
-    /// that its rule's lists don't let in, beyond the most pairs, of its rule or of all, or for which
-    /// memory is refused, is dropped. The main thread alone delivers.
+    /// that its rule's lists don't let in, beyond the most pairs, of its rule or of all, of whose source
+    /// there are enough, or for which memory is refused, is dropped. The main thread alone delivers.
     pub fn deliver<R: Wait + Clock>(&self, rt: &R, sock: Sock, acceptance: Acceptance) {
         acceptance.served.note_accept();
         let Some(told) = acceptance.try_clone() else {
@@ -156,7 +171,8 @@ impl Shared {
         }
     }
 
-    // The same, or why the socket is dropped. Of a client that isn't let in nothing else is asked.
+    // The same, or why the socket is dropped. Of a client that isn't let in nothing else is asked, and of one
+    // for which there is no room its source counts nothing.
     fn try_deliver<R: Wait>(
         &self,
         rt: &R,
@@ -170,24 +186,19 @@ impl Shared {
         let Ok(admitted) = acceptance.admitted() else {
             return Err(Ended::Denied);
         };
-        let standing = admitted.acceptance.served.standing();
-        if self
-            .safeguards
-            .is_at_limit(admitted.acceptance.limit, standing)
-        {
-            return Err(Ended::RuleFull);
-        }
-        let counts = self.counts();
-        let Some(handle) = self.fewest(counts.as_slice()) else {
-            return Err(Ended::Full);
+        let handle = self.loop_for(&admitted.acceptance)?;
+        let seated = match admitted.seated(rt) {
+            Ok(seated) => seated,
+            Err(why) => return Err(why.how()),
         };
-        match handle.deliver(rt, sock, admitted) {
+        match handle.deliver(rt, sock, seated) {
             Some(woken) => Ok(woken),
             None => Err(Ended::NoMemory),
         }
     }
 
-    /// Tells the log, if there is one, of a client that isn't served.
+    /// Tells the log, if there is one, of a client that isn't served: of each, or once a second where that
+    /// was for its source.
     pub fn tell_refused<R: Wait + Clock>(
         &self,
         rt: &R,
@@ -196,7 +207,9 @@ impl Shared {
         how: Ended,
     ) {
         if let Some(log) = &self.log {
-            tell_refused(rt, log, acceptance, now, how);
+            if acceptance.is_to_be_told(rt, now, how) {
+                tell_refused(rt, log, acceptance, now, how);
+            }
         }
     }
 

@@ -11,18 +11,17 @@ use Rattle.relay_admin.specs.declared.admin.reply_bytes.Reply.{Reply}
 use Rattle.relay_admin.specs.declared.admin.reply_text.TheConstants.{SHOWN_ALL}
 use Rattle.relay_admin.specs.admin.Listing.{Comes, Said, Shows, each, gone, line, refused, shown_all, whole}
 use Rattle.relay_admin.specs.admin.Parts.{LineComes, PartComes}
-use Rattle.relay_admin.specs.admin.Reply.{AddsExchanges, Looks, looked_at}
+use Rattle.relay_admin.specs.admin.Reply.{AddsExchanges, Key, Sight, sight_key, sight_line, looked_at}
 use Rattle.relay_admin.specs.admin.ReplyBytes.{bytes_of}
-use Rattle.relay_admin.specs.admin.Shown.{Particulars, shown_text}
 use Rattle.relay_admin.proofs.LineTranscripts.{adds_none, adds_then}
 use Rattle.relay_admin.proofs.Listings.{all_gone, gone_looks}
 use Rattle.relay_workers.specs.Answering.{Delivers, DeliversFront}
 
-gone_asks_nothing : (list : List ℕ) → questions_of (gone_looks list) ≡ []
+gone_asks_nothing : (list : List Key) → questions_of (gone_looks list) ≡ []
 gone_asks_nothing [] = refl
-gone_asks_nothing (id ∷ ids) = gone_asks_nothing ids
+gone_asks_nothing (key ∷ keys) = gone_asks_nothing keys
 
--- how much is still to come: ids, or bytes
+-- how much is still to come: lines, or bytes
 abbrev pub still_to_come : Said → ℕ
 still_to_come (each left) = length left
 still_to_come (whole text) = length text
@@ -52,7 +51,7 @@ so_far_gone A all (each left) (each left') k0 k1 k2 h0 h1 s p =
       carry = λ more rest are. subst (λ (m : List Exchange). Comes all m (s.text ++ rest))
           (sym (append_assoc s.looks one more))
           (s.carry (looked_at p.0 None ∷ more) rest
-          (subst (λ (l : List ℕ). Shows l (looked_at p.0 None ∷ more) rest) (sym p.1) (gone are)));
+          (subst (λ (l : List Key). Shows l (looked_at p.0 None ∷ more) rest) (sym p.1) (gone are)));
     }
 so_far_gone A all (whole text) (whole text') k0 k1 k2 h0 h1 s p = absurd p.1
 so_far_gone A all (each left) (whole text') k0 k1 k2 h0 h1 s p = absurd p
@@ -65,19 +64,19 @@ pub so_far_line : {A : Type 0} (reply : Reply A) (all left left' : Said) (writte
     → written ≡ bytes_of reply → Appends h1 h2 written → SoFar all left' k0 k2 h0 h2
 so_far_line reply all (each left) (each left') written k0 k1 k2 h0 h1 h2 s p same w =
     let seen = p.0 in
-    let one : List Exchange = looked_at seen.id (Some seen) ∷ [] in
+    let one : List Exchange = looked_at (sight_key seen) (Some seen) ∷ [] in
     record {
       looks = s.looks ++ one;
-      text = s.text ++ shown_text seen;
+      text = s.text ++ sight_line seen;
       told = adds_then k0 k1 k2 s.looks one s.told p.2;
-      written = appends_then_appends h0 h1 h2 s.text (shown_text seen) s.written
+      written = appends_then_appends h0 h1 h2 s.text (sight_line seen) s.written
           (subst (λ (t : List ℕ). Appends h1 h2 t) (same ∙ p.3) w);
       carry = λ more rest are. subst (λ (t : List ℕ). Comes all ((s.looks ++ one) ++ more) t)
-          (sym (append_assoc s.text (shown_text seen) rest))
-          (subst (λ (m : List Exchange). Comes all m (s.text ++ (shown_text seen ++ rest)))
+          (sym (append_assoc s.text (sight_line seen) rest))
+          (subst (λ (m : List Exchange). Comes all m (s.text ++ (sight_line seen ++ rest)))
           (sym (append_assoc s.looks one more))
-          (s.carry (looked_at seen.id (Some seen) ∷ more) (shown_text seen ++ rest)
-          (subst (λ (l : List ℕ). Shows l (looked_at seen.id (Some seen) ∷ more) (shown_text seen ++ rest)) (sym p.1)
+          (s.carry (looked_at (sight_key seen) (Some seen) ∷ more) (sight_line seen ++ rest)
+          (subst (λ (l : List Key). Shows l (looked_at (sight_key seen) (Some seen) ∷ more) (sight_line seen ++ rest)) (sym p.1)
           (line seen are))));
     }
 so_far_line reply all (whole text) (whole text') written k0 k1 k2 h0 h1 h2 s p same w = record {
@@ -99,19 +98,19 @@ so_far_line reply all (whole text) (each left') written k0 k1 k2 h0 h1 h2 s p sa
 abbrev LastComes : Said → List ℕ → Option (List Exchange) → Option (List Exchange) → Type 0
 LastComes left bytes k0 k1 = (looks : List Exchange) × Comes left looks bytes × AddsExchanges k0 k1 looks
 
-last_shows : {A : Type 0} (reply : Reply A) (left left' : List ℕ) (k0 k1 : Option (List Exchange))
+last_shows : {A : Type 0} (reply : Reply A) (left left' : List Key) (k0 k1 : Option (List Exchange))
     → LineComes (part.Last reply) left left' k0 k1 → LastComes (each left) (bytes_of reply) k0 k1
 last_shows reply left left' k0 k1 (inl p) = (
   [],
-  subst (λ (l : List ℕ). Shows l [] (bytes_of reply)) (sym p.0)
+  subst (λ (l : List Key). Shows l [] (bytes_of reply)) (sym p.0)
       (subst (λ (t : List ℕ). Shows [] [] t) (sym p.2) shown_all),
   subst (λ (k : Option (List Exchange)). AddsExchanges k0 k []) (sym p.1) (adds_none k0),
 )
 last_shows reply left left' k0 k1 (inr p) =
     let seen = p.0 in (
-      looked_at seen.id (Some seen) ∷ [],
-      subst (λ (l : List ℕ). Shows l (looked_at seen.id (Some seen) ∷ []) (bytes_of reply)) (sym p.1)
-          (subst (λ (t : List ℕ). Shows (seen.id ∷ left') (looked_at seen.id (Some seen) ∷ []) t) (sym p.3)
+      looked_at (sight_key seen) (Some seen) ∷ [],
+      subst (λ (l : List Key). Shows l (looked_at (sight_key seen) (Some seen) ∷ []) (bytes_of reply)) (sym p.1)
+          (subst (λ (t : List ℕ). Shows (sight_key seen ∷ left') (looked_at (sight_key seen) (Some seen) ∷ []) t) (sym p.3)
           (refused seen)),
       p.2,
     )
@@ -172,11 +171,11 @@ pub line_breaks_off : {A : Type 0} (reply : Reply A) (all left left' : Said) (wr
 line_breaks_off reply all (each left) (each left') written k0 k1 k2 h0 h1 h2 s p same w =
     let seen = p.0 in
     let missing = gone_looks left' in
-    breaks_at all (each left) (bytes_of reply) SHOWN_ALL.now (looked_at seen.id (Some seen) ∷ []) missing
+    breaks_at all (each left) (bytes_of reply) SHOWN_ALL.now (looked_at (sight_key seen) (Some seen) ∷ []) missing
     k0 k1 k2 h0 h1 h2 s
-    (subst (λ (l : List ℕ). Shows l (looked_at seen.id (Some seen) ∷ missing) (bytes_of reply ++ SHOWN_ALL.now))
+    (subst (λ (l : List Key). Shows l (looked_at (sight_key seen) (Some seen) ∷ missing) (bytes_of reply ++ SHOWN_ALL.now))
     (sym p.1)
-    (subst (λ (t : List ℕ). Shows (seen.id ∷ left') (looked_at seen.id (Some seen) ∷ missing) (t ++ SHOWN_ALL.now))
+    (subst (λ (t : List ℕ). Shows (sight_key seen ∷ left') (looked_at (sight_key seen) (Some seen) ∷ missing) (t ++ SHOWN_ALL.now))
     (sym p.3) (line seen (all_gone left')))) (gone_asks_nothing left') p.2
     (subst (λ (t : List ℕ). AppendsFront h1 h2 t) same w)
 line_breaks_off reply all (whole text) (whole text') written k0 k1 k2 h0 h1 h2 s p same w =

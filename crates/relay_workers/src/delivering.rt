@@ -6,7 +6,7 @@ ghost use Rattle.relay_admin.specs.admin.Parts.{PartComes, left_of, said_of};
 ghost use Rattle.relay_workers.specs.Answering.{Delivers, DeliversFront};
 
 use crate::desk::Desk;
-use relay_admin::{LineReply, Listing, NextPart, Part, part_of};
+use relay_admin::{LineReply, Listing, NextPart, Part, part_of, target_part_of};
 use std::alloc::Allocator;
 use stream_base::sink::{Sink, SinkFault, deliver_to};
 
@@ -78,5 +78,6 @@ fn next_part<A: Allocator + Copy, D: Desk>(
     match listing.begin_part() {
         NextPart::Made(part) => part,
         NextPart::LookAt(id) => part_of(memory, desk.look(id)),
+        NextPart::LookAtTarget(number) => target_part_of(memory, desk.look_at_target(number)),
     }
 }

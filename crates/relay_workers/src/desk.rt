@@ -3,15 +3,18 @@
 ghost use Rattle.std.specs.Prelude.{◌≡◌, List, Option, None, IfSome, option_map};
 ghost use Rattle.relay_admin.specs.declared.admin.command.Command.TheVariants as commands;
 ghost use Rattle.relay_admin.specs.admin.Command.{end_of};
-ghost use Rattle.relay_admin.specs.admin.Reply.{Exchange, Exchanges, HasAskedId, Looks, answer_of};
+ghost use Rattle.relay_admin.specs.admin.Reply.{Exchange, Exchanges, HasAskedId, Looks, LooksAtTarget};
+ghost use Rattle.relay_admin.specs.admin.Reply.{answer_of};
 ghost use Rattle.relay_admin.specs.admin.Shown.{particulars_of};
+ghost use Rattle.relay_admin.specs.admin.ShownTarget.{facts_of};
 
-use relay_admin::{Command, DeskAnswer, Shown};
+use relay_admin::{Command, DeskAnswer, Shown, ShownTarget, TargetOrder};
 use std::alloc::Global;
 
 /// What a session asks: once for each `List`, `Totals`, `CloseConn`, `DrainConn`, `DeadlineOf`,
-/// `Show`, `ShowAll`, `Reload` and `Finish`, in the order of the lines, and for nothing else. After
-/// `ShowAll` it is asked for a look at each of the ids.
+/// `Show`, `ShowAll`, `Reload`, `Finish`, `Targets` and `SetTarget`, in the order of the lines, and for
+/// nothing else. After `ShowAll` it is asked for a look at each of the ids, after `Targets` for one at
+/// each of the targets.
 pub trait Desk {
     // The questions so far with their answers, where the desk still tells them.
     ghost exchanges: { Self → Option (List Exchange) };
@@ -73,6 +76,23 @@ pub trait Desk {
     fn finish(&mut self, after_ms: u64) -> DeskAnswer
         ensures { Exchanges (exchanges self.old) (exchanges self.new)
             (commands.Finish after_ms) (answer_of result) };
+
+    /// The numbers of all targets of the rules that are served, each of which is then looked at: `Ids`
+    /// or `NoMemory`.
+    fn targets_to_show(&mut self, alloc: Global) -> DeskAnswer
+        ensures { Exchanges (exchanges self.old) (exchanges self.new)
+            commands.Targets (answer_of result) };
+
+    /// What is known of the target with this number, if there is one by now.
+    fn look_at_target(&mut self, number: u64) -> Option<ShownTarget>
+        ensures told { LooksAtTarget (exchanges self.old) (exchanges self.new)
+            number (option_map (λ seen. facts_of seen) result) }
+        ensures asked { IfSome result (λ seen. seen.number ≡ number) };
+
+    /// Sets of a target whether it gets clients: `Fine`, `UnknownRule`, `UnknownTarget` or `NoMemory`.
+    fn set_target(&mut self, order: TargetOrder) -> DeskAnswer
+        ensures { Exchanges (exchanges self.old) (exchanges self.new)
+            (commands.SetTarget order) (answer_of result) };
 }
 
 /// Asks the desk what a command asks.
@@ -92,6 +112,8 @@ pub(crate) fn ask<D: Desk>(alloc: Global, desk: &mut D, command: &Command) -> De
         Command::ShowAll => desk.ids_to_show(alloc),
         Command::Reload => desk.reload(alloc),
         Command::Finish(after_ms) => desk.finish(after_ms),
+        Command::Targets => desk.targets_to_show(alloc),
+        Command::SetTarget(order) => desk.set_target(order),
         Command::Quit | Command::Stop => unreachable!(),
     }
 }

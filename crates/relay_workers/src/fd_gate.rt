@@ -1,7 +1,11 @@
 //! What a worker copies through: two descriptors, of which one is read and the other written.
 
-ghost use Rattle.std.specs.Prelude.{◌≡◌, ◌+◌, ◌*◌, ◌-◌, ◌^◌, ℕ, min, Some, None, IfSome, IfNone};
+ghost use Rattle.std.specs.Prelude.{◌≡◌, ◌+◌, ◌*◌, ◌-◌, ◌^◌, ℕ, min, Some, None, Ok, IfSome, IfNone};
 ghost use Rattle.deadline_core.specs.declared.deadline.Deadline.{Deadline};
+ghost use Rattle.deadline_core.specs.declared.deadline.Dirs.TheVariants as dirs;
+ghost use Rattle.fd_descriptor.specs.Deadlines.{HasSet};
+ghost use Rattle.fd_descriptor.specs.FdHandle.{KeepsHandle, key_of};
+ghost use Rattle.relay_workers.specs.FdGate.{gate_idle, idle_setting, gate_source, gate_target};
 
 use crate::gate::CopyGate;
 use deadline_core::Deadline;
@@ -32,7 +36,11 @@ impl<X: Resource, R: Wait, C: Moments, A: Alarms> FdGate<X, R, C, A> {
         idle_ms: Option<u32>,
         source: FdHandle<X>,
         target: FdHandle<X>,
-    ) -> FdGate<X, R, C, A> {
+    ) -> FdGate<X, R, C, A>
+        ensures idle { gate_idle result ≡ idle_ms }
+        ensures source { gate_source result ≡ source }
+        ensures target { gate_target result ≡ target }
+    {
         FdGate {
             rt,
             clock,
@@ -54,7 +62,16 @@ impl<X: Resource, R: Wait, C: Moments, A: Alarms> FdGate<X, R, C, A> {
         Some((now, Deadline::At(idle_deadline(now, idle_ms))))
     }
 
-    fn time_the_read(&mut self) -> Result<(), Fault> {
+    // Sets the deadline of the read that begins now.
+    fn time_the_read(&mut self) -> Result<(), Fault>
+        ensures none { self.old.idle_ms ≡ None → (result ≡ Ok tt) × (self.new ≡ self.old) }
+        ensures kept { self.new ≡ record self.old { source = self.new.source } }
+        ensures handle { KeepsHandle self.old.source self.new.source }
+        ensures set { (ms : ℕ) → self.old.idle_ms ≡ Some ms → (now : ℕ)
+            × HasSet (A.armed self.old.alarms) (A.refused self.old.alarms)
+            (A.disarmed self.old.alarms) (key_of self.old.source)
+            (idle_setting dirs.Read now ms) result }
+    {
         match self.next_deadline() {
             Some((now, deadline)) => {
                 self.source
@@ -64,7 +81,16 @@ impl<X: Resource, R: Wait, C: Moments, A: Alarms> FdGate<X, R, C, A> {
         }
     }
 
-    fn time_the_write(&mut self) -> Result<(), Fault> {
+    // Sets the deadline of the write that begins now.
+    fn time_the_write(&mut self) -> Result<(), Fault>
+        ensures none { self.old.idle_ms ≡ None → (result ≡ Ok tt) × (self.new ≡ self.old) }
+        ensures kept { self.new ≡ record self.old { target = self.new.target } }
+        ensures handle { KeepsHandle self.old.target self.new.target }
+        ensures set { (ms : ℕ) → self.old.idle_ms ≡ Some ms → (now : ℕ)
+            × HasSet (A.armed self.old.alarms) (A.refused self.old.alarms)
+            (A.disarmed self.old.alarms) (key_of self.old.target)
+            (idle_setting dirs.Write now ms) result }
+    {
         match self.next_deadline() {
             Some((now, deadline)) => {
                 self.target

@@ -8,6 +8,7 @@ from lib.pages.rust import functions, without_comments
 from lib.pages.tree import GUIDE, HELP
 
 COMMANDS = "crates/relay_admin/src/admin/command.rt"
+ORDERS = "crates/relay_admin/src/admin/target_order.rt"
 FORMAT = "docs/admin-protocol.md"
 BALANCER = "examples/balancer/two_relays.cfg"
 # The command's word and how many words follow it.
@@ -23,13 +24,24 @@ def shapes(tree):
     """The commands: words that stand behind a kind of arguments, in a match or in a function that it calls."""
     text = tree.text(COMMANDS)
     kinds = re.search(r"enum Arguments \{(.*?)\n\}", without_comments(text), re.S)
-    counts = {it[0]: it[1].count(",") + 1 if it[1] else 0 for it in re.findall(r"(\w+)(?:\(([^)]*)\))?,\n", kinds[1] + "\n")}
+    counts = {it[0]: words_of(tree, it[1]) for it in re.findall(r"(\w+)(?:\(([^)]*)\))?,\n", kinds[1] + "\n")}
     bodies, found = functions(text), []
     for kind, word in re.findall(r'Arguments::(\w+)[^=\n]* if word == b"(\w+)"', bodies["command_named"]):
         found.append(Shape(word, counts[kind]))
     for kind, named in re.findall(r"Arguments::(\w+)(?:\(\w+\))? => (\w+)\(", bodies["command_named"]):
         found += [Shape(it, counts[kind]) for it in re.findall(r'word == b"(\w+)"', bodies.get(named, ""))]
     return found
+
+
+def words_of(tree, fields):
+    """How many words are behind a kind of arguments with these fields: a struct has a word for each of its own."""
+    struct = re.search(rf"struct {fields} \{{(.*?)\n\}}", without_comments(tree.text(ORDERS)), re.S) if fields else None
+    return struct[1].count(":") if struct else fields.count(",") + 1 if fields else 0
+
+
+def orders(tree):
+    """The words of what may be set of a target."""
+    return set(re.findall(r'Order::\w+ => "(\w+)"', tree.text(ORDERS)))
 
 
 def counts(tree):

@@ -50,6 +50,10 @@ def labels(tree):
             found[family].setdefault("rule", [])
     for family, table in re.findall(r"Family::(\w+) => \{?\s*write_causes\(into, family, name, &(\w+)", code):
         found[family] = {"rule": [], key_of["write_cause"]: rows_of(tree, table)}
+    # (each family of targets goes through the one function that writes a figure of a target)
+    of_target = re.search(r'write_escaped_sample\(into, family, rule, b"(\w+)"', code)
+    for family in re.findall(r"write_family\(into, Family::(\w+), targets\)", code):
+        found[family] = {"rule": [], of_target[1]: []}
     for family, key in re.findall(r'Family::(\w+) => \{?\s*write_sample\(\s*into,\s*family,\s*b"(\w+)"', code):
         found.setdefault(family, {}).setdefault(key, [])
     return found

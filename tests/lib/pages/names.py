@@ -13,8 +13,8 @@ WORD = re.compile(r"[A-Za-z_]\w*")
 # What in code's letters is taken for names: words with an underscore or a capital within, also with `::` between, a dot or a call.
 NAME = re.compile(r"(?:[A-Za-z_]\w*(?:<[\w', ]*>)?(?:::|\.))*[A-Za-z_]\w*(?:<[\w', ]*>)?(?:\(\w*\))?!?")
 TELLING = re.compile(r"_|[a-z][A-Z]|::|^[A-Z][a-z]+[a-z0-9]*$")
-# What stands elsewhere: files of Go's own libraries, and words of nginx.
-ELSEWHERE = {"fd_unix", "netpoll_epoll", "least_conn"}
+# What stands elsewhere: files of Go's own libraries, words of nginx, and settings of Linux.
+ELSEWHERE = {"fd_unix", "netpoll_epoll", "least_conn", "tcp_keepalive_probes", "ip_local_port_range"}
 # Beginnings and ends of names, and what stands for any crate.
 PATTERNS = {"try_", "_io", "NAME_tests"}
 # The rows of this have names that aren't there.

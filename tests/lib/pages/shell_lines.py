@@ -8,7 +8,7 @@ import shlex
 from collections import namedtuple
 
 from lib.pages import options, tools
-from lib.pages.admin import counts
+from lib.pages.admin import counts, orders
 from lib.pages.markdown import FENCE, SHELL, fences, indented, set_off, spans
 from lib.pages.tree import FOLLOWED
 
@@ -164,7 +164,7 @@ def wrong(tree, line, found, known):
         elif command.options[option].has_value:
             given[option] = value if has_value else rest.pop(0) if rest else ""
     # (in running text a line may leave out what isn't spoken of)
-    return wrong_values(tree, command, given, line.is_name) or wrong_operands(command, operands, known)
+    return wrong_values(tree, command, given, line.is_name) or wrong_operands(tree, command, operands, known)
 
 
 def redirected(words):
@@ -194,7 +194,14 @@ def wrong_values(tree, command, given, is_part):
     return f"there is no {path}" if path.startswith("examples/") and not tree.has(path) else None
 
 
-def wrong_operands(command, operands, known):
+def may_follow(tree, word, place, text):
+    """Whether this text may stand at this place, from 0 on, behind the word of an admin command."""
+    # (behind `target` stand the name of a rule, an address, and a word)
+    target = [r"[a-z][a-z0-9-]*", r"(?:tcp|unix):\S+", "|".join(orders(tree))]
+    return bool(PLACE.fullmatch(text)) or word == "target" and bool(re.fullmatch(target[place], text))
+
+
+def wrong_operands(tree, command, operands, known):
     """What is wrong with the words behind the options, or nothing."""
     if operands and command.most == 0:
         return f"`{operands[0]}` is too much"
@@ -202,6 +209,6 @@ def wrong_operands(command, operands, known):
         return None
     # (with no word the line stands for any of them)
     word, *rest = operands or [""]
-    if word and (word not in known or len(rest) not in known[word] or not all(PLACE.fullmatch(it) for it in rest)):
+    if word and (word not in known or len(rest) not in known[word] or not all(may_follow(tree, word, place, it) for place, it in enumerate(rest))):
         return f"`{' '.join(operands)}` is no admin command"
     return None

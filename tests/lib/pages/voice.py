@@ -27,6 +27,7 @@ ROWS = (
     (r"\b(?:is|are) told (?:at once|as (?:want|a want))\b", "is reported, or fails as"),
     (r"\bat will\b", "with any answer"),
     (r"\boutside the gate\b", "which isn't in the gate"),
+    (r"\brule admits\b", "some reachable state, or what the rule allows"),
 )
 # Words of our own: how a page uses each, and how it says there what that is.
 TERMS = {

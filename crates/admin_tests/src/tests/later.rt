@@ -4,7 +4,7 @@ ghost use Rattle.std.specs.Prelude.{None};
 
 use relay_admin::{
     AdminEnd, AdminSession, CloseAnswer, LateAnswer, LineReply, NextLine, Part, ReloadAnswer,
-    SessionDesk, Shown, SteerAnswer, TotalBytes,
+    SessionDesk, Shown, ShownTarget, SteerAnswer, TargetAnswer, TargetOrder, TotalBytes,
 };
 use std::alloc::{AllocError, Global};
 
@@ -74,6 +74,20 @@ impl SessionDesk for LateDesk {
 
     fn finish(&mut self, _after_ms: u64) {
         self.count();
+    }
+
+    fn targets_to_show(&mut self, alloc: Global) -> Result<Vec<u64>, AllocError> {
+        self.count();
+        Ok(Vec::new(alloc))
+    }
+
+    fn look_at_target(&mut self, _number: u64) -> Option<ShownTarget> {
+        None
+    }
+
+    fn set_target(&mut self, _order: TargetOrder) -> TargetAnswer {
+        self.count();
+        TargetAnswer::Fine
     }
 }
 

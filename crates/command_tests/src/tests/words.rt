@@ -142,9 +142,9 @@ fn controlled(alloc: Global, line: &str) -> Option<Job> {
 }
 
 #[test]
-fn ctl_takes_one_to_three_words_as_a_line(rt: HostRuntime) {
+fn ctl_takes_one_to_four_words_as_a_line(rt: HostRuntime) {
     let alloc = rt.alloc();
-    let rows: [(&[&str], &str); 6] = [
+    let rows: [(&[&str], &str); 7] = [
         (&["ctl", "--admin", "/a b", "list"], "list"),
         (&["ctl", "list", "--admin=/a b"], "list"),
         (&["ctl", "--admin", "/a b", "close", "9"], "close 9"),
@@ -154,6 +154,10 @@ fn ctl_takes_one_to_three_words_as_a_line(rt: HostRuntime) {
         ),
         (&["ctl", "--admin", "/a b", "deadline 3 0"], "deadline 3 0"),
         (&["ctl", "--admin", "/a b", "frob", ""], "frob "),
+        (
+            &["ctl", "--admin", "/a b", "target", "web", "unix:/t", "up"],
+            "target web unix:/t up",
+        ),
     ];
     for (words, line) in rows {
         let job = controlled(alloc, line);
@@ -236,7 +240,7 @@ fn no_other_words_are_taken(rt: HostRuntime) {
         &["ctl", "list"],
         &["ctl", "--admin", "A"],
         &["ctl", "--admin", "A", "--admin", "A", "list"],
-        &["ctl", "--admin", "A", "deadline", "1", "2", "3"],
+        &["ctl", "--admin", "A", "deadline", "1", "2", "3", "4"],
         &["ctl", "--admin", "A", "--", "list"],
         &["ctl", "--admin", "A", "--rules", "F", "list"],
         &["-V"],

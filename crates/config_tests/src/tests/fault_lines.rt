@@ -87,8 +87,8 @@ const ROWS: &[(&str, &str)] = &[
         "bad config: rule \"web\": connections_per_source: 50001 is not from 1 to 50000",
     ),
     (
-        "[[rule]]\nname = \"web\"\naccepts_per_source = \"100/m\"\n",
-        "bad config: rule \"web\": accepts_per_source: \"100/m\" is no rate (as 100/s, from 1/s to 1000000/s)",
+        "[[rule]]\nname = \"web\"\naccepts_per_source = \"100/d\"\n",
+        "bad config: rule \"web\": accepts_per_source: \"100/d\" is no rate (as 100/s, 30/m, 5/h; at most 1000000)",
     ),
     (
         "[[rule]]\nname = \"web\"\naccepts_per_source = 100\n",

@@ -1,6 +1,6 @@
 //! Networks, which addresses they have, and who is let in.
 
-use client_nets::{Net, admits};
+use client_nets::{Net, admits, lists_client};
 use std::net::IpAddr;
 
 const ROWS: &[(&[u8], &[u8], bool)] = &[
@@ -86,4 +86,29 @@ fn deny_comes_first(rt: HostRuntime) {
 fn without_lists_all_are_let_in(rt: HostRuntime) {
     let address = IpAddr::parse_ascii(b"::1").ok();
     assert!(rt; address.is_some_and(|address| admits(&[], &[], address)));
+}
+
+/// Whether a client is listed by one network.
+fn is_listed(net: &[u8], address: &[u8]) -> Option<bool> {
+    let net = [Net::parse(net)?];
+    let address = IpAddr::parse_ascii(address).ok()?;
+    Some(lists_client(&net, address))
+}
+
+const SENDERS: &[(&[u8], &[u8], bool)] = &[
+    (b"10.0.0.1", b"10.0.0.1", true),
+    (b"10.0.0.1", b"10.0.0.2", false),
+    (b"10.0.0.1", b"::ffff:10.0.0.1", true),
+    (b"::ffff:0:0/96", b"::ffff:10.0.0.1", false),
+    (b"2001:db8::/32", b"2001:db8::1", true),
+];
+
+#[test]
+fn a_mapped_client_is_listed_as_one_of_ipv4(rt: HostRuntime) {
+    for (net, address, want) in SENDERS {
+        assert!(rt;
+            is_listed(net, address) == Some(*want),
+            "{net:?} {address:?}"
+        );
+    }
 }

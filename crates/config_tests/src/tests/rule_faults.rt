@@ -50,7 +50,7 @@ const ROWS: &[Row] = &[
         Wrong::Type,
     ),
     (
-        "accepts_per_source = \"100/m\"\nlisten = 1\n",
+        "accepts_per_source = \"100/d\"\nlisten = 1\n",
         RULE,
         Key::AcceptsPerSource,
         None,

@@ -1,6 +1,7 @@
 //! Keys of a rule that it may leave out, and what it says with them.
 
 use client_nets::Net;
+use config_values::Rate;
 use relay_config::{Checks, Clients, Config, Fault, Proxy, Rule, Sockets, Version};
 use std::alloc::Global;
 use std::net::IpAddr;
@@ -30,8 +31,8 @@ fn rule_of(alloc: Global, keys: &str) -> Result<Rule, Fault> {
 }
 
 // The keys, and how many connections there may be, of them of one source, and how many of one
-// source are taken in a second.
-const CLIENTS: &[(&str, Option<u32>, Option<u32>, Option<u64>)] = &[
+// source are let in, in how many seconds.
+const CLIENTS: &[(&str, Option<u32>, Option<u32>, Option<Rate>)] = &[
     ("", None, None, None),
     ("connections = 1\n", Some(1), None, None),
     ("connections_per_source = 50000\n", None, Some(50_000), None),
@@ -39,13 +40,19 @@ const CLIENTS: &[(&str, Option<u32>, Option<u32>, Option<u64>)] = &[
         "accepts_per_source = \"1000000/s\"\n",
         None,
         None,
-        Some(1_000_000),
+        Some(Rate {
+            count: 1_000_000,
+            seconds: 1,
+        }),
     ),
     (
-        "connections = 500\nconnections_per_source = 20\naccepts_per_source = \"100/s\"\n",
+        "connections = 500\nconnections_per_source = 20\naccepts_per_source = \"30/m\"\n",
         Some(500),
         Some(20),
-        Some(100),
+        Some(Rate {
+            count: 30,
+            seconds: 60,
+        }),
     ),
 ];
 

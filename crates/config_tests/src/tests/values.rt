@@ -38,15 +38,23 @@ fn a_time_is_a_number_and_a_unit(rt: HostRuntime) {
     }
 }
 
-const RATES: &[(&[u8], Option<u64>)] = &[
-    (b"100/s", Some(100)),
-    (b"1/s", Some(1)),
-    (b"1000000/s", Some(1_000_000)),
+const RATES: &[(&[u8], Option<(u32, u32)>)] = &[
+    (b"100/s", Some((100, 1))),
+    (b"1/s", Some((1, 1))),
+    (b"1000000/s", Some((1_000_000, 1))),
+    (b"100/m", Some((100, 60))),
+    (b"1000000/m", Some((1_000_000, 60))),
+    (b"5/h", Some((5, 3_600))),
+    (b"1/h", Some((1, 3_600))),
+    (b"1000001/h", None),
+    (b"0/m", None),
     (b"1000001/s", None),
     (b"0/s", None),
     (b"100", None),
     (b"100/", None),
-    (b"100/m", None),
+    (b"100/d", None),
+    (b"100/ms", None),
+    (b"100/M", None),
     (b"100/sec", None),
     (b"100/s/s", None),
     (b"/s", None),
@@ -54,9 +62,10 @@ const RATES: &[(&[u8], Option<u64>)] = &[
 ];
 
 #[test]
-fn a_rate_is_a_number_in_a_second(rt: HostRuntime) {
+fn a_rate_is_a_number_in_a_second_a_minute_or_an_hour(rt: HostRuntime) {
     for (text, want) in RATES {
-        assert!(rt; rate_of(text) == *want, "{text:?}");
+        let rate = rate_of(text).map(|rate| (rate.count, rate.seconds));
+        assert!(rt; rate == *want, "{text:?}");
     }
 }
 

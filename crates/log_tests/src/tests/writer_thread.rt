@@ -4,6 +4,7 @@ mod blocked;
 mod device;
 mod failing;
 mod files;
+mod json_lines;
 mod lines;
 mod pushers;
 mod refused_memory;
@@ -11,6 +12,7 @@ mod refused_memory;
 use device::{Device, Store};
 use lines::tells;
 use log_writer::{Finish, Log, LogThread};
+use relay_log::format::Format;
 use std::alloc::Global;
 use std::process::Abort;
 use std::sync::{Arc, Wait};
@@ -56,7 +58,7 @@ impl Running {
     where
         R: Wait + Threads + Clock + Abort + Copy + Drop + Send + Sync + 'static,
     {
-        let (log, own) = two_of(alloc, Log::new(alloc)).expect(&rt, "a log");
+        let (log, own) = two_of(alloc, Log::new(alloc, Format::Text)).expect(&rt, "a log");
         let (store, behind) = two_of(alloc, store).expect(&rt, "a store");
         let thread = LogThread::start(rt, own, Device { rt, store: behind });
         Running {

@@ -23,7 +23,7 @@ fn is_spelled_on<R: Abort>(rt: &R, heap: &LocalHeap, figures: &Figures) -> bool 
 fn a_text_is_whole_or_refused_and_leaves_no_memory(rt: HostRuntime) {
     let figures = made(rt.alloc()).expect(&rt, "a snapshot");
     let mut refused = 0u32;
-    for units in 1..1_000usize {
+    for units in 1..4_000usize {
         let heap = LocalHeap::new(rt.alloc(), units.saturating_mul(16)).expect(&rt, "a heap");
         let is_whole = is_spelled_on(&rt, &heap, &figures);
         holds!(rt; heap.used() == 0, "memory is left");

@@ -24,11 +24,16 @@ fn web() -> Option<RuleFigures> {
             rule_full: 7,
             no_memory: 8,
             descriptors: 9,
+            no_header: 10,
+            bad_header: 11,
+            source_full: 12,
+            source_rate: 13,
         },
         ends: [20, 21, 22, 23, 24, 25, 26],
         unreached: [30, 31, 32, 33, 35],
         accept_faults: 34,
         is_listening: true,
+        has_target: true,
     })
 }
 
@@ -44,17 +49,25 @@ fn unused() -> Option<RuleFigures> {
         unreached: [0; CAUSES],
         accept_faults: 0,
         is_listening: false,
+        has_target: true,
     })
 }
 
-/// Targets of the first rule, and whether they are up.
-const TARGETS: &[(&str, bool)] = &[("tcp:127.0.0.1:80", true), ("unix:/run/a\"b\\c", false)];
+/// Targets of the first rule, and whether they are up: one isn't checked.
+const TARGETS: &[(&str, Option<bool>)] = &[
+    ("tcp:127.0.0.1:80", Some(true)),
+    ("unix:/run/a\"b\\c", Some(false)),
+    ("tcp:127.0.0.1:81", None),
+];
 
-fn target_of(target: &str, is_up: bool) -> Option<TargetFigures> {
+fn target_of(target: &str, is_up: Option<bool>) -> Option<TargetFigures> {
     Some(TargetFigures {
         rule: ArrayString::from("web").ok()?,
         target: ArrayString::from(target).ok()?,
         is_up,
+        connections: 41,
+        connects: 42,
+        failures: 43,
     })
 }
 

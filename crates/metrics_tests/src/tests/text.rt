@@ -60,12 +60,20 @@ pollrelay_rule_refused_total{rule=\"web\",cause=\"no_target\"} 6\n\
 pollrelay_rule_refused_total{rule=\"web\",cause=\"rule_full\"} 7\n\
 pollrelay_rule_refused_total{rule=\"web\",cause=\"no_memory\"} 8\n\
 pollrelay_rule_refused_total{rule=\"web\",cause=\"descriptors\"} 9\n\
+pollrelay_rule_refused_total{rule=\"web\",cause=\"no_header\"} 10\n\
+pollrelay_rule_refused_total{rule=\"web\",cause=\"bad_header\"} 11\n\
+pollrelay_rule_refused_total{rule=\"web\",cause=\"source_full\"} 12\n\
+pollrelay_rule_refused_total{rule=\"web\",cause=\"source_rate\"} 13\n\
 pollrelay_rule_refused_total{rule=\"db-0123456789abc\",cause=\"denied\"} 0\n\
 pollrelay_rule_refused_total{rule=\"db-0123456789abc\",cause=\"full\"} 0\n\
 pollrelay_rule_refused_total{rule=\"db-0123456789abc\",cause=\"no_target\"} 0\n\
 pollrelay_rule_refused_total{rule=\"db-0123456789abc\",cause=\"rule_full\"} 0\n\
 pollrelay_rule_refused_total{rule=\"db-0123456789abc\",cause=\"no_memory\"} 0\n\
 pollrelay_rule_refused_total{rule=\"db-0123456789abc\",cause=\"descriptors\"} 0\n\
+pollrelay_rule_refused_total{rule=\"db-0123456789abc\",cause=\"no_header\"} 0\n\
+pollrelay_rule_refused_total{rule=\"db-0123456789abc\",cause=\"bad_header\"} 0\n\
+pollrelay_rule_refused_total{rule=\"db-0123456789abc\",cause=\"source_full\"} 0\n\
+pollrelay_rule_refused_total{rule=\"db-0123456789abc\",cause=\"source_rate\"} 0\n\
 # HELP pollrelay_rule_ends_total Connections that ended, by cause.\n\
 # TYPE pollrelay_rule_ends_total counter\n\
 pollrelay_rule_ends_total{rule=\"web\",cause=\"eof\"} 20\n\
@@ -105,7 +113,22 @@ pollrelay_rule_listening{rule=\"db-0123456789abc\"} 0\n\
 # HELP pollrelay_target_up Whether a checked target is up: 1, or 0.\n\
 # TYPE pollrelay_target_up gauge\n\
 pollrelay_target_up{rule=\"web\",target=\"tcp:127.0.0.1:80\"} 1\n\
-pollrelay_target_up{rule=\"web\",target=\"unix:/run/a\\\"b\\\\c\"} 0\n";
+pollrelay_target_up{rule=\"web\",target=\"unix:/run/a\\\"b\\\\c\"} 0\n\
+# HELP pollrelay_target_connections Connections that stand at a target now.\n\
+# TYPE pollrelay_target_connections gauge\n\
+pollrelay_target_connections{rule=\"web\",target=\"tcp:127.0.0.1:80\"} 41\n\
+pollrelay_target_connections{rule=\"web\",target=\"unix:/run/a\\\"b\\\\c\"} 41\n\
+pollrelay_target_connections{rule=\"web\",target=\"tcp:127.0.0.1:81\"} 41\n\
+# HELP pollrelay_target_connects_total Clients' connects to a target that were made.\n\
+# TYPE pollrelay_target_connects_total counter\n\
+pollrelay_target_connects_total{rule=\"web\",target=\"tcp:127.0.0.1:80\"} 42\n\
+pollrelay_target_connects_total{rule=\"web\",target=\"unix:/run/a\\\"b\\\\c\"} 42\n\
+pollrelay_target_connects_total{rule=\"web\",target=\"tcp:127.0.0.1:81\"} 42\n\
+# HELP pollrelay_target_connect_failures_total Clients' connects to a target that failed.\n\
+# TYPE pollrelay_target_connect_failures_total counter\n\
+pollrelay_target_connect_failures_total{rule=\"web\",target=\"tcp:127.0.0.1:80\"} 43\n\
+pollrelay_target_connect_failures_total{rule=\"web\",target=\"unix:/run/a\\\"b\\\\c\"} 43\n\
+pollrelay_target_connect_failures_total{rule=\"web\",target=\"tcp:127.0.0.1:81\"} 43\n";
 
 /// What stands in the text of a snapshot without a loop and without a rule: lines that say what the
 /// figures are, and those figures that have neither loop nor rule.

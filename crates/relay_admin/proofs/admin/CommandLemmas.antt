@@ -1,6 +1,6 @@
 -- What is read is a command of the grammar, and each command of the grammar is read from its text.
 use Rattle.std.specs.Prelude.{◌≡◌, ◌≢◌, ◌≤◌, ◌<◌, ◌^◌, ◌∷◌, ◌++◌, ◌⊎◌}
-use Rattle.std.specs.Prelude.{if◌then◌else◌, not}
+use Rattle.std.specs.Prelude.{◌&&◌, if◌then◌else◌, not}
 use Rattle.relay_admin.proofs.Words.{◌∙◌, sym, ap, refl, subst, ℕ, List, Bool, true, false, append-nil}
 use Rattle.relay_admin.proofs.Words.{codes, bytes_eq}
 use Rattle.relay_admin.proofs.Words.{Option, Some, None, IfSome, IfNone, arith, decimal, nat_tests}
@@ -11,7 +11,7 @@ use Rattle.relay_admin.proofs.Words.{time_within, arguments_at, arguments_of_par
 use Rattle.relay_admin.specs.declared.admin.command.Arguments.{Arguments}
 use Rattle.relay_admin.specs.declared.admin.command.Arguments.TheVariants as behind
 use Rattle.relay_admin.specs.declared.admin.command.Command.TheVariants as command
-use Rattle.relay_admin.specs.admin.CommandReading.{behind_word, command_alone, command_at, command_at_id, ms_at}
+use Rattle.relay_admin.specs.admin.CommandReading.{behind_word, command_alone, command_at, command_at_id, ms_at, target_at}
 use Rattle.relay_admin.specs.declared.admin.command.TheConstants.{MAX_ID, MAX_DEADLINE_MS}
 use Rattle.relay_admin.proofs.TextLemmas.{bind_some, bind_is, split_sound, split_complete, split_lacks}
 use Rattle.relay_admin.proofs.TextLemmas.{word_lacks, Lacks-word, same_bytes}
@@ -19,6 +19,8 @@ use Rattle.relay_admin.proofs.NumberLemmas.{within_sound, within_complete, Lacks
 use Rattle.relay_admin.proofs.GrammarBytes.{digit_no_space}
 use Rattle.relay_admin.proofs.rules.Complete.{time_complete}
 use Rattle.relay_admin.proofs.rules.Sound.{time_sound}
+use Rattle.relay_admin.proofs.admin.OrderLemmas.{order_complete, order_sound}
+use Rattle.relay_admin.specs.admin.TargetOrder.{order_word, rule_word, target_order_at, target_word}
 
 -- ---- What is read
 
@@ -75,15 +77,24 @@ arguments_sound text a e = by_parts (split_at_first space text) refl e
     by_parts None is h = id_sound text a h
     by_parts (Some parts) is h = id_and_deadline_sound text parts a (split_sound space text parts is).0 h
 
+target_sound : (text : List ℕ) (a : Arguments) → target_at text ≡ Some a → SpellsArguments (space ∷ text) a
+target_sound text a e =
+    let order = bind_some (target_order_at text) _ a e in
+    let is : Some (behind.Target order.0) ≡ Some a = order.2 in
+    let same : behind.Target order.0 ≡ a = cc in
+    subst (SpellsArguments (space ∷ text)) same (order_sound text order.0 order.1)
+
 behind_sound : (word text : List ℕ) (a : Arguments) → behind_word word text ≡ Some a
     → SpellsArguments (space ∷ text) a
 unfolding behind_word
-behind_sound word text a e = by_test (bytes_eq word (codes "finish")) e
+behind_sound word text a e = by_test (bytes_eq word (codes "finish")) (bytes_eq word (codes "target")) e
   where
-    by_test : (b : Bool) → (if b then ms_at text else arguments_at text) ≡ Some a
+    by_test : (finish target : Bool)
+        → (if finish then ms_at text else if target then target_at text else arguments_at text) ≡ Some a
         → SpellsArguments (space ∷ text) a
-    by_test true h = ms_sound text a h
-    by_test false h = arguments_sound text a h
+    by_test true target h = ms_sound text a h
+    by_test false true h = target_sound text a h
+    by_test false false h = arguments_sound text a h
 
 -- the line is that of this word with these arguments of the grammar
 abbrev SpellsWords : List ℕ → List ℕ × Arguments → Type 0
@@ -113,37 +124,61 @@ time_of_deadline : (after : Option ℕ) → IsDeadline after → IfSome after (�
 time_of_deadline None is = tt
 time_of_deadline (Some ms) is = (omega arith, is)
 
--- milliseconds stand behind `finish`, and all else behind other words
+-- neither `finish` nor `target`
+abbrev is_plain : List ℕ → Bool
+is_plain word = not (bytes_eq word (codes "finish")) && not (bytes_eq word (codes "target"))
+
+-- milliseconds stand behind `finish`, the words of a target behind `target`, and all else behind other
+-- words
 abbrev suits : List ℕ → Arguments → Bool
 suits word (behind.Ms ms) = bytes_eq word (codes "finish")
-suits word behind.Nothing = not (bytes_eq word (codes "finish"))
-suits word (behind.Id id) = not (bytes_eq word (codes "finish"))
-suits word (behind.IdAndDeadline id after) = not (bytes_eq word (codes "finish"))
+suits word (behind.Target order) = bytes_eq word (codes "target")
+suits word behind.Nothing = is_plain word
+suits word (behind.Id id) = is_plain word
+suits word (behind.IdAndDeadline id after) = is_plain word
 
-is_other : (b : Bool) → not b ≡ true → b ≡ false
-is_other true e = absurd (cc)
-is_other false e = refl
+plain_word : (word text : List ℕ) → is_plain word ≡ true → behind_word word text ≡ arguments_at text
+unfolding behind_word
+plain_word word text e = by_tests (bytes_eq word (codes "finish")) (bytes_eq word (codes "target")) e
+  where
+    by_tests : (finish target : Bool) → (not finish && not target) ≡ true
+        → (if finish then ms_at text else if target then target_at text else arguments_at text) ≡ arguments_at text
+    by_tests true target h = absurd (cc)
+    by_tests false true h = absurd (cc)
+    by_tests false false h = refl
+
+finish_word : (word text : List ℕ) → bytes_eq word (codes "finish") ≡ true → behind_word word text ≡ ms_at text
+unfolding behind_word
+finish_word word text e =
+    ap (λ (b : Bool). if b then ms_at text
+    else if bytes_eq word (codes "target") then target_at text else arguments_at text) e
+
+target_word_is : (word text : List ℕ) → bytes_eq word (codes "target") ≡ true → behind_word word text ≡ target_at text
+unfolding behind_word
+target_word_is word text e = ap (λ w. behind_word w text) (same_bytes word (codes "target") e)
 
 arguments_complete : (word text : List ℕ) (a : Arguments) → suits word a ≡ true → AreArguments a
     → space ∷ text ≡ arguments_text a → behind_word word text ≡ Some a
-unfolding behind_word arguments_at
+unfolding arguments_at
 arguments_complete word text behind.Nothing fits is e = absurd (cc)
+arguments_complete word text (behind.Target order) fits is e =
+    target_word_is word text fits ∙ bind_is _ _ _ (order_complete text order is e)
 arguments_complete word text (behind.Ms ms) fits is e =
     let spelled : text ≡ decimal ms = cc in
     let short : ms < 2 ^ 64 = let high : ms ≤ MAX_DEADLINE_MS = is in omega arith in
-    ap (λ (b : Bool). if b then ms_at text else arguments_at text) fits ∙ ap ms_at spelled
+    finish_word word text fits ∙ ap ms_at spelled
     ∙ bind_is _ _ _ (within_complete 0 MAX_DEADLINE_MS ms short (omega arith) is)
 arguments_complete word text (behind.Id id) fits is e =
     let spelled : text ≡ decimal id = cc in
     let short : id < 2 ^ 64 = let high = is.1 in omega arith in
-    ap (λ (b : Bool). if b then ms_at text else arguments_at text) (is_other _ fits) ∙ ap arguments_at spelled
+    plain_word word text fits ∙ ap arguments_at spelled
     ∙ ap (arguments_of_parts (decimal id))
     (split_lacks space (decimal id) (Lacks-decimal space id digit_no_space short))
     ∙ bind_is _ _ _ (within_complete 1 MAX_ID id short is.0 is.1)
 arguments_complete word text (behind.IdAndDeadline id after) fits is e =
     let spelled : text ≡ decimal id ++ space ∷ time_text after = cc in
     let short : id < 2 ^ 64 = let high = is.0.1 in omega arith in
-    ap (λ (b : Bool). if b then ms_at text else arguments_at text) (is_other _ fits) ∙ ap arguments_at spelled
+    plain_word word text fits ∙ ap arguments_at spelled
     ∙ ap (arguments_of_parts (decimal id ++ space ∷ time_text after))
     (split_complete space (decimal id) (time_text after) (Lacks-decimal space id digit_no_space short))
     ∙ bind_is _ _ _ (within_complete 1 MAX_ID id short is.0.0 is.0.1)
@@ -155,6 +190,8 @@ arguments_begin behind.Nothing = inl refl
 arguments_begin (behind.Id id) = inr (decimal id, refl)
 arguments_begin (behind.IdAndDeadline id after) = inr (decimal id ++ space ∷ time_text after, refl)
 arguments_begin (behind.Ms ms) = inr (decimal ms, refl)
+arguments_begin (behind.Target order) =
+    inr (rule_word order ++ space ∷ (target_word order ++ space ∷ order_word order.order), refl)
 
 words_complete : (word : List ℕ) (a : Arguments) → Lacks space word → suits word a ≡ true → AreArguments a
     → words_at (word ++ arguments_text a) ≡ Some (word, a)
@@ -192,6 +229,8 @@ command_of_words (command.Show id) = refl
 command_of_words command.ShowAll = refl
 command_of_words command.Reload = refl
 command_of_words (command.Finish ms) = refl
+command_of_words command.Targets = refl
+command_of_words (command.SetTarget order) = refl
 
 -- each command's arguments suit its word
 words_suit : (c : Command) → suits (words_of c).0 (words_of c).1 ≡ true
@@ -206,6 +245,8 @@ words_suit (command.Show id) = refl
 words_suit command.ShowAll = refl
 words_suit command.Reload = refl
 words_suit (command.Finish ms) = refl
+words_suit command.Targets = refl
+words_suit (command.SetTarget order) = refl
 
 -- no two commands have the same words
 words_differ : (one other : Command) → words_of one ≡ words_of other → one ≡ other
@@ -251,7 +292,8 @@ alone_found word c =
     (by_word word (codes "quit") behind.Nothing command.Quit c _ refl
     (by_word word (codes "stop") behind.Nothing command.Stop c _ refl
     (by_word word (codes "reload") behind.Nothing command.Reload c _ refl
-    (by_word word (codes "show") behind.Nothing command.ShowAll c _ refl (no_word word behind.Nothing c))))))
+    (by_word word (codes "show") behind.Nothing command.ShowAll c _ refl
+    (by_word word (codes "targets") behind.Nothing command.Targets c _ refl (no_word word behind.Nothing c)))))))
 
 at_id_found : (word : List ℕ) (id : ℕ) (c : Command) → command_at_id word id ≡ Some c
     → (word, behind.Id id) ≡ words_of c
@@ -271,6 +313,9 @@ command_found word (behind.IdAndDeadline id after) c e =
     (no_word word (behind.IdAndDeadline id after) c) e
 command_found word (behind.Ms ms) c e =
     by_word word (codes "finish") (behind.Ms ms) (command.Finish ms) c None refl (no_word word (behind.Ms ms) c) e
+command_found word (behind.Target order) c e =
+    by_word word (codes "target") (behind.Target order) (command.SetTarget order) c None refl
+    (no_word word (behind.Target order) c) e
 
 pub command_is : (line word : List ℕ) (a : Arguments) (read : Option Command) → words_at line ≡ Some (word, a)
     → read ≡ command_at word a → IfSome read (λ c. SpellsCommand line c)

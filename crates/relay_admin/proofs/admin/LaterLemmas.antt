@@ -40,6 +40,8 @@ later_goes_on (command.Show id) h = absurd h
 later_goes_on command.ShowAll h = absurd h
 later_goes_on command.Reload h = absurd h
 later_goes_on (command.Finish ms) h = absurd h
+later_goes_on command.Targets h = absurd h
+later_goes_on (command.SetTarget order) h = absurd h
 
 later_lists_nothing : (c : Command) (answer : Answer) → MayBeLater c → ids_to_show c answer ≡ None
 later_lists_nothing (command.CloseConn id) answer h = refl
@@ -53,6 +55,8 @@ later_lists_nothing (command.Show id) answer h = absurd h
 later_lists_nothing command.ShowAll answer h = absurd h
 later_lists_nothing command.Reload answer h = absurd h
 later_lists_nothing (command.Finish ms) answer h = absurd h
+later_lists_nothing command.Targets answer h = absurd h
+later_lists_nothing (command.SetTarget order) answer h = absurd h
 
 later_shows_nothing : (c : Command) (answer : Answer) → MayBeLater c → HasAskedId c answer
 later_shows_nothing (command.CloseConn id) answer h = tt
@@ -66,6 +70,8 @@ later_shows_nothing (command.Show id) answer h = absurd h
 later_shows_nothing command.ShowAll answer h = absurd h
 later_shows_nothing command.Reload answer h = absurd h
 later_shows_nothing (command.Finish ms) answer h = absurd h
+later_shows_nothing command.Targets answer h = absurd h
+later_shows_nothing (command.SetTarget order) answer h = absurd h
 
 -- ---- The reply to a late answer is its own
 
@@ -103,6 +109,8 @@ own_reply (answers.shown particulars) = inl refl
 own_reply (answers.verdict said) = refl
 own_reply answers.cannot_read = refl
 own_reply answers.device = refl
+own_reply answers.unknown_rule = refl
+own_reply answers.unknown_target = refl
 own_reply (answers.cannot_listen name) = refl
 
 -- ---- What has come of a line

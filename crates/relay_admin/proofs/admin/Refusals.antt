@@ -28,3 +28,5 @@ replies_tell (answers.verdict (BadConfig why)) = refl
 replies_tell answers.cannot_read = refl
 replies_tell (answers.cannot_listen name) = refl
 replies_tell answers.device = refl
+replies_tell answers.unknown_rule = refl
+replies_tell answers.unknown_target = refl

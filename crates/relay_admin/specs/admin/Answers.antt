@@ -10,6 +10,8 @@ use Rattle.relay_admin.specs.declared.admin.answers.ReloadAnswer.TheVariants as 
 use Rattle.relay_admin.specs.declared.admin.answers.SteerAnswer.{SteerAnswer}
 use Rattle.relay_admin.specs.declared.admin.answers.SteerAnswer.TheVariants as steering
 use Rattle.relay_admin.specs.declared.admin.answers.TotalBytes.{TotalBytes}
+use Rattle.relay_admin.specs.declared.admin.answers.TargetAnswer.{TargetAnswer}
+use Rattle.relay_admin.specs.declared.admin.answers.TargetAnswer.TheVariants as setting
 use Rattle.relay_admin.specs.declared.admin.shown.Shown.{Shown}
 use Rattle.relay_admin.specs.admin.Reply.{Answer}
 use Rattle.relay_admin.specs.admin.Reply as answers
@@ -54,6 +56,13 @@ of_reload (reloading.CannotListen name) = answers.cannot_listen name.bytes
 of_reload reloading.NoMemory = answers.no_memory
 of_reload reloading.Device = answers.device
 of_reload reloading.Finishing = answers.closed
+
+-- what became of what an operator sets of a target
+abbrev pub of_setting : TargetAnswer → Answer
+of_setting setting.Fine = answers.fine
+of_setting setting.UnknownRule = answers.unknown_rule
+of_setting setting.UnknownTarget = answers.unknown_target
+of_setting setting.NoMemory = answers.no_memory
 
 -- what the late answer to a line says
 abbrev pub of_late : LateAnswer → Answer

@@ -1,6 +1,7 @@
 -- Commands, the one text of each, and what each brings to a session.
 use Rattle.std.specs.Prelude.{◌≡◌, ◌≤◌, ℕ, List, [], ◌∷◌, ◌++◌, Option, Some, None, IfSome, codes}
 use Rattle.std.specs.Fmt.{decimal}
+use Rattle.relay_admin.specs.admin.TargetOrder.{IsTargetOrder, order_text}
 use Rattle.relay_admin.specs.rules.Grammar.{space, time_text}
 use Rattle.relay_admin.specs.declared.admin.command.Arguments.{Arguments}
 use Rattle.relay_admin.specs.declared.admin.command.Arguments.TheVariants as behind
@@ -23,6 +24,8 @@ words_of (command.Show id) = (codes "show", behind.Id id)
 words_of command.ShowAll = (codes "show", behind.Nothing)
 words_of command.Reload = (codes "reload", behind.Nothing)
 words_of (command.Finish ms) = (codes "finish", behind.Ms ms)
+words_of command.Targets = (codes "targets", behind.Nothing)
+words_of (command.SetTarget order) = (codes "target", behind.Target order)
 
 -- how the session ends by a command; where it doesn't, the desk is asked
 abbrev pub end_of : Command → Option AdminEnd
@@ -44,6 +47,7 @@ AreArguments behind.Nothing = Unit {0}
 AreArguments (behind.Id id) = IsId id
 AreArguments (behind.IdAndDeadline id after) = IsId id × IsDeadline after
 AreArguments (behind.Ms ms) = ms ≤ MAX_DEADLINE_MS
+AreArguments (behind.Target order) = IsTargetOrder order
 
 -- a command of the grammar
 abbrev pub IsCommand : Command → Type 0
@@ -56,6 +60,7 @@ arguments_text (behind.Id id) = space ∷ decimal id
 arguments_text (behind.IdAndDeadline id after) =
     space ∷ (decimal id ++ space ∷ time_text after)
 arguments_text (behind.Ms ms) = space ∷ decimal ms
+arguments_text (behind.Target order) = order_text order
 
 -- the text of a command
 abbrev pub command_text : Command → List ℕ

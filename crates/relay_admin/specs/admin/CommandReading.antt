@@ -1,6 +1,7 @@
 -- Reading a line from left to right, as the code does. No public clause cites this module.
 use Rattle.std.specs.Prelude.{ℕ, List, Option, Some, None, codes, if◌then◌else◌}
 use Rattle.std.specs.Str.{bytes_eq}
+use Rattle.relay_admin.specs.admin.TargetOrder.{target_order_at}
 use Rattle.relay_admin.specs.rules.Grammar.{space}
 use Rattle.relay_admin.specs.TextReading.{◌>>=◌, split_at_first, number_within, time_within}
 use Rattle.relay_admin.specs.declared.admin.command.Arguments.{Arguments}
@@ -29,9 +30,18 @@ ms_at text = do
   ms ← number_within 0 MAX_DEADLINE_MS text
   Some (behind.Ms ms)
 
+-- a target and what is set of it
+abbrev pub target_at : List ℕ → Option Arguments
+target_at text = do
+  order ← target_order_at text
+  Some (behind.Target order)
+
 -- what stands behind this word and its space
 unfoldable pub behind_word : List ℕ → List ℕ → Option Arguments
-behind_word word text = if bytes_eq word (codes "finish") then ms_at text else arguments_at text
+behind_word word text =
+    if bytes_eq word (codes "finish") then ms_at text
+    else if bytes_eq word (codes "target") then target_at text
+    else arguments_at text
 
 -- a word alone where the line has one part, a word and its arguments where it has two
 abbrev pub words_of_parts : List ℕ → Option (List ℕ × List ℕ) → Option (List ℕ × Arguments)
@@ -53,6 +63,7 @@ command_alone word =
     else if bytes_eq word (codes "stop") then Some command.Stop
     else if bytes_eq word (codes "reload") then Some command.Reload
     else if bytes_eq word (codes "show") then Some command.ShowAll
+    else if bytes_eq word (codes "targets") then Some command.Targets
     else None
 
 -- the command of a word with an id behind it
@@ -71,3 +82,5 @@ command_at word (behind.IdAndDeadline id after) =
     if bytes_eq word (codes "deadline") then Some (command.DeadlineOf id after) else None
 command_at word (behind.Ms ms) =
     if bytes_eq word (codes "finish") then Some (command.Finish ms) else None
+command_at word (behind.Target order) =
+    if bytes_eq word (codes "target") then Some (command.SetTarget order) else None

@@ -24,9 +24,11 @@ ends_by line text = ends_with ◌==◌ text line
 abbrev pub reply_breaks_off : List ℕ → Bool
 reply_breaks_off reply = ends_by OUT_OF_MEMORY.now reply
 
--- the reply ends with a line feed, and one to `show` without an id with its last line, or breaks off
+-- the reply ends with a line feed, and one to `show` without an id or to `targets` with its last line,
+-- or breaks off
 abbrev pub reply_is_whole : Command → List ℕ → Bool
 reply_is_whole command.ShowAll reply = ends_by SHOWN_ALL.now reply || reply_breaks_off reply
+reply_is_whole command.Targets reply = ends_by SHOWN_ALL.now reply || reply_breaks_off reply
 reply_is_whole other reply = ends_by (10 ∷ []) reply
 
 -- the answer says that what was asked for wasn't done
@@ -46,6 +48,8 @@ refuses answers.no_memory = true
 refuses answers.cannot_read = true
 refuses (answers.cannot_listen name) = true
 refuses answers.device = true
+refuses answers.unknown_rule = true
+refuses answers.unknown_target = true
 
 -- a reply is a refusal exactly where its answer refuses
 abbrev pub RepliesTellRefusals : Type 0

@@ -1,16 +1,18 @@
 -- What a desk is asked and answers, and the reply to each answer.
-use Rattle.std.specs.Prelude.{◌≡◌, ◌⊎◌, ℕ, List, [], ◌∷◌, ◌++◌, Option, Some, None, codes}
+use Rattle.std.specs.Prelude.{◌≡◌, ◌⊎◌, ℕ, List, [], ◌∷◌, ◌++◌, Option, Some, None, codes, option_map}
 use Rattle.std.specs.List.{flat_map}
 use Rattle.std.specs.Fmt.{decimal}
 use Rattle.relay_admin.specs.rules.Grammar.{space}
 use Rattle.relay_admin.specs.rules.Verdict.{verdict_line}
 use Rattle.relay_admin.specs.admin.Shown.{Particulars, particulars_of, shown_text}
+use Rattle.relay_admin.specs.admin.ShownTarget.{TargetFacts, shown_target_text}
 use Rattle.relay_admin.specs.declared.admin.command.Command.{Command}
 use Rattle.relay_admin.specs.declared.admin.command.Command.TheVariants as command
 use Rattle.relay_admin.specs.declared.admin.reply_text.TheConstants.{DONE, BAD_COMMAND}
 use Rattle.relay_admin.specs.declared.admin.reply_text.TheConstants.{NO_SUCH_CONNECTION, CLOSED}
 use Rattle.relay_admin.specs.declared.admin.reply_text.TheConstants.{DRAINING, BUSY, OUT_OF_MEMORY}
 use Rattle.relay_admin.specs.declared.admin.reply_text.TheConstants.{CANNOT_READ, CANNOT_LISTEN, DEVICE}
+use Rattle.relay_admin.specs.declared.admin.reply_text.TheConstants.{NO_SUCH_RULE, NO_SUCH_TARGET}
 use Rattle.relay_admin.specs.declared.rules.verdict.Verdict.{Verdict}
 use Rattle.relay_admin.specs.declared.admin.desk.DeskAnswer.{DeskAnswer}
 use Rattle.relay_admin.specs.declared.admin.desk.DeskAnswer.TheVariants as variant
@@ -30,6 +32,8 @@ pub data Answer : Type 0 where
   cannot_read : Answer
   cannot_listen : List ℕ → Answer
   device : Answer
+  unknown_rule : Answer
+  unknown_target : Answer
 
 -- what an answer of the program says
 abbrev pub answer_of : DeskAnswer → Answer
@@ -46,6 +50,8 @@ answer_of (variant.Verdict said) = verdict said
 answer_of variant.CannotRead = cannot_read
 answer_of (variant.CannotListen name) = cannot_listen name.bytes
 answer_of variant.Device = device
+answer_of variant.UnknownRule = unknown_rule
+answer_of variant.UnknownTarget = unknown_target
 
 -- ids, each behind a space
 abbrev pub ids_text : List ℕ → List ℕ
@@ -68,6 +74,8 @@ reply_text (verdict said) = verdict_line said
 reply_text cannot_read = CANNOT_READ.now
 reply_text (cannot_listen name) = CANNOT_LISTEN.now ++ (name ++ 10 ∷ [])
 reply_text device = DEVICE.now
+reply_text unknown_rule = NO_SUCH_RULE.now
+reply_text unknown_target = NO_SUCH_TARGET.now
 
 -- the reply to a line that is no command
 abbrev pub bad_command : List ℕ
@@ -87,17 +95,37 @@ abbrev pub HasAskedId : Command → Answer → Type 0
 HasAskedId (command.Show id) (shown particulars) = particulars.id ≡ id
 HasAskedId question answer = Unit {0}
 
--- a question to the desk, by the command that asks it, and the answer; or a look at what an id stands
--- for, and what was seen, if it stands for anything
+-- what is looked at: a side of a connection or a listener, by its id; or a target, by its number
+pub data Key : Type 0 where
+  side : ℕ → Key
+  target : ℕ → Key
+
+-- what was seen there
+pub data Sight : Type 0 where
+  side_seen : Particulars → Sight
+  target_seen : TargetFacts → Sight
+
+-- what was looked at
+abbrev pub sight_key : Sight → Key
+sight_key (side_seen particulars) = side particulars.id
+sight_key (target_seen facts) = target facts.number
+
+-- the line that shows it, with its line feed
+abbrev pub sight_line : Sight → List ℕ
+sight_line (side_seen particulars) = shown_text particulars
+sight_line (target_seen facts) = shown_target_text facts
+
+-- a question to the desk, by the command that asks it, and the answer; or a look, and what was seen, if
+-- anything stands there
 pub data Exchange : Type 0 where
   asked_for : Command → Answer → Exchange
-  looked_at : ℕ → Option Particulars → Exchange
+  looked_at : Key → Option Sight → Exchange
 
 -- what was asked, without the answers and the looks
 abbrev pub questions_of : List Exchange → List Command
 questions_of [] = []
 questions_of (asked_for question answer ∷ more) = question ∷ questions_of more
-questions_of (looked_at id seen ∷ more) = questions_of more
+questions_of (looked_at key seen ∷ more) = questions_of more
 
 -- these exchanges came to those before; a desk may stop telling them, and then never begins again
 abbrev pub AddsExchanges : Option (List Exchange) → Option (List Exchange) → List Exchange → Type 0
@@ -110,5 +138,15 @@ abbrev pub Exchanges : Option (List Exchange) → Option (List Exchange) → Com
 Exchanges before after question answer = AddsExchanges before after (asked_for question answer ∷ [])
 
 -- a look came to the exchanges before
+abbrev pub LooksAtKey : Option (List Exchange) → Option (List Exchange) → Key → Option Sight → Type 0
+LooksAtKey before after key seen = AddsExchanges before after (looked_at key seen ∷ [])
+
+-- one at what an id stands for
 abbrev pub Looks : Option (List Exchange) → Option (List Exchange) → ℕ → Option Particulars → Type 0
-Looks before after id seen = AddsExchanges before after (looked_at id seen ∷ [])
+Looks before after id seen = LooksAtKey before after (side id) (option_map side_seen seen)
+
+-- one at the target with a number
+abbrev pub LooksAtTarget : Option (List Exchange) → Option (List Exchange) → ℕ → Option TargetFacts
+    → Type 0
+LooksAtTarget before after number seen =
+    LooksAtKey before after (target number) (option_map target_seen seen)

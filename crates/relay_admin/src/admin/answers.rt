@@ -3,7 +3,7 @@
 
 ghost use Rattle.std.specs.Prelude.{◌≡◌, ◌↔◌, true};
 ghost use Rattle.relay_admin.specs.admin.Answers.{of_close, of_ids, of_late, of_reload, of_show};
-ghost use Rattle.relay_admin.specs.admin.Answers.{of_steer, of_totals};
+ghost use Rattle.relay_admin.specs.admin.Answers.{of_steer, of_setting, of_totals};
 ghost use Rattle.relay_admin.specs.admin.Later.{IsAnswerTo};
 ghost use Rattle.relay_admin.specs.admin.Reply.{answer_of};
 
@@ -73,6 +73,19 @@ pub enum ReloadAnswer {
     Finishing,
 }
 
+/// What became of what an operator sets of a target.
+#[derive(Clone, Copy, Debug, PartialEq, Eq, Drop)]
+pub enum TargetAnswer {
+    /// It is set.
+    Fine,
+    /// No rule that is served has this name.
+    UnknownRule,
+    /// The rule has no target by this word.
+    UnknownTarget,
+    /// The rule's targets couldn't be held.
+    NoMemory,
+}
+
 /// The answer to a line that is held, by its question.
 #[derive(Clone, Copy, Debug, PartialEq, Eq, Drop)]
 pub enum LateAnswer {
@@ -129,6 +142,19 @@ impl ReloadAnswer {
             ReloadAnswer::NoMemory => DeskAnswer::NoMemory,
             ReloadAnswer::Device => DeskAnswer::Device,
             ReloadAnswer::Finishing => DeskAnswer::Closed,
+        }
+    }
+}
+
+impl TargetAnswer {
+    pub(crate) fn told(self) -> DeskAnswer
+        ensures { answer_of result ≡ of_setting self }
+    {
+        match self {
+            TargetAnswer::Fine => DeskAnswer::Fine,
+            TargetAnswer::UnknownRule => DeskAnswer::UnknownRule,
+            TargetAnswer::UnknownTarget => DeskAnswer::UnknownTarget,
+            TargetAnswer::NoMemory => DeskAnswer::NoMemory,
         }
     }
 }

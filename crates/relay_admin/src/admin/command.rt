@@ -9,6 +9,7 @@ ghost use Rattle.relay_admin.specs.admin.CommandReading.{arguments_at, behind_wo
 ghost use Rattle.relay_admin.specs.admin.CommandReading.{command_alone, command_at, command_at_id};
 
 use crate::admin::end::AdminEnd;
+use crate::admin::target_order::{TargetOrder, target_order_of};
 use crate::text::{DAY_MS, number_between, split_once, time_between};
 
 /// A command. Ids are 1 to 4,503,599,627,370,494.
@@ -38,6 +39,10 @@ pub enum Command {
     /// Takes nobody more, and ends the relay once its connections have ended, or so many
     /// milliseconds are over, 0 to 86,400,000.
     Finish(u64),
+    /// Asks what is known of each target of each rule.
+    Targets,
+    /// Sets of a target of a rule whether it gets clients.
+    SetTarget(TargetOrder),
 }
 
 /// What stands behind the word of a command.
@@ -47,6 +52,7 @@ pub(crate) enum Arguments {
     Id(u64),
     IdAndDeadline(u64, Option<u32>),
     Ms(u64),
+    Target(TargetOrder),
 }
 
 /// The greatest id of a connection.
@@ -93,7 +99,10 @@ fn command_named(word: &[u8], arguments: Arguments) -> Option<Command>
             Some(Command::DeadlineOf(id, after_ms))
         }
         Arguments::Ms(ms) if word == b"finish".as_slice() => Some(Command::Finish(ms)),
-        Arguments::IdAndDeadline(_, _) | Arguments::Ms(_) => None,
+        Arguments::Target(order) if word == b"target".as_slice() => {
+            Some(Command::SetTarget(order))
+        }
+        Arguments::IdAndDeadline(_, _) | Arguments::Ms(_) | Arguments::Target(_) => None,
     }
 }
 
@@ -113,6 +122,8 @@ fn named_alone(word: &[u8]) -> Option<Command>
         Some(Command::Reload)
     } else if word == b"show".as_slice() {
         Some(Command::ShowAll)
+    } else if word == b"targets".as_slice() {
+        Some(Command::Targets)
     } else {
         None
     }
@@ -146,7 +157,8 @@ fn words_in(text: &[u8]) -> Option<(&[u8], Arguments)>
     }
 }
 
-// (a number alone is an id behind all words but `finish`, which may have 0, and a day at most)
+// (a number alone is an id behind all words but `finish`, which may have 0, and a day at most; the
+// words of a target stand behind `target` alone)
 #[tactic(auto, unfolding(crate::specs::admin::CommandReading::behind_word))]
 fn arguments_behind(word: &[u8], text: &[u8]) -> Option<Arguments>
     ensures { result ≡ behind_word word.now text.now }
@@ -154,6 +166,10 @@ fn arguments_behind(word: &[u8], text: &[u8]) -> Option<Arguments>
     if word == b"finish".as_slice() {
         let ms = number_between(0, MAX_DEADLINE_MS, text)?;
         return Some(Arguments::Ms(ms));
+    }
+    if word == b"target".as_slice() {
+        let order = target_order_of(text)?;
+        return Some(Arguments::Target(order));
     }
     arguments_of(text)
 }

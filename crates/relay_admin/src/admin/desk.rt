@@ -34,4 +34,8 @@ pub enum DeskAnswer {
     CannotListen(ArrayString<MAX_NAME_BYTES>),
     /// The system's poller took no socket more.
     Device,
+    /// No rule has this name.
+    UnknownRule,
+    /// The rule has no such target.
+    UnknownTarget,
 }

@@ -33,6 +33,7 @@ fn listing_of(command: &Command, answer: DeskAnswer) -> Result<Listing, DeskAnsw
     match answer {
         DeskAnswer::Ids(ids) => match command {
             Command::ShowAll => Ok(Listing::lines(ids)),
+            Command::Targets => Ok(Listing::target_lines(ids)),
             _ => Ok(Listing::one_line(ids)),
         },
         other => Err(other),

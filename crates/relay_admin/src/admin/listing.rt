@@ -1,14 +1,17 @@
-//! A reply that is made a part at a time: that to `list`, a line of ids, and that to `show` without
-//! an id, a line for each. So it takes no memory for all at once, and others go on between two parts.
+//! A reply that is made a part at a time: that to `list`, a line of ids, and those to `show` without
+//! an id and to `targets`, a line for each. So it takes no memory for all at once, and others go on between two parts.
 //! What comes meanwhile isn't in it, and what goes may not be shown.
 
-ghost use Rattle.std.specs.Prelude.{◌≡◌, ◌∷◌, [], true, List, Option, IfNone, IfSome, option_map};
+ghost use Rattle.std.specs.Prelude.{◌≡◌, ◌∷◌, [], true, ℕ, List, Option, IfNone, IfOk, IfSome, map};
+ghost use Rattle.std.specs.Prelude.{option_map};
 ghost use Rattle.relay_admin.specs.admin.Listing.{each, whole};
+ghost use Rattle.relay_admin.specs.admin.Parts.{IfLooksAtTarget, IsLinePart, TakesTarget};
 ghost use Rattle.relay_admin.specs.admin.Parts.{IfLooksAt, IfMade, IsPartOfLook, IsPartOfLine};
 ghost use Rattle.relay_admin.specs.admin.Parts.{PartComes, TakesId, ids_left, left_of, line_of_ids};
 ghost use Rattle.relay_admin.specs.admin.Reply as answers;
-ghost use Rattle.relay_admin.specs.admin.Reply.{Exchange};
+ghost use Rattle.relay_admin.specs.admin.Reply.{Exchange, side, side_seen, target, target_seen};
 ghost use Rattle.relay_admin.specs.admin.Shown.{particulars_of};
+ghost use Rattle.relay_admin.specs.admin.ShownTarget.{facts_of};
 ghost use Rattle.relay_admin.specs.declared.admin.listing.Making.{Making};
 
 use crate::admin::id_line::{add_ids, first_word};
@@ -16,6 +19,8 @@ use crate::admin::reply_bytes::Reply;
 use crate::admin::reply_text::{OUT_OF_MEMORY, SHOWN_ALL};
 use crate::admin::session_desk::SessionDesk;
 use crate::admin::shown::Shown;
+use crate::admin::shown_target::ShownTarget;
+use base_types::OutOfMemory;
 use std::alloc::Allocator;
 
 /// What is made of ids.
@@ -23,6 +28,8 @@ use std::alloc::Allocator;
 enum Making {
     /// A line for each that stands for something still, and a last one.
     Lines,
+    /// The same of targets, by their numbers.
+    TargetLines,
     /// One line that has them all; whether its first word is made.
     OneLine(bool),
 }
@@ -53,17 +60,30 @@ pub enum NextPart<A: Allocator> {
     Made(Part<A>),
     /// It shows this id, once that was looked at.
     LookAt(u64),
+    /// It shows the target with this number, once that was looked at.
+    LookAtTarget(u64),
 }
 
 impl Listing {
     /// A line for each of these ids, of which none is shown yet.
     pub(crate) fn lines(ids: Vec<u64>) -> Listing
-        ensures { left_of result ≡ each ids.items }
+        ensures { left_of result ≡ each (map side ids.items) }
     {
         Listing {
             ids,
             next: 0,
             making: Making::Lines,
+        }
+    }
+
+    /// The same of the targets with these numbers.
+    pub(crate) fn target_lines(ids: Vec<u64>) -> Listing
+        ensures { left_of result ≡ each (map target ids.items) }
+    {
+        Listing {
+            ids,
+            next: 0,
+            making: Making::TargetLines,
         }
     }
 
@@ -92,22 +112,32 @@ impl Listing {
         match self.begin_part() {
             NextPart::Made(part) => part,
             NextPart::LookAt(id) => part_of(memory, desk.look(id)),
+            NextPart::LookAtTarget(number) => {
+                target_part_of(memory, desk.look_at_target(number))
+            }
         }
     }
 
-    /// Begins the next part: it is made, or an id is to be looked at, of which `part_of` makes it.
+    /// Begins the next part: it is made, or an id is to be looked at, of which `part_of` makes it, or a
+    /// target, of which `target_part_of` does.
     pub fn begin_part<A: Allocator>(&mut self) -> NextPart<A>
         ensures made { IfMade result (λ part. (asked : Option (List Exchange))
             → PartComes part (left_of self.old) (left_of self.new) asked asked) }
         ensures look { IfLooksAt result (λ id.
             TakesId id (left_of self.old) (left_of self.new)) }
+        ensures look_at_target { IfLooksAtTarget result (λ number.
+            TakesTarget number (left_of self.old) (left_of self.new)) }
     {
-        if let Making::OneLine(is_begun) = self.making {
-            return NextPart::Made(self.next_piece(is_begun));
-        }
-        match self.next_id() {
-            Some(id) => NextPart::LookAt(id),
-            None => NextPart::Made(Part::Last(Reply::Fixed(SHOWN_ALL))),
+        match self.making {
+            Making::OneLine(is_begun) => NextPart::Made(self.next_piece(is_begun)),
+            Making::Lines => match self.next_id() {
+                Some(id) => NextPart::LookAt(id),
+                None => NextPart::Made(Part::Last(Reply::Fixed(SHOWN_ALL))),
+            },
+            Making::TargetLines => match self.next_id() {
+                Some(number) => NextPart::LookAtTarget(number),
+                None => NextPart::Made(Part::Last(Reply::Fixed(SHOWN_ALL))),
+            },
         }
     }
 
@@ -144,12 +174,29 @@ impl Listing {
 
 /// The part of an id for which this was seen: its line, or the last one where memory was refused.
 pub fn part_of<A: Allocator + Copy>(memory: A, seen: Option<Shown>) -> Part<A>
-    ensures { IsPartOfLook result (option_map (λ seen. particulars_of seen) seen) }
+    ensures { IsPartOfLook result (option_map (λ seen. side_seen (particulars_of seen)) seen) }
 {
-    let Some(seen) = seen else {
-        return Part::Gone;
-    };
-    match seen.line(memory) {
+    match seen {
+        Some(seen) => line_part(seen.line(memory)),
+        None => Part::Gone,
+    }
+}
+
+/// The same of a target.
+pub fn target_part_of<A: Allocator + Copy>(memory: A, seen: Option<ShownTarget>) -> Part<A>
+    ensures { IsPartOfLook result (option_map (λ seen. target_seen (facts_of seen)) seen) }
+{
+    match seen {
+        Some(seen) => line_part(seen.line(memory)),
+        None => Part::Gone,
+    }
+}
+
+// A part of this line, or the last one where memory was refused for it.
+fn line_part<A: Allocator>(line: Result<Vec<u8, A>, OutOfMemory>) -> Part<A>
+    ensures { (text : List ℕ) → IfOk line (λ line. line.items ≡ text) → IsLinePart result text }
+{
+    match line {
         Ok(line) => Part::Line(Reply::Made(line)),
         Err(_) => Part::Last(Reply::Fixed(OUT_OF_MEMORY)),
     }

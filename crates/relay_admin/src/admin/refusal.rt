@@ -31,7 +31,8 @@ pub fn reply_is_whole(command: &Command, reply: &[u8]) -> bool
     ensures { result ≡ refusal.reply_is_whole command.now reply.now }
 {
     match command {
-        Command::ShowAll => reply.ends_with(SHOWN_ALL) || reply_breaks_off(reply),
+        Command::ShowAll | Command::Targets => reply.ends_with(SHOWN_ALL)
+            || reply_breaks_off(reply),
         _ => reply.ends_with(b"\n".as_slice()),
     }
 }

@@ -9,7 +9,7 @@ use crate::admin::desk::DeskAnswer;
 use crate::admin::reply_bytes::Reply;
 use crate::admin::reply_text::{
     BUSY, CANNOT_LISTEN, CANNOT_READ, CLOSED, DEVICE, DONE, DRAINING, NO_SUCH_CONNECTION,
-    OUT_OF_MEMORY,
+    NO_SUCH_RULE, NO_SUCH_TARGET, OUT_OF_MEMORY,
 };
 use crate::rules::rule::MAX_NAME_BYTES;
 use arrayvec::ArrayString;
@@ -44,6 +44,8 @@ pub fn reply_in<A: Allocator + Copy>(
             cannot_listen_line(name).as_bytes(),
         ),
         DeskAnswer::Device => Vec::from_slice(alloc, DEVICE),
+        DeskAnswer::UnknownRule => Vec::from_slice(alloc, NO_SUCH_RULE),
+        DeskAnswer::UnknownTarget => Vec::from_slice(alloc, NO_SUCH_TARGET),
     }
 }
 
@@ -90,6 +92,8 @@ pub(crate) fn reply_to<A: Allocator + Copy>(alloc: A, answer: &DeskAnswer) -> Re
         DeskAnswer::CannotRead => Reply::Fixed(CANNOT_READ),
         DeskAnswer::CannotListen(name) => Reply::Held(cannot_listen_line(name)),
         DeskAnswer::Device => Reply::Fixed(DEVICE),
+        DeskAnswer::UnknownRule => Reply::Fixed(NO_SUCH_RULE),
+        DeskAnswer::UnknownTarget => Reply::Fixed(NO_SUCH_TARGET),
     }
 }
 

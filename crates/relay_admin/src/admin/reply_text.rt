@@ -25,6 +25,12 @@ pub const BUSY: &[u8] = b"error 409 busy\n";
 /// The system's poller took no socket more.
 pub const DEVICE: &[u8] = b"error 503 device\n";
 
+/// No rule that is served has the name.
+pub const NO_SUCH_RULE: &[u8] = b"error 404 no such rule\n";
+
+/// The rule has no target by the word.
+pub const NO_SUCH_TARGET: &[u8] = b"error 404 no such target\n";
+
 /// Memory was refused.
 pub const OUT_OF_MEMORY: &[u8] = b"error 507 out of memory\n";
 

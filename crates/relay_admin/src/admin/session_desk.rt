@@ -4,19 +4,22 @@
 ghost use Rattle.std.specs.Prelude.{◌≡◌, List, Option, None, IfNone, IfSome, option_map};
 ghost use Rattle.relay_admin.specs.declared.admin.command.Command.TheVariants as commands;
 ghost use Rattle.relay_admin.specs.admin.Answers.{of_close, of_ids, of_reload, of_show, of_steer};
-ghost use Rattle.relay_admin.specs.admin.Answers.{of_totals};
+ghost use Rattle.relay_admin.specs.admin.Answers.{of_setting, of_totals};
 ghost use Rattle.relay_admin.specs.admin.Command.{end_of};
 ghost use Rattle.relay_admin.specs.admin.Later.{MayBeLater, MayExchange};
-ghost use Rattle.relay_admin.specs.admin.Reply.{Exchange, Exchanges, HasAskedId, Looks, answer_of};
-ghost use Rattle.relay_admin.specs.admin.Reply.{fine};
+ghost use Rattle.relay_admin.specs.admin.Reply.{Exchange, Exchanges, HasAskedId, Looks, LooksAtTarget};
+ghost use Rattle.relay_admin.specs.admin.Reply.{answer_of, fine};
 ghost use Rattle.relay_admin.specs.admin.Shown.{particulars_of};
+ghost use Rattle.relay_admin.specs.admin.ShownTarget.{facts_of};
 
 use crate::admin::answers::{
-    CloseAnswer, ReloadAnswer, SteerAnswer, TotalBytes, ids_told, show_told,
+    CloseAnswer, ReloadAnswer, SteerAnswer, TargetAnswer, TotalBytes, ids_told, show_told,
 };
 use crate::admin::command::Command;
 use crate::admin::desk::DeskAnswer;
 use crate::admin::shown::Shown;
+use crate::admin::shown_target::ShownTarget;
+use crate::admin::target_order::TargetOrder;
 use base_types::OutOfMemory;
 use std::alloc::Global;
 
@@ -83,6 +86,24 @@ pub trait SessionDesk {
     fn finish(&mut self, after_ms: u64)
         ensures { Exchanges (exchanges self.old) (exchanges self.new)
             (commands.Finish after_ms) fine };
+
+    /// The numbers of all targets of the rules that are served, by rules in their order, each of which
+    /// is then looked at.
+    fn targets_to_show(&mut self, alloc: Global) -> Result<Vec<u64>, OutOfMemory>
+        ensures { Exchanges (exchanges self.old) (exchanges self.new)
+            commands.Targets (of_ids result) };
+
+    /// What is known of the target with this number, if there is one by now.
+    fn look_at_target(&mut self, number: u64) -> Option<ShownTarget>
+        ensures told { LooksAtTarget (exchanges self.old) (exchanges self.new)
+            number (option_map (λ seen. facts_of seen) result) }
+        ensures asked { IfSome result (λ seen. seen.number ≡ number) };
+
+    /// Sets of a target whether it gets clients, until the next such question or a reload that puts
+    /// rules in force.
+    fn set_target(&mut self, order: TargetOrder) -> TargetAnswer
+        ensures { Exchanges (exchanges self.old) (exchanges self.new)
+            (commands.SetTarget order) (of_setting result) };
 }
 
 /// Asks the desk what a command asks; none where it answers later.
@@ -119,6 +140,8 @@ pub(crate) fn ask_session_desk<D: SessionDesk>(
             desk.finish(after_ms);
             Some(DeskAnswer::Fine)
         }
+        Command::Targets => Some(ids_told(desk.targets_to_show(alloc))),
+        Command::SetTarget(order) => Some(desk.set_target(order).told()),
         Command::Quit | Command::Stop => unreachable!(),
     }
 }

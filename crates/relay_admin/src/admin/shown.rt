@@ -91,8 +91,8 @@ impl Shown {
     }
 }
 
-// Both write what a part of the line is called, and the part.
-fn write_word<A: Allocator>(
+/// Both write what a part of the line is called, and the part.
+pub(crate) fn write_word<A: Allocator>(
     into: &mut Vec<u8, A>,
     called: &str,
     word: &str,
@@ -103,7 +103,7 @@ fn write_word<A: Allocator>(
     into.extend_from_slice(word.as_bytes())
 }
 
-fn write_figure<A: Allocator>(
+pub(crate) fn write_figure<A: Allocator>(
     into: &mut Vec<u8, A>,
     called: &str,
     figure: u64,

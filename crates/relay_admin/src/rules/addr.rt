@@ -191,7 +191,7 @@ pub(crate) fn is_path_text(text: &[u8]) -> bool
     are_visible(text) && text.len() <= MAX_PATH_BYTES
 }
 
-fn are_visible(text: &[u8]) -> bool
+pub(crate) fn are_visible(text: &[u8]) -> bool
     ensures { result ≡ list_all is_visible text.now }
 {
     for byte in text {

@@ -69,7 +69,7 @@ fn read_rule(text: &[u8]) -> Option<Rule>
     }
 }
 
-fn is_name_text(text: &[u8]) -> bool
+pub(crate) fn is_name_text(text: &[u8]) -> bool
     ensures { result ≡ is_name text.now }
 {
     if text.is_empty() || text[0] < b'a' || b'z' < text[0] {

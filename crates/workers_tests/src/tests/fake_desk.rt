@@ -5,7 +5,10 @@ ghost use Rattle.relay_admin.specs.declared.admin.command.Command.TheVariants as
 ghost use Rattle.relay_admin.specs.admin.Reply.{HasAskedId, answer_of};
 
 use arrayvec::ArrayString;
-use relay_admin::{Addr, DeskAnswer, RulesFault, Shown, ShownSide, Verdict};
+use relay_admin::{
+    Addr, DeskAnswer, LastFailure, Order, RulesFault, Shown, ShownSide, ShownTarget, TargetOrder,
+    TargetState, Verdict,
+};
 use relay_workers::Desk;
 use std::alloc::Global;
 
@@ -41,6 +44,41 @@ fn sight(id: u64) -> Shown
         age_ms: 3500,
         quiet_ms: 1200,
     }
+}
+
+/// What is seen of the target with this number: 1 is up, others are down, and from 1,006 on they are
+/// drained and have a long path.
+fn target_sight(number: u64) -> ShownTarget
+    ensures { result.number ≡ number }
+{
+    let mut seen = ShownTarget {
+        number,
+        rule: held("web"),
+        place: number,
+        at: Addr::Tcp([10, 0, 0, 11], 8443),
+        state: TargetState::Down,
+        since_ms: 3500,
+        set: Order::Auto,
+        connections: 2,
+        connects: 17,
+        failures: 1,
+        is_checked: true,
+        passed: 40,
+        failed: 3,
+        last_failure: LastFailure::Refused,
+    };
+    if number == 1 {
+        seen.state = TargetState::Up;
+        seen.is_checked = false;
+        seen.last_failure = LastFailure::Never;
+    }
+    if number >= 1_006 {
+        seen.at = Addr::Unix(held(LONG_PATH));
+        seen.state = TargetState::Drained;
+        seen.set = Order::Drain;
+        seen.last_failure = LastFailure::Unreachable;
+    }
+    seen
 }
 
 /// A desk with these ids, which counts its questions. Its connections 1 and 3 can be steered, and 7
@@ -136,5 +174,28 @@ impl Desk for FakeDesk {
             5 => DeskAnswer::NoMemory,
             _ => DeskAnswer::Closed,
         }
+    }
+
+    fn targets_to_show(&mut self, alloc: Global) -> DeskAnswer {
+        self.ids(alloc)
+    }
+
+    fn look_at_target(&mut self, number: u64) -> Option<ShownTarget> {
+        if number == 2 {
+            None
+        } else {
+            Some(target_sight(number))
+        }
+    }
+
+    fn set_target(&mut self, order: TargetOrder) -> DeskAnswer {
+        self.asked = self.asked.saturating_add(1);
+        if order.rule() != b"web".as_slice() {
+            return DeskAnswer::UnknownRule;
+        }
+        if order.target() == b"tcp:10.0.0.11:8443".as_slice() || order.target() == b"1".as_slice() {
+            return DeskAnswer::Fine;
+        }
+        DeskAnswer::UnknownTarget
     }
 }

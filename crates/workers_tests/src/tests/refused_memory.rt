@@ -42,6 +42,21 @@ const SESSIONS: &[Session] = &[
         error 507 out of memory\nok\n",
         "error 507 out of memory\nok\n",
     ),
+    // So does one of targets.
+    Session(
+        "targets\nquit\n",
+        1,
+        "target 1001 rule web at tcp:10.0.0.11:8443 state down since 3500 set auto connections 2 \
+        connects 17 failures 1 checks on passed 40 failed 3 last refused\n\
+        target 1006 rule web at unix:/xxxxxxxxxxxxxxxxxxxxxxxxxxxxxxxxxxxxxxxxxxxxxxxxx\
+        xxxxxxxxxxxxxxxxxxxxxxxxxxxxxxxxxxxxxxxxxxxxxxxxxx state drained since 3500 set drain \
+        connections 2 connects 17 failures 1 checks on passed 40 failed 3 last unreachable\n\
+        end\nok\n",
+        "target 1001 rule web at tcp:10.0.0.11:8443 state down since 3500 set auto connections 2 \
+        connects 17 failures 1 checks on passed 40 failed 3 last refused\n\
+        error 507 out of memory\nok\n",
+        "error 507 out of memory\nok\n",
+    ),
 ];
 
 /// What a session replies where its replies take memory of this heap, if it ends by `quit` after so

@@ -28,6 +28,8 @@ enum Said {
     CannotRead,
     CannotListen(&'static str),
     Device,
+    UnknownRule,
+    UnknownTarget,
     /// What is shown of a connection: its id, rule, side and peer, the bytes up and down, and its
     /// age and quiet in ms.
     Shows(u64, &'static str, ShownSide, Peer, (u64, u64), (u64, u64)),
@@ -56,6 +58,8 @@ const REPLIES: &[(Said, &str)] = &[
     (Said::Busy, "error 409 busy\n"),
     (Said::NoMemory, "error 507 out of memory\n"),
     (Said::Device, "error 503 device\n"),
+    (Said::UnknownRule, "error 404 no such rule\n"),
+    (Said::UnknownTarget, "error 404 no such target\n"),
     (Said::CannotRead, "cannot read rules\n"),
     (
         Said::CannotListen("abcdefghijklmnop"),
@@ -164,6 +168,8 @@ fn answer_of(alloc: Global, said: &Said) -> DeskAnswer {
         Said::CannotRead => DeskAnswer::CannotRead,
         Said::CannotListen(rule) => DeskAnswer::CannotListen(held(rule)),
         Said::Device => DeskAnswer::Device,
+        Said::UnknownRule => DeskAnswer::UnknownRule,
+        Said::UnknownTarget => DeskAnswer::UnknownTarget,
         Shows(id, rule, side, peer, (up, down), (age_ms, quiet_ms)) => DeskAnswer::Shown(Shown {
             id: *id,
             rule: held(rule),

@@ -54,6 +54,13 @@ const SESSIONS: &[Session] = &[
     Session("finish 86400000\n", "ok\n", END, 1),
     Session("drain 1\ndrain 1\n", "ok\nerror 409 draining\n", END, 2),
     Session("show 01\nreload 1\n", BAD_TWICE, END, 0),
+    Session("target web 1 DOWN\ntarget web 1\n", BAD_TWICE, END, 0),
+    Session(
+        "target web 1 drain\ntarget web tcp:10.0.0.11:8443 auto\ntarget db 1 up\ntarget web 2 down\n",
+        "ok\nok\nerror 404 no such rule\nerror 404 no such target\n",
+        END,
+        4,
+    ),
     Session("quit\nlist\n", "ok\n", QUIT, 0),
     Session("stop", "ok\n", Ok(AdminEnd::Stop), 0),
     Session("\nlist\r\n", BAD_TWICE, END, 0),
@@ -102,6 +109,20 @@ const LISTINGS: &[(&[u64], Session)] = &[
             "show\nlist\n",
             "show 7 rule web side client peer tcp:127.0.0.1:51234 up 12 down 0 age 3500 quiet 1200\n\
             end\nids 2 7\n",
+            END,
+            2,
+        ),
+    ),
+    (&[], Session("targets\n", "end\n", END, 1)),
+    (
+        &[1, 2, 4],
+        Session(
+            "targets\nlist\n",
+            "target 1 rule web at tcp:10.0.0.11:8443 state up since 3500 set auto connections 2 \
+            connects 17 failures 1 checks off passed 40 failed 3 last none\n\
+            target 4 rule web at tcp:10.0.0.11:8443 state down since 3500 set auto connections 2 \
+            connects 17 failures 1 checks on passed 40 failed 3 last refused\n\
+            end\nids 1 2 4\n",
             END,
             2,
         ),

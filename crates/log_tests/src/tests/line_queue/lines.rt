@@ -24,7 +24,7 @@ pub(super) fn ended(how: Ended) -> LogLine<'static> {
 }
 
 /// One that was refused.
-fn refused(client_id: Option<u64>) -> LogLine<'static> {
+pub(super) fn refused(client_id: Option<u64>) -> LogLine<'static> {
     LogLine {
         client_id,
         target_id: None,
@@ -35,7 +35,8 @@ fn refused(client_id: Option<u64>) -> LogLine<'static> {
     }
 }
 
-fn is_text(text: &[u8], front: &str, rest: &str) -> bool {
+/// Whether it is such a front and the rest.
+pub(super) fn is_text(text: &[u8], front: &str, rest: &str) -> bool {
     match str::from_utf8(text) {
         Ok(text) => text.strip_prefix(front) == Some(rest),
         Err(_) => false,
@@ -69,8 +70,12 @@ const ENDS: &[(Ended, &str)] = &[
     (Ended::Denied, "denied\n"),
     (Ended::Full, "full\n"),
     (Ended::RuleFull, "rule full\n"),
+    (Ended::SourceFull, "source full\n"),
+    (Ended::SourceRate, "source rate\n"),
     (Ended::NoMemory, "no memory\n"),
     (Ended::Descriptors, "descriptors\n"),
+    (Ended::NoHeader, "no header\n"),
+    (Ended::BadHeader, "bad header\n"),
     (Ended::NoTarget(Cause::Refused), "no target refused\n"),
     (
         Ended::NoTarget(Cause::Unreachable),

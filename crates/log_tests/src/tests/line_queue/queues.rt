@@ -1,5 +1,6 @@
 //! A queue at its bound: a line that fills it, one byte more, and what is said of lost lines.
 
+use relay_log::format::Format;
 use relay_log::queue::{LogQueue, Lost};
 use std::alloc::Global;
 use std::prelude::HostRuntime;
@@ -24,14 +25,16 @@ enum Step {
 
 use Step::{Finish, Has, In, LongIn, Out, Take, TakeLong};
 
-/// A row: its name, and the steps on a queue of its own.
-const ROWS: &[(&str, &[Step])] = &[
+/// A row: its name, the format of a queue of its own, and the steps on it.
+const ROWS: &[(&str, Format, &[Step])] = &[
     (
         "a byte more than fills the queue does not go in",
+        Format::Text,
         &[Out(65_537), Has(0, 1)],
     ),
     (
         "a line that fills the queue goes in",
+        Format::Text,
         &[
             LongIn(65_536),
             Has(65_536, 0),
@@ -44,14 +47,17 @@ const ROWS: &[(&str, &[Step])] = &[
     // After one lost line the words `lost 1` and a line feed take 7 bytes of the room.
     (
         "what is said of lost lines takes room too",
+        Format::Text,
         &[Out(65_537), LongIn(93), LongIn(65_436)],
     ),
     (
         "what is said of lost lines takes its room",
+        Format::Text,
         &[Out(65_537), LongIn(93), Out(65_437)],
     ),
     (
         "lost lines are said once and the last at the end",
+        Format::Text,
         &[
             In(b"a\n"),
             Out(65_536),
@@ -72,6 +78,31 @@ const ROWS: &[(&str, &[Step])] = &[
             In(b"d\n"),
             Out(65_536),
             Finish(b"d\nlost 1\n"),
+            Finish(b""),
+        ],
+    ),
+    // Of JSON it is `{"lost":1}` and a line feed, which take 11 bytes.
+    (
+        "an object for lost lines takes room too",
+        Format::Json,
+        &[Out(65_537), LongIn(93), LongIn(65_432), Has(65_536, 0)],
+    ),
+    (
+        "an object for lost lines takes its room",
+        Format::Json,
+        &[Out(65_537), LongIn(93), Out(65_433), Has(104, 1)],
+    ),
+    (
+        "lost lines have an object in JSON",
+        Format::Json,
+        &[
+            In(b"{}\n"),
+            Out(65_536),
+            Out(65_536),
+            In(b"{}\n"),
+            Take(b"{}\n{\"lost\":2}\n{}\n"),
+            Out(65_537),
+            Finish(b"{\"lost\":1}\n"),
             Finish(b""),
         ],
     ),
@@ -109,10 +140,10 @@ impl Tried {
     }
 }
 
-fn run(rt: &impl Abort, alloc: Global, row: &str, steps: &[Step]) {
+fn run(rt: &impl Abort, alloc: Global, row: &str, format: Format, steps: &[Step]) {
     let long = [b'x'; 65_537];
     let mut tried = Tried {
-        queue: LogQueue::new(alloc),
+        queue: LogQueue::new(alloc, format),
         taken: Vec::new(alloc),
     };
     for (at, step) in steps.iter().enumerate() {
@@ -122,7 +153,7 @@ fn run(rt: &impl Abort, alloc: Global, row: &str, steps: &[Step]) {
 
 #[test]
 fn queues_answer_as_their_rows_say(rt: HostRuntime) {
-    for (row, steps) in ROWS {
-        run(&rt, rt.alloc(), row, steps);
+    for (row, format, steps) in ROWS {
+        run(&rt, rt.alloc(), row, *format, steps);
     }
 }

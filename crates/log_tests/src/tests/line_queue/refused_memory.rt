@@ -3,6 +3,7 @@
 use super::lines::ended;
 use linked_list_allocator::LocalHeap;
 use relay_log::ended::Ended;
+use relay_log::format::Format;
 use relay_log::queue::{LogQueue, Lost};
 use std::alloc::Global;
 use std::prelude::HostRuntime;
@@ -10,9 +11,11 @@ use std::prelude::HostRuntime;
 /// What is asked of a heap.
 #[derive(Clone, Copy)]
 enum Call {
-    Write,
+    /// A line, which has so many bytes.
+    Write(Format, usize),
     Push,
-    Finish,
+    /// The end of a queue, and what it says of the lost line.
+    Finish(Format, &'static [u8]),
 }
 
 /// What came of it.
@@ -29,11 +32,11 @@ type Queue<'a> = LogQueue<&'a LocalHeap>;
 type Taken<'a> = Vec<u8, &'a LocalHeap>;
 
 /// A line that is refused memory leaves the vector.
-fn writes_on(heap: &LocalHeap) -> Option<Came> {
+fn writes_on(heap: &LocalHeap, format: Format, len: usize) -> Option<Came> {
     let mut text = Vec::new(heap);
-    let is_written = ended(Ended::Eof).write(heap, &mut text).is_ok();
+    let is_written = format.write(&ended(Ended::Eof), heap, &mut text).is_ok();
     match (is_written, text.len()) {
-        (true, 83) => Some(Came::Done),
+        (true, found) if found == len => Some(Came::Done),
         (false, 0) => Some(Came::Refused),
         _ => None,
     }
@@ -54,9 +57,11 @@ fn pushes_on(queue: &mut Queue<'_>) -> Option<Came> {
 
 /// The end of a queue with a line, after which another was lost. It can be asked for again: the
 /// buffers go round, so that one of two further calls has the memory of the line that was taken.
-fn finishes_on<'a>(queue: &mut Queue<'a>, taken: &mut Taken<'a>) -> Option<Came> {
+fn finishes_on<'a>(queue: &mut Queue<'a>, taken: &mut Taken<'a>, lost: &[u8]) -> Option<Came> {
     if queue.finish(taken).is_ok() {
-        let is_told = taken.as_slice() == b"twelve bytes\nlost 1\n".as_slice();
+        let is_told = taken.as_slice().starts_with(b"twelve bytes\n")
+            && taken.as_slice().ends_with(lost)
+            && taken.len() == lost.len().saturating_add(13);
         return if is_told && queue.lost() == 0 {
             Some(Came::Done)
         } else {
@@ -67,29 +72,38 @@ fn finishes_on<'a>(queue: &mut Queue<'a>, taken: &mut Taken<'a>) -> Option<Came>
         return None;
     }
     let is_finished = queue.finish(taken).is_ok() || queue.finish(taken).is_ok();
-    if is_finished && taken.as_slice() == b"lost 1\n".as_slice() {
+    if is_finished && taken.as_slice() == lost {
         return Some(Came::RefusedBehindALine);
     }
     None
 }
 
-fn finishes_with_a_line<'a>(queue: &mut Queue<'a>, taken: &mut Taken<'a>) -> Option<Came> {
+fn finishes_with_a_line<'a>(
+    queue: &mut Queue<'a>,
+    taken: &mut Taken<'a>,
+    lost: &[u8],
+) -> Option<Came> {
     if queue.push(b"twelve bytes\n").is_err() {
         return Some(Came::Refused);
     }
     if queue.push(&[b'x'; 65_537]).is_ok() {
         return None;
     }
-    finishes_on(queue, taken)
+    finishes_on(queue, taken, lost)
 }
 
 fn came_on(heap: &LocalHeap, call: Call) -> Option<Came> {
-    let mut queue = LogQueue::new(heap);
-    let mut taken = Vec::new(heap);
     match call {
-        Call::Write => writes_on(heap),
-        Call::Push => pushes_on(&mut queue),
-        Call::Finish => finishes_with_a_line(&mut queue, &mut taken),
+        Call::Write(format, len) => writes_on(heap, format, len),
+        Call::Push => {
+            let mut queue = LogQueue::new(heap, Format::Text);
+            pushes_on(&mut queue)
+        }
+        Call::Finish(format, lost) => {
+            let mut queue = LogQueue::new(heap, format);
+            let mut taken = Vec::new(heap);
+            finishes_with_a_line(&mut queue, &mut taken, lost)
+        }
     }
 }
 
@@ -118,7 +132,13 @@ fn refusals(alloc: Global, call: Call) -> Result<(u32, u32), usize> {
 const ROWS: &[(&str, Call, u32, u32)] = &[
     (
         "a line that is refused memory leaves the vector",
-        Call::Write,
+        Call::Write(Format::Text, 83),
+        3,
+        0,
+    ),
+    (
+        "a JSON line that is refused memory leaves the vector",
+        Call::Write(Format::Json, 174),
         3,
         0,
     ),
@@ -130,7 +150,13 @@ const ROWS: &[(&str, Call, u32, u32)] = &[
     ),
     (
         "a finish that is refused memory can be made again",
-        Call::Finish,
+        Call::Finish(Format::Text, b"lost 1\n"),
+        1,
+        1,
+    ),
+    (
+        "a finish in JSON that is refused memory can be made again",
+        Call::Finish(Format::Json, b"{\"lost\":1}\n"),
         1,
         1,
     ),

@@ -1,5 +1,6 @@
 //! A long run of pushes and takes, whose lines are counted at the end.
 
+use relay_log::format::Format;
 use relay_log::queue::LogQueue;
 use std::alloc::Global;
 use std::prelude::HostRuntime;
@@ -65,7 +66,7 @@ fn told_of(whole: &[u8], queued: &[u8]) -> Option<u64> {
 
 /// How many lines were lost, and how many it is told of.
 fn lost_and_told(alloc: Global) -> Option<(u64, u64)> {
-    let mut queue = LogQueue::new(alloc);
+    let mut queue = LogQueue::new(alloc, Format::Text);
     let mut queued = Vec::new(alloc);
     let mut taken = Vec::new(alloc);
     let mut whole = Vec::new(alloc);

@@ -4,6 +4,7 @@ use super::Running;
 use super::device::{Device, Full, Store};
 use super::lines::push_all;
 use log_writer::Log;
+use relay_log::format::Format;
 use std::alloc::Global;
 use std::process::Abort;
 use std::sync::atomic::Ordering;
@@ -60,7 +61,7 @@ fn fails_at_the_end<R>(rt: R, alloc: Global, room: u64, row: &str)
 where
     R: Wait + Clock + Abort + Copy + Drop,
 {
-    let log = Log::new(alloc);
+    let log = Log::new(alloc, Format::Text);
     let store = Arc::new(alloc, Store::new(alloc, room, Full::Fails));
     let store = store.ok().expect(&rt, "a store");
     let mut device = Device { rt, store };

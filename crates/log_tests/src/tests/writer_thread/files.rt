@@ -2,6 +2,7 @@
 
 use super::lines::{counted, push_all};
 use log_writer::{Log, LogFile, open_log};
+use relay_log::format::Format;
 use std::alloc::Global;
 use std::cell::{Cell, RefCell};
 use std::fmt::Display;
@@ -92,7 +93,7 @@ fn writes_three<R: Files + Eprint + Wait + Clock + Copy>(
     alloc: Global,
     path: &str,
 ) -> bool {
-    let log = Log::new(alloc);
+    let log = Log::new(alloc, Format::Text);
     push_all(rt, &log, "p0", 3);
     log.end(rt);
     match open_log(rt, path) {

@@ -3,6 +3,7 @@
 use super::lines::{counted, push_all};
 use linked_list_allocator::LocalHeap;
 use log_writer::Log;
+use relay_log::format::Format;
 use std::alloc::Global;
 use std::prelude::HostRuntime;
 use std::sync::Wait;
@@ -30,7 +31,7 @@ fn lost_and_told<R: Wait>(rt: &R, log: &Log<&LocalHeap>, written: &[u8]) -> Opti
 
 /// The same of a log on this heap.
 fn of_heap<R: Wait + Clock>(rt: &R, alloc: Global, heap: &LocalHeap) -> Option<(u64, u64)> {
-    let log = Log::new(heap);
+    let log = Log::new(heap, Format::Text);
     let mut written = Vec::new(alloc);
     if runs_to_its_end(rt, &log, &mut written) {
         lost_and_told(rt, &log, written.as_slice())
