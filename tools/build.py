@@ -39,6 +39,10 @@ MOST_JOBS = 3
 # What a check says of what is well, which is left out where it failed.
 WELL = re.compile(r"^(\S.*: proved|statements .*|library .*|so far: .*)\n", re.M)
 
+# For what `rt ci` refuses a crate that is proved: a pattern that takes each value, a contract that no call can meet, a value that
+# a tactic has chosen.
+REFUSED_ALL_THE_SAME = (rtlib.CATCHES_ALL, rtlib.EMPTY, rtlib.CHOSEN, rtlib.CHOSEN_BELOW)
+
 
 def free_bytes():
     """The free memory, under the limit of the process's group too."""
@@ -95,7 +99,8 @@ class Check:
         self.running = self.start([rtlib.RATTLE, "build", *self.words()])
 
     def words(self):
-        words = self.crate.words(["--jobs", str(self.jobs)], keeps=False)
+        # (the search for contracts that no call can meet is for who changes them)
+        words = [*self.crate.words(["--jobs", str(self.jobs)], keeps=False), *["--empty-contracts"] * (not self.cuts)]
         if self.crate.is_program:
             toolchain = ["--toolchain", f"{rtlib.KIT}/toolchain", "--backend", "llvm"]
             return [*words, *toolchain, "-o", f"out/{self.crate.name}.o"]
@@ -108,6 +113,8 @@ class Check:
     def status(self):
         """None while the check runs, and then its status, once what it proved is linked and noted."""
         status = self.running.poll()
+        if status == 0 and self.is_refused_all_the_same():
+            status = 1
         if status == 0 and self.crate.is_program:
             status = self.link()
         if status == 0 and self.crate.stamp() == self.stamp:
@@ -115,6 +122,11 @@ class Check:
             with open(note(self.crate, self.cuts), "w", encoding="utf-8") as file:
                 file.write(text)
         return status
+
+    def is_refused_all_the_same(self):
+        self.said.seek(0)
+        text = self.said.read()
+        return any(it.search(text) for it in REFUSED_ALL_THE_SAME)
 
     def link(self):
         made, kit = f"out/{self.crate.name}", rtlib.KIT

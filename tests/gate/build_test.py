@@ -15,7 +15,8 @@ from lib.made import MadeFolder
 
 CRATES = "base:\nleft: base\nright: base\ntop: left right\naside:\n"
 
-# It notes when it begins and ends and what it is told; it refuses a crate that the file `refused` names.
+# It notes when it begins and ends and what it is told; it refuses a crate that the file `refused` names, and warns of one that
+# `warned` names.
 PROVER = """#!/bin/sh
 name=; to=; last=
 for word in "$@"; do
@@ -28,6 +29,9 @@ echo "fn $name::good: proved"
 if grep -qsx "$name" {folder}/refused; then
     echo "fn $name::bad: no proof: a goal is open"
     exit 1
+fi
+if grep -qsx "$name" {folder}/warned; then
+    echo "./specs/A.antt warning: this pattern binds a variable spelled like a constructor: other"
 fi
 mkdir -p "$to"
 echo "ends $name" >>{folder}/log
@@ -90,6 +94,15 @@ class Builds(MadeFolder):
         self.assertNotIn("begins base", again)
         self.assertIn("ends top", again)
 
+    def test_what_the_gate_refuses_of_a_proved_crate_is_refused(self):
+        self.write("warned", "left\n")
+        status, lines, log = self.build("top", "--lanes", "1")
+        self.assertEqual(status, 1)
+        self.assertTrue(any("spelled like a constructor" in it for it in lines), lines)
+        self.assertFalse([it for it in log if it.startswith("begins top")])
+        self.write("warned", "")
+        self.assertIn("ends left", self.order("top", "--lanes", "1"))
+
     def test_it_keeps_going_with_what_does_not_stand_on_what_was_refused(self):
         self.write("refused", "left\n")
         status, lines, log = self.build("top", "--lanes", "1", "--keep-going")
@@ -111,6 +124,7 @@ class Builds(MadeFolder):
         self.assertIn("--statements", log[0].split())
         _, _, log = self.build("aside", "--for-checks")
         self.assertNotIn("--statements", log[0].split())
+        self.assertIn("--empty-contracts", log[0].split())
         self.assertEqual(self.order("aside"), [])
 
     def test_an_unknown_crate_is_told(self):

@@ -1,7 +1,7 @@
 #!/bin/sh
 # Uses of the lock word's values, of calls under way and of a relay's connections, that the compiler refuses. Each line below
 # that ends in `// refused: CODE` has to be refused with that code, and no other line with any. It proves nothing and takes
-# half a minute.
+# a minute.
 set -eu
 root=$(cd "$(dirname "$0")/../.." && pwd)
 work=$(mktemp -d)
@@ -12,7 +12,7 @@ cp "$root/HANDLES" "$work/"
 below='base_types lockword_core lockword fdmutex deadline_core rwloops fd_descriptor'
 below="$below stream_base conntable readiness relay_ledger relay_admin relay_core relay_log log_writer relay_metrics"
 below="$below ip_text text_reading proxy_header target_pick config_values client_nets client_sources relay_config relay_settings"
-below="$below relay_facts relay_shared relay_conn relay_loops"
+below="$below relay_facts relay_shared relay_conn relay_loops relay_main metrics_server relay_server"
 for crate in $below; do
     (cd "$root/crates" && tar --exclude=out --exclude=must-fail --exclude=wrong-bodies -cf - "$crate") | tar -C "$work/crates" -xf -
 done
@@ -72,7 +72,7 @@ refuses() {
 
 # The compiler looks at what is spent twice only where nothing is let go, and at both only where all else is well: hence three looks,
 # each at all crates.
-begin base_types lockword rwloops fd_descriptor log_writer relay_facts relay_shared relay_conn
+begin base_types lockword rwloops fd_descriptor log_writer relay_facts relay_shared relay_conn relay_loops
 
 # A half after the unlock, and a value spent twice.
 module spent_twice << 'END'
@@ -190,6 +190,10 @@ END
 # A side of a connection that ends is closed once.
 edited relay_conn/src/connection.rt 's|^            target\.close(rt);$|&\n            target.close(rt); // refused: borrow-e0382|'
 holds_mark relay_conn/src/connection.rt
+
+# A session is told what came of its request after the deed, and once.
+edited relay_loops/src/requests.rt 's|^        let CarriedOut { ticket, answer } = self.fulfil(tasks, request);|        self.context.shared.answer(\&self.context.rt, request.ticket, request.question.asks.unknown());\n& // refused: borrow-e0382|'
+holds_mark relay_loops/src/requests.rt
 refuses 'values that are spent twice'
 
 begin lockword relay_shared relay_conn relay_loops
@@ -251,7 +255,7 @@ edited relay_loops/src/set_up.rt -e '/^                arrival\.refused(/d' \
 holds_mark relay_loops/src/set_up.rt
 refuses 'values that are let go'
 
-begin lockword
+begin lockword relay_server
 
 # A value that is taken apart, or made up.
 module made_up << 'END'
@@ -285,4 +289,8 @@ edited lockword/src/seats.rt 's|LockWord { table }|LockWord { table, guard: std:
 edited lockword/src/references.rt \
     's|^        match self\.try_step::<TakeReference>.*|        let held = self.guard.lock(); // refused: mismatched-argument-count\n&|'
 holds_mark lockword/src/references.rt
+
+# The totals of a relay are told once its inboxes are empty.
+edited relay_server/src/server.rt '/^        let emptied = empty_inboxes/d; s|^        joined\.totals(emptied)|        joined.totals() // refused: mismatched-argument-count|'
+holds_mark relay_server/src/server.rt
 refuses 'values that are made up, and waits without a runtime'

@@ -143,12 +143,15 @@ impl<R: Wait + Clock + Copy + Drop, M: Metered + Drop> Desk<R, M> {
 }
 
 impl<R: Wait + Clock + Copy + Drop, M: Metered + Drop> Host for Desk<R, M> {
-    ghost use Rattle.std.specs.Prelude.{None};
+    ghost use Rattle.std.specs.Prelude.{◌≡◌, None};
+    ghost use Rattle.metrics_server.specs.Desk.{cell_of_task};
 
     type Task = Task<R>;
 
     // A task awaits no moment of its own.
     ghost awaited = { λ _. None };
+
+    ghost has_cell = { λ _ task _ cell. cell ≡ cell_of_task task };
 
     fn cell<'a>(&self, task: &'a Task<R>, _side: Side) -> Option<&'a PollCell> {
         match task {

@@ -4,6 +4,7 @@ use Rattle.std.specs.IoError.{raw_os_error}
 use Rattle.std.specs.declared.io.Error.{Error}
 use Rattle.std.specs.declared.io.ErrorKind.{ErrorKind}
 use Rattle.std.specs.declared.io.ErrorKind.TheVariants.{ConnectionRefused, TimedOut}
+use Rattle.readiness.specs.declared.sock.Sock.{Sock}
 use Rattle.relay_admin.specs.declared.rules.addr.Addr.{Addr}
 use Rattle.relay_log.specs.declared.ended.Cause.{Cause}
 use Rattle.relay_log.specs.declared.ended.Cause.TheVariants as cause
@@ -12,6 +13,10 @@ use Rattle.relay_conn.specs.declared.dialled.Dialled.{Dialled}
 -- the address to which a connection was begun
 abbrev pub dialled_to : Dialled → Addr
 dialled_to dialled = dialled.target
+
+-- the socket of such a connection
+abbrev pub socket_dialled : Dialled → Sock
+socket_dialled dialled = dialled.sock
 
 -- the process or the system has no descriptor left: EMFILE and ENFILE of Linux
 abbrev pub HasNoDescriptors : Error → Type 0

@@ -1,12 +1,14 @@
 -- What becomes of a connection that goes on.
+use Rattle.std.specs.Prelude.{ℕ}
 use Rattle.std.specs.Arc.{arc_value}
 use Rattle.readiness.specs.declared.agenda.Why.{Why}
 use Rattle.relay_conn.specs.Asked.{KeepsConnection}
-use Rattle.relay_conn.specs.Connection.{IfDialing, IfRelaying, IfSeeking, IsRelaying, IsSeeking}
-use Rattle.relay_conn.specs.Dialing.{Connects, DialsOn, KeepsSeeking, SeeksOn}
+use Rattle.relay_conn.specs.Connection.{IfDialing, IfRelaying, IfSeeking, IsDialing, IsRelaying, IsSeeking}
+use Rattle.relay_conn.specs.Dialing.{Connects, DialsNext, DialsOn, KeepsSeeking, SeeksOn}
 use Rattle.relay_conn.specs.Relaying.{GoneOn}
 use Rattle.relay_conn.specs.declared.connection.Connection.{Connection}
 use Rattle.relay_conn.specs.declared.others.Dials.{Dials}
+use Rattle.relay_conn.specs.declared.seeking.NextTarget.{NextTarget}
 use Rattle.relay_core.specs.declared.pair_tasks.PairNext.{PairNext}
 
 module _ {U D R : Type 0} where
@@ -26,3 +28,8 @@ module _ {U D R : Type 0} where
     pub seeks_on : IfSeeking old.phase (λ sought. IfSeeking new.phase (λ seeks.
         KeepsSeeking sought seeks why))
     pub sought : IfSeeking old.phase (λ sought. IsSeeking new.phase)
+
+  -- one that sought a target dials this one now
+  abbrev pub ConnectionDials : Connection U D R → Connection U D R → NextTarget R → ℕ → Type 0
+  ConnectionDials old new next now = (IsSeeking old.phase → IsDialing new.phase)
+      × IfSeeking old.phase (λ sought. IfDialing new.phase (λ dials. DialsNext sought dials next now))

@@ -4,6 +4,7 @@ ghost use Rattle.std.specs.Prelude.{◌≡◌, IfOk};
 ghost use Rattle.std.specs.IoError.{error_kind};
 ghost use Rattle.readiness.specs.Sockets.{is_tcp};
 ghost use Rattle.relay_conn.specs.Dialled.{HasNoDescriptors, cause_of_kind, dialled_to};
+ghost use Rattle.relay_conn.specs.Dialled.{socket_dialled};
 ghost use Rattle.relay_log.specs.declared.ended.Cause.{Cause};
 
 use readiness::Sock;
@@ -24,7 +25,9 @@ pub struct Dialled {
 
 impl Dialled {
     /// The socket.
-    pub(crate) fn into_sock(self) -> Sock {
+    pub(crate) fn into_sock(self) -> Sock
+        ensures { result ≡ socket_dialled self }
+    {
         let Dialled { target: _, sock } = self;
         sock
     }

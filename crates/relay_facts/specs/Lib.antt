@@ -11,6 +11,7 @@ pub mod Listens
 pub mod LogLines
 pub mod RulesFile
 pub mod Safeguards
+pub mod RuleSources
 pub mod Seats
 pub mod Senders
 pub mod SetOrder

@@ -1,7 +1,8 @@
 //! What the targets of a new list have of the list before: connections stand there still, and a
 //! target that was down is.
 
-ghost use Rattle.std.specs.Prelude.{◌≡◌, is_some, IfOk, option_copied};
+ghost use Rattle.std.specs.Prelude.{◌≡◌, is_some, IfOk, IfSome, option_copied};
+ghost use Rattle.std.specs.Arc.{arc_value};
 ghost use Rattle.relay_facts.specs.KnownTargets as spec;
 
 use crate::target_counts::TargetCounts;
@@ -41,7 +42,11 @@ pub(crate) fn counts_at(
     at: &Addr,
     made: &[CountedTarget],
     before: Option<&Targets>,
-) -> Result<Arc<TargetCounts>, OutOfMemory> {
+) -> Result<Arc<TargetCounts>, OutOfMemory>
+    ensures { IfOk result (λ counts. IfSome
+        (spec.counted_at made.now (option_copied before.entry) at.now)
+        (λ counted. arc_value counts ≡ arc_value counted.counts)) }
+{
     match counted_at(made, before, at) {
         Some(counted) => Ok(Arc::try_clone(&counted.counts)?),
         None => Ok(Arc::new(alloc, TargetCounts::new())?),
@@ -70,7 +75,7 @@ fn kept(
     if known.has_limits_of(checks) {
         return Ok(Arc::try_clone(known)?);
     }
-    Ok(Arc::new(alloc, known.anew(checks))?)
+    Ok(Arc::new(alloc, TargetHealth::of_state(known.is_up(), checks))?)
 }
 
 /// The health of a target at this address from now on, where it is checked: the one that is known
@@ -89,7 +94,7 @@ pub(crate) fn health_at(
     };
     let health = match known_at(made, before, at) {
         Some(known) => kept(alloc, known, &checks)?,
-        None => Arc::new(alloc, TargetHealth::new(&checks))?,
+        None => Arc::new(alloc, TargetHealth::of_state(true, &checks))?,
     };
     Ok(Some(health))
 }

@@ -5,7 +5,12 @@
 //! connection is let go: it is noted at the place that counted it, and the table learns of it when the next
 //! client asks for that place. Until then the place stays with its source, since somebody stands there.
 
-ghost use Rattle.std.specs.Prelude.{◌≡◌};
+ghost use Rattle.std.specs.Prelude.{◌≡◌, IfOk, IfSome, length};
+ghost use Rattle.std.specs.Arc.{arc_value};
+ghost use Rattle.client_sources.specs.Paced.{last_told, last_told_by, may_tell};
+ghost use Rattle.client_sources.specs.Sources.{SourceTable};
+ghost use Rattle.client_sources.specs.declared.sources.TheConstants.{PLACES};
+ghost use Rattle.relay_facts.specs.RuleSources.{LetsInBy};
 ghost use Rattle.relay_facts.specs.Seats as spec;
 
 use base_types::OutOfMemory;
@@ -25,7 +30,9 @@ struct Guarded {
 
 impl Guarded {
     // Has the table learn of those that have ended at the places of this source's group.
-    fn learn(&mut self, ended: &[AtomicU32], source: Source) {
+    fn learn(&mut self, ended: &[AtomicU32], source: Source)
+        ensures { self.new.paced ≡ self.old.paced }
+    {
         let first = source.first_place();
         for place in first..first + GROUP_PLACES {
             if let Some(ended) = ended.get(place) {
@@ -43,13 +50,21 @@ impl Guarded {
         source: Source,
         limits: &Limits,
         now: u64,
-    ) -> Result<Option<usize>, Refusal> {
+    ) -> Result<Option<usize>, Refusal>
+        ensures lets { (learnt : SourceTable) × LetsInBy source limits.now now learnt self.new.sources
+            result }
+        ensures paced { self.new.paced ≡ self.old.paced }
+    {
         self.learn(ended, source);
         self.sources.admit(source, limits, now)
     }
 
     // Whether a line may be told at this moment.
-    fn may_tell(&mut self, now: u64) -> bool {
+    fn may_tell(&mut self, now: u64) -> bool
+        ensures may { result ≡ may_tell (last_told self.old.paced) now }
+        ensures last { last_told self.new.paced ≡ last_told_by (last_told self.old.paced) now }
+        ensures sources { self.new.sources ≡ self.old.sources }
+    {
         self.paced.tells(now)
     }
 }
@@ -98,7 +113,9 @@ impl NoSeat {
 
 impl RuleSources {
     /// A table of no source.
-    pub(crate) fn new(alloc: Global) -> Result<Arc<RuleSources>, OutOfMemory> {
+    pub(crate) fn new(alloc: Global) -> Result<Arc<RuleSources>, OutOfMemory>
+        ensures { IfOk result (λ table. length (arc_value table).ended.items ≡ PLACES) }
+    {
         let sources = Sources::new(alloc)?;
         let mut ended = Vec::with_capacity(alloc, PLACES)?;
         for _ in 0..PLACES {
@@ -116,7 +133,10 @@ impl RuleSources {
         source: Source,
         limits: &Limits,
         now: u64,
-    ) -> Result<Option<usize>, Refusal> {
+    ) -> Result<Option<usize>, Refusal>
+        ensures { (old : SourceTable) × (new : SourceTable)
+            × LetsInBy source limits.now now old new result }
+    {
         let ended = self.ended.as_slice();
         self.guarded.lock(rt).admit(ended, source, limits, now)
     }
@@ -150,7 +170,10 @@ impl Seat {
         source: Source,
         limits: &Limits,
         now: u64,
-    ) -> Result<Option<Seat>, NoSeat> {
+    ) -> Result<Option<Seat>, NoSeat>
+        ensures { IfOk result (λ seat. IfSome seat
+            (λ seat. arc_value seat.sources ≡ arc_value sources.now)) }
+    {
         let Ok(own) = Arc::try_clone(sources) else {
             return Err(NoSeat::Memory);
         };

@@ -1,7 +1,7 @@
 //! Clients and the seats of their sources: one that is accepted needs a seat, where its rule limits how many
 //! of a source are let in. One that is to say first who it is needs it by what it says.
 
-ghost use Rattle.std.specs.Prelude.{◌≡◌, IfOk};
+ghost use Rattle.std.specs.Prelude.{◌≡◌, true, false, None, Ok, IfOk};
 ghost use Rattle.relay_facts.specs.Admission.{IsLetIn};
 ghost use Rattle.relay_facts.specs.Seats.{IsSourceOf, IsSourceOfBytes, IsSourceOfV6};
 ghost use Rattle.relay_facts.specs.Seats as spec;
@@ -56,7 +56,10 @@ fn is_for_source(how: Ended) -> bool
 impl Acceptance {
     /// A seat for the client, at this moment, by who it is as far as it is known; or why there is none for it.
     /// Without a table, and for a client of a Unix socket, none is needed.
-    pub fn seat<R: Wait>(&self, rt: &R, now: u64) -> Result<Option<Seat>, NoSeat> {
+    pub fn seat<R: Wait>(&self, rt: &R, now: u64) -> Result<Option<Seat>, NoSeat>
+        ensures unlimited { self.now.sources ≡ None → result ≡ Ok None }
+        ensures nobody { IsSourceOf self.now.client None → result ≡ Ok None }
+    {
         let Some(sources) = &self.sources else {
             return Ok(None);
         };
@@ -68,7 +71,10 @@ impl Acceptance {
 
     /// Whether the log is to be told at this moment that the client was refused so: of those that were for
     /// their source one a second is told, and of others each.
-    pub fn is_to_be_told<R: Wait>(&self, rt: &R, now: u64, how: Ended) -> bool {
+    pub fn is_to_be_told<R: Wait>(&self, rt: &R, now: u64, how: Ended) -> bool
+        ensures unlimited { self.now.sources ≡ None → result ≡ true }
+        ensures others { spec.is_for_source how ≡ false → result ≡ true }
+    {
         match &self.sources {
             Some(sources) if is_for_source(how) => sources.may_tell(rt, now),
             _ => true,

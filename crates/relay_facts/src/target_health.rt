@@ -144,23 +144,13 @@ pub struct TargetHealth {
 }
 
 impl TargetHealth {
-    /// That of a target of which nothing is known, by the limits of these checks: it is up.
-    pub(crate) fn new(checks: &Checks) -> TargetHealth {
-        TargetHealth::with(true, checks)
-    }
-
-    // That of a target with this state, whose outcomes are counted from now on.
-    fn with(is_up: bool, checks: &Checks) -> TargetHealth {
+    /// That of a target with this state, whose outcomes are counted from now on by the limits of these
+    /// checks.
+    pub(crate) fn of_state(is_up: bool, checks: &Checks) -> TargetHealth {
         let limits = limits_of(checks);
         TargetHealth {
             word: AtomicIn::new(word_anew(is_up, &limits)),
         }
-    }
-
-    /// That of the same target by the limits of these checks: its state stays, and its outcomes are
-    /// counted anew.
-    pub(crate) fn anew(&self, checks: &Checks) -> TargetHealth {
-        TargetHealth::with(self.is_up(), checks)
     }
 
     /// Whether these checks have its limits.

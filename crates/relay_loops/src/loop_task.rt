@@ -1,7 +1,8 @@
 //! What a loop has for tasks, and what is asked of one that is a connection.
 
-ghost use Rattle.std.specs.Prelude.{◌≡◌, ◌↔◌, true, Some};
-ghost use Rattle.relay_loops.specs.LoopTask.{HasId, awaited_by_task, connection_as};
+ghost use Rattle.std.specs.Prelude.{◌≡◌, ◌↔◌, true, Some, IfSome, OnOk};
+ghost use Rattle.relay_loops.specs.LoopTask.{HasId, TaskDials, TaskTold, awaited_by_task};
+ghost use Rattle.relay_loops.specs.LoopTask.{connection_as};
 ghost use Rattle.relay_loops.specs.Requests.{TellsDeadline, TellsDrain};
 ghost use Rattle.relay_shared.specs.declared.requests.Answer.{Answer};
 
@@ -57,6 +58,7 @@ impl<U: Ledger, D: Ledger, R: Wait + Clock + Copy> LoopTask<U, D, R> {
         deadline: Deadline,
     ) -> Option<Result<(), Fault>>
         ensures told { TellsDeadline (connection_as (Some self.old)) (Answer.Deadline result) }
+        ensures set { IfSome result (λ done. OnOk done (TaskTold self.old self.new side deadline)) }
     {
         match self {
             LoopTask::Awaiting(_) => None,
@@ -79,7 +81,9 @@ impl<U: Ledger, D: Ledger, R: Wait + Clock + Copy> LoopTask<U, D, R> {
     }
 
     /// Has one that seeks a target dial it by this side.
-    pub(crate) fn dial_on(&mut self, next: NextTarget<R>, now: u64) {
+    pub(crate) fn dial_on(&mut self, next: NextTarget<R>, now: u64)
+        ensures { TaskDials self.old self.new next now }
+    {
         match self {
             LoopTask::Awaiting(_) => drop(next),
             LoopTask::Connection(connection) => connection.dial_on(next, now),

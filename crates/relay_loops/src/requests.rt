@@ -18,10 +18,17 @@ use crate::loop_task::LoopTask;
 use crate::loops::{ConnLoop, LoopHost};
 use deadline_core::Deadline;
 use readiness::{Host, Turn, Why, side_of};
-use relay_shared::requests::{Answer, Asks, Question, Request};
+use relay_shared::requests::{Answer, Asks, Question, Request, Ticket};
 use std::sync::Wait;
 use std::sync::ledger::Ledger;
 use std::time::Clock;
+
+// What came of a request, with the answer that its session is still owed: the request was spent for it,
+// so that no session is told before the deed.
+struct CarriedOut {
+    ticket: Ticket,
+    answer: Answer,
+}
 
 // Whether the loop has the connection that is asked. (a token alone doesn't tell: that of a set-up
 // which was refused is given again, an id never)
@@ -48,9 +55,27 @@ impl<U: Ledger, D: Ledger, R: Wait + Clock + Copy> LoopHost<U, D, R> {
             request.question.token }
         ensures armed { StayArmed (tasks_of tasks.old) (tasks_of tasks.new) }
     {
+        let CarriedOut { ticket, answer } = self.fulfil(tasks, request);
+        self.context.shared.answer(&self.context.rt, ticket, answer);
+    }
+
+    // Carries a request out, whose session is told next.
+    fn fulfil(&mut self, tasks: &mut ConnLoop<U, D, R>, request: Request) -> CarriedOut
+        ensures ticket { result.ticket ≡ request.ticket }
+        ensures gone { (IsHere (tasks_of tasks.old) request.question → ⊥)
+            → (result.answer ≡ unknown_answer request.question.asks) × (tasks.new ≡ tasks.old) }
+        ensures done { IsHere (tasks_of tasks.old) request.question
+            → IsCarriedOut request.question.asks result.answer }
+        ensures closed { IsHere (tasks_of tasks.old) request.question
+            → request.question.asks ≡ Asks.Close
+            → task_in (tasks_of tasks.new) request.question.token ≡ None }
+        ensures others { OthersKept (tasks_of tasks.old) (tasks_of tasks.new)
+            request.question.token }
+        ensures armed { StayArmed (tasks_of tasks.old) (tasks_of tasks.new) }
+    {
         let Request { ticket, question } = request;
         let answer = self.carry_out(tasks, question);
-        self.context.shared.answer(&self.context.rt, ticket, answer);
+        CarriedOut { ticket, answer }
     }
 
     // Carries out what is asked of a connection, unless it has ended.

@@ -48,7 +48,7 @@ outcome_of (Err kind) = Failed
 -- why a connection isn't made of which the system says this
 abbrev pub check_cause : DevKind → Cause
 check_cause kind.Refused = cause.Refused
-check_cause other = cause.Unreachable
+check_cause _ = cause.Unreachable
 
 -- why a connect that failed at once did
 abbrev pub connect_cause : ErrorKind → Cause

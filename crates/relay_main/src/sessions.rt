@@ -254,6 +254,8 @@ impl Sessions {
     fn go_on<R>(&mut self, main: &mut MainLoop<R>, place: usize)
     where
         R: Wait + Net + Files + Clock + Eprint + Copy,
+        ensures others { (other : ℕ) → other ≢ place →
+            slice_get self.new.places.items other ≡ slice_get self.old.places.items other }
     {
         let Some(Some(seated)) = self.places.get_mut(place) else {
             return;

@@ -1,3 +1,4 @@
+mod JoinLemmas
 mod OutputLemmas
 pub mod LineLemmas
 mod SharedCrosses

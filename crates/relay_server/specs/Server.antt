@@ -1,5 +1,5 @@
 -- A relay, as its callers see it.
-use Rattle.std.specs.Prelude.{◌⊎◌, ℕ, Bool, List, []}
+use Rattle.std.specs.Prelude.{◌≡◌, ◌⊎◌, ℕ, Bool, List, [], length}
 use Rattle.std.specs.Option.{option_map_or}
 use Rattle.std.specs.String.{string_bytes}
 use Rattle.relay_admin.specs.declared.serve_fault.ServeFault.{ServeFault}
@@ -25,3 +25,14 @@ module _ {R : Type 0} where
   -- whether a Unix socket at which nobody listens any more gives way to a listener
   abbrev pub replaces_stale_in : Server R → Bool
   replaces_stale_in server = server.main.listeners.replaces_stale
+
+  -- how many loops' threads it has started, and how many it is still to start
+  abbrev pub started_in : Server R → ℕ
+  started_in server = length server.threads.loops.items
+
+  abbrev pub unstarted_in : Server R → ℕ
+  unstarted_in server = length server.loops.items
+
+  -- it has started the same threads, and is to start the same
+  abbrev pub SameLoops : Server R → Server R → Type 0
+  SameLoops old new = (started_in new ≡ started_in old) × (unstarted_in new ≡ unstarted_in old)

@@ -1,6 +1,6 @@
 //! The pollers of a relay's threads.
 
-ghost use Rattle.std.specs.Prelude.{IfErr};
+ghost use Rattle.std.specs.Prelude.{◌≡◌, ◌+◌, IfErr, IfOk, OnOk, length};
 ghost use Rattle.relay_admin.specs.ServeFault.{IsRunFault};
 
 use readiness::LoopDriver;
@@ -23,6 +23,7 @@ pub(crate) struct Pollers {
 impl Pollers {
     /// Those of a relay with so many loops.
     pub(crate) fn open<R: Net>(rt: &R, alloc: Global, loops: Loops) -> Result<Pollers, ServeFault>
+        ensures each { IfOk result (λ pollers. length pollers.loops.items ≡ loops.count) }
         ensures faults { IfErr result (λ fault. IsRunFault fault) }
     {
         let mut pollers = Pollers {
@@ -38,6 +39,8 @@ impl Pollers {
 
     // Those of one loop more.
     fn open_loop<R: Net>(&mut self, rt: &R, alloc: Global) -> Result<(), ServeFault>
+        ensures one { OnOk result
+            (length self.new.loops.items ≡ length self.old.loops.items + 1) }
         ensures faults { IfErr result (λ fault. IsRunFault fault) }
     {
         let driver = LoopDriver::new(rt, alloc).map_err(of_poller)?;

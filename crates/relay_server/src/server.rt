@@ -1,7 +1,9 @@
 //! A relay, from its sockets to its end.
 
-ghost use Rattle.std.specs.Prelude.{◌≡◌, IfErr, IfOk};
-ghost use Rattle.relay_server.specs.Server.{IsSocketsFault, given_in, replaces_stale_in};
+ghost use Rattle.std.specs.Prelude.{◌≡◌, ◌+◌, IfErr, IfOk, OnOk};
+ghost use Rattle.relay_server.specs.Server.{IsSocketsFault, SameLoops, given_in, replaces_stale_in};
+ghost use Rattle.relay_server.specs.Server.{started_in, unstarted_in};
+ghost use Rattle.relay_server.specs.Threads.{AreSumsOf};
 ghost use Rattle.relay_admin.specs.ServeFault.{IsRunFault};
 ghost use Rattle.relay_admin.specs.declared.serve_fault.ServeFault.{ServeFault};
 
@@ -59,6 +61,8 @@ where
     /// thread yet, and has bound no path.
     pub(crate) fn new(rt: R, alloc: Global, config: Config) -> Result<Server<R>, ServeFault>
         ensures stale { IfOk result (λ server. replaces_stale_in server ≡ config.safeguards.replaces_stale) }
+        ensures loops { IfOk result (λ server. (started_in server ≡ 0)
+            × (unstarted_in server ≡ config.capacity.loops.count)) }
         ensures faults { IfErr result (λ fault. IsRunFault fault) }
     {
         let Ok(start) = Instant::now(&rt) else {
@@ -87,6 +91,7 @@ where
     pub(crate) fn give(&mut self, listeners: Vec<GivenListener>)
         ensures given { given_in self.new ≡ listeners.items }
         ensures stale { replaces_stale_in self.new ≡ replaces_stale_in self.old }
+        ensures loops { SameLoops self.old self.new }
     {
         self.main.listeners.given = listeners;
     }
@@ -102,6 +107,7 @@ where
     /// path. The faults are `Listen`, with the first rule that can't be listened for, `Admin`,
     /// `Device` and `Memory`; what was opened before stands, for `end`.
     pub(crate) fn open(&mut self, admin: &str) -> Result<(), ServeFault>
+        ensures loops { SameLoops self.old self.new }
         ensures faults { IfErr result IsSocketsFault }
     {
         self.main.listen()?;
@@ -110,6 +116,8 @@ where
 
     /// Starts the loops' threads. After a fault those that were started run on, for `end`.
     pub(crate) fn start(&mut self) -> Result<(), ServeFault>
+        ensures started { OnOk result
+            (started_in self.new ≡ started_in self.old + unstarted_in self.old) }
         ensures faults { IfErr result (λ fault. fault ≡ ServeFault.Memory) }
     {
         let loops = mem::replace(&mut self.loops, Vec::new(self.main.alloc));
@@ -119,6 +127,7 @@ where
     /// Turns until an admin session says stop, until the relay has finished, or until something
     /// fails.
     pub(crate) fn run(&mut self) -> Result<(), ServeFault>
+        ensures loops { SameLoops self.old self.new }
         ensures faults { IfErr result (λ fault. IsRunFault fault) }
     {
         self.main.turn_until_stop(&mut self.sessions)
@@ -158,8 +167,9 @@ where
     }
 
     /// Ends all that was opened and started, whatever came before, and gives the totals of the
-    /// books.
+    /// books: the sums of what its loops told as they ended.
     pub(crate) fn end(self) -> Result<Totals, ServeFault>
+        ensures sums { IfOk result (λ totals. AreSumsOf totals (started_in self)) }
         ensures faults { IfErr result (λ fault. IsRunFault fault) }
     {
         let Server {
@@ -176,8 +186,8 @@ where
         let (rt, shared, ended, paths) = main.end();
         let joined = threads.join(&rt, stopped, ended);
         remove_paths(&rt, paths, &joined);
-        empty_inboxes(&rt, alloc, &shared, &joined);
+        let emptied = empty_inboxes(&rt, alloc, &shared, &joined);
         remove_paths(&rt, admin, &joined);
-        joined.totals()
+        joined.totals(emptied)
     }
 }

@@ -1,8 +1,8 @@
 //! A relay from its sockets to its end.
 
-ghost use Rattle.std.specs.Prelude.{◌≡◌, ◌⊎◌, OnOk, IfErr};
+ghost use Rattle.std.specs.Prelude.{◌≡◌, ◌⊎◌, ◌+◌, OnOk, IfErr};
 ghost use Rattle.relay_server.specs.Output.{SaysItListens, WritesBothLines};
-ghost use Rattle.relay_server.specs.Server.{admin_path};
+ghost use Rattle.relay_server.specs.Server.{admin_path, started_in, unstarted_in};
 ghost use Rattle.relay_admin.specs.ServeFault.{IsRunFault};
 
 use crate::bounds::ServeRuntime;
@@ -50,6 +50,8 @@ where
     O: OpensLog<Log = L> + Drop,
     R: ServeRuntime + Files + Eprint,
     ensures said { OnOk result (SaysItListens (W.contents writer.old) (W.contents writer.new)) }
+    ensures started { OnOk result
+        (started_in server.new ≡ started_in server.old + unstarted_in server.old) }
     ensures unwritten { IfErr result (λ fault. IsRunFault fault
         ⊎ (W.contents writer.new ≡ W.contents writer.old)) }
 {
@@ -93,8 +95,8 @@ where
         + Send
         + Sync
         + 'static,
-    ensures written { OnOk result
-        (WritesBothLines (W.contents writer.old) (W.contents writer.new)) }
+    ensures written { OnOk result (WritesBothLines config.capacity.loops.count
+        (W.contents writer.old) (W.contents writer.new)) }
     // Where a socket is at fault, nothing was written.
     ensures unwritten { IfErr result (λ fault. IsRunFault fault
         ⊎ (W.contents writer.new ≡ W.contents writer.old)) }

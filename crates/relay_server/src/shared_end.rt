@@ -14,9 +14,21 @@ pub(crate) fn remove_paths<R: Files>(rt: &R, paths: BoundPaths, _joined: &Joined
     paths.end(rt);
 }
 
+/// That nothing is left in the inboxes of loops that have ended: their emptying alone makes one.
+#[derive(Drop)]
+pub(crate) struct Emptied {
+    by_all: (),
+}
+
 /// Drops the sockets that no loop has set up.
-pub(crate) fn empty_inboxes<R: Wait>(rt: &R, alloc: Global, shared: &Shared, _joined: &Joined) {
+pub(crate) fn empty_inboxes<R: Wait>(
+    rt: &R,
+    alloc: Global,
+    shared: &Shared,
+    _joined: &Joined,
+) -> Emptied {
     for handle in shared.loops.iter() {
         handle.give_all(rt, &mut Inbox::empty(alloc));
     }
+    Emptied { by_all: () }
 }

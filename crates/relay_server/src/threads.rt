@@ -1,11 +1,14 @@
 //! The loops' threads.
 
-ghost use Rattle.std.specs.Prelude.{◌≡◌, ◌↔◌, true, false, [], Some, None, Ok, Err, IfOk, IfErr, IsOk};
-ghost use Rattle.relay_server.specs.Threads.{told_by, told_with};
+ghost use Rattle.std.specs.Prelude.{◌≡◌, ◌↔◌, ◌+◌, true, false, [], Some, None, Ok, Err, IfOk, IfErr};
+ghost use Rattle.std.specs.Prelude.{IsOk, List, OnOk, length};
+ghost use Rattle.relay_server.specs.Threads.{AreSumsOf, IsJoinOf, LoopEnd, told_by, told_with};
 ghost use Rattle.relay_admin.specs.ServeFault.{IsRunFault};
+ghost use Rattle.relay_loops.specs.Turns.{IsPollerFault};
 ghost use Rattle.relay_admin.specs.declared.serve_fault.ServeFault.{ServeFault};
 
 use crate::bounds::RelayRuntime;
+use crate::shared_end::Emptied;
 use crate::stacks::LOOP_STACK_BYTES;
 use relay_admin::ServeFault;
 use relay_core::LoopMemory;
@@ -68,9 +71,12 @@ impl Joined {
         }
     }
 
-    /// The totals. A loop's fault is the relay's, and so is a share that is missing.
-    pub(crate) fn totals(self) -> Result<Totals, ServeFault>
+    /// The totals, once nothing is left in an inbox. A loop's fault is the relay's, and so is a share
+    /// that is missing.
+    pub(crate) fn totals(self, _emptied: Emptied) -> Result<Totals, ServeFault>
         ensures told { IfOk result (λ totals. told_by (Some totals) ≡ told_by self.totals) }
+        ensures sums { IfOk result (λ totals. (ends : List LoopEnd) → IsJoinOf self ends
+            → AreSumsOf totals (length ends)) }
         ensures turned { self.turned ≡ false → result ≡ Err ServeFault.Device }
         ensures missing { self.turned ≡ true → self.totals ≡ None
             → result ≡ Err ServeFault.Memory }
@@ -138,7 +144,9 @@ impl LoopStart {
     }
 
     // Runs the loop to its end.
-    fn run<R: RelayRuntime>(self, rt: R) -> Result<Option<Totals>, ServeFault> {
+    fn run<R: RelayRuntime>(self, rt: R) -> Result<Option<Totals>, ServeFault>
+        ensures faults { IfErr result IsPollerFault }
+    {
         let LoopStart {
             alloc,
             start,
@@ -188,24 +196,28 @@ impl StartedThreads {
         start: Instant,
         loops: Vec<LoopParts>,
     ) -> Result<(), ServeFault>
+        ensures started { OnOk result (length self.new.loops.items
+            ≡ length self.old.loops.items + length loops.items) }
         ensures faults { IfErr result (λ fault. fault ≡ ServeFault.Memory) }
     {
         self.loops.reserve(loops.len())?;
         for parts in loops {
             let started = LoopStart::new(main, start, self.loops.len(), parts)?;
-            let _ = self.loops.push(spawn_loop(main.host.rt, started)?);
+            let started = spawn_loop(main.host.rt, started)?;
+            // (its place was reserved, so that no thread is started that can't be joined)
+            let Ok(()) = self.loops.push(started) else {
+                unreachable!()
+            };
         }
         Ok(())
     }
 
     /// Waits for all of them, once they see that the relay has stopped, and no accept is under way
     /// for which a loop that closes would wait. It adds up what the loops' books came to.
-    pub(crate) fn join<R: Threads>(
-        self,
-        rt: &R,
-        _stopped: Stopped,
-        _ended: AcceptsEnded,
-    ) -> Joined {
+    pub(crate) fn join<R: Threads>(self, rt: &R, _stopped: Stopped, _ended: AcceptsEnded) -> Joined
+        ensures joined { (ends : List LoopEnd) × (length ends ≡ length self.loops.items)
+            × IsJoinOf result ends }
+    {
         let StartedThreads { loops } = self;
         let mut joined = Joined::nobody();
         for one in loops {
