@@ -359,6 +359,8 @@ def pieces(checks, folder):
             slow.connect(it.relay.admin)
             slow.sendall(b"targets\n")
             checks.expect("pieces: others go on", "ok", it.set(B, "drain"))
+            # Its numbers are those of the listing that is under way.
+            it.relay.ask("targets")
             # The file has the rules in another order from now on, without the last of them.
             kept = list(reversed(list(ports.items())))[1:]
             it.more = "".join(rule(name, port, targets) for name, port in kept)

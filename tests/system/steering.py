@@ -279,8 +279,8 @@ def ends_soon(it, began):
 
 
 def last_end(checks):
-    """Of two connections the first ends, and then the second; and whether the relay ended soon after that."""
-    with Tried(checks, "finish with two connections", loops=1) as it:
+    """Of two connections, each of a loop of its own, the first ends, and then the second; and whether the relay ended soon after that."""
+    with Tried(checks, "finish with two connections") as it:
         first, second = it.talking(), it.talking()
         it.answers("finish 86400000\n", "ok\n")
         it.holds("the first ends", first.finish(), "it doesn't")
