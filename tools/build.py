@@ -8,8 +8,8 @@ said, and status 1. With `--keep-going` all that doesn't stand on that crate is 
 
 A lane is a check that is under way: one a processor, as far as free memory holds them. First come those with the most
 above them. A check shares its proofs among some processes, its jobs. Each loads the libraries below anew, so it has as
-many as processors are free, and one at least; but the crates wait for each other in a long chain, and a check that the
-end of this chain waits for has the most.
+many as processors are free, and one at least; but the crates wait for each other in a long chain, and a check has the
+most whose own text and the longest chain above it come to at least three quarters of what any other's under way does.
 
 Libraries hold their statements alone, as those of `rt ci` do, and nothing is kept in out/incremental: that leaves out
 a third of the processor time. But `rt check` wants libraries with their proofs, and would build them all again. With
@@ -154,10 +154,10 @@ class Build:
         self.cuts, self.lanes, self.jobs, self.keeps_going = cuts, lanes, jobs, keeps_going
         self.memory, self.began = free_bytes(), time.monotonic()
         self.total, self.running = len(crates), []
-        self.above = {it.name: lines_above(it, crates) for it in crates}
+        self.ahead = {it.name: lines_above(it, crates) + it.count(rb"\n") for it in crates}
         left = [it for it in crates if not stands(it, cuts)]
         is_over = crates[-1].is_program and crates[-1] not in left
-        self.left = [] if is_over else sorted(left, key=lambda it: -self.above[it.name] - it.count(rb"\n"))
+        self.left = [] if is_over else sorted(left, key=lambda it: -self.ahead[it.name])
         self.done = self.total - len(self.left)
 
     def say(self, text):
@@ -176,7 +176,7 @@ class Build:
 
     def jobs_of(self, crate, room):
         most = min(self.jobs, 1 + int(max(0, room - BYTES_OF_A_CHECK) / BYTES_OF_A_JOB))
-        if all(self.above[crate.name] >= self.above[it.crate.name] for it in self.running):
+        if all(4 * self.ahead[crate.name] >= 3 * self.ahead[it.crate.name] for it in self.running):
             return most
         return max(1, min(most, self.lanes - sum(it.jobs for it in self.running)))
 

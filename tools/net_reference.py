@@ -21,11 +21,14 @@ CALLS, KINDS = ROOT / "crates/fd_descriptor/specs/HandleCalls.antt", ROOT / "cra
 SECTIONS = {
     "A net": ("Net", "Net::start", "Net::stop"),
     "Addresses": ("Addr", "Addr::of", "address_of", "tcp", "UNIX"),
-    "Listeners": ("Listener", "Listener::bind", "Listener::accept", "Listener::try_clone", "Listener::close", "Listener::closer", "Listener::local_addr"),
+    "Listeners": (
+        "Listener", "Listener::bind", "Listener::accept", "Listener::set_accept_timeout", "Listener::try_clone", "Listener::close",
+        "Listener::closer", "Listener::local_addr",
+    ),
     "Connections": (
-        "Conn", "Conn::connect", "Conn::read", "Conn::write", "Conn::flush", "Conn::try_clone", "Conn::set_read_timeout",
-        "Conn::set_write_timeout", "Conn::set_deadline", "Conn::close_write", "Conn::close", "Conn::close_gently", "Conn::socket_closer",
-        "Conn::peer_addr", "Conn::local_addr", "SocketCloser", "SocketCloser::close", "SocketCloser::try_clone", "Gone", "Gone::was_open",
+        "Conn", "Conn::connect", "Conn::dial", "Conn::read", "Conn::write", "Conn::flush", "Conn::try_clone", "Conn::set_read_timeout",
+        "Conn::set_write_timeout", "Conn::set_deadline", "Conn::set_nodelay", "Conn::nodelay", "Conn::set_keepalive", "Conn::keepalive",
+        "Conn::close_write", "Conn::close", "Conn::close_gently", "Conn::socket_closer", "Conn::peer_addr", "Conn::local_addr", "SocketCloser", "SocketCloser::close", "SocketCloser::try_clone", "Gone", "Gone::was_open",
     ),
     "Groups of connections": (
         "ConnGroup", "ConnGroup::new", "ConnGroup::join", "Member", "ConnGroup::count", "ConnGroup::end", "ConnGroup::wait", "NoneLeft",
@@ -55,6 +58,9 @@ SECTIONS = {
 GO = {
     "Listener": "`net.Listener`", "Listener::bind": "`net.Listen`, which at `[::]` takes IPv4 clients too", "Listener::accept": "`Listener.Accept`", "Listener::close": "`Listener.Close`",
     "Listener::local_addr": "`Listener.Addr`", "Conn": "`net.Conn`", "Conn::connect": "`net.DialTimeout`", "Conn::read": "`Conn.Read`",
+    "Conn::dial": "`net.DialTimeout`, which takes names of services as ports too, and tries IPv6 and IPv4 side by side",
+    "Listener::set_accept_timeout": "none: `TCPListener.SetDeadline` before each `Accept`",
+    "Conn::set_nodelay": "`TCPConn.SetNoDelay`", "Conn::set_keepalive": "`TCPConn.SetKeepAlive` and `SetKeepAlivePeriod`; a `net.Dialer` and a `net.ListenConfig` turn it on, by 15 seconds",
     "Conn::write": "`Conn.Write`", "Conn::set_deadline": "`Conn.SetDeadline`, by a moment; all times here are lengths from now",
     "Conn::set_read_timeout": "none: `SetReadDeadline` before each read", "Conn::set_write_timeout": "none: `SetWriteDeadline` before each write",
     "Conn::close_write": "`TCPConn.CloseWrite`", "Conn::close": "`Conn.Close`, which also ends the calls under way and waits for them",
@@ -70,7 +76,9 @@ GO = {
 TOKIO = {
     "Addr": "`std::net::SocketAddr`, or a path", "Net": "its runtime has the driver", "Listener": "`net::TcpListener`, `net::UnixListener`", "Listener::bind": "`TcpListener::bind`, which at `[::]` takes IPv4 clients too unless `net.ipv6.bindv6only` is 1",
     "Listener::accept": "`TcpListener::accept`", "Listener::close": "none: its drop, or a `CancellationToken` in a `select!`",
-    "Conn": "`net::TcpStream`, `net::UnixStream`", "Conn::connect": "`timeout(time, TcpStream::connect(addr))`", "Conn::read": "`AsyncReadExt::read`",
+    "Conn": "`net::TcpStream`, `net::UnixStream`", "Conn::connect": "`timeout(time, TcpStream::connect(addr))`",
+    "Conn::dial": "`timeout(time, TcpStream::connect(text))`, in which the first address may take all of the time", "Listener::set_accept_timeout": "`timeout(time, accept)`",
+    "Conn::set_nodelay": "`TcpStream::set_nodelay`; off from the start", "Conn::nodelay": "`TcpStream::nodelay`", "Conn::set_keepalive": "`socket2::SockRef::set_tcp_keepalive`", "Conn::read": "`AsyncReadExt::read`",
     "Conn::write": "`AsyncWriteExt::write_all`", "Conn::try_clone": "`into_split`, which gives an owner of reads and one of writes", "Conn::set_read_timeout": "`timeout(time, read)`",
     "Conn::set_write_timeout": "`timeout(time, write)`", "Conn::set_deadline": "`timeout_at` around each call", "Conn::close_write": "`AsyncWriteExt::shutdown`",
     "Conn::close": "none: its drop", "Conn::close_gently": "none: `shutdown`, and reads to the end under `timeout`",
@@ -97,7 +105,8 @@ OF_NET = {
 }
 # Which time ends a call's wait.
 TIMES = {
-    "Listener::accept": "none; only a close ends it", "Conn::connect": "`timeout`, from the call on; with `None` the system's, about two minutes",
+    "Listener::accept": "the accept time-out, from when the call has the listener to itself", "Conn::dial": "`timeout`, from the call on, but for the look-up, which takes as long as the system's resolver waits; with `None` the system's, about two minutes for each address",
+    "Conn::connect": "`timeout`, from the call on; with `None` the system's, about two minutes",
     "Conn::read": "the read time-out, from when the call has its direction to itself, and the deadline: the earlier",
     "Conn::write": "the write time-out, from when the call has its direction to itself, and the deadline: the earlier",
     "Conn::poll_read": "the deadline, where it has passed; a task's own time is in `Next`", "Conn::poll_write": "the deadline, where it has passed; a task's own time is in `Next`",
@@ -116,6 +125,9 @@ FAILS = {
     "Listener::bind": "`OutOfMemory`, `Other` where the net has its 4,096 sockets, or the system's error: the address is taken, isn't this machine's, or isn't allowed",
     "Listener::accept": "`OutOfMemory`, or the system's error where the poller refuses the socket",
     "Conn::connect": "`OutOfMemory`, or the system's error; `WouldBlock` where the queue at a Unix path is full",
+    "Conn::dial": "`InvalidInput` for a text that names nothing, the resolver's error, `NotFound` where it has no address; else as `Conn::connect`",
+    "Conn::set_nodelay": "over TCP also the system's error", "Conn::nodelay": "over TCP also the system's error",
+    "Conn::set_keepalive": "over TCP also the system's error, which is `InvalidInput` beyond 32,767 seconds", "Conn::keepalive": "over TCP also the system's error",
     "Outgoing::poll": "as its sink's write", "Outgoing::push": "`AllocError`",
     "LineHandler::begin": "as the program's own does", "LineHandler::answer": "as the program's own does", "LineHandler::too_long": "as the program's own does",
     "Lines::poll": "as `Conn::poll_read`", "Lines::read": "as its reader does, or `Other` after 2^64 reads",
@@ -126,6 +138,8 @@ FAILS = {
 }
 # Where a call's clause stands at a private function that it calls.
 CLAUSE_OF = {"Listener::accept": "Accepts", "Conn::connect": "Connects"}
+# The call that has no faults but those of a reference.
+NO_OWN_FAULT = "Controls"
 # What each kind of error says.
 WHEN = {
     "NotConnected": "the connection or the listener was closed: by this or another clone, or with its net",
@@ -135,7 +149,7 @@ WHEN = {
     "ConnectionAborted": "the system gave the connection up",
     "BrokenPipe": "the peer takes no more bytes, or this side was shut",
     "ConnectionRefused": "nobody listens at the address",
-    "Other": "the net has its 4,096 sockets (`bind`, `accept`, `connect`), no reference or place to wait is left (16,777,215 and 262,143), or the system interrupted the call 1,025 times in a row; another error of the system keeps its own kind and number. None is `Interrupted`",
+    "Other": "the net has its 4,096 sockets (`bind`, `accept`, `connect`, `dial`), no reference or place to wait is left (16,777,215 and 262,143), or the system interrupted the call 1,025 times in a row; another error of the system keeps its own kind and number. None is `Interrupted`",
     "WouldBlock": "the queue at a Unix path is full (`Conn::connect`), or the system refuses a thread (`Net::start`, `Net::serve`, `listen_and_serve`); no other call fails so",
     "OutOfMemory": "memory was refused; the connection is as before",
 }
@@ -215,7 +229,7 @@ def kinds_of(call):
     """The kinds of error by which a handle's call fails, by the tables of the crates below."""
     kind_of = dict(re.findall(r"^kind_told \(?fault\.(\w+(?: device\.\w+)?)\)? = kind\.(\w+)$", KINDS.read_text(), re.M))
     faults = re.findall(rf"^IsOwnFault {call} \(?fault\.(\w+)", CALLS.read_text(), re.M)
-    if not faults:
+    if not faults and call != NO_OWN_FAULT:
         raise ValueError(f"{CALLS} has no row of {call}")
     # (a call that takes a reference or a lock is refused where the word is closed or has none left)
     named = {"Closed", "TooMany", *faults} - {"EndOfFile"}
@@ -274,7 +288,8 @@ def page():
         "## Errors",
         "",
         "Each call below names the kinds by which it may fail. Where they are read from a clause of its own, it is proved to fail by no",
-        "other; `Net::start`, `Net::serve`, `Listener::bind`, `Listener::accept`, `Conn::connect`, `Lines::poll` and `Lines::read` have no such clause.",
+        "other; `Net::start`, `Net::serve`, `Listener::bind`, `Listener::accept`, `Conn::connect`, `Conn::dial`, `Lines::poll` and `Lines::read` have no",
+        "such clause, and `Conn::set_nodelay`, `nodelay`, `set_keepalive` and `keepalive` have one for Unix sockets alone.",
         "",
         "| Kind | When |",
         "|---|---|",

@@ -1,20 +1,26 @@
 #!/usr/bin/env python3
 """Hostile texts to the built program, by afl-fuzz.
 
-    python3 tests/fuzz/fuzz.py [--minutes 10] [--keep] [trace | check | session]..    fuzzes each for so long, from the corpus on
-    python3 tests/fuzz/fuzz.py --corpus                                               runs the corpus alone, some seconds
-    python3 tests/fuzz/fuzz.py --planted                                              shows that a planted abort is found in each
+    python3 tests/fuzz/fuzz.py [--minutes 10] [--keep] [trace | check | config | session | header]..
+                                                  fuzzes each for so long, from the corpus on
+    python3 tests/fuzz/fuzz.py --corpus           runs the corpus alone, some seconds
+    python3 tests/fuzz/fuzz.py --planted          shows that a planted abort is found in each
 
 trace    `pollrelay trace` with the text on standard input; the status is 0 or 1
 check    `pollrelay check --rules` of the text; the status is 0 or 1
+config   `pollrelay check --config` of the text; the status is 0 or 1, and what is printed is one line: the number of rules, or a fault that
+         names a line and a column, or a key with its rule (fuzz_verdict.c)
 session  the text is an admin session of a running relay; each line is answered as it may be (fuzz_session.c), and a relay that was told to
          stop or to finish ends with status 0
+header   the text is what a client sends to a rule that awaits a header of the PROXY protocol; behind a good header all comes to the target,
+         and any other client is ended (fuzz_header.c)
 
 A crash, a run of 2 s or another status is a failure, and its text is kept in the folder that is named. A run that took 2 s by the clock is made again
 alone, and is a hang if it takes 2 s of processor time. The program is run as it was built: a library that is loaded before the C library's
 (fuzz_run.c) is afl-fuzz's fork server, has a process make many runs, and sets a breakpoint on each block of code, so that afl-fuzz learns which
-texts reach new code: of a session, code of the driver, which looks at each line and its reply. With --keep such texts go to the
-corpus. It needs gcc, binutils and afl++: apt-get install gcc binutils afl++.
+texts reach new code: of a session and a header, code of the driver, which looks at each line and its reply, or at the header. With --keep
+such texts go to the corpus. A program that has checks in place of proofs wants FUZZ_RUNS=1, and is slower by far. It needs gcc, binutils and
+afl++: apt-get install gcc binutils afl++.
 """
 import glob
 import hashlib
@@ -28,7 +34,7 @@ import time
 
 sys.path.insert(1, f"{sys.path[0]}/..")
 from lib.checks import Checks
-from lib.fuzz_target import HANG_MS, Target, blocks_of
+from lib.fuzz_target import HANG_MS, KEYS, Target, blocks_of
 from lib.places import ROOT, TESTS
 from lib.stages import options
 from lib.waiting import wait_until
@@ -37,22 +43,47 @@ CORPUS = f"{TESTS}/fuzz/corpus"
 MOST_BYTES = 4_096
 OPERATIONS = "incref decref rlock wlock runlock wunlock rsignal wsignal rwake wwake close drain destroy".split()
 NUMBERS = "0 1 2 01 64 65 262143 262144 67108863 67108864 16777217 4294967296 4503599627370494 4503599627370495 86400000 86400001".split()
+# Of each key of a configuration some values are good, and some nearly so.
+VALUES = [
+    '"web"', '"30s"', '"500ms"', '"5m"', '"24h"', '"1441m"', '"never"', '"0s"', '"32767s"', '"32768s"', "true", "false",
+    '"tcp:127.0.0.1:8080"', '"tcp:[::1]:443"', '"tcp:[fe80::1%2]:443"', '"tcp:localhost:80"', '"unix:/a"', '"unix:/' + "x" * 100 + '"',
+    '"round-robin"', '"least-connections"', '"first"', '"source"', '"v1"', '"v2"', '"text"', '"json"', '"0660"',
+    '"10.0.0.0/8"', '"2001:db8::/32"', '"::ffff:10.0.0.1"', '"0.0.0.0/0"', '"::/0"', '"10.0.0.0/33"', '"100/s"', '"30/m"', '"5/h"', '"1000001/h"',
+    "0", "1", "64", "65", "100", "101", "50000", "50001", "65535", "65536", "-1", "1.5", "0x10", "0b1", "1_000", "inf", "nan",
+    "9223372036854775807", "9223372036854775808", "1979-05-27T07:32:00Z", "07:32:00", "1979-05-27",
+    '"""', "'''", "[]", "{}", "[[]]", "{ at = 1 }",
+]
+SIGNATURE = "\r\n\r\n\0\r\nQUIT\n"
 TOKENS = {
     "trace": [*(f"{it}\n" for it in OPERATIONS), *NUMBERS, "+", " ", "\n", "\r\n"],
     "check": [
         "relay ", "web ", "tcp:", "unix:/", "tcp:127.0.0.1:", "255.255.255.255", "0.0.0.0", "65535", "65536", " never\n", " 86400000\n",
         "#", "\n", "\r\n", " ", ":", ".", "/", "relay a tcp:1.1.1.1:1 unix:/x never\n", "x" * 16, "x" * 17, "/" + "x" * 100, *NUMBERS,
     ],
+    "config": [
+        *(f"{it} = " for it in KEYS), *VALUES, "[[rule]]\n", "[rule]\n", "[admin]\n", "[log]\n", "[[rule.target]]\n", "[rule.health]\n", "rule.",
+        "{ ", " }", "[", "]", ", ", "#", "\n", "\r\n", "\t", "\"", "'", "\\", "\\u00e9", "\\U0001F600", "\\x41", "\\e", "\u00c3\u00a9", "\u00e9",
+        "\0", "\x7f", "=", ".", "x" * 17, "x" * 61,
+    ],
     "session": [
         "list\n", "totals\n", "close ", "drain ", "drain 1\n", "show ", "show\n", "finish ", "show 1\n", "reload\n", "deadline ", " never\n", "quit\n", "stop\n", "\n", "\r\n", " ", "x" * 64, "x" * 65, *NUMBERS,
+    ],
+    "header": [
+        SIGNATURE, *(f"{SIGNATURE}{it}" for it in ("\x20\0\0\0", "\x21\x11\0\x0c", "\x21\x21\0\x24", "\x21\x31\0\xd8", "\x21\x12\0\x0c", "\x21\0\x02\x08")),
+        "PROXY ", "PROXY TCP4 ", "PROXY TCP6 ", "PROXY UNKNOWN", "TCP4", "TCP6", "UNKNOWN", "1.2.3.4 5.6.7.8 1 2", "::1 ::1 1 2", "203.0.113.7 ",
+        "255.255.255.255", "0.0.0.0", "2001:db8::7 ", "::ffff:192.0.2.1", "::", "fe80::1%2", " 0", " 65535", " 65536", " 01", " ", "\r\n", "\r", "\n",
+        "\0", "\x20", "\x21", "\x11", "\x22", "\x31", "\x32", "\x02\x08", "\x02\x09", "\x04\0\x03abc", "x" * 93, "x" * 94,
+        "\0" * 12, "\0" * 36, "\0" * 108,
     ],
 }
 SEEDS = {
     "trace": [f"{ROOT}/examples/scripts/*.script"],
     "check": [f"{ROOT}/examples/rules/*.rules"],
+    "config": [f"{ROOT}/examples/config/*.toml"],
     "session": [],
+    "header": [],
 }
-PLANTED = {"trace": "65 wwake", "check": "255.255.255.255", "session": "262144"}
+PLANTED = {"trace": "65 wwake", "check": "255.255.255.255", "config": "1441m", "session": "262144", "header": "255.255.255.255"}
 PLANTED_SECONDS = 300
 # afl-fuzz makes a file of each text.
 IN_MEMORY = "/dev/shm" if os.path.isdir("/dev/shm") else None
@@ -80,7 +111,7 @@ def dictionary(kind, folder):
     path = f"{folder}/tokens"
     with open(path, "w", encoding="ascii") as file:
         for at, token in enumerate(TOKENS[kind]):
-            text = "".join(f"\\x{byte:02X}" for byte in token.encode())
+            text = "".join(f"\\x{byte:02X}" for byte in token.encode("latin-1"))
             file.write(f't{at}="{text}"\n')
     return path
 

@@ -8,9 +8,14 @@
 //   FUZZ_BLOCKS    a file of 32-bit offsets into the program, rising: where a block of code begins. Each has a breakpoint, and the byte of
 //                  afl-fuzz's map (AFL_MAP_SIZE) that has its number.
 //   FUZZ_STATUSES  the digits of the statuses that are right, as "013"
-//   FUZZ_RUNS      how many runs a process makes, 10,000 if it isn't given; with 1, each run has a process of its own
+//   FUZZ_VERDICTS  the keys of a configuration, each with a space behind it: a run that prints anything but a verdict on one, as it ends
+//                  with its status, is told as one that aborted too. It holds without afl-fuzz as well.
+//   FUZZ_RUNS      how many runs a process makes, 10,000 if it isn't given; with 1, each run has a process of its own, as a program with
+//                  run-time checks needs: they keep too much memory for a copy
 //   FUZZ_PLANTED   a text; a program that reads it aborts. It shows that a fault is found.
 #define _GNU_SOURCE
+#include "fuzz_verdict.h"
+
 #include <fcntl.h>
 #include <link.h>
 #include <malloc.h>
@@ -36,6 +41,7 @@
 #define MOST_AREAS 64
 #define MOST_HITS 65536
 #define STACK_BYTES 65536
+#define MOST_SAID 4096
 
 struct area {
     unsigned char *at, *copy;
@@ -62,6 +68,9 @@ static unsigned char *kept;
 static size_t count;
 // How many runs reached each block, up to OFTEN. One that has been reached so often loses its breakpoint, and each run marks it.
 static uint16_t *reached;
+// What this run has printed.
+static char said[MOST_SAID];
+static size_t said_bytes;
 
 static int find_program(struct dl_phdr_info *info, size_t size, void *none) {
     (void)size, (void)none;
@@ -177,8 +186,10 @@ __attribute__((noinline)) static void copy_memory(void) {
 }
 
 static int is_right(int status) {
-    const char *right = getenv("FUZZ_STATUSES");
-    return right == NULL || (0 <= status && status < 10 && strchr(right, '0' + status) != NULL);
+    const char *right = getenv("FUZZ_STATUSES"), *keys = getenv("FUZZ_VERDICTS");
+    if (right != NULL && (status < 0 || 10 <= status || strchr(right, '0' + status) == NULL))
+        return 0;
+    return keys == NULL || is_verdict(keys, status, said, said_bytes);
 }
 
 // Waits until afl-fuzz wants a run, and answers with this process, which it ends where the run takes too long.
@@ -219,6 +230,8 @@ static void put_back(void) {
 // Where the program would end.
 static void end_run(int status, void *none) {
     (void)none;
+    if (lasting == NULL && !is_right(status))
+        abort();
     if (lasting == NULL || !lasting->is_running)
         return;
     fflush(NULL);
@@ -297,6 +310,15 @@ ssize_t read(int fd, void *buf, size_t size) {
     return watched(buf, syscall(SYS_read, fd, buf, size));
 }
 
+ssize_t write(int fd, const void *buf, size_t size) {
+    if (fd == 1) {
+        size_t more = size < MOST_SAID - said_bytes ? size : MOST_SAID - said_bytes;
+        memcpy(said + said_bytes, buf, more);
+        said_bytes += more;
+    }
+    return syscall(SYS_write, fd, buf, size);
+}
+
 ssize_t recv(int fd, void *buf, size_t size, int flags) {
     return watched(buf, syscall(SYS_recvfrom, fd, buf, size, flags, NULL, NULL));
 }
@@ -310,6 +332,11 @@ int open(const char *path, int flags, ...) {
     if (strstr(path, ".cur_input") != NULL)
         begin();
     return (int)syscall(SYS_open, path, flags, mode);
+}
+
+__attribute__((constructor)) static void look_at_the_end(void) {
+    if (getenv("FUZZ_VERDICTS") != NULL)
+        on_exit(end_run, NULL);
 }
 
 void _exit(int status) {

@@ -160,9 +160,9 @@ module ended_twice << 'END'
 //! A connection goes into its end, and what was entered into the index into its id.
 
 use log_writer::Log;
-use relay_conn::connection::Connection;
+use relay_conn::connection::{Connection, EndedConnection};
 use relay_facts::books::LoopBooks;
-use relay_shared::index::{Entered, Gone};
+use relay_shared::index::Entered;
 use relay_shared::standing::RelayIndex;
 use std::sync::ledger::Ledger;
 use std::sync::{Arc, Mutex, Wait};
@@ -174,7 +174,7 @@ pub fn connection_ended_twice<U: Ledger, D: Ledger, R: Wait + Clock + Copy>(
     index: &Mutex<RelayIndex>,
     books: &mut LoopBooks<U, D>,
     log: &Option<Arc<Log>>,
-) -> (Gone, Gone) {
+) -> (EndedConnection, EndedConnection) {
     let first = connection.end(rt, index, books, log, 1);
     let second = connection.end(rt, index, books, log, 2); // refused: borrow-e0382
     (first, second)
@@ -226,10 +226,13 @@ END
 
 # What a relay's threads owe one another.
 module owed << 'END'
-//! An entry in the index, a question of a session, the answer that it is owed, and the path of a bind can't be dropped.
+//! An entry in the index, a question of a session, the answer that it is owed, the path of a bind, an end that is to be
+//! told, and news of a host's addresses can't be dropped.
 
 use relay_shared::bound_path::{BoundPath, BoundPaths};
 use relay_shared::index::Entered;
+use relay_shared::lookups::News;
+use relay_shared::owed_end::OwedEnd;
 use relay_shared::requests::{Request, Ticket};
 
 pub fn entry(entered: Entered) {} // refused: linear-value-let-go
@@ -241,6 +244,10 @@ pub fn answer_that_is_owed(ticket: Ticket) {} // refused: linear-value-let-go
 pub fn path(bound: BoundPath) {} // refused: linear-value-let-go
 
 pub fn paths(bound: BoundPaths) {} // refused: linear-value-let-go
+
+pub fn end_that_is_to_be_told(owed: OwedEnd) {} // refused: linear-value-let-go
+
+pub fn news_of_a_host(news: News) {} // refused: linear-value-let-go
 END
 
 # A side of a connection that ends is closed.
@@ -249,10 +256,17 @@ edited relay_conn/src/connection.rt -e 's|^            target,$|            targ
 holds_mark relay_conn/src/connection.rt
 
 # A client that was delivered to its loop is counted, and why it is refused is told.
-edited relay_loops/src/set_up.rt -e '/^                arrival\.refused(/d' \
-    -e 's|^        match self\.connect(tasks, .*{$|& // refused: linear-value-let-go|' \
-    -e 's|^            Err(why) => {$|& // refused: linear-value-let-go|'
+edited relay_loops/src/set_up.rt -e '/^                let owed = arrival\.refused(/d' -e '/^                owed\.tell(/d' \
+    -e 's|^        match self\.connect(tasks, .*{$|& // refused: linear-value-let-go|'
 holds_mark relay_loops/src/set_up.rt
+
+# The end of a connection is told to a relay that finishes, and so is that of a client that is turned away.
+edited relay_loops/src/loops.rt -e '/^        owed\.tell(/d' \
+    -e 's|^        let EndedConnection { gone, owed } = task\.end($|& // refused: linear-value-let-go|'
+holds_mark relay_loops/src/loops.rt
+edited relay_loops/src/awaiting.rt -e '/^        owed\.tell(/d' \
+    -e 's|^        let owed = arrival\.refused(.*$|& // refused: linear-value-let-go|'
+holds_mark relay_loops/src/awaiting.rt
 refuses 'values that are let go'
 
 begin lockword relay_server

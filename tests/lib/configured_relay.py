@@ -3,15 +3,17 @@ import contextlib
 
 from lib.relay import Relay
 
-
-def config(*rules, more=""):
-    return f'admin = "{{folder}}/admin.sock"\nlog = "{{folder}}/log"\nloops = 2\n{more}{"".join(rules)}'
+ADMIN = '"{folder}/admin.sock"'
 
 
-def relay(*rules, more="", **given):
-    return contextlib.closing(Relay(config(*rules, more=more), form="config", **given))
+def config(*rules, more="", admin=ADMIN):
+    return f'admin = {admin}\nlog = "{{folder}}/log"\nloops = 2\n{more}{"".join(rules)}'
 
 
-def reload(it, *rules, more=""):
-    it.write(config(*rules, more=more))
+def relay(*rules, more="", admin=ADMIN, **given):
+    return contextlib.closing(Relay(config(*rules, more=more, admin=admin), form="config", **given))
+
+
+def reload(it, *rules, more="", admin=ADMIN):
+    it.write(config(*rules, more=more, admin=admin))
     return it.ask("reload")

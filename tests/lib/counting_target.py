@@ -8,9 +8,9 @@ from lib.sockets import listener
 class CountingTarget:
     """Says its name to each who connects, where it has one, then sends back what comes, and counts them (`taken`)."""
 
-    def __init__(self, name="", host="127.0.0.1", path=None):
+    def __init__(self, name="", host="127.0.0.1", path=None, port=0):
         self.name, self.taken = name.encode(), 0
-        self.sock, self.address = listener(path, host=host)
+        self.sock, self.address = listener(path, host=host, port=port)
         self.sock.settimeout(None)
         threading.Thread(target=self.serve, daemon=True).start()
 

@@ -15,6 +15,7 @@
 #include <dlfcn.h>
 #include <errno.h>
 #include <fcntl.h>
+#include <netdb.h>
 #include <pthread.h>
 #include <stdarg.h>
 #include <stdatomic.h>
@@ -171,6 +172,7 @@ FAILS(int, getpeername, fd, (int fd, struct sockaddr *to, socklen_t *size), fd, 
 FAILS(int, getsockname, fd, (int fd, struct sockaddr *at, socklen_t *size), fd, at, size)
 FAILS(int, statx, -1, (int at, const char *path, int flags, unsigned mask, struct statx *found), at, path, flags, mask, found)
 FAILS(int, unlink, -1, (const char *path), path)
+FAILS(int, chmod, -1, (const char *path, mode_t mode), path, mode)
 FAILS(int, epoll_create1, -1, (int flags), flags)
 FAILS(int, eventfd, -1, (unsigned count, int flags), count, flags)
 FAILS(int, epoll_wait, -1, (int poller, struct epoll_event *events, int most, int ms), poller, events, most, ms)
@@ -248,4 +250,12 @@ int pthread_create(pthread_t *thread, const pthread_attr_t *with, void *(*run)(v
     if (it == NULL)
         it = real("pthread_create");
     return is_failed("pthread_create", CALLER) ? (int)error : it(thread, with, run, value);
+}
+
+// Its errors are numbers of their own, below 0; here each is given without its sign.
+int getaddrinfo(const char *name, const char *service, const struct addrinfo *hints, struct addrinfo **found) {
+    static int (*it)(const char *, const char *, const struct addrinfo *, struct addrinfo **);
+    if (it == NULL)
+        it = real("getaddrinfo");
+    return is_failed("getaddrinfo", CALLER) ? -(int)error : it(name, service, hints, found);
 }

@@ -8,6 +8,7 @@ import socket
 import time
 
 from lib.clients import TAG_BYTES, Desk, Ledger, Misses, exchange, open_connection
+from lib.own_etc import OwnEtc
 from lib.relay import Relay, StartFault, totals_of
 from lib.sockets import free_port
 from lib.waiting import wait_until
@@ -18,6 +19,9 @@ START_LINES = re.compile(
     r"(cannot read rules|cannot listen [a-z0-9]+|relay fault: (device|memory))\n"
 )
 STOP_SECONDS = 20
+# An address of the loopback at which no target is; what is told of a name whose look-up fails, and then goes well.
+SECOND = "127.0.0.2"
+TURNS = ("can't be looked up; its last addresses stay", "is looked up again")
 GONE = ("error 404 no such connection", "error 409 closed")
 MARKS = ("[refused]\n", "[failed]\n")
 
@@ -164,12 +168,16 @@ class Run:
             self.wrong.append("the relay doesn't end")
             return
         last = self.relay.process.stdout.read().decode()
-        end = self.relay.process.returncode, said_of(self.relay.errors())[0], last
+        end = self.relay.process.returncode, self.said(), last
         is_right = end[:2] == (0, "") and self.ledger.holds(totals_of(last))
         if not is_right and end not in [(3, "relay fault: device\n", ""), (3, "", "")][:may_lose_lines]:
             self.wrong.append(f"it ended with {end}, and what arrived is {self.ledger}")
         if left := self.left():
             self.wrong.append(f"it left {left}")
+
+    def said(self):
+        """What the relay wrote to standard error that no run has to write."""
+        return said_of(self.relay.errors())[0]
 
     def let_go(self):
         """What clients do once the relay was told to end."""
@@ -177,6 +185,61 @@ class Run:
     def left(self):
         """The Unix paths that an ended relay has left."""
         return self.relay.sockets()
+
+
+class Named(Run):
+    """A relay by a configuration, whose TCP target is at a host that is named: at one address, and behind a reload at two, the second of
+    which refuses who comes."""
+
+    host = "app.internal"
+
+    def __init__(self, *words):
+        super().__init__(*words)
+        self.etc, (self.address, self.tcp_port) = OwnEtc(), self.targets.accepts["tcp"].getsockname()
+        self.etc.know({self.host: [self.address]})
+
+    def text(self):
+        return (
+            f'admin = "{{folder}}/admin.sock"\n'
+            f'[[rule]]\nname = "tcp"\nlisten = ["tcp:127.0.0.1:{self.port}"]\nbalance = "first"\nresolve = "500ms"\n'
+            f'target = [{{ at = "tcp:{self.host}:{self.tcp_port}" }}]\n'
+            f'[[rule]]\nname = "unix"\nlisten = ["unix:{{folder}}/in.sock"]\nidle = "60s"\ntarget = [{{ at = "{self.targets.unix_address}" }}]\n'
+        )
+
+    def start(self, env, before=()):
+        # (the words ahead of the relay's own aren't to fail)
+        words = (*self.etc.words, *before, "env", *(f"{name}={value}" for name, value in env.items()))
+        self.relay = Relay(self.text(), form="config", env={}, before=words)
+        self.expect_found(Desk(self.relay, self.misses, self.tries), self.address)
+        return self.relay
+
+    def expect_found(self, desk, *addresses):
+        """The targets at these addresses, which come, whatever was refused meanwhile."""
+        wanted = [f"tcp:{at}:{self.tcp_port}" for at in addresses]
+
+        def found():
+            return [line.split()[5] for line in desk.ask("targets").splitlines() if " rule tcp " in line]
+
+        if not wait_until(lambda: found() == wanted, 10):
+            self.wrong.append(f"the targets are {found()}, and not {wanted}")
+        desk.drop()
+
+    def look(self, desk):
+        super().look(desk)
+        self.etc.know({self.host: [self.address, SECOND]})
+        if (reply := desk.ask("reload")) not in ("rules 2", "relay fault: memory"):
+            self.wrong.append(f"a reload was answered {reply!r}")
+        self.expect_found(desk, self.address, SECOND)
+
+    def said(self):
+        """A look-up that failed is told, and one that went well behind it."""
+        lines, turns = super().said().splitlines(keepends=True), [f"names: {self.host} {turn}\n" for turn in TURNS]
+        told = [it for it in lines if it.startswith("names: ")]
+        return "".join(it for it in lines if it not in told or told != turns[: len(told)])
+
+    def stop(self, desk, may_lose_lines=0):
+        super().stop(desk, may_lose_lines)
+        self.etc.close()
 
 
 class Handed(Run):

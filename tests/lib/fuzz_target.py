@@ -1,4 +1,4 @@
-"""What afl-fuzz runs: the built program, or a driver of admin sessions with a relay behind it."""
+"""What afl-fuzz runs: the built program, or a driver of admin sessions or of clients with a relay behind it."""
 import os
 import re
 import shutil
@@ -11,10 +11,17 @@ from lib.c_code import compiled
 from lib.places import PROGRAM, TESTS
 from lib.relay import Relay
 from lib.sockets import REPLY_SECONDS, free_port
+from lib.waiting import comes
 
 # A line may name 67,108,864 holders, which takes 17 s.
 HANG_MS = 60_000
 STOPPED = 7
+# The keys of a configuration: each verdict on a text that is none names one of them, or a line and a column.
+KEYS = (
+    "accepts_per_source admin allow at backlog backup balance connect_timeout connections connections_per_rule connections_per_source deny every "
+    "fall file format from_client health idle keepalive listen log loops metrics mode name path proxy_protocol replace_stale resolve rise rule "
+    "source target timeout to_target user_timeout weight"
+).split()
 
 
 def blocks_of(program, path):
@@ -47,24 +54,31 @@ def blocks_of(program, path):
     return len(starts)
 
 
+# What is relayed while the text is an admin session, and while it is what a client says to a target of the driver's.
+RULES = "relay tcp tcp:127.0.0.1:{port} tcp:127.0.0.1:9 never\nrelay unix unix:{{folder}}/in.sock tcp:127.0.0.1:9 60000\n"
+AWAITS = (
+    'admin = "{{folder}}/admin.sock"\nloops = 2\n[[rule]]\nname = "web"\nlisten = ["tcp:127.0.0.1:{port}"]\n'
+    'target = [{{ at = "unix:{target}" }}]\nproxy_protocol = {{ from_client = ["127.0.0.0/8"] }}\n'
+)
+
+
 class Served:
     """A relay that is started anew whenever a session told it to stop."""
 
-    RULES = "relay tcp tcp:127.0.0.1:{} tcp:127.0.0.1:9 never\nrelay unix unix:{{folder}}/in.sock tcp:127.0.0.1:9 60000\n"
-
-    def __init__(self, env):
-        self.env, self.relay, self.wrong = env, None, []
+    def __init__(self, env, text, form):
+        self.env, self.text, self.form, self.relay, self.wrong = env, text, form, None, []
         self.stops, self.is_over = 0, False
         # One for all relays in turn: nobody connects to it, so it is free again at once.
         self.port = free_port()
         self.folder = tempfile.mkdtemp(prefix="sessions-")
-        self.link = f"{self.folder}/admin"
+        self.link, self.target = f"{self.folder}/admin", f"{self.folder}/target"
         self.start()
+        self.descriptors = self.relay.descriptors()
         self.keeper = threading.Thread(target=self.keep_up, daemon=True)
         self.keeper.start()
 
     def start(self):
-        self.relay = Relay(self.RULES.format(self.port), env=self.env)
+        self.relay = Relay(self.text.format(port=self.port, target=self.target), env=self.env, form=self.form)
         fresh = f"{self.folder}/fresh"
         os.symlink(self.relay.admin, fresh)
         os.rename(fresh, self.link)
@@ -86,6 +100,12 @@ class Served:
                 self.wrong.append(f"no relay after {self.stops} others: {fault}")
                 return
 
+    def left(self):
+        """What is left of connections though all of them have ended."""
+        if self.wrong or comes(lambda: self.relay.descriptors() <= self.descriptors):
+            return []
+        return [f"{self.relay.descriptors()} descriptors, at first {self.descriptors}"]
+
     def close(self):
         self.is_over = True
         self.relay.close()
@@ -98,22 +118,33 @@ class Target:
 
     def __init__(self, kind, folder, planted=""):
         self.kind, self.folder, self.served = kind, folder, None
-        self.library = compiled(f"{TESTS}/fuzz/fuzz_run.c", f"{folder}/fuzz_run", "-shared", "-fPIC")
-        self.env = {"LC_ALL": "C"}
+        self.library = compiled(f"{TESTS}/fuzz/fuzz_run.c", f"{folder}/fuzz_run", f"{TESTS}/fuzz/fuzz_verdict.c", "-shared", "-fPIC")
+        self.env, self.statuses = {"LC_ALL": "C"}, "01"
         if kind == "session":
-            with_fault = {"LD_PRELOAD": self.library, "FUZZ_PLANTED": planted} if planted else {"LC_ALL": "C"}
-            self.served = Served(with_fault)
-            self.words = [compiled(f"{TESTS}/fuzz/fuzz_session.c", f"{folder}/fuzz_session"), self.served.link]
-            self.statuses = f"0{STOPPED}"
+            self.serve(planted, RULES, "rules")
+            self.words, self.statuses = [self.driver(), self.served.link], f"0{STOPPED}"
+        elif kind == "header":
+            self.serve(planted, AWAITS, "config")
+            self.words, self.statuses = [self.driver(), str(self.served.port), self.served.target], "0"
         else:
-            self.words = [PROGRAM, "trace"] if kind == "trace" else [PROGRAM, "check", "--rules", "@@"]
-            self.statuses = "01"
+            self.words = [PROGRAM, "trace"] if kind == "trace" else [PROGRAM, "check", "--config" if kind == "config" else "--rules", "@@"]
             if planted:
                 self.env["FUZZ_PLANTED"] = planted
+            if kind == "config":
+                self.env["FUZZ_VERDICTS"] = "".join(f"{it} " for it in KEYS)
+
+    def serve(self, planted, text, form):
+        with_fault = {"LD_PRELOAD": self.library, "FUZZ_PLANTED": planted} if planted else {"LC_ALL": "C"}
+        self.served = Served(with_fault, text, form)
+
+    def driver(self):
+        return compiled(f"{TESTS}/fuzz/fuzz_{self.kind}.c", f"{self.folder}/fuzz_{self.kind}")
 
     def wrong(self):
-        """How relays ended otherwise than by a session's stop."""
-        return self.served.wrong if self.served else []
+        """How relays ended otherwise than by a session's stop, and what is left in one that has served."""
+        if self.served is None:
+            return []
+        return self.served.wrong + (self.served.left() if self.kind == "header" else [])
 
     def close(self):
         if self.served is not None:
@@ -122,11 +153,10 @@ class Target:
     def run(self, path):
         """The status of one run on the text of a file, or None where it takes too long; without afl-fuzz."""
         words = [path if word == "@@" else word for word in self.words]
+        env = {**os.environ, **self.env, **({"LD_PRELOAD": self.library} if "FUZZ_VERDICTS" in self.env else {})}
+        quiet = {"stdout": subprocess.DEVNULL, "stderr": subprocess.DEVNULL, "timeout": 10 * HANG_MS / 1000}
         with open(path, "rb") as stdin:
             try:
-                ran = subprocess.run(
-                    words, stdin=stdin, stdout=subprocess.DEVNULL, stderr=subprocess.DEVNULL, timeout=10 * HANG_MS / 1000, check=False
-                )
-                return ran.returncode
+                return subprocess.run(words, stdin=stdin, env=env, check=False, **quiet).returncode
             except subprocess.TimeoutExpired:
                 return None

@@ -4,6 +4,9 @@ import contextlib
 from lib.sockets import connect, read_to_end
 from lib.waiting import comes
 
+# The most scrapes, each of some milliseconds, until a figure is told.
+SCRAPES = 1_000
+
 
 def scrape(address, path="/metrics", timeout=20):
     """Status and body of one request on a connection of its own."""
@@ -21,3 +24,14 @@ def scrape_again(address, path="/metrics"):
             return said if said[0] else None
 
     return comes(answer)
+
+
+def told(metrics):
+    """The lines of the figures."""
+    status, text = scrape(metrics)
+    return text.splitlines() if status == 200 else []
+
+
+def comes_to_tell(it, metrics, line):
+    before = line.rpartition(" ")[0]
+    it.holds(line, comes(lambda: line in told(metrics), SCRAPES), [one for one in told(metrics) if one.startswith(f"{before} ")])

@@ -13,6 +13,7 @@ import time
 from lib.activation import started_with
 from lib.places import PROGRAM
 from lib.sockets import REPLY_SECONDS, connect
+from lib.waiting import comes
 
 # Of threads that go last, as `nice` counts: on a machine that is full of other work the least, 19, would leave them next to nothing.
 LOW_PRIORITY = 10
@@ -20,7 +21,19 @@ LOW_PRIORITY = 10
 DESCRIPTORS = 8192
 
 
-class Session:
+class Asking:
+    """The ids that a relay lists, of what asks it (`ask`)."""
+
+    def ids(self):
+        return [int(word) for word in self.ask("list").split()[1:]]
+
+    def new_ids(self, before):
+        """The ids that are listed beside those of before, once there are some. A relay lists a connection a moment after its connect to
+        the target, which may have accepted it by then: until it is listed, the last id is that of another connection or of a listener."""
+        return comes(lambda: [it for it in self.ids() if it not in before])
+
+
+class Session(Asking):
     """One admin session: a line, its reply, and so on."""
 
     def __init__(self, path):
@@ -64,7 +77,7 @@ class StartFault(RuntimeError):
         super().__init__(f"the relay didn't start: it said {said!r}")
 
 
-class Relay:
+class Relay(Asking):
     """A relay that serves a text of rules until stop() or the end of the with block. `{folder}` in the rules is its own folder.
 
     With an environment of its own its standard error is kept, for errors(). `before` are words ahead of the program's, as of a
@@ -129,9 +142,6 @@ class Relay:
         """The reply to one line, in a session of its own."""
         with Session(self.admin) as session:
             return session.ask(line)
-
-    def ids(self):
-        return [int(word) for word in self.ask("list").split()[1:]]
 
     def has_standing(self, count):
         """Whether it lists so many connections, and has no more at its targets: one leaves the list before it is counted no more, and

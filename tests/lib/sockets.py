@@ -44,6 +44,16 @@ def free_port():
                 continue
 
 
+def free_port_at(*hosts):
+    """A port that nobody has at any of these addresses of the loopback."""
+    while True:
+        port = free_port()
+        with contextlib.suppress(OSError), contextlib.ExitStack() as stack:
+            for host in hosts:
+                stack.enter_context(socket.socket(family_of(host))).bind((host, port))
+            return port
+
+
 def some_address():
     """A TCP address that nobody has."""
     return f"tcp:127.0.0.1:{free_port()}"
@@ -102,15 +112,15 @@ def is_served(address):
         return False
 
 
-def listener(path=None, host="127.0.0.1"):
-    """A listening socket with its address: TCP at this host, or a Unix socket at a path."""
+def listener(path=None, host="127.0.0.1", port=0):
+    """A listening socket with its address: TCP at this host, and at this port or a free one, or a Unix socket at a path."""
     if path:
         sock = socket.socket(socket.AF_UNIX)
         sock.bind(path)
         address = f"unix:{path}"
     else:
         sock = socket.socket(family_of(host))
-        sock.bind((host, 0))
+        sock.bind((host, port))
         address = tcp_address(sock.getsockname())
     sock.listen(1024)
     sock.settimeout(REPLY_SECONDS)

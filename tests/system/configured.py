@@ -44,6 +44,7 @@ LISTEN = "is no address to listen at (as tcp:0.0.0.0:443, tcp:[::]:443, unix:/ru
 ADDRESS = "is no address (as tcp:10.0.0.1:443, tcp:[::1]:443, unix:/run/x.sock)"
 CHECKS = "is not a table ({ every = .., timeout = .., fall = .., rise = .. })"
 NETWORK = "is no network (as 10.0.0.0/8, 2001:db8::/32, 10.0.0.1)"
+MODE = "is no mode (0 and three octal digits, as 0660)"
 NAME = 'is no name (a letter, then letters, digits and "-", all small, at most 16)'
 # Lists that let the clients of these tests in.
 LISTS = 'allow = ["127.0.0.0/8", "2001:db8::/32"]\ndeny = ["10.0.0.0/8"]\nconnections_per_source = 100\naccepts_per_source = "1000000/s"\n'
@@ -65,6 +66,8 @@ FAULTS = (
     ('replace_stale = "yes"\n', 'replace_stale: "yes" is not true or false'),
     ('metrics = "127.0.0.1:9464"\n', f'metrics: "127.0.0.1:9464" {LISTEN}'),
     ('admin = ""\n', 'admin: "" is no path of a socket (1 to 100 bytes)'),
+    ('admin = { path = "/a", mode = "0688" }\n', f'admin: mode: "0688" {MODE}'),
+    ('admin = { path = "/a", mode = 432 }\n', "admin: mode: 432 is not a text in quotes"),
     ("log = true\n", "log: true is not a path in quotes or a table ({ file = .., format = .. })"),
     ('log = { file = "-", format = "xml" }\n', 'log: format: "xml" is none of "text", "json"'),
     ('log = { file = "-", format = 5 }\n', "log: format: 5 is not a text in quotes"),
@@ -98,37 +101,39 @@ FAULTS = (
     (HEAD + 'allow = ["10.0.0.0/8", "10.0.0/8"]\n' + ENDS, f'rule "web": allow 2: "10.0.0/8" {NETWORK}'),
     (HEAD + 'deny = ["10.0.0.0/33"]\n' + ENDS, f'rule "web": deny 1: "10.0.0.0/33" {NETWORK}'),
     (HEAD + 'deny = ["app.internal"]\n' + ENDS, f'rule "web": deny 1: "app.internal" {NETWORK}'),
+    *((HEAD + f'mode = "{mode}"\n' + ENDS, f'rule "web": mode: "{mode}" {MODE}') for mode in ("", "660", "0o660", "1660", "00660", "0888", "rw-rw----")),
+    (HEAD + "mode = 0o660\n" + ENDS, 'rule "web": mode: 432 is not a text in quotes'),
+    (HEAD + 'modes = "0660"\n' + ENDS, 'rule "web": unknown key "modes"; "mode" is meant?'),
     (HEAD + 'alow = ["10.0.0.0/8"]\n' + ENDS, 'rule "web": unknown key "alow"; "allow" is meant?'),
     ("#" * 1_048_577, "more than 1048576 bytes"),
 )
 # A text with what isn't carried out, and the place that is named.
 UNSERVED = (
-    ('admin = { path = "/a", mode = "0660" }\n', "admin: mode"),
     ('metrics = "unix:/' + 100 * "m" + '"\n', "metrics"),
-    *((HEAD + f"{key} = {value}\n" + ENDS, f'rule "web": {key}') for key, value in (
-        ("resolve", '"5s"'), ("resolve", '"never"'),
-    )),
     (RULE.replace('["unix:/a"]', '["unix:/a", "unix:/c", "unix:/' + 100 * "d" + '"]'), 'rule "web": listen 3'),
     (RULE.replace("unix:/a", "unix:/" + 100 * "a"), 'rule "web": listen 1'),
-    (RULE.replace("unix:/b", "tcp:app.internal:80"), 'rule "web": target 1: at'),
     (RULE.replace("unix:/b", "unix:/" + 100 * "b"), 'rule "web": target 1: at'),
-    (RULE.replace('{ at = "unix:/b" }', '{ at = "unix:/b" }, { at = "tcp:app.internal:80" }'), 'rule "web": target 2: at'),
-    (RULE.replace('{ at = "unix:/b" }', 63 * '{ at = "unix:/b" }, ' + '{ at = "tcp:app.internal:80" }'), 'rule "web": target 64: at'),
+    (RULE.replace('{ at = "unix:/b" }', '{ at = "unix:/b" }, { at = "unix:/' + 100 * "c" + '" }'), 'rule "web": target 2: at'),
+    (RULE.replace('{ at = "unix:/b" }', 63 * '{ at = "tcp:app.internal:80" }, ' + '{ at = "unix:/' + 100 * "c" + '" }'), 'rule "web": target 64: at'),
     ("".join(RULE.replace("web", f"r{n}").replace("/a", f"/{n}") for n in range(65)), "rule 65"),
     # Of several the first: keys of the whole ahead of rules, and the text's own faults ahead of all.
-    (HEAD + 'resolve = "5s"\n' + ENDS.replace("unix:/b", "tcp:app.internal:80"), 'rule "web": resolve'),
-    ('admin = { path = "/a", mode = "0660" }\n' + HEAD + 'resolve = "5s"\n' + ENDS, "admin: mode"),
+    (RULE.replace("unix:/a", "unix:/" + 100 * "a").replace("unix:/b", "unix:/" + 100 * "b"), 'rule "web": listen 1'),
+    ('metrics = "unix:/' + 100 * "m" + '"\n' + RULE.replace("unix:/a", "unix:/" + 100 * "a"), "metrics"),
 )
-# Rules of several targets, of such that are checked, and of such that are sent a header; rules whose clients begin with one; rules with
-# several addresses, with options of sockets, and with limits of their own and of a source.
+# Rules of several targets, of such that are checked, that are sent a header, and whose hosts are named; rules whose clients begin with a
+# header; rules with several addresses, with options of sockets, and with limits of their own and of a source.
 TARGETS = (
     *(RULE.replace('["unix:/a"]', f'[{", ".join(addresses)}]') for addresses in (
         ('"unix:/a"', '"tcp:[::]:443"', '"tcp:0.0.0.0:443"'), [f'"unix:/{n}"' for n in range(16)],
     )),
     *(HEAD + f"{key} = {value}\n" + ENDS for key, value in (
         ("keepalive", '"1s"'), ("keepalive", '"32767s"'), ("user_timeout", '"1ms"'), ("user_timeout", '"24h"'), ("backlog", "1"), ("backlog", "65535"),
-        ("source", '"127.0.0.1"'), ("source", '"2001:db8::1"'),
+        ("source", '"127.0.0.1"'), ("source", '"2001:db8::1"'), ("resolve", '"1ms"'), ("resolve", '"24h"'), ("resolve", '"never"'),
+        ("mode", '"0000"'), ("mode", '"0777"'),
     )),
+    'admin = { path = "/b", mode = "0600" }\n' + RULE, HEAD + 'listen = ["tcp:0.0.0.0:443"]\ntarget = [{ at = "unix:/b" }]\nmode = "0660"\n',
+    RULE.replace("unix:/b", "tcp:app.internal:80"), RULE.replace("unix:/b", "tcp:" + "a" * 63 + ":65535"),
+    RULE.replace('{ at = "unix:/b" }', ", ".join(64 * ['{ at = "tcp:app.internal:80", weight = 2, backup = true }'])),
     HEAD + "connections = 1\n" + ENDS, HEAD + "connections = 50000\n" + ENDS,
     *(HEAD + f"{key} = {value}\n" + ENDS for key, value in (
         ("connections_per_source", "1"), ("connections_per_source", "50000"), ("accepts_per_source", '"1/s"'), ("accepts_per_source", '"1000000/m"'), ("accepts_per_source", '"5/h"'),
@@ -188,7 +193,7 @@ def verdicts(checks, folder):
 def unserved(checks, folder):
     for text, place in UNSERVED:
         refused(checks, folder, text, f"{place}: this version doesn't serve it")
-    faulty = HEAD + 'resolve = "5s"\nidle = "30x"\n' + ENDS
+    faulty = HEAD.replace("unix:/a", "unix:/" + 100 * "a") + 'idle = "30x"\n' + ENDS
     refused(checks, folder, faulty, f'rule "web": idle: "30x" {TIME}')
 
 
@@ -237,7 +242,7 @@ def served(checks, folder):
         checks.expect("its end", 0, relay.stop()[0])
         with open(f"{relay.folder}/log", encoding="utf-8") as file:
             checks.holds("its log has a line", " web " in file.read(), "it has none")
-    checks.expect("the sample", (0, "rules 5\n", ""), run("check", "--config", SAMPLE))
+    checks.expect("the sample", (0, "rules 6\n", ""), run("check", "--config", SAMPLE))
     target.close()
 
 
@@ -286,8 +291,8 @@ def reloads(checks, folder):
         checks.expect("a reload", "rules 1", relay.ask("reload"))
         checks.holds("the new target", reaches(port, second), "no bytes pass")
         for text, reply in (
-            (config(port, one, "", "zone = 1\n"), 'bad config: rule "web": unknown key "zone"'),
-            (config(port, one, "", 'resolve = "5s"\n'), 'bad config: rule "web": resolve: this version doesn\'t serve it'),
+            (config(port, one, "", "region = 1\n"), 'bad config: rule "web": unknown key "region"'),
+            (config(port, "unix:/" + 100 * "b"), 'bad config: rule "web": target 1: at: this version doesn\'t serve it'),
             (config(port, one, "loops = 0\n"), "bad config: loops: 0 is not from 1 to 64"),
         ):
             relay.write(text)
@@ -393,7 +398,7 @@ def said_in(errors):
 
 def memory(checks, folder):
     # (the file of a fault takes memory for its words too)
-    for name, text, whole in (("good", RULE + LISTS, (0, "rules 1\n")), ("bad", RULE + "zone = 1\n", (1, 'bad config: rule "web": unknown key "zone"\n'))):
+    for name, text, whole in (("good", RULE + LISTS, (0, "rules 1\n")), ("bad", RULE + "region = 1\n", (1, 'bad config: rule "web": unknown key "region"\n'))):
         path = written(folder, text)
         for number in range(1, 2_000):
             status, printed, errors = run("check", "--config", path, env=refusing(folder, number))

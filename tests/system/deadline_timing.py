@@ -10,9 +10,8 @@ import time
 sys.path.insert(1, f"{sys.path[0]}/..")
 from lib.checks import Checks
 from lib.relay import Session
-from lib.served import WAIT_SECONDS, Served
+from lib.served import Served
 from lib.stages import options
-from lib.waiting import wait_until
 
 TRIES = 50
 DEADLINE_MS = 100
@@ -23,11 +22,10 @@ PAUSE_SECONDS = 0.02
 
 def lateness_ms(served, session):
     """How many milliseconds after its moment a deadline ends a new connection; less than 0 is before it."""
-    ids = lambda: {int(word) for word in session.ask("list").split()[1:]}
-    before = ids()
+    before = session.ids()
     client, target = served.open()
     with client, target:
-        conn = min(wait_until(lambda: ids() - before, WAIT_SECONDS))
+        conn = session.new_ids(before)[0]
         time.sleep(PAUSE_SECONDS)
         began = time.monotonic()
         reply = session.ask(f"deadline {conn} {DEADLINE_MS}")

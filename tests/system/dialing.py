@@ -36,10 +36,9 @@ class Dialing:
 
     def open(self):
         """A client, with the ids of its sides."""
-        before = set(self.ask("list").split())
+        before = self.session.ids()
         client = connect(f"tcp:127.0.0.1:{self.port}")
-        ids = wait_until(lambda: sorted(int(word) for word in set(self.ask("list").split()) - before), SOON)
-        return client, *ids
+        return client, *self.session.new_ids(before)
 
     def ask(self, line):
         return self.session.ask(line)

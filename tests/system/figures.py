@@ -13,7 +13,7 @@ import time
 
 sys.path.insert(1, f"{sys.path[0]}/..")
 from lib.log_text import logged
-from lib.metrics import scrape
+from lib.metrics import comes_to_tell, told
 from lib.sockets import connect, read_to_end, some_address
 from lib.stages import options, run_script
 from lib.talk import has_ended, passes, says
@@ -58,6 +58,15 @@ pollrelay_rule_ends_total{rule="a",cause="no_target"} 0
 pollrelay_rule_ends_total{rule="t",cause="no_target"} 7
 pollrelay_rule_no_target_total{rule="t",cause="refused"} 7
 pollrelay_rule_no_target_total{rule="g",cause="unreachable"} 9
+pollrelay_connect_seconds_bucket{rule="a",le="+Inf"} 51
+pollrelay_connect_seconds_count{rule="a"} 51
+pollrelay_connect_seconds_count{rule="t"} 0
+pollrelay_connect_seconds_sum{rule="t"} 0.000000
+pollrelay_connect_seconds_count{rule="g"} 0
+pollrelay_connection_seconds_bucket{rule="a",le="+Inf"} 21
+pollrelay_connection_seconds_count{rule="a"} 21
+pollrelay_connection_seconds_count{rule="t"} 7
+pollrelay_connection_seconds_count{rule="g"} 0
 pollrelay_rule_accept_faults_total{rule="a"} 0
 pollrelay_rule_listening{rule="a"} 1
 """.split("\n")[1:-1]
@@ -74,8 +83,6 @@ pollrelay_rule_accepted_total{rule="a"} 1
 # Connections of a rule with an idle time that end, longer than that time, and more turns than two loops make in a silence, beside those
 # that a second brings.
 ENDED, SILENCE, MOST_TURNS = 40, 3.5, 10
-# The most scrapes, each of some milliseconds, until a figure is told.
-SCRAPES = 1_000
 
 
 class World:
@@ -172,17 +179,6 @@ ROWS = (
 )
 # The lines of the log: those of the rows, and of the stop.
 LINES = sum(times for _, _, times, _ in ROWS) + HELD
-
-
-def told(metrics):
-    """The lines of the figures."""
-    status, text = scrape(metrics)
-    return text.splitlines() if status == 200 else []
-
-
-def comes_to_tell(it, metrics, line):
-    before = line.rpartition(" ")[0]
-    it.holds(line, comes(lambda: line in told(metrics), SCRAPES), [one for one in told(metrics) if one.startswith(f"{before} ")])
 
 
 def turns(metrics):

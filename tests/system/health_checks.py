@@ -414,7 +414,7 @@ def refused(checks, folder):
     often = health(OFTEN, "fall = 2", "rise = 2")
     with Checked((target, up), often, "first") as it:
         checks.holds("refused: it is down", it.comes_to(target, "down"), it.lines())
-        for faulty in ("health = { every = 2 }\n", often + 'resolve = "5s"\n'):
+        for faulty in ("health = { every = 2 }\n", often + 'resolve = "5"\n'):
             reply = it.reload((target, up), faulty, "first")
             checks.holds("refused: the reload", reply.startswith('bad config: rule "web": '), reply)
         taken, address = listener()

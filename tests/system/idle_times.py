@@ -30,9 +30,9 @@ class Opened:
     """A connection of a rule, with the ids of its sides, over which a byte has passed each way, and that has these deadlines then."""
 
     def __init__(self, served, session, deadlines):
-        before = set(session.ask("list").split())
+        before = session.ids()
         self.ask, self.ends, opened = session.ask, served.open(), time.monotonic()
-        self.ids = wait_until(lambda: sorted(int(word) for word in set(session.ask("list").split()) - before), LATE)
+        self.ids = session.new_ids(before)
         # (a way's idle time begins anew as the relay reads, which may be long before the byte is seen here)
         self.began = time.monotonic()
         self.is_ready = len(self.ids) == 2 and both_ways(*self.ends) and all(self.deadline(*it) == "ok" for it in deadlines)
@@ -89,8 +89,7 @@ def idle(checks, _folder):
                 it.ends[0].send(bytes(65_536))
         except OSError:
             pass
-        ids = {str(each) for each in it.ids}
-        checks.holds("idle: writes that stall", wait_until(lambda: not ids & set(session.ask("list").split()), LATE), "it stands")
+        checks.holds("idle: writes that stall", wait_until(lambda: not set(it.ids) & set(session.ids()), LATE), "it stands")
         it.close()
 
 

@@ -166,7 +166,7 @@ def texts(checks, folder):
     for text, place in (
         (rule("tcp:[::ffff:127.0.0.1]:80", "unix:/b"), 'rule "web": listen 1: "tcp:[::ffff:127.0.0.1]:80" is no address'),
         (rule("tcp:[fe80::1%lo]:80", "unix:/b"), 'rule "web": listen 1: "tcp:[fe80::1%lo]:80" is no address'),
-        (rule("tcp:[::1]:80", "tcp:localhost:80"), 'rule "web": target 1: at: this version doesn\'t serve it'),
+        (rule("tcp:localhost:80", "tcp:[::1]:80"), 'rule "web": listen 1: "tcp:localhost:80" is no address to listen at'),
     ):
         status, said = checked(folder, text)
         checks.holds(f"texts: {place}", status == 1 and said.startswith(f"bad config: {place}"), said)

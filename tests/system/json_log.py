@@ -106,8 +106,10 @@ def resets(it, address, target):
 
 def is_closed(it, address, target):
     """One that a session closes."""
+    before = it.relay.ids()
     with connect(address) as client, target.accept()[0]:
-        it.relay.ask(f"close {it.relay.ids()[-1]}")
+        said = [it.relay.ask(f"close {id}") for id in it.relay.new_ids(before)[:1]]
+        it.checks.expect(f"{it.form}: a close", ["ok"], said)
         it.tells(own(client))
 
 

@@ -39,7 +39,7 @@ from lib.places import LIB
 from lib.relay import Relay, StartFault
 from lib.sockets import dual_stack, free_port, has_ipv6, listener, some_address
 from lib.stages import run_script
-from lib.waiting import comes, processor_seconds
+from lib.waiting import comes, processor_seconds, threads_of
 
 SOON = 20
 # The time that a client has for its header, in seconds.
@@ -592,12 +592,22 @@ def mapped(pid):
         return int(file.read().split()[0]) * resource.getpagesize()
 
 
+def has_begun(peer):
+    """Whether the first byte behind the header is there."""
+    try:
+        return peer.recv(1, socket.MSG_PEEK | socket.MSG_DONTWAIT) == b"x"
+    except OSError:
+        return False
+
+
 def starved(checks, folder):
     """How many are refused is up to the allocator that the program stands on."""
     with Awaited(folder, keys="connections = 1000\n") as it:
         it.socks[0][0].listen(CLIENTS)
         pid, none = it.relay.process.pid, resource.RLIM_INFINITY
         served(checks, "starved: before", it, it.client(), v2(), name_of(SOURCE))
+        # (a thread that hasn't run yet maps more at its first step, which a build with checks doesn't outlive)
+        checks.holds("starved: all threads have begun", comes(lambda: all(state == "S" for _, state, _ in threads_of(pid))), threads_of(pid))
         resource.prlimit(pid, resource.RLIMIT_AS, (mapped(pid), none))
         clients = [it.client() for _ in range(CLIENTS)]
         for client in clients:
@@ -606,14 +616,19 @@ def starved(checks, folder):
         for client in clients:
             with contextlib.suppress(OSError):
                 client.sendall(v2()[9:] + b"x")
-        peers = []
-        it.socks[0][0].settimeout(0.5)
-        with contextlib.suppress(TimeoutError):
-            while True:
-                peers.append(it.socks[0][0].accept()[0])
-        peers = [peer for peer in peers if taken(peer, 1) == b"x"]
-        count = lambda: sum(is_ended(client) for client in select.select(clients, [], [], 0)[0])
-        checks.holds("starved: each is served or told the end", comes(lambda: count() + len(peers) == CLIENTS), f"{len(peers)} and {count()}")
+        peers, listening = [], it.socks[0][0]
+        listening.setblocking(False)
+        ended = lambda: sum(is_ended(client) for client in select.select(clients, [], [], 0)[0])
+        begun = lambda: sum(map(has_begun, peers))
+
+        # (who isn't accepted by then would stand for good, since nobody ends it: a busy machine takes its time)
+        def all_are_told():
+            with contextlib.suppress(BlockingIOError):
+                while True:
+                    peers.append(listening.accept()[0])
+            return ended() + begun() == CLIENTS
+
+        checks.holds("starved: each is served or told the end", comes(all_are_told), f"{begun()} and {ended()}")
         resource.prlimit(pid, resource.RLIMIT_AS, (none, none))
         for sock in (*clients, *peers):
             sock.close()

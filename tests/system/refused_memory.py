@@ -1,7 +1,7 @@
 #!/usr/bin/env python3
 """Refuses each request for memory of the built program in turn.
 
-    python3 tests/system/refused_memory.py [--most N] [script | commands | single | watched | handed | drought | mappings]..
+    python3 tests/system/refused_memory.py [--most N] [script | commands | single | watched | named | handed | drought | mappings]..
 
 script    the Nth allocation of a run of `pollrelay trace` is refused, for N from 1 until a run meets no refusal: it ends with status 3 and
           a fault of memory, or with all it has to print, and what it printed is a front of that.
@@ -12,6 +12,8 @@ single    the Nth allocation is refused, for N from 1 until a run meets no refus
           exactly the bytes that arrived, and no thread, descriptor or Unix path is left.
 watched   the same of a relay with a log and metrics, whose sessions show a connection and reload the rules too, and of which a
           scraper asks. The log's lines are whole, and with those that it says were lost they are at least the connections that stood.
+named     the same of a relay by a configuration one of whose targets names its host: whatever is refused, its addresses come to be the targets,
+          at the start and once there is one more, and what is told of its look-ups is so.
 handed    the same of a relay that is started with a listener, takes a path that a killed one left, and is told to finish.
 drought   every allocation is refused while connections stand: the bytes of one without an idle time go on, and the relay stops with totals that
           fit. Where memory comes back, new connections are served.
@@ -34,7 +36,7 @@ from lib.admin_replies import is_reply
 from lib.c_code import library
 from lib.checks import Checks
 from lib.clients import WAIT_SECONDS, Desk, Misses, Targets, exchange
-from lib.faulted_life import Handed, Run, kind_of, rest_of, said_of, single_run, summary, tell
+from lib.faulted_life import Handed, Named, Run, kind_of, rest_of, said_of, single_run, summary, tell
 from lib.log_text import read_log
 from lib.metrics import scrape
 from lib.places import LIB, PROGRAM
@@ -268,7 +270,8 @@ def mappings(checks, folder, most):
 
 STAGES = {
     "script": script, "commands": commands, "single": partial(each_refused, name="single", kind=Run),
-    "watched": partial(each_refused, name="watched", kind=Watched), "handed": partial(each_refused, name="handed", kind=Handed),
+    "watched": partial(each_refused, name="watched", kind=Watched), "named": partial(each_refused, name="named", kind=Named),
+    "handed": partial(each_refused, name="handed", kind=Handed),
     "drought": drought, "mappings": mappings,
 }
 

@@ -317,7 +317,7 @@ def reloads(checks, folder):
             checks.expect(f"reloads: to {wanted}", "rules 1", it.relay.ask("reload"))
             checks.expect(f"reloads: clients of {wanted}", set(wanted), set(it.names(12)))
             checks.expect(f"reloads: connections through {wanted}", [b"on"] * 4, [echoed(client, b"on") for client, _ in stays])
-        for text in ((C, (dead(), ", zone = 1")), (C, "tcp:[::ffff:10.0.0.1]:80"), (C, "tcp:app.internal:80")):
+        for text in ((C, (dead(), ", zone = 1")), (C, "tcp:[::ffff:10.0.0.1]:80"), (C, "tcp:app..internal:80")):
             it.write(text)
             reply = it.relay.ask("reload")
             checks.holds("reloads: a refused one", reply.startswith('bad config: rule "web": target 2: '), reply)

@@ -39,11 +39,11 @@ COMMANDS = {
 class Client(Session):
     """A session whose lines are sent many at once."""
 
-    ids = []
+    stood = []
 
     def send(self, rng, count):
         """Sends so many lines, on ids that stood a moment ago."""
-        asked, ids = rng.choices(list(COMMANDS), COMMANDS.values(), k=count), Client.ids or [len(LANES) + 1]
+        asked, ids = rng.choices(list(COMMANDS), COMMANDS.values(), k=count), Client.stood or [len(LANES) + 1]
         asked = [it.format(id=rng.choice(ids), ms=rng.choice((0, 1, 20, 1_000))) for it in asked]
         self.sock.sendall("".join(f"{it}\n" for it in asked).encode())
         return asked
@@ -58,7 +58,7 @@ class Client(Session):
             if not is_reply(line, reply, range(1, len(LANES) + 1)):
                 faults.append(f"{line!r} was answered {reply!r}")
             elif line == "list":
-                Client.ids = [int(it) for it in reply[0].split()[1:] if int(it) > len(LANES)]
+                Client.stood = [int(it) for it in reply[0].split()[1:] if int(it) > len(LANES)]
         return len(asked)
 
 

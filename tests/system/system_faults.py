@@ -1,7 +1,7 @@
 #!/usr/bin/env python3
 """Has the calls of the system fail under the running relay, by a library that is loaded before the C library's.
 
-    python3 tests/system/system_faults.py [--whole] [--only CALL] [single | bursts | storms | short | handed | ctl | planted]..
+    python3 tests/system/system_faults.py [--whole] [--only CALL] [single | bursts | storms | short | handed | named | ctl | planted]..
 
 single  each call fails once, at its Nth time, with each error that its manual names and that a right program can meet. N goes up until a run
         has no such call; past 12 in growing steps, with --whole in steps of one.
@@ -10,16 +10,19 @@ storms  every call is interrupted so many times before it is served.
 short   every read and write moves one byte, and what is left comes later.
 handed  each call fails once by which a relay takes a listener that it is started with, or a Unix path that a killed one left. It is told
         to finish, and ends with its last connection.
+named   each call fails, once or some times in a row, by which a relay looks the host of a target up: once these calls go well the target is
+        where its host is, and standard error has each turn once.
 ctl     each call of `pollrelay ctl show` fails once, or moves one byte: its status is 0 and the reply whole, or 3 with one line.
 planted calls that lie, as a relay would that loses or invents bytes, or leaves a descriptor: each has to be found.
 
 A fault before `listening 2` ends the relay with status 3 and one line. A later one costs one connection, or one admin session. Everybody
 else goes on, the next client is served, no byte is invented or counted twice, threads and descriptors are those of a relay at rest,
-and `stop` ends it with status 0 and the totals. CALL is one of those that ERRORS and HANDED list, or several with commas.
+and `stop` ends it with status 0 and the totals. CALL is one of those that ERRORS, HANDED and NAMED list, or several with commas.
 """
 import collections
 import errno
 import os
+import socket
 import subprocess
 import sys
 from functools import partial
@@ -29,7 +32,7 @@ from lib.admin_replies import is_reply
 from lib.c_code import library
 from lib.checks import Checks
 from lib.clients import WAIT_SECONDS, Targets
-from lib.faulted_life import Handed, Run, kind_of, rest_of, said_of, single_run, summary, tell
+from lib.faulted_life import Handed, Named, Run, kind_of, rest_of, said_of, single_run, summary, tell
 from lib.places import LIB, PROGRAM
 from lib.relay import Relay, allow_descriptors
 from lib.sockets import free_port
@@ -72,12 +75,20 @@ HANDED = {
     "unlink": "EACCES EBUSY EIO ENOENT EPERM EROFS",
     "bind": "EACCES EADDRINUSE ENOENT",
 }
+# The same of the calls by which a host is looked up, and the addresses that were found are handed over.
+NAMED = {
+    "pthread_create": "EAGAIN EPERM",
+    "getaddrinfo": "EAI_AGAIN EAI_FAIL EAI_FAMILY EAI_MEMORY EAI_NONAME EAI_SYSTEM",
+    "write": "EAGAIN EINTR EIO",
+}
 # The first removes what was left, and those after it the relay's own paths at its end, which stay then.
 ONCE = ("unlink",)
 # Bytes of an exchange, each way.
 SIZE = 5_000
 # So many accepts pause for 5 + 10 + .. + 80 ms.
 BURST = 5
+# So many look-ups in a row fail.
+LOOK_UPS = 3
 INTERRUPTED = ("accept4", "recv", "recvfrom", "send", "sendto", "epoll_wait", "read", "write")
 # What `ctl` says where nothing was printed, and where the reply can't be.
 UNDONE, UNPRINTED = ("cannot reach admin\n", "relay fault: memory\n"), "cannot print reply\n"
@@ -113,7 +124,8 @@ class Faults:
         return [(call, error) for call in self.of(table) for error in table[call].split()]
 
     def environment(self, call, error, more):
-        env = {"LD_PRELOAD": self.library, "FAIL_CALL": call, "FAIL_WITH": str(getattr(errno, error) if error else 0)}
+        number = -getattr(socket, error) if error.startswith("EAI_") else getattr(errno, error) if error else 0
+        env = {"LD_PRELOAD": self.library, "FAIL_CALL": call, "FAIL_WITH": str(number)}
         return env | {f"FAIL_{key.upper()}": str(value) for key, value in more.items()}
 
     def run(self, name, call, error, most, seed, **more):
@@ -173,6 +185,14 @@ def handed(faults):
                 break
 
 
+def named(faults):
+    for call, error in faults.errors(NAMED):
+        for times in (1, LOOK_UPS) if call == "getaddrinfo" else (1,):
+            for number in steps(faults.is_whole):
+                if not faults.run("named", call, error, 1, number, at=number, times=times):
+                    break
+
+
 def ctl(faults):
     with Relay(faults.targets.rules(free_port())) as relay:
         rest = relay.descriptors()
@@ -204,19 +224,19 @@ def planted(faults):
         print(f"planted: a {call} that lies is found in {found} of {faults.hit[call]} runs", flush=True)
 
 
-STAGES = {"single": single, "bursts": bursts, "storms": storms, "short": short, "handed": handed, "ctl": ctl, "planted": planted}
+STAGES = {"single": single, "bursts": bursts, "storms": storms, "short": short, "handed": handed, "named": named, "ctl": ctl, "planted": planted}
 
 
 def main():
     given = options(__doc__, STAGES, whole=False, only="")
     only = given.only.split(",") if given.only else []
-    if unknown := set(only) - {*ERRORS, *HANDED}:
+    if unknown := set(only) - {*ERRORS, *HANDED, *NAMED}:
         sys.exit(f"no call {' '.join(sorted(unknown))}")
     allow_descriptors()
     checks = Checks()
 
     def stage(name, checks, folder):
-        faults = Faults(checks, folder, only, given.whole, Handed if name == "handed" else Run)
+        faults = Faults(checks, folder, only, given.whole, {"handed": Handed, "named": Named}.get(name, Run))
         STAGES[name](faults)
         faults.targets.close()
         checks.holds(f"{name}: calls failed", sum(faults.hit.values()) > 0, "none")

@@ -22,6 +22,7 @@ sys.path.insert(1, f"{sys.path[0]}/..")
 from lib.black_hole import BlackHole
 from lib.checks import Checks
 from lib.echoes import comes_back, target
+from lib.own_etc import OwnEtc
 from lib.pages.markdown import bare, rows, section
 from lib.pages.tree import GUIDE, Tree
 from lib.places import PROGRAM
@@ -81,10 +82,10 @@ class Made:
 class Configured(Made):
     """The same by a configuration, whose rule has these further lines."""
 
-    def __init__(self, stack, lines, to=None):
+    def __init__(self, stack, lines, to=None, before=()):
         self.stack, self.port = stack, free_port()
         self.to, self.web = to or target()[1], f"tcp:127.0.0.1:{self.port}"
-        self.relay = stack.enter_context(Relay(self.text(lines), form="config", env={}))
+        self.relay = stack.enter_context(Relay(self.text(lines), form="config", env={}, before=before))
         self.log = f"{self.relay.folder}/log"
 
     def text(self, lines, head=""):
@@ -192,10 +193,12 @@ def _(stack, checks):
 @trial("bad config: ..")
 def _(stack, checks):
     folder = stack.enter_context(tempfile.TemporaryDirectory())
-    faults = (("no time", "idle", '"30x"', "is no time"), ("what isn't served", "resolve", '"5s"', "this version doesn't serve it"))
-    for name, key, value, why in faults:
+    faults = (
+        ("no time", "idle", "unix:/b", "30x", "is no time"), ("what isn't served", "target 1: at", f"unix:/{100 * 'b'}", "30s", "this version doesn't serve it"),
+    )
+    for name, key, at, idle, why in faults:
         with open(f"{folder}/config", "w", encoding="ascii") as file:
-            file.write(f'[[rule]]\nname = "web"\nlisten = ["unix:/a"]\ntarget = [{{ at = "unix:/b" }}]\n{key} = {value}\n')
+            file.write(f'[[rule]]\nname = "web"\nlisten = ["unix:/a"]\ntarget = [{{ at = "{at}" }}]\nidle = "{idle}"\n')
         told = verdict(f"{folder}/config", "config")
         checks.holds(f"{name}: rule, key and what is wanted", told.startswith(f'bad config: rule "web": {key}: ') and why in told, told)
         words = [PROGRAM, "serve", "--config", f"{folder}/config", "--admin", f"{folder}/admin.sock"]
@@ -281,6 +284,49 @@ def _(stack, checks):
     made = Made(stack, "unix:/nowhere/at.all")
     checks.holds("it is closed", is_closed(stack.enter_context(connect(made.web))), "")
     checks.holds("the log", made.ends("no target unreachable"), made.logged())
+
+
+@trial("the same, and the target in the log is tcp:0.0.0.0:PORT")
+def _(stack, checks):
+    etc = stack.enter_context(contextlib.closing(OwnEtc()))
+    port = target()[1].rpartition(":")[2]
+    made = Configured(stack, 'resolve = "500ms"\n', f"tcp:app.internal:{port}", etc.words)
+    told = "names: app.internal can't be looked up; its last addresses stay\n"
+    checks.holds("the line", wait_until(lambda: made.relay.errors() == told, SECONDS), made.relay.errors())
+    asked = subprocess.run([*etc.words, "getent", "ahosts", "app.internal"], capture_output=True, text=True, check=False)
+    checks.expect("the resolver", (2, ""), (asked.returncode, asked.stdout))
+    checks.holds("it is closed", is_closed(stack.enter_context(connect(made.web))), "")
+    checks.holds("the log", made.ends("no target unreachable"), made.logged())
+    checks.holds("its target", any(f" tcp:0.0.0.0:{port} " in it for it in made.logged()), made.logged())
+    etc.know({"app.internal": ["127.0.0.1"]})
+
+    def is_served():
+        with contextlib.suppress(ConnectionError):
+            return made.client()
+
+    checks.holds("it is looked up by itself", wait_until(is_served, SECONDS), made.logged())
+
+
+@trial("the host of a target has a new address, and clients come to the old one")
+def _(stack, checks):
+    etc = stack.enter_context(contextlib.closing(OwnEtc()))
+    etc.know({"app.internal": ["127.0.0.1"]})
+    port = target()[1].rpartition(":")[2]
+    made = Configured(stack, 'resolve = "24h"\n', f"tcp:app.internal:{port}", etc.words)
+
+    def is_at(address):
+        return f" at tcp:{address}:{port} " in ctl(made.relay.admin, "targets")[1]
+
+    checks.holds("before", wait_until(lambda: is_at("127.0.0.1"), SECONDS), ctl(made.relay.admin, "targets"))
+    etc.know({"app.internal": ["127.0.0.2"]})
+    checks.holds("a client", made.client(), "no bytes")
+    checks.holds("targets have the old one", is_at("127.0.0.1"), ctl(made.relay.admin, "targets"))
+    checks.expect("a reload", (0, "rules 1"), ctl(made.relay.admin, "reload"))
+    checks.holds("targets have the new one", wait_until(lambda: is_at("127.0.0.2"), SECONDS), ctl(made.relay.admin, "targets"))
+    etc.know({})
+    ctl(made.relay.admin, "reload")
+    told = "names: app.internal can't be looked up; its last addresses stay\n"
+    checks.holds("the line of a look-up that fails", wait_until(lambda: made.relay.errors() == told, SECONDS), made.relay.errors())
 
 
 @trial("the same after some seconds, with no target timeout")

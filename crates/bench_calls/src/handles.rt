@@ -51,6 +51,10 @@ impl Resource for Halves {
 
     type W = Half;
 
+    type Control = ();
+
+    fn control_of(_read: &Half) {}
+
     fn destroy(read: Half, write: Half) -> Result<(), DevKind> {
         drop(read);
         drop(write);

@@ -5,6 +5,7 @@
 mod alarms;
 mod calls;
 mod closing;
+mod controls;
 mod deadlines;
 mod draining;
 mod memory;

@@ -8,7 +8,7 @@ use Rattle.fd_descriptor.specs.FdHandle.{closes_of, drains_of}
 use Rattle.fd_descriptor.specs.HandleCalls.{Call, MayTell, IsRefusedEntry}
 
 -- what holds of each such call, whatever it does once it is in
-pub record IsEntry {X R W A T : Type 0} (call : Call) (before after : FdHandle X R W A)
+pub record IsEntry {X A R W C T : Type 0} (call : Call) (before after : FdHandle X A R W C)
     (result : Result T Fault) : Type 0 where
   pub keeps : KeepsHandle before after
   -- it sets no flag

@@ -11,81 +11,85 @@ use Rattle.lockword.specs.History.{GoesOn}
 use Rattle.lockword_core.specs.declared.stake.Event.{Event}
 use Rattle.lockword_core.specs.declared.word.Word.{Word}
 
-module _ {X R W A : Type 0} where
+module _ {X A R W C : Type 0} where
   -- the descriptor that a handle is on
-  abbrev pub descriptor_of : FdHandle X R W A → Fd X R W A
+  abbrev pub descriptor_of : FdHandle X A R W C → Fd X A R W C
   descriptor_of h = arc_value h.fd
 
   -- where calls on the descriptor wait
-  abbrev pub cell_of : FdHandle X R W A → PollCell
+  abbrev pub cell_of : FdHandle X A R W C → PollCell
   cell_of h = arc_value (descriptor_of h).cell
 
   -- the key that the descriptor was opened with, which its cell has for its alarms
-  abbrev pub key_of : FdHandle X R W A → ℕ
+  abbrev pub key_of : FdHandle X A R W C → ℕ
   key_of h = key_of_cell (cell_of h)
 
+  -- what the system is asked by about the descriptor's socket
+  abbrev pub control_of : FdHandle X A R W C → C
+  control_of h = (descriptor_of h).control
+
   -- what the handle has seen
-  abbrev pub marks_of : FdHandle X R W A → Marks
+  abbrev pub marks_of : FdHandle X A R W C → Marks
   marks_of h = marks_in h.seat
 
   -- the handle saw that the descriptor is closed
-  abbrev pub saw_closed : FdHandle X R W A → Bool
+  abbrev pub saw_closed : FdHandle X A R W C → Bool
   saw_closed h = (marks_of h).closed
 
   -- the handle saw that the halves are destroyed
-  abbrev pub saw_done : FdHandle X R W A → Bool
+  abbrev pub saw_done : FdHandle X A R W C → Bool
   saw_done h = (marks_of h).done
 
   -- the handle saw that the descriptor is draining
-  abbrev pub saw_draining : FdHandle X R W A → Bool
+  abbrev pub saw_draining : FdHandle X A R W C → Bool
   saw_draining h = (marks_of h).draining
 
   -- how many times this handle set the descriptor's closed flag
-  abbrev pub closes_of : FdHandle X R W A → ℕ
+  abbrev pub closes_of : FdHandle X A R W C → ℕ
   closes_of h = closes_in h.seat
 
   -- how many times this handle destroyed the halves
-  abbrev pub destroys_of : FdHandle X R W A → ℕ
+  abbrev pub destroys_of : FdHandle X A R W C → ℕ
   destroys_of h = destroys_in h.seat
 
   -- how many times this handle set the descriptor's drain flag
-  abbrev pub drains_of : FdHandle X R W A → ℕ
+  abbrev pub drains_of : FdHandle X A R W C → ℕ
   drains_of h = drains_in h.seat
 
   -- what all handles had done when this one made its last operation or look, in one order
-  abbrev pub heard_of : FdHandle X R W A → List Event
+  abbrev pub heard_of : FdHandle X A R W C → List Event
   heard_of h = heard_in h.seat
 
   -- what a look shows to a handle, as it shows it to the handle's seat: the word was so at a moment
   -- that goes on from what the handle had heard
-  abbrev pub LooksAt : FdHandle X R W A → FdHandle X R W A → Word → Type 0
+  abbrev pub LooksAt : FdHandle X A R W C → FdHandle X A R W C → Word → Type 0
   LooksAt before after word = LooksThrough before.seat after.seat word
 
 -- what every call keeps of its handle
-pub record KeepsHandle {X R W A : Type 0} (before after : FdHandle X R W A) : Type 0 where
+pub record KeepsHandle {X A R W C : Type 0} (before after : FdHandle X A R W C) : Type 0 where
   -- the handle stays on its descriptor
   pub same : descriptor_of after ≡ descriptor_of before
   -- what was seen stays seen
   pub marks : KeepsMarks (marks_of before) (marks_of after)
 
 -- what a handle has heard goes on from what it had heard
-abbrev pub HearsOn : {X R W A : Type 0} → FdHandle X R W A → FdHandle X R W A → Type 0
+abbrev pub HearsOn : {X A R W C : Type 0} → FdHandle X A R W C → FdHandle X A R W C → Type 0
 HearsOn before after = GoesOn (heard_of before) (heard_of after)
 
 -- what a call keeps that neither closes, nor destroys, nor drains
-pub record KeepsDeeds {X R W A : Type 0} (before after : FdHandle X R W A) : Type 0 where
+pub record KeepsDeeds {X A R W C : Type 0} (before after : FdHandle X A R W C) : Type 0 where
   pub no_close : closes_of after ≡ closes_of before
   pub no_destroy : destroys_of after ≡ destroys_of before
   pub no_drain : drains_of after ≡ drains_of before
 
 -- a handle that has closed nothing, destroyed nothing and drained nothing so far
-pub record DidNothing {X R W A : Type 0} (handle : FdHandle X R W A) : Type 0 where
+pub record DidNothing {X A R W C : Type 0} (handle : FdHandle X A R W C) : Type 0 where
   pub no_close : closes_of handle ≡ 0
   pub no_destroy : destroys_of handle ≡ 0
   pub no_drain : drains_of handle ≡ 0
 
 -- the first handle on a descriptor that was opened with this key: it has seen nothing, and done nothing
-pub record IsFirst {X R W A : Type 0} (given : ℕ) (handle : FdHandle X R W A) : Type 0 where
+pub record IsFirst {X A R W C : Type 0} (given : ℕ) (handle : FdHandle X A R W C) : Type 0 where
   pub key : key_of handle ≡ given
   pub unclosed : saw_closed handle ≡ false
   pub undrained : saw_draining handle ≡ false

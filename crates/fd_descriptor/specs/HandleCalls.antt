@@ -23,6 +23,7 @@ pub data Call : Type 0 where
   Closes : Call
   Drains : Call
   Begins : Call
+  Controls : Call
 
 -- the fault that a refusal of the lock word is to the caller of a handle
 abbrev pub lock_fault : Refusal → Fault

@@ -49,8 +49,9 @@ impl<X: Resource, A: Allocator> FdHandle<X, A> {
         let Ok(cell) = Arc::new(alloc, PollCell::new(key)) else {
             return Err(OutOfMemory);
         };
+        let control = X::control_of(&read);
         let (word, seat) = LockWord::new(words, read, write)?;
-        let Ok(fd) = Arc::new(alloc, Fd { word, cell }) else {
+        let Ok(fd) = Arc::new(alloc, Fd::new(word, cell, control)) else {
             return Err(OutOfMemory);
         };
         Ok(FdHandle {

@@ -5,6 +5,7 @@
 
 mod calls;
 mod close;
+mod control;
 mod deadlines;
 mod descriptor;
 mod draining;

@@ -17,6 +17,14 @@ pub trait Resource {
     /// What is written to.
     type W: Drop;
 
+    /// What the system is asked by about the socket, while a reference is held. It is let go after
+    /// the halves, and once it was made nothing changes it.
+    type Control: Drop;
+
+    /// What the system is asked by about the socket of this read half, which is made before a
+    /// descriptor has the half.
+    fn control_of(read: &Self::R) -> Self::Control;
+
     /// Destroys both. It runs once, in the call that came last; only a `close` that is that call
     /// tells its fault.
     fn destroy(read: Self::R, write: Self::W) -> Result<(), DevKind>;

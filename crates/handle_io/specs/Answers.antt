@@ -15,7 +15,7 @@ use Rattle.fd_descriptor.specs.Entry.{IsEntry}
 use Rattle.handle_io.specs.Kinds.{kind_told}
 
 -- what a handle's read promises of its answer, for a buffer with so much room
-pub record IsReadOf {X A R W : Type 0} (before after : FdHandle X A R W) (room : ℕ)
+pub record IsReadOf {X A R W C : Type 0} (before after : FdHandle X A R W C) (room : ℕ)
     (told : Result ℕ Fault) : Type 0 where
   pub entry : IsEntry Reads before after told
   pub within : IfOk told (λ count. count ≤ room)
@@ -23,7 +23,7 @@ pub record IsReadOf {X A R W : Type 0} (before after : FdHandle X A R W) (room :
   pub empty : room ≡ 0 → IfErr told (IsLockFault (marks_of before) (marks_of after))
 
 -- what a handle's write promises of its answer, for so many bytes
-pub record IsWriteOf {X A R W : Type 0} (before after : FdHandle X A R W) (offered : ℕ)
+pub record IsWriteOf {X A R W C : Type 0} (before after : FdHandle X A R W C) (offered : ℕ)
     (told : Result ℕ WriteFault) : Type 0 where
   pub keeps : KeepsHandle before after
   pub no_close : closes_of after ≡ closes_of before

@@ -3,7 +3,7 @@ use Rattle.fd_descriptor.specs.declared.descriptor.FdHandle.{FdHandle}
 use Rattle.handle_io.specs.declared.reader.HandleReader.{HandleReader}
 use Rattle.std.specs.Global.{Global}
 
-module _ {X T R W : Type 0} where
+module _ {X T R W C : Type 0} where
   -- the handle by which it reads
-  abbrev pub handle_of : HandleReader X T R W → FdHandle X Global R W
+  abbrev pub handle_of : HandleReader X T R W C → FdHandle X Global R W C
   handle_of reader = reader.handle

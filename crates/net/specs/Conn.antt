@@ -8,11 +8,13 @@ use Rattle.std.specs.declared.io.ErrorKind.TheVariants.{NotConnected}
 use Rattle.rwloops.specs.declared.fault.Fault.{Fault}
 use Rattle.rwloops.specs.declared.fault.WriteFault.{WriteFault}
 use Rattle.fd_descriptor.specs.declared.descriptor.FdHandle.{FdHandle}
-use Rattle.fd_descriptor.specs.FdHandle.{marks_of, saw_closed}
+use Rattle.fd_descriptor.specs.FdHandle.{control_of, marks_of, saw_closed}
 use Rattle.fd_descriptor.specs.Marks.{SawTheEnd}
 use Rattle.readiness.specs.declared.resources.SockRes.{SockRes}
 use Rattle.readiness.specs.declared.resources.ReadHalf.{ReadHalf}
 use Rattle.readiness.specs.declared.resources.WriteHalf.{WriteHalf}
+use Rattle.readiness.specs.SockControl.{asks_tcp}
+use Rattle.readiness.specs.declared.sock_control.SockControl.{SockControl}
 use Rattle.handle_io.specs.Answers.{IsReadAnswerBy, IsWriteAnswerBy}
 use Rattle.std.specs.Arc.{arc_value}
 use Rattle.net.specs.declared.guard.Guard.{Guard}
@@ -37,8 +39,13 @@ IsWriteAnswer told result untold = IsWriteAnswerBy Tells told result untold
 
 module _ {R : Type 0} where
   -- the handle by which this clone reads, writes and closes
-  abbrev pub handle_of : Conn R → FdHandle SockRes Global (ReadHalf Global) (WriteHalf Global)
+  abbrev pub handle_of : Conn R
+      → FdHandle SockRes Global (ReadHalf Global) (WriteHalf Global) SockControl
   handle_of conn = conn.handle
+
+  -- its socket is one of TCP
+  abbrev pub is_tcp_conn : Conn R → Bool
+  is_tcp_conn conn = asks_tcp (control_of (handle_of conn))
 
   -- this clone closed the connection, or was told that somebody did
   abbrev pub is_closed : Conn R → Bool

@@ -5,7 +5,7 @@ use Rattle.std.specs.declared.io.Error.{Error}
 use Rattle.std.specs.declared.io.ErrorKind.TheVariants.{OutOfMemory}
 use Rattle.rwloops.specs.declared.fault.Fault.{Fault}
 use Rattle.rwloops.specs.declared.fault.Fault.TheVariants as fault
-use Rattle.fd_descriptor.specs.HandleCalls.{Call, Connects, SetsDeadline, MayTell}
+use Rattle.fd_descriptor.specs.HandleCalls.{Call, Accepts, Connects, SetsDeadline, MayTell}
 use Rattle.fd_descriptor.specs.Marks.{Marks}
 use Rattle.net.specs.Errors.{Tells}
 
@@ -30,6 +30,15 @@ FailsAs call result = IfErr result (IsErrorOf call)
 abbrev pub FailsToConnect : {T : Type 0} → Result T Error → Type 0
 FailsToConnect result =
     IfErr result (λ error. IsErrorOf Connects error ⊎ IsErrorOf SetsDeadline error)
+
+-- an accept with a time may be told this fault: one of an accept, or of setting its time
+abbrev pub IsAcceptFault : Fault → Type 0
+IsAcceptFault told = IsFaultOf Accepts told ⊎ IsFaultOf SetsDeadline told
+
+-- the wait for a client fails by those faults alone
+abbrev pub FailsToAccept : {T : Type 0} → Result T Error → Type 0
+FailsToAccept result =
+    IfErr result (λ error. IsErrorOf Accepts error ⊎ IsErrorOf SetsDeadline error)
 
 -- the call fails by want of memory alone
 abbrev pub FailsForMemory : {T : Type 0} → Result T Error → Type 0

@@ -1,6 +1,8 @@
 pub mod Address
 pub mod Asked
+pub mod Attempts
 pub mod Conn
+pub mod ConnOptions
 pub mod Ending
 pub mod Errors
 pub mod Failures
@@ -8,6 +10,7 @@ pub mod Gentle
 pub mod Gone
 pub mod Group
 pub mod Home
+pub mod Host
 pub mod LastCall
 pub mod Limits
 pub mod LineTask

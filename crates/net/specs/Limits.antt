@@ -1,5 +1,5 @@
 -- When calls give up.
-use Rattle.std.specs.Prelude.{ℕ, ◌+◌, ◌-◌, ◌^◌, min, Option, Some, None}
+use Rattle.std.specs.Prelude.{ℕ, ◌+◌, ◌-◌, ◌^◌, min, Option, Some, None, option_map}
 use Rattle.std.specs.Duration.{as_nanos}
 use Rattle.std.specs.declared.time.Duration.{Duration}
 use Rattle.base_types.specs.declared.direction.Dir.{Dir}
@@ -49,3 +49,9 @@ with_time_of limits dir.Write time now =
 abbrev pub with_until_of : Limits → Option Duration → ℕ → Limits
 with_until_of limits time now =
     record { read = limits.read; write = limits.write; until = moment_of now time }
+
+-- the limits once a call of this direction begins that has a time, all of which is its own; none where
+-- calls of this direction have no time
+abbrev pub begun_from : Limits → Dir → ℕ → Option Limits
+begun_from limits dir now =
+    option_map (λ time. with_time_of limits dir (Some time) now) (times_in limits dir).each

@@ -15,7 +15,8 @@ use Rattle.net.specs.declared.accepting.Listener.{Listener}
 
 module _ {R : Type 0} where
   -- the handle by which this clone accepts and closes
-  abbrev pub listening_handle : Listener R → FdHandle NotedListenRes Global NotedListen NoWrites
+  abbrev pub listening_handle : Listener R
+      → FdHandle NotedListenRes Global NotedListen NoWrites (Unit {0})
   listening_handle listener = listener.handle
 
   -- this clone closed the listener, or was told that somebody did

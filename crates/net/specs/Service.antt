@@ -9,7 +9,7 @@ use Rattle.net.specs.declared.closer.ServiceCloser.{ServiceCloser}
 use Rattle.net.specs.declared.service.Service.{Service}
 use Rattle.net.specs.Listener.{listens_at, common_of}
 
--- an accept that fails so is the last: the listener is closed, or its last call came
+-- an accept that fails so may be the last: the listener is closed, or its last call came
 abbrev pub is_last_accept : ErrorKind → Bool
 is_last_accept NotConnected = true
 is_last_accept TimedOut = true

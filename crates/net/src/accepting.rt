@@ -4,14 +4,15 @@ ghost use Rattle.std.specs.Prelude.{◌≡◌, true, false, None, IfOk, OnOk};
 ghost use Rattle.fd_descriptor.specs.FdHandle.{KeepsHandle, descriptor_of, marks_of};
 ghost use Rattle.fd_descriptor.specs.HandleCalls.{Accepts, Closes, SetsDeadline};
 ghost use Rattle.net.specs.Conn.{IsNotConnected, has_task, is_closed, untold_of};
-ghost use Rattle.net.specs.Failures.{FailsAs, FailsForMemory};
+ghost use Rattle.net.specs.Failures.{FailsAs, FailsForMemory, FailsToAccept};
 ghost use Rattle.net.specs.Gone.{gone_id};
 ghost use Rattle.net.specs.SocketCloser.{closes};
 ghost use Rattle.net.specs.Listener.{HasStopped, IsOfFamily, is_shut, listening_handle};
 ghost use Rattle.net.specs.Listener.{listens_at, common_of};
 ghost use Rattle.readiness.specs.Sockets.{is_tcp_addr, is_tcp_listener};
 
-use crate::errors::told;
+use crate::accept_times::{accept_timed, lift_late, set_accept_time};
+use crate::errors::{error_with, told};
 use crate::gone::Gone;
 use crate::guard::Guard;
 use crate::home::Home;
@@ -20,13 +21,14 @@ use crate::runs::Runs;
 use crate::shared::Shared;
 use crate::socket_closer::SocketCloser;
 use crate::stream::Conn;
-use fd_descriptor::{Deadline, Dir, FdHandle, TaskReader};
+use fd_descriptor::{Deadline, Dir, Fault, FdHandle, TaskReader};
 use readiness::{Addr, LastCodes, Listen, NotedListenRes, Sock, listen_io};
 use std::fs::Files;
 use std::io;
 use std::net::Net as Sockets;
 use std::sync::Arc;
 use std::thread::Threads;
+use std::time::Duration;
 
 /// A listener. Any number of threads may accept, each by a clone of its own; when the last clone is
 /// let go, it is closed.
@@ -87,7 +89,7 @@ impl<R: Runs> Listener<R> {
         self.guard.id
     }
 
-    /// Waits for a connection, as a socket that no poller knows yet.
+    /// Waits for a connection, however long accepts may, as a socket that no poller knows yet.
     pub(crate) fn accept_sock(&mut self) -> io::Result<Sock>
         ensures keeps { KeepsHandle (listening_handle self.old) (listening_handle self.new) }
         ensures closed { is_shut self.old ≡ true → IsNotConnected result }
@@ -97,6 +99,30 @@ impl<R: Runs> Listener<R> {
         let guard = &*self.guard;
         let accepted = self.handle.accept(&guard.shared.rt);
         told(accepted, guard.code(Dir::Read))
+    }
+
+    // The same, for as long as accepts may.
+    fn accept_in_time(&mut self) -> io::Result<Sock>
+        ensures keeps { KeepsHandle (listening_handle self.old) (listening_handle self.new) }
+        ensures closed { is_shut self.old ≡ true → IsNotConnected result }
+        ensures fails { FailsToAccept result }
+        ensures guard { self.new.guard ≡ self.old.guard }
+    {
+        let guard = &*self.guard;
+        if self.handle.look().closed {
+            return Err(error_with(Fault::Closed, None));
+        }
+        let own = told(self.handle.share(), None)?;
+        told(accept_timed(guard, own), guard.code(Dir::Read))
+    }
+
+    /// Has accepts go on that were late by a time of others' accepts. `false` says that the listener
+    /// was closed, or that its last call came.
+    pub(crate) fn lift_late(&mut self) -> bool
+        ensures keeps { KeepsHandle (listening_handle self.old) (listening_handle self.new) }
+        ensures guard { self.new.guard ≡ self.old.guard }
+    {
+        lift_late(&self.guard, &mut self.handle)
     }
 
     /// Lifts the deadline by which a last call ended its accepts.
@@ -115,18 +141,45 @@ impl<R: Runs> Listener<R> {
         told(lifted, None)
     }
 
-    /// Who waits at it, if anybody does, as a socket that no poller knows yet.
-    pub(crate) fn poll_sock(&mut self) -> Option<Sock>
+    fn poll_once(&mut self) -> Option<Result<Sock, Fault>>
         ensures guard { self.new.guard ≡ self.old.guard }
     {
         let rt = self.guard.shared.rt;
         let handle = self.handle.share().ok()?;
         let mut half = TaskReader::new(rt, handle);
-        half.poll_accept()?.ok()
+        half.poll_accept()
     }
 
-    /// Waits for a connection. It fails as a handle's accept does, by want of memory, or with the
-    /// system's error where the poller refuses the socket.
+    /// Who waits at it, if anybody does, as a socket that no poller knows yet. The deadline of its
+    /// last call, which may come once more after it was lifted, is passed over.
+    pub(crate) fn poll_sock(&mut self) -> Option<Sock>
+        ensures guard { self.new.guard ≡ self.old.guard }
+    {
+        match self.poll_once()? {
+            Err(Fault::DeadlineExceeded) => {
+                self.lift().ok()?;
+                self.poll_once()?.ok()
+            }
+            answer => answer.ok(),
+        }
+    }
+
+    /// Has each accept give up after so long, as `TimedOut`, for all who share the listener. One that
+    /// waits now has so long from now; with `None` none gives up. The accepts of a service know no
+    /// time. Once the listener is closed, or its service's shutdown was asked for, it is
+    /// `NotConnected`.
+    pub fn set_accept_timeout(&mut self, time: Option<Duration>) -> io::Result<()>
+        ensures keeps { KeepsHandle (listening_handle self.old) (listening_handle self.new) }
+        ensures closed { is_shut self.old ≡ true → IsNotConnected result }
+        ensures fails { FailsAs SetsDeadline result }
+        ensures common { common_of self.new ≡ common_of self.old }
+    {
+        let set = set_accept_time(&self.guard, &mut self.handle, time);
+        told(set, None)
+    }
+
+    /// Waits for a connection, for as long as `set_accept_timeout` says. It fails as a handle's accept
+    /// does, by want of memory, or with the system's error where the poller refuses the socket.
     pub fn accept(&mut self) -> io::Result<Conn<R>>
         ensures open { IfOk result (λ conn. is_closed conn ≡ false) }
         ensures untold { IfOk result (λ conn. untold_of conn ≡ None) }
@@ -135,7 +188,7 @@ impl<R: Runs> Listener<R> {
         ensures closed { is_shut self.old ≡ true → IsNotConnected result }
         ensures local { listens_at self.new ≡ listens_at self.old }
     {
-        let sock = self.accept_sock()?;
+        let sock = self.accept_in_time()?;
         let peer = sock.peer();
         Conn::hold(&self.guard.shared, sock, peer, &Home::Net)
     }

@@ -5,11 +5,15 @@
 //! moments at which calls give up, and `guard` what closes with the last of those that share it.
 #![tactic(auto)]
 
+mod accept_times;
 mod accepting;
 mod address;
 mod asked;
+mod attempts;
 mod closer;
+mod conn_options;
 mod connecting;
+mod dialing;
 mod door;
 mod entry;
 mod errors;
@@ -18,6 +22,7 @@ mod gone;
 mod group;
 mod guard;
 mod home;
+mod host;
 mod last_call;
 pub mod laws;
 mod limits;

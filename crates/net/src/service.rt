@@ -39,7 +39,7 @@ pub struct Service<R: Runs + Threads> {
     loops: Vec<JoinHandle<LoopEnd>>,
 }
 
-// Whether an accept that fails so is the last: the listener is closed, or its last call came.
+// Whether an accept that fails so may be the last: the listener is closed, or its last call came.
 fn ends_accepts(kind: ErrorKind) -> bool
     ensures { result ≡ is_last_accept kind }
 {
@@ -48,13 +48,13 @@ fn ends_accepts(kind: ErrorKind) -> bool
 
 // Accepts until the listener is closed or its last call comes, and hands each connection to the next
 // loop. What the system refuses is tried again after a rest, so that a want of files or memory ends
-// no service.
+// no service; and so is an accept that was late by a time which others have set for theirs.
 fn hand_out<R: Runs>(rt: &R, listener: &mut Listener<R>, doors: &[Arc<Door>]) {
     for _ in rt.forever() {
         for door in doors {
             match listener.accept_sock() {
                 Ok(sock) => door.hand_in(rt, sock),
-                Err(error) if ends_accepts(error.kind()) => return,
+                Err(error) if ends_accepts(error.kind()) && !listener.lift_late() => return,
                 Err(_) => thread::sleep(rt, Duration::from_millis(REST_MS)),
             }
         }

@@ -1,5 +1,5 @@
 //! What the threads of a net share: the table, the timers and the clock. Locks are taken in the
-//! order limits, cell, timers, and the table's before a cell's; nobody outside this crate sees one.
+//! order limits, table, cell, timers; nobody outside this crate sees one.
 
 ghost use Rattle.std.specs.Prelude.{◌≡◌, false, Ok, Err, IfOk, IfErr};
 ghost use Rattle.rwloops.specs.declared.fault.Fault.{Fault};
@@ -20,7 +20,7 @@ use readiness::{
 use std::alloc::Global;
 use std::io;
 use std::sync::atomic::{AtomicBool, Ordering};
-use std::sync::{Arc, Mutex};
+use std::sync::{Arc, Mutex, MutexGuard};
 use std::time::Instant;
 
 #[derive(Drop)]
@@ -173,6 +173,13 @@ impl<R: Runs> Shared<R> {
         let seat = None;
         let id = told(enter(&mut *table, Entry { cell, closer, seat }), None)?;
         Ok((id, other))
+    }
+
+    /// Keeps an entry in the table for as long as this lives; `None` says that it is out.
+    pub(crate) fn keep_listed(&self, id: u64) -> Option<MutexGuard<'_, ConnTable<Entry>>> {
+        let table = self.table.lock(&self.rt);
+        let is_there = table.by_id(id).is_some();
+        if is_there { Some(table) } else { None }
     }
 
     /// Takes an entry out, so that turns tell it nothing more, and gives it where it was there. The

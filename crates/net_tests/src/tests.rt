@@ -13,9 +13,12 @@ macro_rules! holds {
     };
 }
 
+mod accept_times;
 mod addresses;
 mod closers;
+mod conn_options;
 mod connecting;
+mod dialing;
 mod ending;
 mod ends;
 mod gentle;

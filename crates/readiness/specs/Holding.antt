@@ -12,7 +12,7 @@ use Rattle.readiness.specs.declared.holding.HoldFault.{HoldFault}
 use Rattle.readiness.specs.declared.holding.HoldFault.TheVariants as why
 
 -- the cell of an entry that has no more than its descriptor
-abbrev pub entry_cell : {X R W : Type 0} → HeldSocket X R W → PollCell
+abbrev pub entry_cell : {X R W C : Type 0} → HeldSocket X R W C → PollCell
 entry_cell held = arc_value held.cell
 
 -- one entry more, under the id and the token that were next; what turns tell it comes to this cell
@@ -36,8 +36,8 @@ IsOpenFault (why.Device kind) = kind ≡ Other
 IsOpenFault why.OutOfMemory = Unit {0}
 
 -- a socket is held under this id, and the open handle is on the descriptor of the table's new entry
-pub record IsHeld {T X R W A : Type 0} (cell_in : T → PollCell) (old new : Table T) (id : ℕ)
-    (handle : FdHandle X R W A) : Type 0 where
+pub record IsHeld {T X A R W C : Type 0} (cell_in : T → PollCell) (old new : Table T) (id : ℕ)
+    (handle : FdHandle X A R W C) : Type 0 where
   pub next : id ≡ old.next_id
   pub key : key_of handle ≡ id
   pub unclosed : saw_closed handle ≡ false

@@ -1,5 +1,6 @@
 pub mod SystemErrors
 pub mod Peers
+pub mod SockControl
 pub mod Sockets
 pub mod Batch
 pub mod Telling

@@ -1,10 +1,11 @@
 -- Sockets and halves, as callers see them.
-use Rattle.std.specs.Prelude.{ℕ, Bool, true, false, List, Option, Some, None, Result, Ok, Err}
+use Rattle.std.specs.Prelude.{ℕ, ℤ, Bool, true, false, List, Option, Some, None, Result, Ok, Err}
 use Rattle.std.specs.Option.{option_map}
 use Rattle.std.specs.Arc.{arc_value}
 use Rattle.std.specs.declared.net.ip_addr.IpAddr.{IpAddr}
 use Rattle.std.specs.declared.net.ip_addr.IpAddr.TheVariants as family
 use Rattle.std.specs.declared.net.socket_addr.SocketAddr.{SocketAddr}
+use Rattle.mio.specs.Net.{stream_fd, unix_stream_fd}
 use Rattle.mio.specs.declared.net.stream.TcpStream.{TcpStream}
 use Rattle.mio.specs.declared.net.uds.stream.UnixStream.{UnixStream}
 use Rattle.readiness.specs.declared.addr.Addr.{Addr}
@@ -35,6 +36,11 @@ source_for addr source = None
 abbrev pub is_tcp : Sock → Bool
 is_tcp (TcpSock stream) = true
 is_tcp (UnixSock stream) = false
+
+-- the system's number of a connection's socket
+abbrev pub socket_number : Sock → ℤ
+socket_number (TcpSock tcp) = stream_fd tcp.stream
+socket_number (UnixSock unix) = unix_stream_fd unix.stream
 
 -- the peer's address, where the system's accept gave one
 abbrev pub peer_of : Sock → Option Addr

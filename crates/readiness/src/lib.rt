@@ -1,8 +1,8 @@
 //! Sockets that never wait, and a poller that tells the descriptors in a table what is ready and
 //! what time it is: Go's network poller, over `epoll`.
 //!
-//! `addr`, `peer`, `local`, `sock`, `open`, `from_source`, `peeking`, `v6_listener` and `socket_options` have the sockets, over
-//! `raw_address` and `raw_socket`, `resources` what a descriptor makes of them, and `last_codes` and `noted_listen` the numbers of the system's errors. `batch`
+//! `addr`, `peer`, `local`, `sock`, `open`, `from_source`, `peeking`, `unix_listener`, `v6_listener` and `socket_options` have the sockets, over
+//! `raw_address` and `raw_socket`, `sock_control` what the system is asked by about one, `resources` what a descriptor makes of them, and `last_codes` and `noted_listen` the numbers of the system's errors. `batch`
 //! and `poll_timeout` decide what a poll's events say and how long a poll waits, `poller` polls,
 //! `holding` puts sockets into its table, and `timer_alarms` has deadlines wake it.
 #![tactic(auto)]
@@ -35,6 +35,7 @@ mod registrar;
 mod resources;
 mod resuming;
 mod sock;
+mod sock_control;
 mod socket_options;
 mod system_error;
 mod task_times;
@@ -42,6 +43,7 @@ mod tasks;
 mod telling;
 mod timer_alarms;
 mod turning;
+mod unix_listener;
 mod v6_listener;
 
 pub use addr::{Addr, MAX_PATH_BYTES};
@@ -55,13 +57,14 @@ pub use loop_remote::{LoopRemote, RemoteAlarms};
 pub use loop_token::{LAST_SERIAL, MAX_PLACES, Place, Side, side_of};
 pub use named_tasks::MAX_NAMED;
 pub use noted_listen::{NotedListen, NotedListenRes};
-pub use open::{connect, connect_from, connect_io, listen, listen_io};
+pub use open::{connect, connect_from, connect_io, listen, listen_io, listen_with};
 pub use peer::PeerStream;
 pub use poll_timeout::{MAX_WAIT_MS, sleep_ms, wait_ms};
 pub use poller::{HasCell, Poller};
 pub use registrar::Registrar;
 pub use resources::{ListenRes, NoWrites, ReadHalf, SockRes, WriteHalf};
 pub use sock::{Listen, Sock};
+pub use sock_control::SockControl;
 pub use socket_options::TcpOptions;
 pub use tasks::{Host, NoPlace, Turn};
 pub use timer_alarms::TimerAlarms;

@@ -47,6 +47,8 @@ impl Resource for NotedListenRes {
 
     type W = NoWrites;
 
+    type Control = ();
+
     fn destroy(read: NotedListen, write: NoWrites) -> Result<(), DevKind>
         ensures { result ≡ Ok tt }
     {
@@ -54,4 +56,6 @@ impl Resource for NotedListenRes {
         drop(write);
         Ok(())
     }
+
+    fn control_of(_read: &NotedListen) {}
 }

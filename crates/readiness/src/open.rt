@@ -12,6 +12,7 @@ use crate::from_source::connect_tcp_from;
 use crate::peer::PeerStream;
 use crate::sock::{Listen, Sock};
 use crate::system_error::connect_kind_of;
+use crate::unix_listener::listen_unix;
 use crate::v6_listener::listen_v6;
 use mio::net::{TcpListener, TcpStream, UnixListener, UnixStream};
 use rwloops::DevKind;
@@ -127,6 +128,34 @@ pub fn listen<R: Files + Net>(rt: &R, addr: &Addr) -> Result<Listen, DevKind>
     ensures kinds { IfErr result (λ kind. kind ≡ DevKind.Other) }
 {
     match listen_io(rt, addr) {
+        Ok(listen) => Ok(listen),
+        Err(_) => Err(DevKind::Other),
+    }
+}
+
+fn listen_with_io<R: Files + Net>(rt: &R, addr: &Addr, mode: Option<u32>) -> io::Result<Listen>
+    ensures family { IfOk result (λ listen. is_tcp_listener listen ≡ is_tcp_addr addr.now) }
+{
+    match (addr, mode) {
+        (Addr::Unix(path), Some(mode)) => {
+            Ok(Listen::Unix(listen_unix(rt, path.as_str(), mode)?))
+        }
+        _ => listen_io(rt, addr),
+    }
+}
+
+/// Opens a listener as `listen` does. A Unix socket has this mode, as chmod(2) takes it, before anybody
+/// can connect, where one is said; else what the umask leaves of all, and a port has none. After a
+/// fault there is no path that this call made.
+pub fn listen_with<R: Files + Net>(
+    rt: &R,
+    addr: &Addr,
+    mode: Option<u32>,
+) -> Result<Listen, DevKind>
+    ensures family { IfOk result (λ listen. is_tcp_listener listen ≡ is_tcp_addr addr.now) }
+    ensures kinds { IfErr result (λ kind. kind ≡ DevKind.Other) }
+{
+    match listen_with_io(rt, addr, mode) {
         Ok(listen) => Ok(listen),
         Err(_) => Err(DevKind::Other),
     }

@@ -48,3 +48,14 @@ pub(crate) fn set_option(fd: i32, level: i32, name: i32, number: u32) -> io::Res
 {
     checked(unsafe { c::setsockopt(fd, level, name, &option_value(number), 4) })
 }
+
+/// An option of a socket, as a number.
+pub(crate) fn get_option(fd: i32, level: i32, name: i32) -> io::Result<u32>
+    requires { SockOption level name }
+{
+    let mut value = [0u8; 16];
+    let mut len = 4;
+    checked(unsafe { c::getsockopt(fd, level, name, &mut value, &mut len) })?;
+    let [first, second, third, fourth, ..] = value;
+    Ok(u32::from_ne_bytes([first, second, third, fourth]))
+}

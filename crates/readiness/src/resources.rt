@@ -2,12 +2,15 @@
 //! half is dropped.
 
 ghost use Rattle.std.specs.Prelude.{◌≡◌, ◌<◌, Ok, None, IfOk, true, false, length};
+ghost use Rattle.readiness.specs.SockControl.{asked_number, asks_tcp};
 ghost use Rattle.readiness.specs.Sockets.{read_from, written_to, failure_of, known_made, came_of};
+ghost use Rattle.readiness.specs.Sockets.{is_tcp, socket_number};
 ghost use Rattle.readiness.specs.SystemErrors.{outcome_told};
 ghost use Rattle.rwloops.specs.Outcome.{IsCountWithin, count_in};
 
 use crate::last_codes::LastCodes;
 use crate::sock::{Listen, Sock};
+use crate::sock_control::SockControl;
 use crate::system_error::{accepted_of, kind_of, outcome_of};
 use base_types::{Dir, OutOfMemory};
 use fd_descriptor::{HalfClose, Resource};
@@ -217,6 +220,15 @@ impl Resource for SockRes {
 
     type W = WriteHalf;
 
+    type Control = SockControl;
+
+    fn control_of(read: &ReadHalf) -> SockControl
+        ensures number { asked_number result ≡ socket_number (read_from read.now) }
+        ensures tcp { asks_tcp result ≡ is_tcp (read_from read.now) }
+    {
+        SockControl::of(&read.sock)
+    }
+
     fn destroy(read: ReadHalf, write: WriteHalf) -> Result<(), DevKind>
         ensures { result ≡ Ok tt }
     {
@@ -247,6 +259,8 @@ impl Resource for ListenRes {
 
     type W = NoWrites;
 
+    type Control = ();
+
     fn destroy(read: Listen, write: NoWrites) -> Result<(), DevKind>
         ensures { result ≡ Ok tt }
     {
@@ -254,4 +268,6 @@ impl Resource for ListenRes {
         drop(write);
         Ok(())
     }
+
+    fn control_of(_read: &Listen) {}
 }

@@ -4,8 +4,9 @@
 ghost use Rattle.std.specs.Prelude.{◌≡◌, false, None, IsOk};
 ghost use Rattle.readiness.specs.Sockets.{is_tcp};
 
-use crate::raw_socket::{checked, set_option};
+use crate::raw_socket::checked;
 use crate::sock::{Listen, Sock};
+use crate::sock_control::SockControl;
 use libc::net as c;
 use std::io;
 use std::os::fd::AsRawFd;
@@ -20,26 +21,6 @@ pub struct TcpOptions {
     pub user_timeout_ms: Option<u32>,
 }
 
-fn keep_alive(fd: i32, seconds: u32) -> io::Result<()> {
-    set_option(fd, c::SOL_SOCKET, c::SO_KEEPALIVE, 1)?;
-    set_option(fd, c::IPPROTO_TCP, c::TCP_KEEPIDLE, seconds)?;
-    set_option(fd, c::IPPROTO_TCP, c::TCP_KEEPINTVL, seconds)
-}
-
-// Asks for these of the TCP socket with this number.
-fn set_tcp(fd: i32, options: &TcpOptions) -> io::Result<()>
-    ensures none { options.now.keepalive_s ≡ None → options.now.user_timeout_ms ≡ None
-        → IsOk result }
-{
-    if let Some(seconds) = options.keepalive_s {
-        keep_alive(fd, seconds)?;
-    }
-    match options.user_timeout_ms {
-        Some(ms) => set_option(fd, c::IPPROTO_TCP, c::TCP_USER_TIMEOUT, ms),
-        None => Ok(()),
-    }
-}
-
 impl Sock {
     /// Asks for these of its connection, made or being made; over a Unix socket for nothing.
     pub fn set_options(&self, options: &TcpOptions) -> io::Result<()>
@@ -47,10 +28,7 @@ impl Sock {
         ensures none { options.now.keepalive_s ≡ None → options.now.user_timeout_ms ≡ None
             → IsOk result }
     {
-        match self {
-            Sock::Tcp(tcp) => set_tcp(tcp.stream.as_raw_fd(), options),
-            Sock::Unix(_) => Ok(()),
-        }
+        SockControl::of(self).set_options(options)
     }
 }
 

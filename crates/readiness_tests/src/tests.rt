@@ -1,6 +1,7 @@
 //! What the tests have in common: what ends one that doesn't hold, how it waits, and connections.
 //! No test waits for good: each wait for a thread or for the system ends after `TURNS` turns.
 
+mod controls;
 mod counting;
 mod loop_rows;
 mod loop_stage;

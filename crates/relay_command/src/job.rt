@@ -129,6 +129,7 @@ fn serve_job_of(
     };
     let words = Settings {
         admin,
+        admin_mode: None,
         loops,
         pairs,
         per_rule,

@@ -39,6 +39,7 @@ pub record SocketsEntry : Type 0 where
   pub user_timeout : Option ℕ
   pub backlog : Option ℕ
   pub source : Option Ip
+  pub mode : Option ℕ
 
 -- how the targets of a rule are checked
 pub record ChecksEntry : Type 0 where
@@ -124,6 +125,7 @@ sockets_entry sockets = record {
   user_timeout = sockets.user_timeout_ms;
   backlog = sockets.backlog;
   source = option_map ip_view sockets.source;
+  mode = sockets.mode;
 }
 
 -- how the targets of a rule are checked

@@ -84,7 +84,7 @@ abbrev pub rule_keys : List Key
 rule_keys =
     key.Name ∷ key.Listen ∷ key.Target ∷ key.Balance ∷ key.Idle ∷ key.Connections ∷ key.ConnectionsPerSource
     ∷ key.AcceptsPerSource ∷ key.Keepalive ∷ key.UserTimeout ∷ key.Allow ∷ key.Deny ∷ key.ProxyProtocol ∷ key.Health
-    ∷ key.Resolve ∷ key.Backlog ∷ key.Source ∷ []
+    ∷ key.Resolve ∷ key.Backlog ∷ key.Source ∷ key.Mode ∷ []
 
 -- a rule has the name
 abbrev pub has_name : List ℕ → List RuleEntry → Bool

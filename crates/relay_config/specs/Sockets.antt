@@ -1,5 +1,6 @@
 -- What the table of a rule says of its sockets.
 use Rattle.std.specs.Prelude.{None, Result, Ok, unwrap_or}
+use Rattle.config_values.specs.Mode.{mode_at}
 use Rattle.toml.specs.Data.{Members}
 use Rattle.relay_config.specs.Entries.{SocketsEntry}
 use Rattle.relay_config.specs.Fault.{spot}
@@ -17,9 +18,11 @@ sockets_at here table = do
   timeout ← if_there (spelled time_or_never (spot here key.UserTimeout)) (at_key key.UserTimeout table)
   backlog ← if_there (number 1 MAX_BACKLOG (spot here key.Backlog)) (at_key key.Backlog table)
   source ← if_there (spelled source_at (spot here key.Source)) (at_key key.Source table)
+  mode ← if_there (spelled mode_at (spot here key.Mode)) (at_key key.Mode table)
   Ok (record {
     keepalive = unwrap_or keepalive None;
     user_timeout = unwrap_or timeout None;
     backlog = backlog;
     source = source;
+    mode = mode;
   })

@@ -69,10 +69,10 @@ impl Config {
     /// turn: `connections`, `connections_per_rule`, `connect_timeout`, `loops`, `replace_stale`,
     /// `metrics`, `admin` with `path` and `mode`, `log` with `file` and `format`, `rule`; of a rule
     /// `name`, `idle`, `balance`, `resolve`, `connections`, `connections_per_source`,
-    /// `accepts_per_source`, `keepalive`, `user_timeout`, `backlog`, `source`, `health` with `every`,
-    /// `timeout`, `fall` and `rise`, `allow`, `deny`, `proxy_protocol` with `from_client` and
-    /// `to_target`, `listen`, `target`; of a target `at`, `weight`, `backup`. `Memory` may come at
-    /// any time.
+    /// `accepts_per_source`, `keepalive`, `user_timeout`, `backlog`, `source`, `mode`, `health` with
+    /// `every`, `timeout`, `fall` and `rise`, `allow`, `deny`, `proxy_protocol` with `from_client`
+    /// and `to_target`, `listen`, `target`; of a target `at`, `weight`, `backup`. `Memory` may come
+    /// at any time.
     pub fn parse(alloc: Global, text: &[u8]) -> Result<Config, Fault>
         ensures config { IfOk result (λ config. SaysConfig text.now (config_entry config)) }
         ensures fault { IfErr result (λ fault. fault ≢ Fault.Memory → SaysFault text.now fault) }

@@ -78,6 +78,7 @@ pub(crate) const KEYS: &[Key] = &[
     Key::Resolve,
     Key::Backlog,
     Key::Source,
+    Key::Mode,
 ];
 
 /// The rules that items say.

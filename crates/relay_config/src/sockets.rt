@@ -6,7 +6,7 @@ ghost use Rattle.relay_config.specs.Fault.{Reads};
 ghost use Rattle.relay_config.specs.Sockets.{sockets_at};
 
 use crate::fault::{Fault, Key, Place};
-use crate::spelled::{keepalive_in, source_in, time_in};
+use crate::spelled::{keepalive_in, mode_in, source_in, time_in};
 use crate::values::number_in;
 use std::net::IpAddr;
 use toml::Table;
@@ -28,6 +28,9 @@ pub struct Sockets {
     pub backlog: Option<u32>,
     /// The address that connects come from, not IPv4-mapped; with `None` the system picks it.
     pub source: Option<IpAddr>,
+    /// The mode of each Unix socket at which the rule listens, at most 0777; with `None` what the
+    /// umask leaves of all.
+    pub mode: Option<u16>,
 }
 
 /// How the sockets of the rule at a place are set up.
@@ -39,10 +42,12 @@ pub(crate) fn sockets_of(place: Place, table: &Table) -> Result<Sockets, Fault>
     let user_timeout = time_in(table, place, Key::UserTimeout)?;
     let backlog = number_in(table, place, Key::Backlog, 1, MAX_BACKLOG)?;
     let source = source_in(table, place, Key::Source)?;
+    let mode = mode_in(table, place, Key::Mode)?;
     Ok(Sockets {
         keepalive_ms: keepalive.unwrap_or(None),
         user_timeout_ms: user_timeout.unwrap_or(None),
         backlog,
         source,
+        mode,
     })
 }

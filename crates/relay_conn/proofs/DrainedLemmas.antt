@@ -8,9 +8,9 @@ use Rattle.fd_descriptor.specs.FdHandle.{descriptor_of, drains_of, KeepsHandle, 
 use Rattle.fd_descriptor.specs.HandleCalls.{TellsWhoDrained}
 use Rattle.relay_shared.specs.Drained.{WasDrained}
 
-module _ {X R W A : Type 0} where
+module _ {X A R W C : Type 0} where
   -- a drain that is Ok was made by the handle, which had drained nothing before
-  pub was_drained : (descriptor : Fd X R W A) (before after : FdHandle X R W A)
+  pub was_drained : (descriptor : Fd X A R W C) (before after : FdHandle X A R W C)
       (result : Result (Unit {0}) Fault) → descriptor_of before ≡ descriptor → DidNothing before
       → KeepsHandle before after → TellsWhoDrained result (drains_of before) (drains_of after)
       → OnOk result (WasDrained descriptor)

@@ -19,6 +19,7 @@ use relay_facts::outcomes::Came;
 use relay_log::ended::{Cause, Ended as How};
 use relay_shared::inbox::Counted;
 use relay_shared::index::Gone;
+use relay_shared::owed_end::OwedEnd;
 use relay_shared::standing::RelayIndex;
 use std::sync::ledger::Ledger;
 use std::sync::{Arc, Mutex, Wait};
@@ -50,6 +51,12 @@ pub struct Connection<U: Ledger, D: Ledger, R: Wait + Clock + Copy> {
     ghost stands: { is_some phase ≡ true },
 }
 
+/// What a connection leaves that has ended: that nobody finds it any more, and that its end is to be told.
+pub struct EndedConnection {
+    pub gone: Gone,
+    pub owed: OwedEnd,
+}
+
 // Counts how a connection ended whose sides had these ids, and tells the log.
 fn note_ended<R: Wait + Clock>(
     rt: &R,
@@ -60,7 +67,7 @@ fn note_ended<R: Wait + Clock>(
     how: How,
 ) {
     if let Some(counts) = facts.counts() {
-        counts.note_end(how);
+        counts.note_end(how, facts.acceptance.age_ns(now));
     }
     if let Some(log) = log {
         tell_end(rt, log, facts, ids, now, how);
@@ -148,6 +155,7 @@ impl<U: Ledger, D: Ledger, R: Wait + Clock + Copy> Connection<U, D, R> {
         ensures seeks_on { IfSeeking self.old.phase (λ old. IfSeeking self.new.phase (λ new.
             KeepsSeeking old new why)) }
         ensures sought { IfSeeking self.old.phase (λ _. IsSeeking self.new.phase) }
+        ensures rests { IfSeeking self.old.phase (λ _. result ≡ PairNext.Waits) }
         ensures kept { KeepsConnection self.old self.new }
     {
         let step = match &mut self.phase {
@@ -250,10 +258,10 @@ impl<U: Ledger, D: Ledger, R: Wait + Clock + Copy> Connection<U, D, R> {
         books: &mut LoopBooks<U, D>,
         log: &Option<Arc<Log>>,
         now: u64,
-    ) -> Gone
+    ) -> EndedConnection
         ensures up { TakesBack books.old.up.book books.new.up.book (up_share self.phase) }
         ensures down { TakesBack books.old.down.book books.new.down.book (down_share self.phase) }
-        ensures gone { gone_id result ≡ self.client_id }
+        ensures gone { gone_id result.gone ≡ self.client_id }
     {
         let Connection {
             client_id,
@@ -278,7 +286,9 @@ impl<U: Ledger, D: Ledger, R: Wait + Clock + Copy> Connection<U, D, R> {
         books.up.settle(Some(up));
         books.down.settle(Some(down));
         note_ended(rt, log, &facts, (client_id, target_id), now, how);
-        drop(counted);
-        gone
+        EndedConnection {
+            gone,
+            owed: OwedEnd::of(counted),
+        }
     }
 }

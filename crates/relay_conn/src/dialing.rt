@@ -4,6 +4,7 @@
 ghost use Rattle.std.specs.Prelude.{◌≡◌, ◌↔◌, ◌⊎◌, true, Some, None, IsSome};
 ghost use Rattle.base_types.specs.declared.direction.Dir.{Dir};
 ghost use Rattle.deadline_core.specs.Moments.{earlier_of};
+ghost use Rattle.relay_conn.specs.Cause as spec;
 ghost use Rattle.relay_conn.specs.Connection.{given_up_at};
 ghost use Rattle.relay_conn.specs.Dialing.{KeepsDial, MayFail, is_device};
 ghost use Rattle.relay_conn.specs.Heard.{KeepsWhatIsTold, IsTime, stop_told};
@@ -200,6 +201,8 @@ impl<U: Ledger, D: Ledger, R: Wait + Clock + Copy> Dialing<U, D, R> {
     fn target_failed(&mut self, dials: &mut Dials<R>, why: Why, fault: Fault) -> DialStep
         ensures kept { self.new ≡ record self.old { failure = self.new.failure } }
         ensures step { (result ≡ DialStep.Seeks) ⊎ (result ≡ DialStep.Failed) }
+        ensures either { (self.new.failure ≡ Some (spec.how_undialled fault))
+            ⊎ (self.new.failure ≡ Some How.NoMemory) }
         ensures failed { IsSome self.new.failure }
         ensures last { result ≡ DialStep.Failed → MayFail self.old why self.new.failure }
         ensures over { result ≡ DialStep.Seeks → IsTime why (given_up_at self.old) → ⊥ }
@@ -220,6 +223,7 @@ impl<U: Ledger, D: Ledger, R: Wait + Clock + Copy> Dialing<U, D, R> {
         ensures kept { self.new ≡ record self.old { failure = self.new.failure } }
         ensures step { (result ≡ DialStep.Seeks) ⊎ (result ≡ DialStep.Failed) }
         ensures seeks { result ≡ DialStep.Seeks → self.new.failure ≡ Some how }
+        ensures either { (self.new.failure ≡ Some how) ⊎ (self.new.failure ≡ Some How.NoMemory) }
         ensures failed { IsSome self.new.failure }
         ensures last { result ≡ DialStep.Failed → (self.old.others ≡ None)
             ⊎ (self.new.failure ≡ Some How.NoMemory) }
@@ -267,6 +271,8 @@ impl<U: Ledger, D: Ledger, R: Wait + Clock + Copy> Dialing<U, D, R> {
         ensures timely { result ≡ DialStep.Waits → IsTime why (given_up_at self.old) → ⊥ }
         ensures moves { result ≡ DialStep.Waits → IsTime why (moves_on_in self.old.others) → ⊥ }
         ensures timeout { result ≡ DialStep.Late
+            → self.new.failure ≡ Some (How.NoTarget Cause.Timeout) }
+        ensures moved { result ≡ DialStep.Seeks
             → self.new.failure ≡ Some (How.NoTarget Cause.Timeout) }
         ensures others { (result ≡ DialStep.Connected → ⊥) × (result ≡ DialStep.Gone → ⊥) }
         ensures failed { result ≡ DialStep.Failed → IsSome self.new.failure }

@@ -9,18 +9,22 @@ ghost use Rattle.relay_log.specs.declared.ended.Cause.{Cause};
 
 use readiness::Sock;
 use relay_admin::Addr;
+use relay_facts::clock::monotonic_ns;
 use relay_log::ended::Cause;
 use relay_shared::shortage::is_shortage;
 use relay_shared::socket_options::{Sockets, connect_out, set_options};
 use std::io;
 use std::io::ErrorKind;
 use std::net::Net;
+use std::time::Clock;
 
 /// A socket whose connection to a target was begun. `dial` alone makes it.
 #[derive(Drop)]
 pub struct Dialled {
     target: Addr,
     sock: Sock,
+    /// When that was, by `monotonic_ns`.
+    pub(crate) began: Option<u64>,
 }
 
 impl Dialled {
@@ -28,7 +32,11 @@ impl Dialled {
     pub(crate) fn into_sock(self) -> Sock
         ensures { result ≡ socket_dialled self }
     {
-        let Dialled { target: _, sock } = self;
+        let Dialled {
+            target: _,
+            sock,
+            began: _,
+        } = self;
         sock
     }
 }
@@ -43,15 +51,17 @@ pub struct NotDialled {
 
 /// Begins a connection to this target, whose socket is set up so. Over TCP it is made later, over a
 /// Unix socket at once.
-pub fn dial<R: Net>(rt: &R, target: &Addr, sockets: &Sockets) -> Result<Dialled, NotDialled>
+pub fn dial<R: Net + Clock>(rt: &R, target: &Addr, sockets: &Sockets) -> Result<Dialled, NotDialled>
     ensures target { IfOk result (λ dialled. dialled_to dialled ≡ target.now) }
 {
+    let began = monotonic_ns(rt);
     match connect_out(rt, target, sockets.source) {
         Ok(sock) => {
             set_options(&sock, sockets);
             Ok(Dialled {
                 target: *target,
                 sock,
+                began,
             })
         }
         Err(error) => Err(NotDialled {

@@ -156,6 +156,7 @@ impl<U: Ledger, D: Ledger, R: Wait + Clock + Copy> Seeking<U, D, R> {
         match next_trial(rt, log, &facts.acceptance, others.tried) {
             Ok(trial) => {
                 facts.try_target(trial.place());
+                facts.note_dial(trial.dialled.began);
                 Ok(trial)
             }
             Err(none) => {

@@ -1,7 +1,7 @@
 //! How a connection comes from one target to the next, between two turns of its loop: the next one
 //! is begun, registered under the same token, and dialled in place of the one before.
 
-ghost use Rattle.std.specs.Prelude.{◌≡◌, IfOk, IfErr, IfSome, IfNone};
+ghost use Rattle.std.specs.Prelude.{◌≡◌, Some, IfOk, IfErr, IfSome, IfNone};
 ghost use Rattle.relay_conn.specs.Asked.{KeepsConnection};
 ghost use Rattle.relay_conn.specs.Connection.{awaited_by, IfDialing, IfSeeking, IsDialing, IsSeeking};
 ghost use Rattle.relay_conn.specs.Dialing.{DialsNext};
@@ -59,6 +59,9 @@ impl<U: Ledger, D: Ledger, R: Wait + Clock + Copy> Connection<U, D, R> {
 
     /// It is to end so, if it seeks a target.
     pub fn give_up(&mut self, how: How)
+        ensures ends { IfSeeking self.old.phase (λ old. IfSeeking self.new.phase (λ new.
+            new ≡ record old { failure = Some how })) }
+        ensures seeks { IfSeeking self.old.phase (λ _. IsSeeking self.new.phase) }
         ensures kept { KeepsConnection self.old self.new }
     {
         if let Some(Phase::Seeking(seeking)) = &mut self.phase {

@@ -115,6 +115,11 @@ impl<R: Wait + Clock + Copy> Prepared<R> {
     }
 }
 
+// The first dial of a connection began at this moment.
+fn note_dial(facts: &Arc<ConnectionFacts>, began: Option<u64>) {
+    facts.note_dial(began);
+}
+
 // A dial of what was made for it.
 fn dialing_of<U: Ledger, D: Ledger, R: Wait + Clock + Copy>(
     sides: BothSides<R>,
@@ -265,6 +270,7 @@ impl<'a, R: Wait + Clock + Copy> SetUp<'a, R> {
             connect_by,
         } = begins;
         let Trial { dialled, picked } = target;
+        note_dial(&facts, dialled.began);
         let sides = self.sides(client, dialled, place)?;
         let ways = match self.both_prepared(facts.acceptance.rule.idle_ms) {
             Some(ways) => ways,

@@ -5,7 +5,7 @@ ghost use Rattle.fd_descriptor.specs.TaskHalf.{IsHalfOf, IsHandleOf, KeepsHalf, 
 ghost use Rattle.fd_descriptor.specs.TaskHalf.{descriptor_of_half};
 ghost use Rattle.fd_descriptor.specs.FdHandle.{descriptor_of};
 ghost use Rattle.readiness.specs.Sockets.{is_tcp};
-ghost use Rattle.relay_conn.specs.Side.{IsWhole, key_of_side};
+ghost use Rattle.relay_conn.specs.Side.{HasComeTo, IsWhole, connect_told, key_of_side};
 ghost use Rattle.relay_core.specs.SourceState.{unknown_source};
 ghost use Rattle.relay_shared.specs.Drained.{WasDrained};
 
@@ -128,18 +128,27 @@ pub(crate) fn takes_deadline<R: Wait + Copy>(
     Ok(())
 }
 
+// What a connection came to of which a half says this whose deadline has passed. One that is drained can't
+// be asked, and counts as made.
+fn connect_told(answer: Result<(), Fault>) -> Option<Result<(), Fault>>
+    ensures { result ≡ connect_told answer }
+{
+    match answer {
+        Err(Fault::DeadlineExceeded) => None,
+        Err(Fault::Draining) => Some(Ok(())),
+        answer => Some(answer),
+    }
+}
+
 impl<R: Wait + Copy> OpenSide<R> {
     /// What came of its connection; `None` says that it isn't made yet. One that is drained can't be
     /// asked, and counts as made: its next write finds the drain.
     pub(crate) fn connected(&mut self, rt: &R) -> Option<Result<(), Fault>>
+        ensures came { HasComeTo result }
         ensures keeps { KeepsHalf self.old.writer self.new.writer }
         ensures kept { self.new ≡ record self.old { writer = self.new.writer } }
     {
-        match connected_now(rt, &mut self.writer) {
-            Err(Fault::DeadlineExceeded) => None,
-            Err(Fault::Draining) => Some(Ok(())),
-            answer => Some(answer),
-        }
+        connect_told(connected_now(rt, &mut self.writer))
     }
 
     /// Its writes begin from now on.

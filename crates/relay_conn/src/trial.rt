@@ -1,11 +1,14 @@
 //! The walk over a rule's targets: the next one is dialled, and the one after it where that fails at
 //! once, until a connection is begun.
 
-ghost use Rattle.std.specs.Prelude.{◌≡◌, ◌↔◌, true, Some, IfOk, IfErr, IfSome, IfNone};
+ghost use Rattle.std.specs.Prelude.{◌≡◌, ◌↔◌, true, false, Some, None, IfOk, IfErr, IfSome, IfNone};
+ghost use Rattle.std.specs.Prelude.{IsSomeAnd};
 ghost use Rattle.relay_conn.specs.Trial.{IsNoTrial, IsTrial, LacksDescriptors, cause_of_none, last_of};
 ghost use Rattle.relay_conn.specs.Trial.{place_tried};
 ghost use Rattle.relay_facts.specs.Acceptance.{IsPicked, checked_in, list_in, source_of, targets_in};
 ghost use Rattle.relay_facts.specs.Targets.{IsNext, IsNoneLeft};
+ghost use Rattle.relay_facts.specs.declared.outcomes.Came.{Came};
+ghost use Rattle.target_pick.specs.declared.health.Outcome.{Outcome};
 
 use crate::dialled::{Dialled, NotDialled, dial};
 use log_writer::Log;
@@ -82,6 +85,18 @@ pub fn next_trial<R: Wait + Net + Clock>(
     Err(walk)
 }
 
+// What a dial says of its target that failed at once, where that was the target's fault.
+fn came_at_once(why: &NotDialled) -> Option<Came>
+    ensures shortage { why.now.is_shortage ≡ true → result ≡ None }
+    ensures failed { why.now.is_shortage ≡ false → IsSomeAnd result (λ (came : Came).
+        (came.outcome ≡ Outcome.Failed) × (came.cause ≡ why.now.cause)) }
+{
+    if why.is_shortage {
+        return None;
+    }
+    Some(Came::of_connect(Outcome::Failed, why.cause))
+}
+
 // Notes that a target failed at once, where that was its fault.
 fn note_failure<R: Wait + Clock>(
     rt: &R,
@@ -90,8 +105,7 @@ fn note_failure<R: Wait + Clock>(
     picked: &Picked,
     why: &NotDialled,
 ) {
-    if !why.is_shortage {
-        let came = Came::of_connect(Outcome::Failed, why.cause);
+    if let Some(came) = came_at_once(why) {
         acceptance.note_outcome(rt, log, picked.place, &came);
     }
 }

@@ -5,10 +5,13 @@ pub mod Clock
 pub mod Config
 pub mod Counts
 pub mod Header
+pub mod HostAnswers
+pub mod HostNames
 pub mod HowEnded
 pub mod KnownTargets
 pub mod Listens
 pub mod LogLines
+pub mod NamedTargets
 pub mod RulesFile
 pub mod Safeguards
 pub mod RuleSources

@@ -24,6 +24,13 @@ impl<R: Clock + Copy> RelayClock<R> {
     }
 }
 
+/// The nanoseconds of the clock that never goes back, from a start of its own on; none where it can't be
+/// read.
+pub fn monotonic_ns<R: Clock>(rt: &R) -> Option<u64> {
+    let passed = rt.monotonic().ok()?;
+    u64::try_from(passed.as_nanos()).ok()
+}
+
 impl<R: Clock + Copy> Moments for RelayClock<R> {
     fn now(&self) -> u64 {
         match self.start.elapsed(&self.rt) {

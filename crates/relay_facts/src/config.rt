@@ -12,6 +12,7 @@ ghost use Rattle.relay_settings.specs.Listeners.{further_listeners};
 ghost use Rattle.relay_settings.specs.Settings.{AreInForce};
 ghost use Rattle.relay_admin.specs.declared.serve_fault.ServeFault.{ServeFault};
 
+use crate::host_answers::Answers;
 use crate::safeguards::Safeguards;
 use crate::served_rule;
 use crate::served_rule::ServedRule;
@@ -78,7 +79,7 @@ fn log_of(alloc: Global, settings: &Settings) -> Result<Option<Arc<Log>>, OutOfM
 fn served_rule(alloc: Global, rule: &SaidRule, loops: usize) -> Result<Arc<ServedRule>, OutOfMemory>
     ensures { IfOk result (λ served. ServesRule rule.now.rule loops (arc_value served)) }
 {
-    let said = served_rule::Said::of(alloc, rule, None)?;
+    let said = served_rule::Said::of(alloc, rule, None, &Answers::none(alloc))?;
     ServedRule::new(alloc, said, loops)
 }
 

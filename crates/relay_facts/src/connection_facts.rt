@@ -182,6 +182,8 @@ pub struct ConnectionFacts {
     pub loop_place: usize,
     /// The place of its target, or of the one that is tried, among its rule's.
     target: AtomicUsize,
+    // When its dial began, by `monotonic_ns`; 0 where that isn't known.
+    dialled: AtomicU64,
     up: AtomicU64,
     down: AtomicU64,
     last: AtomicU64,
@@ -202,6 +204,7 @@ impl ConnectionFacts {
             acceptance,
             loop_place,
             target: AtomicUsize::new(target),
+            dialled: AtomicU64::new(0),
             up: AtomicU64::new(0),
             down: AtomicU64::new(0),
             last,
@@ -227,6 +230,16 @@ impl ConnectionFacts {
             targets.enter(place);
             targets.leave(was);
         }
+    }
+
+    /// The dial of the target that is tried began at this moment, by `monotonic_ns`.
+    pub fn note_dial(&self, at: Option<u64>) {
+        self.dialled.store(at.unwrap_or(0), Ordering::SeqCst);
+    }
+
+    /// When it began; 0 where that isn't known.
+    pub(crate) fn dialled(&self) -> u64 {
+        self.dialled.load(Ordering::SeqCst)
     }
 
     /// What its loop counts of its rule.
@@ -270,6 +283,7 @@ impl Drop for ConnectionFacts {
             acceptance,
             loop_place: _,
             target,
+            dialled: _,
             up: _,
             down: _,
             last: _,

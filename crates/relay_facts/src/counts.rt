@@ -4,8 +4,12 @@
 
 ghost use Rattle.std.specs.Prelude.{◌≡◌, ◌-◌};
 
+use crate::histogram::Histogram;
 use base_types::OutOfMemory;
 use relay_log::ended::{CAUSES, Cause, ENDS, Ended};
+use relay_metrics::{
+    CONNECT_BOUNDS_MS, CONNECT_PLACES, STANDING_BOUNDS_MS, STANDING_PLACES, bound_place,
+};
 use std::alloc::Global;
 use std::array::from_fn;
 use std::sync::atomic::{AtomicU64, Ordering};
@@ -120,6 +124,9 @@ pub struct LoopCounts {
     pub source_rate: Counter,
     pub ends: EndCounts,
     pub causes: CauseCounts,
+    /// How long clients' connects to targets took that were made, and how long connections stood.
+    pub(crate) connects: Histogram<CONNECT_PLACES>,
+    pub(crate) stood: Histogram<STANDING_PLACES>,
 }
 
 impl LoopCounts {
@@ -139,6 +146,8 @@ impl LoopCounts {
             source_rate: Counter::new(),
             ends: EndCounts::new(),
             causes: CauseCounts::new(),
+            connects: Histogram::new(),
+            stood: Histogram::new(),
         }
     }
 
@@ -147,10 +156,16 @@ impl LoopCounts {
         self.begun.add(1);
     }
 
-    /// A connection has ended so.
-    pub fn note_end(&self, how: Ended) {
+    /// A connection has ended so, which stood for so many nanoseconds.
+    pub fn note_end(&self, how: Ended, ns: u64) {
         self.ends.of(how).add(1);
         self.causes.note(how);
+        self.stood.note(bound_place(&STANDING_BOUNDS_MS, ns), ns);
+    }
+
+    /// A client's connect to a target was made, which took so many nanoseconds.
+    pub(crate) fn note_connect(&self, ns: u64) {
+        self.connects.note(bound_place(&CONNECT_BOUNDS_MS, ns), ns);
     }
 
     /// A client wasn't served, since there is no target, memory or the poller refused, its header is

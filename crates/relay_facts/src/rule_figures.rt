@@ -6,10 +6,12 @@ ghost use Rattle.relay_facts.specs.TargetFigures.{TellsOfSaid};
 ghost use Rattle.relay_facts.specs.declared.served_rule.Said.{Said};
 
 use crate::counts::{Counter, RuleCounts};
-use crate::served_rule::ServedRule;
+use crate::served_rule::{Said, ServedRule};
 use base_types::OutOfMemory;
 use relay_log::ended::{CAUSES, ENDS};
-use relay_metrics::{CarriedBytes, Refusals, RuleFigures, TargetFigures};
+use relay_metrics::{
+    CONNECT_PLACES, CarriedBytes, Durations, Refusals, RuleFigures, STANDING_PLACES, TargetFigures,
+};
 use std::sync::Wait;
 
 // A sum past the greatest `u64` stays that.
@@ -19,8 +21,8 @@ fn add(sum: &mut u64, count: u64)
     *sum = sum.saturating_add(count);
 }
 
-// Adds to sums those counts, place by place.
-fn add_each(sums: &mut [u64], counters: &[Counter])
+/// Adds to sums those counts, place by place.
+pub(crate) fn add_each(sums: &mut [u64], counters: &[Counter])
     ensures { NoneFalls sums.old sums.new }
 {
     for place in 0..sums.len().min(counters.len()) {
@@ -37,6 +39,23 @@ fn ends_and_causes(counts: &RuleCounts) -> ([u64; ENDS], [u64; CAUSES]) {
         add_each(&mut causes, &counted.causes.counts);
     }
     (ends, causes)
+}
+
+// How long connects took, and how long connections stood, of all loops.
+fn durations(counts: &RuleCounts) -> (Durations<CONNECT_PLACES>, Durations<STANDING_PLACES>) {
+    let mut connects = Durations {
+        counts: [0u64; CONNECT_PLACES],
+        sum_us: 0,
+    };
+    let mut stood = Durations {
+        counts: [0u64; STANDING_PLACES],
+        sum_us: 0,
+    };
+    for counted in counts.loops() {
+        counted.connects.add_to(&mut connects);
+        counted.stood.add_to(&mut stood);
+    }
+    (connects, stood)
 }
 
 // The sums of all loops, and what the main thread counts.
@@ -80,6 +99,7 @@ fn has_target<R: Wait>(rt: &R, served: &ServedRule) -> bool {
 pub fn rule_figures<R: Wait>(rt: &R, served: &ServedRule) -> RuleFigures {
     let (connections, bytes, refused) = sums(&served.counts);
     let (ends, unreached) = ends_and_causes(&served.counts);
+    let (connects, stood) = durations(&served.counts);
     RuleFigures {
         name: served.rule(rt).name,
         connections,
@@ -91,6 +111,18 @@ pub fn rule_figures<R: Wait>(rt: &R, served: &ServedRule) -> RuleFigures {
         accept_faults: served.counts.accept_faults.get(),
         is_listening: served.is_listening(rt),
         has_target: has_target(rt, served),
+        connects,
+        stood,
+    }
+}
+
+// Puts what is told of the targets of a rule that says this behind these.
+fn add_said(said: &Said, figures: &mut Vec<TargetFigures>) -> Result<(), OutOfMemory>
+    ensures { OnOk result (TellsOfSaid said.now figures.old.items figures.new.items) }
+{
+    match &said.targets {
+        Some(targets) => targets.add_figures(said.rule.name, figures),
+        None => Ok(()),
     }
 }
 
@@ -105,8 +137,5 @@ pub fn add_target_figures<R: Wait>(
     let Some(said) = served.said(rt) else {
         return Err(OutOfMemory);
     };
-    match &said.targets {
-        Some(targets) => targets.add_figures(said.rule.name, figures),
-        None => Ok(()),
-    }
+    add_said(&said, figures)
 }

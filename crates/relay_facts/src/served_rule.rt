@@ -1,23 +1,29 @@
 //! A rule as a running relay serves it.
 
-ghost use Rattle.std.specs.Prelude.{◌≡◌, false, None, Some, IfOk, IfSome, IsSome, option_map};
+ghost use Rattle.std.specs.Prelude.{◌≡◌, ◌⊎◌, false, None, Some, IfOk, IfSome, IsSome, option_map};
 ghost use Rattle.std.specs.Arc.{arc_value};
 ghost use Rattle.client_sources.specs.Limits.{are_none, no_limits};
-ghost use Rattle.relay_facts.specs.Acceptance.{checks_with, targets_with};
+ghost use Rattle.relay_facts.specs.Acceptance.{checks_with};
 ghost use Rattle.relay_facts.specs.Admission.{allowed_by, denied_by};
-ghost use Rattle.relay_facts.specs.Config.{IsSame, SaysRule};
+ghost use Rattle.relay_facts.specs.Config.{AreFoundBy, IsSame, SaysRuleBy, SaysWith};
 ghost use Rattle.relay_facts.specs.Counts.{loops_of};
+ghost use Rattle.relay_facts.specs.NamedTargets.{by_answers};
+ghost use Rattle.relay_facts.specs.Targets.{targets_of};
 ghost use Rattle.relay_config.specs.Entries.{sockets_entry};
 ghost use Rattle.relay_settings.specs.Targets.{plain_sockets};
 
 use crate::counts::RuleCounts;
+use crate::host_answers::Answers;
 use crate::listens::{Addresses, addresses_of};
+use crate::named_list::NamedTargets;
+use crate::named_targets::{looked_up, named_of};
 use crate::rule_sources::RuleSources;
 use crate::senders::{Senders, senders_of};
 use crate::target_list::Targets;
 use base_types::OutOfMemory;
 use relay_admin::{Addr, Rule};
 use relay_core::PairLimit;
+use relay_log::ended::Ended;
 use relay_settings::{Access, PLAIN_SOCKETS, SaidRule, Sockets, SourceLimits, Version};
 use std::alloc::Global;
 use std::sync::atomic::{AtomicU64, Ordering};
@@ -40,6 +46,8 @@ pub struct Said {
     /// Its targets; without a list, as an account has it before its rule is read, the rule's own target
     /// is the only one.
     pub targets: Option<Arc<Targets>>,
+    /// What its file says of them, where some name their hosts.
+    pub names: Option<Arc<NamedTargets>>,
     /// With which header a connection to a target begins, if with one.
     pub header: Option<Version>,
     /// Who may connect to it; without lists all clients may.
@@ -48,22 +56,29 @@ pub struct Said {
     pub senders: Option<Arc<Senders>>,
 }
 
-// The list of these targets. What a list of before counts and knows of a target stays.
+// The list of these targets. What a list of before counts and knows of a target stays. Hosts that are named
+// are at the addresses of these answers.
+#[tactic(auto, using(crate::proofs::NamedLemmas::no_names, crate::proofs::NamedLemmas::some_names))]
 fn list_of(
     alloc: Global,
     said: &SaidRule,
     before: Option<&Said>,
+    answers: &Answers,
 ) -> Result<Arc<Targets>, OutOfMemory>
-    ensures targets { IfOk result (λ list.
-        targets_with (Some (arc_value list)) said.now.rule ≡ said.now.targets.items) }
+    ensures targets { IfOk result (λ list. targets_of (arc_value list)
+        ≡ by_answers answers.now.all.items said.now.names.items said.now.targets.items) }
     ensures balance { IfOk result (λ list. (arc_value list).balance ≡ said.now.balance) }
     ensures checks { IfOk result (λ list.
         checks_with (Some (arc_value list)) ≡ said.now.checks) }
 {
-    let targets = said.targets.as_slice();
     let list = before.and_then(|before| before.targets.as_ref());
     let list = list.map(|list| &**list);
-    Targets::new(alloc, said.balance, said.checks, targets, list)
+    let targets = said.targets.as_slice();
+    if said.has_no_names() {
+        return Targets::new(alloc, said.balance, said.checks, targets, list);
+    }
+    let found = looked_up(alloc, targets, said.names.as_slice(), answers)?;
+    Targets::new(alloc, said.balance, said.checks, found.as_slice(), list)
 }
 
 // What counts clients by their sources: the table of before, if there is one, also while nobody is
@@ -126,6 +141,7 @@ impl Said {
         let listens = same_list(&self.listens)?;
         let sources = same_list(&self.sources)?;
         let targets = same_list(&self.targets)?;
+        let names = same_list(&self.names)?;
         let access = same_list(&self.access)?;
         let senders = same_list(&self.senders)?;
         Some(Said {
@@ -136,20 +152,28 @@ impl Said {
             sources,
             sockets: self.sockets,
             targets,
+            names,
             header: self.header,
             access,
             senders,
         })
     }
 
-    /// What a rule of the file says. `before` is what its account says, if it has one: what its list of
-    /// targets and its table of sources count is counted on.
-    pub fn of(alloc: Global, said: &SaidRule, before: Option<&Said>) -> Result<Said, OutOfMemory>
-        ensures { IfOk result (SaysRule said.now) }
+    /// What a rule of the file says, where hosts were looked up as these answers have it. `before` is what
+    /// its account says, if it has one: what its list of targets and its table of sources count is counted
+    /// on.
+    pub fn of(
+        alloc: Global,
+        said: &SaidRule,
+        before: Option<&Said>,
+        answers: &Answers,
+    ) -> Result<Said, OutOfMemory>
+        ensures { IfOk result (SaysRuleBy answers.now.all.items said.now) }
     {
         let listens = addresses_of(alloc, said)?;
         let sources = sources_of(alloc, &said.source_limits, before)?;
-        let targets = Some(list_of(alloc, said, before)?);
+        let targets = Some(list_of(alloc, said, before, answers)?);
+        let names = named_of(alloc, said)?;
         let access = access_of(alloc, said)?;
         let senders = senders_of(alloc, said)?;
         Ok(Said {
@@ -160,10 +184,38 @@ impl Said {
             sources,
             sockets: said.sockets,
             targets,
+            names,
             header: said.header,
             access,
             senders,
         })
+    }
+
+    // The same, but with this list of targets. Refused is only a list that is held too often.
+    fn with_targets(&self, list: Arc<Targets>) -> Option<Said>
+        ensures { IfSome result (SaysWith (arc_value list) self.now) }
+    {
+        let mut said = self.try_clone()?;
+        said.targets = Some(list);
+        Some(said)
+    }
+
+    /// What a rule says once its hosts were looked up as these answers have it; none where it names no
+    /// host. What its list counts and knows of a target that stays goes on.
+    pub fn looked_up(&self, alloc: Global, answers: &Answers) -> Result<Option<Said>, OutOfMemory>
+        ensures named { IfOk result (λ said. IfSome said
+            (AreFoundBy answers.now.all.items self.now)) }
+        ensures none { IfOk result (λ said. said ≡ None
+            → (self.now.names ≡ None) ⊎ (self.now.targets ≡ None)) }
+    {
+        let (Some(named), Some(list)) = (&self.names, &self.targets) else {
+            return Ok(None);
+        };
+        let list = named.listed(alloc, list, answers)?;
+        match self.with_targets(list) {
+            Some(said) => Ok(Some(said)),
+            None => Err(OutOfMemory),
+        }
     }
 
     /// A rule at its own address alone, without limits of its own and with plain sockets, whose own target
@@ -175,6 +227,7 @@ impl Said {
         ensures source_limits { result.source_limits ≡ no_limits }
         ensures sockets { sockets_entry result.sockets ≡ plain_sockets }
         ensures targets { result.targets ≡ None }
+        ensures names { result.names ≡ None }
         ensures header { result.header ≡ None }
         ensures access { result.access ≡ None }
         ensures senders { result.senders ≡ None }
@@ -187,6 +240,7 @@ impl Said {
             sources: None,
             sockets: PLAIN_SOCKETS,
             targets: None,
+            names: None,
             header: None,
             access: None,
             senders: None,
@@ -227,6 +281,7 @@ impl ServedRule {
             sources,
             sockets,
             targets,
+            names,
             header,
             access,
             senders,
@@ -242,6 +297,7 @@ impl ServedRule {
                 sources,
                 sockets,
                 targets,
+                names,
                 header,
                 access,
                 senders,
@@ -322,5 +378,11 @@ impl ServedRule {
     /// A client was accepted.
     pub fn note_accept(&self) {
         self.counts.accepted.add(1);
+    }
+
+    /// A client of it was accepted, and dropped at once: there was no memory to know anything of it.
+    pub fn note_unknown(&self) {
+        self.note_accept();
+        self.counts.note_dropped(Ended::NoMemory);
     }
 }

@@ -77,6 +77,17 @@ impl Targets {
         }
     }
 
+    /// They are the targets of their rule from this moment on, by the calendar, since a host was looked up,
+    /// where these were before: what an operator has set of them stays. One that is new comes to its state
+    /// now.
+    pub fn come(&self, before: &Targets, now: u64) {
+        for counted in self.all.iter() {
+            if before.state_at(&counted.target.at) != Some(state_now(counted)) {
+                counted.counts.begin(now);
+            }
+        }
+    }
+
     /// The health of the target at this place has changed at this moment, by the calendar: so has its
     /// state, unless an operator has set it.
     pub(crate) fn begin_anew(&self, place: usize, now: u64) {

@@ -5,6 +5,7 @@ ghost use Rattle.std.specs.Prelude.{◌≡◌};
 use crate::loops::LoopContext;
 use relay_conn::refused::Refused;
 use relay_facts::connection_facts::Acceptance;
+use relay_shared::owed_end::OwedEnd;
 use std::sync::Wait;
 use std::time::Clock;
 
@@ -44,8 +45,12 @@ impl Arrival {
         }
     }
 
-    /// It isn't served, for this reason.
-    pub(crate) fn refused<R: Wait + Clock + Copy>(self, context: &LoopContext<R>, why: Refused) {
+    /// It isn't served, for this reason. Nothing counts it any more, which is to be told.
+    pub(crate) fn refused<R: Wait + Clock + Copy>(
+        self,
+        context: &LoopContext<R>,
+        why: Refused,
+    ) -> OwedEnd {
         let Arrival { acceptance } = self;
         let last = why.place();
         let how = why.how();
@@ -53,5 +58,6 @@ impl Arrival {
             counts.note_refused(how);
         }
         context.tell_refused(&acceptance, last, how);
+        OwedEnd::of_refused()
     }
 }

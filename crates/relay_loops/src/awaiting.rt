@@ -65,8 +65,8 @@ impl<U: Ledger, D: Ledger, R: Wait + Clock + Copy> LoopHost<U, D, R> {
     /// Closes a client that isn't served, and its rule is told why.
     pub(crate) fn turn_away(&self, client: Awaiting, why: Refused) {
         let arrival = Arrival::new(client.close());
-        arrival.refused(&self.context, why);
-        self.context.shared.note_end();
+        let owed = arrival.refused(&self.context, why);
+        owed.tell(&self.context.shared);
     }
 }
 
@@ -157,8 +157,8 @@ impl<U: Ledger, D: Ledger, R: Wait + Net + Clock + Copy> LoopHost<U, D, R> {
             Ok(client) => self.serve_client(tasks, Delivered::told(client)),
             Err(unseated) => {
                 let Unseated { acceptance, why } = unseated;
-                Arrival::new(acceptance).refused(&self.context, why);
-                self.context.shared.note_end();
+                let owed = Arrival::new(acceptance).refused(&self.context, why);
+                owed.tell(&self.context.shared);
             }
         }
     }

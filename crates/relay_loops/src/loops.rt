@@ -16,7 +16,7 @@ use crate::taken::Taken;
 use fd_descriptor::PollCell;
 use readiness::{EventLoop, Host, Side, Turn, Why};
 use relay_admin::ServeFault;
-use relay_conn::connection::Connection;
+use relay_conn::connection::{Connection, EndedConnection};
 use relay_conn::others::Dials;
 use relay_core::{LoopMemory, PairNext};
 use relay_facts::books::LoopBooks;
@@ -155,14 +155,14 @@ impl<U: Ledger, D: Ledger, R: Wait + Clock + Copy> LoopHost<U, D, R> {
     {
         let now = self.context.clock.now();
         let shared = &self.context.shared;
-        let gone = task.end(
+        let EndedConnection { gone, owed } = task.end(
             &self.context.rt,
             &shared.index,
             &mut self.books,
             &shared.log,
             now,
         );
-        shared.note_end();
+        owed.tell(shared);
         gone
     }
 }

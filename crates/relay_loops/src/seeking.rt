@@ -1,9 +1,9 @@
 //! Connections that seek a target: between two turns the next one of each is dialled, since no turn has
 //! the poller to register its socket with.
 
-ghost use Rattle.std.specs.Prelude.{◌≡◌, [], IfOk, IfSome};
+ghost use Rattle.std.specs.Prelude.{◌≡◌, [], None, IfOk, IfSome};
 ghost use Rattle.readiness.specs.EventLoop.{tasks_of};
-ghost use Rattle.readiness.specs.Tasks.{OthersKept};
+ghost use Rattle.readiness.specs.Tasks.{OthersKept, task_in};
 ghost use Rattle.relay_conn.specs.Others.{seekers_in};
 ghost use Rattle.relay_conn.specs.Seeking.{token_of_next};
 ghost use Rattle.relay_loops.specs.Turns.{StayArmed};
@@ -107,6 +107,7 @@ impl<U: Ledger, D: Ledger, R: Wait + Net + Clock + Copy> LoopHost<U, D, R> {
 
     // Ends it so.
     fn give_up(&mut self, tasks: &mut ConnLoop<U, D, R>, token: u64, how: How)
+        ensures gone { task_in (tasks_of tasks.new) token ≡ None }
         ensures dials { self.new.dials ≡ self.old.dials }
         ensures others { OthersKept (tasks_of tasks.old) (tasks_of tasks.new) token }
         ensures armed { StayArmed (tasks_of tasks.old) (tasks_of tasks.new) }

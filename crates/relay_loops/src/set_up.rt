@@ -235,8 +235,8 @@ impl<U: Ledger, D: Ledger, R: Wait + Net + Clock + Copy> LoopHost<U, D, R> {
         match self.connect(tasks, sock, arrival.acceptance(), counted) {
             Ok(()) => arrival.served(&self.context),
             Err(why) => {
-                arrival.refused(&self.context, why);
-                self.context.shared.note_end();
+                let owed = arrival.refused(&self.context, why);
+                owed.tell(&self.context.shared);
             }
         }
     }

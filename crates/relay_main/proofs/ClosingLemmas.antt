@@ -8,9 +8,9 @@ use Rattle.fd_descriptor.specs.FdHandle.{descriptor_of, closes_of, KeepsHandle}
 use Rattle.fd_descriptor.specs.HandleCalls.{TellsWhoClosed}
 use Rattle.relay_main.specs.Closing.{WasClosed}
 
-module _ {X R W A : Type 0} where
+module _ {X A R W C : Type 0} where
   -- a close that is Ok was made by its handle
-  pub was_closed : (descriptor : Fd X R W A) (before after : FdHandle X R W A)
+  pub was_closed : (descriptor : Fd X A R W C) (before after : FdHandle X A R W C)
       (result : Result (Unit {0}) Fault) → descriptor_of before ≡ descriptor → KeepsHandle before after
       → TellsWhoClosed result (closes_of before) (closes_of after) → OnOk result (WasClosed descriptor)
   was_closed descriptor before after (Ok done) same keeps told =

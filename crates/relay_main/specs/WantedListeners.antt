@@ -9,7 +9,12 @@ use Rattle.relay_main.specs.declared.wanted_listeners.WantedListener.{WantedList
 
 -- that of a rule that says this at one of its addresses
 abbrev pub wanted_at : Said → Addr → WantedListener
-wanted_at said listen = record { rule = said.rule; listen = listen; backlog = said.sockets.backlog }
+wanted_at said listen = record {
+  rule = said.rule;
+  listen = listen;
+  backlog = said.sockets.backlog;
+  mode = said.sockets.mode;
+}
 
 -- those of a rule that says this: one at each of its addresses
 abbrev pub wanted_of : Said → List WantedListener

@@ -10,7 +10,7 @@ ghost use Rattle.relay_admin.specs.ServeFault.{IsRunFault};
 ghost use Rattle.relay_main.specs.Binding.{HasCome, IsBindFault, IsListenFault, IsListenedFor};
 ghost use Rattle.relay_main.specs.Binding.{IsNoted, KeepsPath, StillStand};
 ghost use Rattle.relay_main.specs.Listening.{given_at, left_by};
-ghost use Rattle.relay_shared.specs.BoundPath.{paths_in};
+ghost use Rattle.relay_shared.specs.BoundPath.{paths_in, paths_without};
 
 use crate::accounts::account_of;
 use crate::listeners_end::LastClients;
@@ -86,6 +86,8 @@ impl<R: Wait + Net + Files + Clock + Copy> MainLoop<R> {
         ensures gone { task_in (tasks_of self.new.tasks) begun.token ≡ None }
         ensures others { (other : ℕ) → place_in other ≢ place_in begun.token →
             task_in (tasks_of self.new.tasks) other ≡ task_in (tasks_of self.old.tasks) other }
+        ensures paths { paths_in self.new.paths
+            ≡ paths_without listen.now (paths_in self.old.paths) }
     {
         let Begun { token } = begun;
         self.end_rule(token, LastClients::AreReset);
@@ -131,7 +133,7 @@ impl<R: Wait + Net + Files + Clock + Copy> MainLoop<R> {
         ensures tasks { self.new.tasks ≡ self.old.tasks }
         ensures faults { IfErr result (IsListenFault one.now.rule.name) }
     {
-        match self.listeners.open(rt, &one.listen) {
+        match self.listeners.open(rt, &one.listen, one.mode) {
             Ok(Opened::Given(socket)) => Ok(socket),
             Ok(Opened::Bound(socket, path)) => {
                 self.paths.keep(rt, path)?;

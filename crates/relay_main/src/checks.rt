@@ -6,7 +6,7 @@ ghost use Rattle.readiness.specs.EventLoop.{tasks_of};
 ghost use Rattle.readiness.specs.Tasks.{task_in};
 ghost use Rattle.relay_admin.specs.declared.serve_fault.ServeFault.{ServeFault};
 ghost use Rattle.std.specs.IoError.{error_kind};
-ghost use Rattle.relay_main.specs.Checks.{IsDialOf, IsToFollow, connect_cause, dial_in, dialled_of};
+ghost use Rattle.relay_main.specs.Checks.{IsDialOf, IsSameCheck, IsToFollow, connect_cause, dial_in, dialled_of};
 ghost use Rattle.relay_main.specs.Checks.{moment_behind, turn_of};
 
 use crate::check_task::{CheckStep, CheckTask, Checked, Dial};
@@ -121,6 +121,7 @@ impl CheckTask {
         ensures dial { dial_in self.new ≡ dial_in self.old }
         ensures other { result ≡ false → self.new ≡ self.old }
         ensures one { result ≡ true → 0 < length wanted.old.items }
+        ensures same { result ≡ true → IsSameCheck self.new.checked self.old.checked true }
         ensures none { result ≡ false → wanted.new ≡ wanted.old }
     {
         match place_among(wanted.as_slice(), &self.checked) {

@@ -2,8 +2,9 @@
 //! own ends, and ends once none stands and no session waits for the answer of a loop, or a moment has
 //! come.
 
-ghost use Rattle.std.specs.Prelude.{◌≡◌, ◌↔◌, true, [], IsSome};
+ghost use Rattle.std.specs.Prelude.{◌≡◌, ◌↔◌, ℕ, true, [], Some};
 ghost use Rattle.readiness.specs.EventLoop.{tasks_of};
+ghost use Rattle.relay_main.specs.Checks.{moment_behind};
 ghost use Rattle.relay_main.specs.Finishing.{HasFinished, IsOver};
 ghost use Rattle.relay_main.specs.ListenersEnd.{AreEnded};
 ghost use Rattle.relay_shared.specs.BoundPath.{paths_in};
@@ -50,7 +51,7 @@ impl<R: Wait + Net + Files + Clock + Copy> MainLoop<R> {
     /// Has the relay take nobody more from now on, and end in so many milliseconds at the latest. A
     /// later call changes the moment.
     pub(crate) fn finish(&mut self, after_ms: u64)
-        ensures finishes { IsSome self.new.finish_at }
+        ensures moment { (now : ℕ) × (self.new.finish_at ≡ Some (moment_behind now after_ms)) }
     {
         if !self.host.shared.is_finishing.swap(true, Ordering::SeqCst) {
             self.listen_no_more();

@@ -15,6 +15,7 @@ mod listening;
 mod main_host;
 mod main_loop;
 mod main_task;
+mod names;
 mod opening;
 mod plan;
 mod planning;

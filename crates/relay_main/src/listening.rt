@@ -70,9 +70,15 @@ impl Listeners {
         Some(listener)
     }
 
-    /// Listens at an address: by the listener that was given there, if one was; else one is bound,
-    /// and a Unix socket that was left there gives way first, where it is to.
-    pub(crate) fn open<R: Net + Files>(&mut self, rt: &R, addr: &Addr) -> Result<Opened, DevKind>
+    /// Listens at an address: by the listener that was given there, if one was, with the mode that it
+    /// has; else one is bound, with this mode, and a Unix socket that was left there gives way first,
+    /// where it is to.
+    pub(crate) fn open<R: Net + Files>(
+        &mut self,
+        rt: &R,
+        addr: &Addr,
+        mode: Option<u16>,
+    ) -> Result<Opened, DevKind>
         ensures given { IfSome (given_at addr.now self.old.given.items)
             (λ listener. result ≡ Ok (Opened.Given listener)) }
         ensures bound { IfNone (given_at addr.now self.old.given.items)
@@ -85,7 +91,7 @@ impl Listeners {
         if self.replaces_stale {
             remove_stale(rt, addr);
         }
-        match bind(rt, addr) {
+        match bind(rt, addr, mode) {
             Ok((listener, path)) => Ok(Opened::Bound(listener, path)),
             Err(kind) => Err(kind),
         }

@@ -54,6 +54,8 @@ pub struct MainLoop<R: Wait + Clock + Copy> {
     pub(crate) checking: Vec<u64>,
     /// When these are to follow the rules, if they are.
     pub(crate) follow_at: Option<u64>,
+    /// When the names that are looked up are to follow them, if they are.
+    pub(crate) want_at: Option<u64>,
     /// The token of the admin socket's task; 0 before there is one.
     pub(crate) admin: u64,
     /// The moment at which the relay ends at the latest, where it finishes.
@@ -91,6 +93,7 @@ impl<R: Wait + Clock + Copy> MainLoop<R> {
             numbered: 0,
             checking: Vec::new(alloc),
             follow_at: Some(0),
+            want_at: Some(0),
             admin: 0,
             finish_at: None,
         }
@@ -112,6 +115,7 @@ impl<R: Wait + Clock + Copy> MainLoop<R> {
             numbered: _,
             checking: _,
             follow_at: _,
+            want_at: _,
             admin: _,
             finish_at: _,
         } = self;
@@ -167,9 +171,15 @@ impl<R: Wait + Net + Files + Clock + Eprint + Copy> MainLoop<R> {
         Ok(all)
     }
 
-    /// Opens the admin socket at this path, and accepts there from the next turn on. Its path is kept
-    /// in `paths`, where it isn't given. The faults are `Admin`, `Device` and `Memory`.
-    pub fn open_admin(&mut self, path: &str, paths: &mut BoundPaths) -> Result<(), ServeFault>
+    /// Opens the admin socket at this path, with this mode, where one is said, and accepts there from
+    /// the next turn on. Its path is kept in `paths`, where it isn't given. The faults are `Admin`,
+    /// `Device` and `Memory`.
+    pub fn open_admin(
+        &mut self,
+        path: &str,
+        mode: Option<u16>,
+        paths: &mut BoundPaths,
+    ) -> Result<(), ServeFault>
         ensures stand { StillStand (tasks_of self.old.tasks) (tasks_of self.new.tasks) }
         ensures come { OnOk result (IsAdmin (task_in (tasks_of self.new.tasks) self.new.admin)) }
         ensures faults { IfErr result IsAdminFault }
@@ -182,7 +192,7 @@ impl<R: Wait + Net + Files + Clock + Eprint + Copy> MainLoop<R> {
             admin,
             ..
         } = self;
-        *admin = open_admin(&host.rt, *alloc, tasks, path, listeners, paths)?;
+        *admin = open_admin(&host.rt, *alloc, tasks, path, mode, listeners, paths)?;
         Ok(())
     }
 
@@ -193,6 +203,8 @@ impl<R: Wait + Net + Files + Clock + Eprint + Copy> MainLoop<R> {
         let rt = self.host.rt;
         for _ in rt.forever() {
             let now = self.host.clock.now();
+            self.want_names(now);
+            self.follow_names();
             self.follow_checks(now);
             if let Err(fault) = self.tasks.turn(&rt, now, &mut self.host) {
                 return Err(of_poller(fault));

@@ -141,11 +141,12 @@ pub(crate) fn hold_shared<R: Wait + Copy>(
     )
 }
 
-// Listens at the admin path, and keeps it for its removal, where it isn't given. A path of no byte, or
-// of more than an address holds, can't be listened on.
+// Listens at the admin path, with this mode, and keeps it for its removal, where it isn't given. A path
+// of no byte, or of more than an address holds, can't be listened on.
 fn listen_at_admin<R: Net + Files>(
     rt: &R,
     path: &str,
+    mode: Option<u16>,
     listeners: &mut Listeners,
     paths: &mut BoundPaths,
 ) -> Result<Listen, ServeFault>
@@ -158,7 +159,7 @@ fn listen_at_admin<R: Net + Files>(
         return Err(ServeFault::Admin);
     };
     let addr = Addr::Unix(path);
-    match listeners.open(rt, &addr) {
+    match listeners.open(rt, &addr, mode) {
         Ok(Opened::Given(listener)) => Ok(listener),
         Ok(Opened::Bound(listener, bound)) => {
             paths.keep(rt, bound)?;
@@ -168,13 +169,14 @@ fn listen_at_admin<R: Net + Files>(
     }
 }
 
-/// Opens the admin socket at this path, and has a task accept there from the next turn on, whose
-/// token it gives. The path is kept for its removal, where it isn't given.
+/// Opens the admin socket at this path, with this mode, and has a task accept there from the next turn
+/// on, whose token it gives. The path is kept for its removal, where it isn't given.
 pub(crate) fn open_admin<R: Wait + Net + Files + Copy>(
     rt: &R,
     alloc: Global,
     tasks: &mut EventLoop<MainTask<R>>,
     path: &str,
+    mode: Option<u16>,
     listeners: &mut Listeners,
     paths: &mut BoundPaths,
 ) -> Result<u64, ServeFault>
@@ -183,7 +185,7 @@ pub(crate) fn open_admin<R: Wait + Net + Files + Copy>(
     ensures next { IfOk result (ComesNext (tasks_of tasks.new)) }
     ensures faults { IfErr result IsAdminFault }
 {
-    let mut listener = listen_at_admin(rt, path, listeners, paths)?;
+    let mut listener = listen_at_admin(rt, path, mode, listeners, paths)?;
     let Ok(place) = tasks.vacant() else {
         return Err(ServeFault::Memory);
     };

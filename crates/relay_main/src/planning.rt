@@ -21,6 +21,7 @@ use crate::wanted_listeners::wanted_by;
 use relay_admin::{Rule, ServeFault};
 use relay_facts::served_rule::{Said, ServedRule};
 use relay_settings::SaidRule;
+use relay_shared::lookups::Lookups;
 use std::alloc::Global;
 use std::fs::Files;
 use std::net::Net;
@@ -53,7 +54,7 @@ fn rules_of(alloc: Global, all: &[SaidRule]) -> Result<Vec<Rule>, ServeFault>
 // counted on.
 fn said_of<R: Wait>(
     rt: &R,
-    alloc: Global,
+    lookups: &Lookups,
     accounts: &[Arc<ServedRule>],
     rule: &SaidRule,
 ) -> Result<Said, ServeFault>
@@ -61,18 +62,19 @@ fn said_of<R: Wait>(
     ensures faults { IfErr result (λ fault. fault ≡ ServeFault.Memory) }
 {
     let Some(served) = account_at(accounts, &rule.rule.listen) else {
-        return Ok(Said::of(alloc, rule, None)?);
+        return Ok(lookups.said(rt, rule, None)?);
     };
     let Some(before) = served.said(rt) else {
         return Err(ServeFault::Memory);
     };
-    Ok(Said::of(alloc, rule, Some(&before))?)
+    Ok(lookups.said(rt, rule, Some(&before))?)
 }
 
 // What the accounts of these rules, among those, are to say.
 fn all_said<R: Wait>(
     rt: &R,
     alloc: Global,
+    lookups: &Lookups,
     accounts: &[Arc<ServedRule>],
     rules: &[SaidRule],
 ) -> Result<Vec<Said>, ServeFault>
@@ -81,7 +83,7 @@ fn all_said<R: Wait>(
 {
     let mut all = Vec::new(alloc);
     for rule in rules {
-        all.push(said_of(rt, alloc, accounts, rule)?)?;
+        all.push(said_of(rt, lookups, accounts, rule)?)?;
     }
     Ok(all)
 }
@@ -176,7 +178,8 @@ impl<R: Wait + Net + Files + Clock + Eprint + Copy> MainLoop<R> {
             prepared.plan.serve.items) prepared.plan.listeners.keep.items) }
     {
         let accounts = self.accounts(rt)?;
-        let said = all_said(rt, self.alloc, accounts.as_slice(), file)?;
+        let lookups = &*self.host.shared.lookups;
+        let said = all_said(rt, self.alloc, lookups, accounts.as_slice(), file)?;
         let plan = self.planned(accounts, file, said.as_slice())?;
         let followed = self.followed(&plan)?;
         Ok(Prepared {

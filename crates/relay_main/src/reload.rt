@@ -132,6 +132,7 @@ impl<R: Wait + Net + Files + Clock + Eprint + Copy> MainLoop<R> {
         gone.retain(|served| served.standing() > 0);
         self.gone = gone;
         self.follow_at = Some(0);
+        self.want_at = Some(0);
         self.host.shared.reloads.add(1);
     }
 

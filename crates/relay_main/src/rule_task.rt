@@ -139,6 +139,7 @@ where
             sources,
             sockets,
             targets,
+            names: _,
             header,
             access,
             senders,
@@ -182,10 +183,12 @@ where
     }
 
     fn deliver(&mut self, taken: Sock) {
-        if let Some(acceptance) = self.acceptance(peer_of(&taken), &taken) {
-            self.listener.facts.last = acceptance.at;
-            self.shared.deliver(&self.rt, taken, acceptance);
-        }
+        let Some(acceptance) = self.acceptance(peer_of(&taken), &taken) else {
+            self.served.note_unknown();
+            return;
+        };
+        self.listener.facts.last = acceptance.at;
+        self.shared.deliver(&self.rt, taken, acceptance);
     }
 }
 

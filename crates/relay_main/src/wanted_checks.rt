@@ -1,13 +1,14 @@
 //! The targets that are to be checked: of each rule that has checks, each address once.
 
-ghost use Rattle.std.specs.Prelude.{◌≡◌, ◌<◌, IfSome, IfErr, OnSome, length};
+ghost use Rattle.std.specs.Prelude.{◌≡◌, ◌<◌, true, IfSome, IfErr, IsSome, OnSome, length, slice_index_or};
 ghost use Rattle.std.specs.Arc.{arc_value};
 ghost use Rattle.relay_admin.specs.declared.serve_fault.ServeFault.{ServeFault};
 ghost use Rattle.relay_main.specs.Checks.{IsCheckOf, IsSameCheck};
 ghost use Rattle.relay_main.specs.More.{HasMore, HasOneMore};
+ghost use Rattle.relay_main.specs.declared.check_task.Checked.{Checked};
 
 use crate::check_task::Checked;
-use relay_admin::{ServeFault, is_same_addr};
+use relay_admin::{Addr, ServeFault, is_same_addr};
 use relay_facts::served_rule::{Said, ServedRule};
 use relay_facts::target_list::Targets;
 use std::sync::{Arc, Wait};
@@ -23,7 +24,9 @@ fn is_same_check(one: &Checked, other: &Checked) -> bool
 
 /// The place of the same check among these.
 pub(crate) fn place_among(all: &[Checked], one: &Checked) -> Option<usize>
-    ensures { IfSome result (λ place. place < length all.now) }
+    ensures within { IfSome result (λ place. place < length all.now) }
+    ensures same { IfSome result (λ place. (other : Checked)
+        → IsSameCheck (slice_index_or all.now place other) one.now true) }
 {
     for place in 0..all.len() {
         if is_same_check(&all[place], one) {
@@ -31,6 +34,16 @@ pub(crate) fn place_among(all: &[Checked], one: &Checked) -> Option<usize>
         }
     }
     None
+}
+
+// Whether a rule that says this has a target here whose host was never found: nobody is there to check.
+fn is_unfound(said: &Said, at: &Addr) -> bool
+    ensures { result ≡ true → IsSome said.now.names }
+{
+    match (&said.names, at) {
+        (Some(_), Addr::Tcp(bytes, _)) => *bytes == [0, 0, 0, 0],
+        _ => false,
+    }
 }
 
 // The check of the target at this place of the list of a rule that says this, if it is to be checked. None
@@ -47,7 +60,7 @@ fn checked_at(
     let (Some(checks), Some(at)) = (targets.checks(), targets.address(place)) else {
         return Some(None);
     };
-    if targets.is_repeated(place) {
+    if targets.is_repeated(place) || is_unfound(said, &at) {
         return Some(None);
     }
     Some(Some(Checked {

@@ -17,6 +17,8 @@ pub(crate) struct WantedListener {
     pub(crate) listen: Addr,
     /// How many clients may wait there for an accept, where its rule says that.
     pub(crate) backlog: Option<u32>,
+    /// The mode of its path, where its rule says that.
+    pub(crate) mode: Option<u16>,
 }
 
 // Puts one of a rule that says this at each of these addresses behind others.
@@ -30,6 +32,7 @@ fn add_each(all: &mut Vec<WantedListener>, said: &Said, listens: &[Addr]) -> Res
             rule: said.rule,
             listen: *listen,
             backlog: said.sockets.backlog,
+            mode: said.sockets.mode,
         })?;
     }
     Ok(())

@@ -5,7 +5,7 @@ use Rattle.std.proofs.lemmas.Grind.{common_steps}
 use Rattle.std.proofs.lemmas.List.{take_more, take_all}
 use Rattle.std.proofs.lemmas.List.Concat.{flat_map-append}
 use Rattle.std.proofs.lemmas.Slice.Zip.{get_or-zip, length-zip}
-use Rattle.relay_metrics.specs.declared.figures.Family.{Family}
+use Rattle.relay_metrics.specs.declared.family.Family.{Family}
 use Rattle.relay_metrics.specs.Text.{cause_text, counted_text}
 
 -- the figures of the first causes

@@ -4,7 +4,7 @@ use Rattle.std.specs.Prelude.{codes}
 use Rattle.std.specs.Fmt.{decimal}
 use Rattle.std.proofs.lemmas.Grind.{common_steps}
 use Rattle.std.proofs.lemmas.List.{take_more}
-use Rattle.relay_metrics.specs.declared.figures.Family.TheVariants as family
+use Rattle.relay_metrics.specs.declared.family.Family.TheVariants as family
 use Rattle.relay_metrics.specs.Sample.{sample_text}
 use Rattle.relay_metrics.specs.Text.{turns_from}
 

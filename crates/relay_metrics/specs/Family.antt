@@ -1,7 +1,7 @@
 -- What is said of each family of figures.
 use Rattle.std.specs.Prelude.{ℕ, List, [], ◌∷◌, ◌++◌, codes}
-use Rattle.relay_metrics.specs.declared.figures.Family.{Family}
-use Rattle.relay_metrics.specs.declared.figures.Family.TheVariants as family
+use Rattle.relay_metrics.specs.declared.family.Family.{Family}
+use Rattle.relay_metrics.specs.declared.family.Family.TheVariants as family
 
 -- the name of its figures
 unfoldable pub name_text : Family → List ℕ
@@ -23,6 +23,8 @@ name_text family.RuleEnds = codes "pollrelay_rule_ends_total"
 name_text family.RuleNoTarget = codes "pollrelay_rule_no_target_total"
 name_text family.RuleAcceptFaults = codes "pollrelay_rule_accept_faults_total"
 name_text family.RuleListening = codes "pollrelay_rule_listening"
+name_text family.RuleConnects = codes "pollrelay_connect_seconds"
+name_text family.RuleStood = codes "pollrelay_connection_seconds"
 name_text family.TargetUp = codes "pollrelay_target_up"
 name_text family.TargetConnections = codes "pollrelay_target_connections"
 name_text family.TargetConnects = codes "pollrelay_target_connects_total"
@@ -49,18 +51,23 @@ help_text family.RuleEnds = codes "Connections that ended, by cause."
 help_text family.RuleNoTarget = codes "Clients whose target wasn't reached, by cause."
 help_text family.RuleAcceptFaults = codes "Rows of accepts that failed."
 help_text family.RuleListening = codes "Whether clients are accepted: 1, or 0."
+help_text family.RuleConnects =
+    codes "Seconds that clients' connects to targets took, where they were made."
+help_text family.RuleStood = codes "Seconds that connections stood, from their accept to their end."
 help_text family.TargetUp = codes "Whether a checked target is up: 1, or 0."
 help_text family.TargetConnections = codes "Connections that stand at a target now."
 help_text family.TargetConnects = codes "Clients' connects to a target that were made."
 help_text family.TargetFailures = codes "Clients' connects to a target that failed."
 
--- a gauge may fall, a counter never does
+-- a gauge may fall, a counter never does; a histogram counts by bounds
 unfoldable pub kind_text : Family → List ℕ
 kind_text family.Up = codes "gauge"
 kind_text family.Loops = codes "gauge"
 kind_text family.ConnectionsLimit = codes "gauge"
 kind_text family.RuleConnections = codes "gauge"
 kind_text family.RuleListening = codes "gauge"
+kind_text family.RuleConnects = codes "histogram"
+kind_text family.RuleStood = codes "histogram"
 kind_text family.TargetUp = codes "gauge"
 kind_text family.TargetConnections = codes "gauge"
 kind_text _ = codes "counter"

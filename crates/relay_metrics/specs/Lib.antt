@@ -1,4 +1,6 @@
+pub mod Durations
 pub mod Family
 pub mod Figures
+pub mod Histogram
 pub mod Sample
 pub mod Text

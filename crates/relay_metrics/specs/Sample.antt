@@ -2,7 +2,7 @@
 use Rattle.std.specs.Prelude.{ℕ, ◌+◌, ◌/◌, ◌%◌, ◌==◌, ◌||◌, List, [], ◌∷◌, ◌++◌, codes, if◌then◌else◌}
 use Rattle.std.specs.List.{flat_map}
 use Rattle.std.specs.Fmt.{decimal}
-use Rattle.relay_metrics.specs.declared.figures.Family.{Family}
+use Rattle.relay_metrics.specs.declared.family.Family.{Family}
 use Rattle.relay_metrics.specs.Family.{name_text, head_text}
 
 -- a space, the value and a line feed

@@ -4,14 +4,17 @@ use Rattle.std.specs.Prelude.{ℕ, Bool, ◌+◌, List, [], ◌∷◌, ◌++◌,
 use Rattle.std.specs.List.{flat_map, zip}
 use Rattle.std.specs.Fmt.{decimal}
 use Rattle.relay_log.specs.Ended.{cause_words, end_labels}
-use Rattle.relay_metrics.specs.declared.figures.Family.{Family}
-use Rattle.relay_metrics.specs.declared.figures.Family.TheVariants as family
+use Rattle.relay_metrics.specs.declared.family.Family.{Family}
+use Rattle.relay_metrics.specs.declared.family.Family.TheVariants as family
+use Rattle.relay_metrics.specs.declared.durations.Durations.{Durations}
+use Rattle.relay_metrics.specs.declared.durations.TheConstants.{CONNECT_BOUNDS_MS, CONNECT_PLACES, STANDING_BOUNDS_MS, STANDING_PLACES}
 use Rattle.relay_metrics.specs.declared.figures.CarriedBytes.{CarriedBytes}
 use Rattle.relay_metrics.specs.declared.figures.Figures.{Figures}
 use Rattle.relay_metrics.specs.declared.figures.Refusals.{Refusals}
 use Rattle.relay_metrics.specs.declared.figures.RuleFigures.{RuleFigures}
 use Rattle.relay_metrics.specs.declared.figures.TargetFigures.{TargetFigures}
 use Rattle.relay_metrics.specs.Family.{head_text, name_text}
+use Rattle.relay_metrics.specs.Histogram.{histogram_text}
 use Rattle.relay_metrics.specs.Sample.{escaped, rule_sample_text, sample_text, seconds_text}
 use Rattle.relay_metrics.specs.Sample.{single_text, value_text}
 
@@ -80,6 +83,16 @@ counted_text f rule counted = cause_text f rule counted.0 counted.1
 unfoldable pub causes_text : Family → List ℕ → List (List ℕ) → List ℕ → List ℕ
 causes_text f rule causes counts = flat_map (counted_text f rule) (zip causes counts)
 
+-- how long connects to a rule's targets took
+unfoldable pub connects_text : List ℕ → Durations CONNECT_PLACES → List ℕ
+connects_text rule took =
+    histogram_text family.RuleConnects rule CONNECT_BOUNDS_MS took.counts took.sum_us
+
+-- how long a rule's connections stood
+unfoldable pub stood_text : List ℕ → Durations STANDING_PLACES → List ℕ
+stood_text rule stood =
+    histogram_text family.RuleStood rule STANDING_BOUNDS_MS stood.counts stood.sum_us
+
 -- what holds is 1, what doesn't 0
 abbrev pub flag : Bool → ℕ
 flag holds = if holds then 1 else 0
@@ -99,6 +112,8 @@ of_rule family.RuleAcceptFaults r =
     sample_text family.RuleAcceptFaults (codes "rule") r.name.bytes r.accept_faults
 of_rule family.RuleListening r =
     sample_text family.RuleListening (codes "rule") r.name.bytes (flag r.is_listening)
+of_rule family.RuleConnects r = connects_text r.name.bytes r.connects
+of_rule family.RuleStood r = stood_text r.name.bytes r.stood
 of_rule _ r = []
 
 -- a family of rules: the figures of each rule, in their order
@@ -124,7 +139,12 @@ defence_text rules = rule_family_text family.RuleNoTarget rules
     ++ (rule_family_text family.RuleAcceptFaults rules
     ++ rule_family_text family.RuleListening rules)
 
--- the families of rules
+-- the families of how long it took to connect, and how long connections stood
+unfoldable pub durations_text : List RuleFigures → List ℕ
+durations_text rules = rule_family_text family.RuleConnects rules
+    ++ rule_family_text family.RuleStood rules
+
+-- the families of rules, but for those of durations
 unfoldable pub rules_text : List RuleFigures → List ℕ
 rules_text rules = rule_family_text family.RuleConnections rules
     ++ (rule_family_text family.RuleAccepted rules
@@ -162,4 +182,5 @@ targets_text targets = target_family_text family.TargetUp targets
 
 -- the whole text
 unfoldable pub metrics_text : Figures → List ℕ
-metrics_text f = relay_text f ++ (totals_text f ++ (rules_text f.rules.items ++ targets_text f.targets.items))
+metrics_text f = relay_text f ++ (totals_text f ++ (rules_text f.rules.items
+    ++ (durations_text f.rules.items ++ targets_text f.targets.items)))

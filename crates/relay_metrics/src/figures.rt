@@ -1,16 +1,13 @@
-//! A relay's figures: a snapshot of them, and their families, by their names, what is said of them,
-//! and of which kind they are.
+//! A relay's figures: a snapshot of them.
 
-ghost use Rattle.std.specs.Prelude.{◌≡◌, ◌++◌, OnOk};
-ghost use Rattle.relay_metrics.specs.Family.{name_text, help_text, kind_text};
-ghost use Rattle.relay_metrics.specs.Family.{comment_text, head_text};
+ghost use Rattle.std.specs.Prelude.{◌≡◌};
 ghost use Rattle.relay_metrics.specs.Figures.{IsBlank};
 ghost use Rattle.relay_metrics.specs.Figures.{all_have_targets, all_listen, health_of};
 
+use crate::durations::{CONNECT_PLACES, Durations, STANDING_PLACES};
 use arrayvec::ArrayString;
-use base_types::OutOfMemory;
 use relay_log::ended::{CAUSES, ENDS};
-use std::alloc::{Allocator, Global};
+use std::alloc::Global;
 
 /// The bytes that were written to targets, and to clients.
 #[derive(Clone, Copy, Debug, Default, PartialEq, Eq, Drop)]
@@ -65,6 +62,10 @@ pub struct RuleFigures {
     pub is_listening: bool,
     /// Whether a target of it is up.
     pub has_target: bool,
+    /// How long the clients' connects to its targets took that were made, by `CONNECT_BOUNDS_MS`.
+    pub connects: Durations<CONNECT_PLACES>,
+    /// How long its connections stood that ended, by `STANDING_BOUNDS_MS`.
+    pub stood: Durations<STANDING_PLACES>,
 }
 
 /// The most bytes of a target's address, as a configuration spells it.
@@ -166,138 +167,4 @@ impl Figures {
             Health::NoTarget
         }
     }
-}
-
-/// A family of figures: all that have one name. What is of a rule or of a target comes last.
-#[derive(Clone, Copy, Debug, PartialEq, Eq, Drop)]
-pub(crate) enum Family {
-    Up,
-    Loops,
-    Turns,
-    AdminSessions,
-    AdminDroppedSessions,
-    ConnectionsLimit,
-    Reloads,
-    Bytes,
-    LogLines,
-    LogLostLines,
-    RuleConnections,
-    RuleAccepted,
-    RuleBytes,
-    RuleRefused,
-    RuleEnds,
-    RuleNoTarget,
-    RuleAcceptFaults,
-    RuleListening,
-    TargetUp,
-    TargetConnections,
-    TargetConnects,
-    TargetFailures,
-}
-
-impl Family {
-    #[tactic(auto, unfolding(crate::specs::Family::name_text))]
-    pub(crate) fn name(self) -> &'static [u8]
-        ensures { result.now ≡ name_text self }
-    {
-        match self {
-            Family::Up => b"pollrelay_up_seconds",
-            Family::Loops => b"pollrelay_loops",
-            Family::Turns => b"pollrelay_turns_total",
-            Family::AdminSessions => b"pollrelay_admin_sessions_total",
-            Family::AdminDroppedSessions => b"pollrelay_admin_dropped_sessions_total",
-            Family::ConnectionsLimit => b"pollrelay_connections_limit",
-            Family::Reloads => b"pollrelay_reloads_total",
-            Family::Bytes => b"pollrelay_bytes_total",
-            Family::LogLines => b"pollrelay_log_lines_total",
-            Family::LogLostLines => b"pollrelay_log_lost_lines_total",
-            Family::RuleConnections => b"pollrelay_rule_connections",
-            Family::RuleAccepted => b"pollrelay_rule_accepted_total",
-            Family::RuleBytes => b"pollrelay_rule_bytes_total",
-            Family::RuleRefused => b"pollrelay_rule_refused_total",
-            Family::RuleEnds => b"pollrelay_rule_ends_total",
-            Family::RuleNoTarget => b"pollrelay_rule_no_target_total",
-            Family::RuleAcceptFaults => b"pollrelay_rule_accept_faults_total",
-            Family::RuleListening => b"pollrelay_rule_listening",
-            Family::TargetUp => b"pollrelay_target_up",
-            Family::TargetConnections => b"pollrelay_target_connections",
-            Family::TargetConnects => b"pollrelay_target_connects_total",
-            Family::TargetFailures => b"pollrelay_target_connect_failures_total",
-        }
-    }
-
-    #[tactic(auto, unfolding(crate::specs::Family::help_text))]
-    fn help(self) -> &'static [u8]
-        ensures { result.now ≡ help_text self }
-    {
-        match self {
-            Family::Up => b"Seconds since the relay began.",
-            Family::Loops => b"Event loops.",
-            Family::Turns => b"Turns of each event loop.",
-            Family::AdminSessions => b"Admin sessions that began.",
-            Family::AdminDroppedSessions => {
-                b"Admin sessions that gave way to another, or for which there was no memory."
-            }
-            Family::ConnectionsLimit => b"The most connections that may stand at once.",
-            Family::Reloads => b"Times that the rules were put in force anew.",
-            Family::Bytes => b"Bytes written to targets (up) and to clients (down).",
-            Family::LogLines => b"Lines that went to the log.",
-            Family::LogLostLines => b"Lines that found no room on their way to the log.",
-            Family::RuleConnections => b"Connections that stand now.",
-            Family::RuleAccepted => b"Connections that were accepted.",
-            Family::RuleBytes => b"Bytes written to the target (up) and to clients (down).",
-            Family::RuleRefused => b"Connections that were refused as they came, by cause.",
-            Family::RuleEnds => b"Connections that ended, by cause.",
-            Family::RuleNoTarget => b"Clients whose target wasn't reached, by cause.",
-            Family::RuleAcceptFaults => b"Rows of accepts that failed.",
-            Family::RuleListening => b"Whether clients are accepted: 1, or 0.",
-            Family::TargetUp => b"Whether a checked target is up: 1, or 0.",
-            Family::TargetConnections => b"Connections that stand at a target now.",
-            Family::TargetConnects => b"Clients' connects to a target that were made.",
-            Family::TargetFailures => b"Clients' connects to a target that failed.",
-        }
-    }
-
-    #[tactic(auto, unfolding(crate::specs::Family::kind_text))]
-    fn kind(self) -> &'static [u8]
-        ensures { result.now ≡ kind_text self }
-    {
-        match self {
-            Family::Up => b"gauge",
-            Family::Loops => b"gauge",
-            Family::ConnectionsLimit => b"gauge",
-            Family::RuleConnections => b"gauge",
-            Family::RuleListening => b"gauge",
-            Family::TargetUp => b"gauge",
-            Family::TargetConnections => b"gauge",
-            _ => b"counter",
-        }
-    }
-
-    /// Puts what is said of the family behind what the vector holds. Here as below, where memory
-    /// is refused a part may stand there.
-    #[tactic(auto, unfolding(crate::specs::Family::head_text))]
-    pub(crate) fn write_head<A: Allocator>(self, into: &mut Vec<u8, A>) -> Result<(), OutOfMemory>
-        ensures { OnOk result (into.new.items ≡ into.old.items ++ head_text self) }
-    {
-        write_comment(into, b"# HELP ", self.name(), self.help())?;
-        write_comment(into, b"# TYPE ", self.name(), self.kind())
-    }
-}
-
-#[tactic(auto, unfolding(crate::specs::Family::comment_text))]
-fn write_comment<A: Allocator>(
-    into: &mut Vec<u8, A>,
-    word: &[u8],
-    name: &[u8],
-    text: &[u8],
-) -> Result<(), OutOfMemory>
-    ensures { OnOk result
-        (into.new.items ≡ into.old.items ++ comment_text word.now name.now text.now) }
-{
-    into.extend_from_slice(word)?;
-    into.extend_from_slice(name)?;
-    into.extend_from_slice(b" ")?;
-    into.extend_from_slice(text)?;
-    into.extend_from_slice(b"\n")
 }

@@ -2,17 +2,19 @@
 
 ghost use Rattle.std.specs.Prelude.{◌≡◌, ◌++◌, OnOk, map};
 ghost use Rattle.relay_metrics.specs.Text.{by_rule_text, by_source_text, cause_text, causes_text, defence_text};
-ghost use Rattle.relay_metrics.specs.Text.{flag, of_rule};
+ghost use Rattle.relay_metrics.specs.Text.{durations_text, flag, of_rule};
 ghost use Rattle.relay_metrics.specs.Text.{refused_text, rule_bytes_text, rule_family_text};
 ghost use Rattle.relay_metrics.specs.Text.{rules_text, shortage_text, unheard_text};
 
-use crate::figures::{CarriedBytes, Family, Refusals, RuleFigures};
+use crate::family::Family;
+use crate::figures::{CarriedBytes, Refusals, RuleFigures};
+use crate::histogram::{write_connects, write_stood};
 use crate::sample::{write_rule_sample, write_sample};
 use base_types::OutOfMemory;
 use relay_log::ended::{CAUSE_WORDS, END_LABELS};
 use std::alloc::Allocator;
 
-/// The families of rules.
+/// The families of rules, but for those of durations.
 #[tactic(auto, unfolding(crate::specs::Text::rules_text))]
 pub(crate) fn write_rules<A: Allocator>(
     into: &mut Vec<u8, A>,
@@ -39,6 +41,18 @@ fn write_defence<A: Allocator>(
     write_family(into, Family::RuleNoTarget, rules)?;
     write_family(into, Family::RuleAcceptFaults, rules)?;
     write_family(into, Family::RuleListening, rules)
+}
+
+/// The families of how long it took to connect, and how long connections stood.
+#[tactic(auto, unfolding(crate::specs::Text::durations_text))]
+pub(crate) fn write_durations<A: Allocator>(
+    into: &mut Vec<u8, A>,
+    rules: &[RuleFigures],
+) -> Result<(), OutOfMemory>
+    ensures { OnOk result (into.new.items ≡ into.old.items ++ durations_text rules.now) }
+{
+    write_family(into, Family::RuleConnects, rules)?;
+    write_family(into, Family::RuleStood, rules)
 }
 
 /// 1 for what holds, and 0 for what doesn't.
@@ -84,6 +98,8 @@ fn write_rule<A: Allocator>(
         Family::RuleListening => {
             write_sample(into, family, b"rule", name, flag(rule.is_listening))
         }
+        Family::RuleConnects => write_connects(into, name, &rule.connects),
+        Family::RuleStood => write_stood(into, name, &rule.stood),
         _ => Ok(()),
     }
 }

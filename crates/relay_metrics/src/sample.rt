@@ -7,13 +7,14 @@ ghost use Rattle.relay_metrics.specs.Sample.{label_text, rule_sample_text, sampl
 ghost use Rattle.relay_metrics.specs.Sample.{escaped, escaped_byte, seconds_text, single_text};
 ghost use Rattle.relay_metrics.specs.Sample.{value_text};
 
-use crate::figures::Family;
+use crate::family::Family;
 use base_types::OutOfMemory;
 use itoa::Buffer;
 use std::alloc::Allocator;
 
+/// A value, and the end of its line.
 #[tactic(auto, unfolding(crate::specs::Sample::value_text))]
-fn write_value<A: Allocator>(into: &mut Vec<u8, A>, n: u64) -> Result<(), OutOfMemory>
+pub(crate) fn write_value<A: Allocator>(into: &mut Vec<u8, A>, n: u64) -> Result<(), OutOfMemory>
     ensures { OnOk result (into.new.items ≡ into.old.items ++ value_text (decimal n)) }
 {
     let mut buffer = Buffer::new();
@@ -22,8 +23,9 @@ fn write_value<A: Allocator>(into: &mut Vec<u8, A>, n: u64) -> Result<(), OutOfM
     into.extend_from_slice(b"\n")
 }
 
+/// A label.
 #[tactic(auto, unfolding(crate::specs::Sample::label_text))]
-fn write_label<A: Allocator>(
+pub(crate) fn write_label<A: Allocator>(
     into: &mut Vec<u8, A>,
     key: &[u8],
     value: &[u8],
@@ -159,8 +161,8 @@ pub(crate) fn write_seconds<A: Allocator>(into: &mut Vec<u8, A>, ms: u64) -> Res
     into.extend_from_slice(&[b'.', digit(ms / 100), digit(ms / 10), digit(ms)])
 }
 
-// The last decimal digit of a number.
-fn digit(n: u64) -> u8
+/// The last decimal digit of a number.
+pub(crate) fn digit(n: u64) -> u8
     ensures { result ≡ 48 + n % 10 }
 {
     b'0' + (n % 10) as u8

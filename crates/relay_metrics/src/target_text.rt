@@ -4,7 +4,8 @@ ghost use Rattle.std.specs.Prelude.{◌≡◌, ◌++◌, OnOk};
 ghost use Rattle.relay_metrics.specs.Text.{of_each_target, target_family_text, target_text, targets_text};
 ghost use Rattle.relay_metrics.specs.Text.{up_of_target};
 
-use crate::figures::{Family, TargetFigures};
+use crate::family::Family;
+use crate::figures::TargetFigures;
 use crate::rule_text::flag;
 use crate::sample::write_escaped_sample;
 use base_types::OutOfMemory;

@@ -4,8 +4,9 @@ ghost use Rattle.std.specs.Prelude.{◌≡◌, ◌++◌, IfOk, OnOk};
 ghost use Rattle.relay_metrics.specs.Text.{bytes_text, metrics_text, relay_text, totals_text};
 ghost use Rattle.relay_metrics.specs.Text.{turns_text, up_text};
 
-use crate::figures::{CarriedBytes, Family, Figures};
-use crate::rule_text::write_rules;
+use crate::family::Family;
+use crate::figures::{CarriedBytes, Figures};
+use crate::rule_text::{write_durations, write_rules};
 use crate::sample::{write_sample, write_seconds, write_single};
 use crate::target_text::write_targets;
 use base_types::OutOfMemory;
@@ -23,6 +24,7 @@ impl Figures {
         self.write_relay(&mut text)?;
         self.write_totals(&mut text)?;
         write_rules(&mut text, self.rules.as_slice())?;
+        write_durations(&mut text, self.rules.as_slice())?;
         write_targets(&mut text, self.targets.as_slice())?;
         Ok(text)
     }

@@ -20,7 +20,9 @@ use Rattle.std.specs.contracts.impls.GlobalAllocator.TheImpl as heap
 use Rattle.relay_core.specs.contracts.LoopMemory as memory
 use Rattle.relay_shared.specs.contracts.loop_handle.LoopHandle as handle
 use Rattle.relay_shared.specs.contracts.loop_handle.LoopParts as loop_parts
+use Rattle.relay_shared.specs.contracts.lookups.Lookups as lookups
 use Rattle.relay_shared.specs.contracts.shared.Shared as shared
+use Rattle.relay_server.specs.contracts.names_thread.NamesStart as names_start
 use Rattle.relay_server.specs.contracts.threads.LoopStart as loop_start
 
 sock_send : IsSend sock.the_row
@@ -48,7 +50,7 @@ ruleset of_lists = (targets_send, targets_sync, sources_send, sources_sync, send
 
 -- one search for each field of `Said`, in its order
 said_send : IsSend said.the_row
-said_send = declared_send said.the_type (search of_lists depth 60 fits 100000, (search of_lists depth 60 fits 100000, (search of_lists depth 60 fits 100000, (search of_lists depth 60 fits 100000, (search of_lists depth 60 fits 100000, (search of_lists depth 60 fits 100000, (search of_lists depth 60 fits 100000, (search of_lists depth 60 fits 100000, (search of_lists depth 60 fits 100000, (search of_lists depth 60 fits 100000, tt))))))))))
+said_send = declared_send said.the_type (search of_lists depth 60 fits 100000, (search of_lists depth 60 fits 100000, (search of_lists depth 60 fits 100000, (search of_lists depth 60 fits 100000, (search of_lists depth 60 fits 100000, (search of_lists depth 60 fits 100000, (search of_lists depth 60 fits 100000, (search of_lists depth 60 fits 100000, (search of_lists depth 60 fits 100000, (search of_lists depth 60 fits 100000, (search of_lists depth 60 fits 100000, tt)))))))))))
 
 ruleset of_rules = (said_send, counts_send, counts_sync, sendable, crosses)
 
@@ -78,34 +80,10 @@ inbox_send = search (accepted_send, sendable, crosses) depth 60 fits 100000
 
 -- one search for each field of `ConnectionFacts`, in its order
 facts_send : IsSend conn_facts.the_row
-facts_send = declared_send conn_facts.the_type (
-  acceptance_send,
-  (
-    search (sendable, crosses) depth 60 fits 100000,
-    (
-      search (sendable, crosses) depth 60 fits 100000,
-      (
-        search (sendable, crosses) depth 60 fits 100000,
-        (search (sendable, crosses) depth 60 fits 100000, (search (sendable, crosses) depth 60 fits 100000, tt)),
-      ),
-    ),
-  ),
-)
+facts_send = declared_send conn_facts.the_type (acceptance_send, (search (sendable, crosses) depth 60 fits 100000, (search (sendable, crosses) depth 60 fits 100000, (search (sendable, crosses) depth 60 fits 100000, (search (sendable, crosses) depth 60 fits 100000, (search (sendable, crosses) depth 60 fits 100000, (search (sendable, crosses) depth 60 fits 100000, tt)))))))
 
 facts_sync : IsSync conn_facts.the_row
-facts_sync = declared_sync conn_facts.the_type (
-  acceptance_sync,
-  (
-    search (sendable, crosses) depth 60 fits 100000,
-    (
-      search (sendable, crosses) depth 60 fits 100000,
-      (
-        search (sendable, crosses) depth 60 fits 100000,
-        (search (sendable, crosses) depth 60 fits 100000, (search (sendable, crosses) depth 60 fits 100000, tt)),
-      ),
-    ),
-  ),
-)
+facts_sync = declared_sync conn_facts.the_type (acceptance_sync, (search (sendable, crosses) depth 60 fits 100000, (search (sendable, crosses) depth 60 fits 100000, (search (sendable, crosses) depth 60 fits 100000, (search (sendable, crosses) depth 60 fits 100000, (search (sendable, crosses) depth 60 fits 100000, (search (sendable, crosses) depth 60 fits 100000, tt)))))))
 
 handle_send : IsSend handle.the_row
 handle_send = search (inbox_send, sendable, crosses, maps.crosses) depth 60 fits 100000
@@ -113,86 +91,20 @@ handle_send = search (inbox_send, sendable, crosses, maps.crosses) depth 60 fits
 handle_sync : IsSync handle.the_row
 handle_sync = search (inbox_send, sendable, crosses, maps.crosses) depth 60 fits 100000
 
-ruleset parts = (rule_send, rule_sync, facts_send, facts_sync, handle_send, handle_sync, sendable, crosses, maps.crosses)
+lookups_send : IsSend lookups.the_row
+lookups_send = search (sendable, crosses) depth 60 fits 100000
+
+lookups_sync : IsSync lookups.the_row
+lookups_sync = search (sendable, crosses) depth 60 fits 100000
+
+ruleset parts = (lookups_send, lookups_sync, rule_send, rule_sync, facts_send, facts_sync, handle_send, handle_sync, sendable, crosses, maps.crosses)
 
 -- one search for each field of `Shared`, in its order
 pub shared_send : IsSend shared.the_row
-shared_send = declared_send shared.the_type (
-  search parts depth 60 fits 100000,
-  (
-    search parts depth 60 fits 100000,
-    (
-      search parts depth 60 fits 100000,
-      (
-        search parts depth 60 fits 100000,
-        (
-          search parts depth 60 fits 100000,
-          (
-            search parts depth 60 fits 100000,
-            (
-              search parts depth 60 fits 100000,
-              (
-                search parts depth 60 fits 100000,
-                (
-                  search parts depth 60 fits 100000,
-                  (
-                    search parts depth 60 fits 100000,
-                    (
-                      search parts depth 60 fits 100000,
-                      (
-                        search parts depth 60 fits 100000,
-                        (search parts depth 60 fits 100000, (search parts depth 60 fits 100000, tt)),
-                      ),
-                    ),
-                  ),
-                ),
-              ),
-            ),
-          ),
-        ),
-      ),
-    ),
-  ),
-)
+shared_send = declared_send shared.the_type (search parts depth 60 fits 100000, (search parts depth 60 fits 100000, (search parts depth 60 fits 100000, (search parts depth 60 fits 100000, (search parts depth 60 fits 100000, (search parts depth 60 fits 100000, (search parts depth 60 fits 100000, (search parts depth 60 fits 100000, (search parts depth 60 fits 100000, (search parts depth 60 fits 100000, (search parts depth 60 fits 100000, (search parts depth 60 fits 100000, (search parts depth 60 fits 100000, (search parts depth 60 fits 100000, (search parts depth 60 fits 100000, tt)))))))))))))))
 
 pub shared_sync : IsSync shared.the_row
-shared_sync = declared_sync shared.the_type (
-  search parts depth 60 fits 100000,
-  (
-    search parts depth 60 fits 100000,
-    (
-      search parts depth 60 fits 100000,
-      (
-        search parts depth 60 fits 100000,
-        (
-          search parts depth 60 fits 100000,
-          (
-            search parts depth 60 fits 100000,
-            (
-              search parts depth 60 fits 100000,
-              (
-                search parts depth 60 fits 100000,
-                (
-                  search parts depth 60 fits 100000,
-                  (
-                    search parts depth 60 fits 100000,
-                    (
-                      search parts depth 60 fits 100000,
-                      (
-                        search parts depth 60 fits 100000,
-                        (search parts depth 60 fits 100000, (search parts depth 60 fits 100000, tt)),
-                      ),
-                    ),
-                  ),
-                ),
-              ),
-            ),
-          ),
-        ),
-      ),
-    ),
-  ),
-)
+shared_sync = declared_sync shared.the_type (search parts depth 60 fits 100000, (search parts depth 60 fits 100000, (search parts depth 60 fits 100000, (search parts depth 60 fits 100000, (search parts depth 60 fits 100000, (search parts depth 60 fits 100000, (search parts depth 60 fits 100000, (search parts depth 60 fits 100000, (search parts depth 60 fits 100000, (search parts depth 60 fits 100000, (search parts depth 60 fits 100000, (search parts depth 60 fits 100000, (search parts depth 60 fits 100000, (search parts depth 60 fits 100000, (search parts depth 60 fits 100000, tt)))))))))))))))
 
 parts_send : IsSend loop_parts.the_row
 parts_send = search (sendable, crosses, maps.crosses) depth 60 fits 100000
@@ -215,3 +127,7 @@ start_send = declared_send loop_start.the_type (
     ),
   ),
 )
+
+-- one search for each field of `NamesStart`, in its order
+pub names_send : IsSend names_start.the_row
+names_send = declared_send names_start.the_type (search (lookups_send, lookups_sync, sendable, crosses) depth 20 fits 10000, (search (sendable, crosses, maps.crosses) depth 60 fits 100000, (search (sendable, crosses) depth 20, tt)))

@@ -53,3 +53,27 @@ where
         + Sync
         + 'static,
 {}
+
+/// What the thread that looks names up runs on: it says on standard error which can't be.
+pub(crate) trait NamesRuntime: Wait
+    + Threads
+    + Net<Listener = TcpListener, Stream = TcpStream>
+    + Clock
+    + Eprint
+    + Copy
+    + Send
+    + Sync
+    + 'static {}
+
+impl<R> NamesRuntime for R
+where
+    R: Wait
+        + Threads
+        + Net<Listener = TcpListener, Stream = TcpStream>
+        + Clock
+        + Eprint
+        + Copy
+        + Send
+        + Sync
+        + 'static,
+{}

@@ -7,10 +7,11 @@
 //! | main | accepts by all rules, and serves the admin sessions, on a loop of its own | `relay_main` |
 //! | one for each loop | sets its connections up, and copies each way of each | `relay_loops` |
 //! | the log's, if there is one | writes its lines | `log_writer` |
+//! | that of names, with a configuration | looks up the hosts of targets | `relay_shared` |
 //! | that of the metrics, if they are asked for | answers who asks for them | `metrics_server` |
 //!
 //! `serving` has the order of the whole, `server` the relay itself, `threads` its loops' threads,
-//! `outlets` what runs beside them, `given` the listeners that it is started with, `log_source` what
+//! `names_thread` that of names, `outlets` what else runs beside them, `given` the listeners that it is started with, `log_source` what
 //! its log is opened from, `output` its lines.
 #![tactic(auto)]
 
@@ -18,6 +19,7 @@ mod bounds;
 mod figures;
 mod given;
 mod log_source;
+mod names_thread;
 mod outlets;
 mod output;
 mod pollers;

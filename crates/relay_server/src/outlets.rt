@@ -3,9 +3,10 @@
 ghost use Rattle.std.specs.Prelude.{◌≡◌, None, IfErr, IfOk, IsSome, OnOk};
 ghost use Rattle.relay_server.specs.Fault.{IsLogFault, IsMetricsFault, metrics_fault};
 
-use crate::bounds::ServeRuntime;
+use crate::bounds::{NamesRuntime, ServeRuntime};
 use crate::figures::RelayFigures;
 use crate::log_source::OpensLog;
+use crate::names_thread::NamesThread;
 use crate::server::Server;
 use log_writer::LogThread;
 use metrics_server::{LIMIT_NS, MetricsServer, Running};
@@ -22,9 +23,10 @@ use std::thread::Threads;
 use std::time::Clock;
 use std::{fs, mem};
 
-/// The thread of a log and the server of metrics with its path, as far as a relay has them. It isn't
-/// `Drop`: `end` alone lets it go, so that none of them is left.
+/// The thread of names, that of a log and the server of metrics with its path, as far as a relay has them.
+/// It isn't `Drop`: `end` alone lets it go, so that none of them is left.
 pub(crate) struct StartedOutlets {
+    names: Option<NamesThread>,
     log: Option<LogThread>,
     metrics: Option<(Running, MetricsPath)>,
 }
@@ -112,16 +114,39 @@ fn end_metrics<R: Wait + Threads + Files>(rt: &R, metrics: Option<(Running, Metr
     }
 }
 
+// Ends the thread of names, if there is one.
+fn end_names<R: Wait + Threads + Clock>(rt: &R, names: Option<NamesThread>) {
+    if let Some(names) = names {
+        names.end(rt);
+    }
+}
+
 impl StartedOutlets {
     /// None of them.
     pub(crate) fn none() -> StartedOutlets
+        ensures names { result.names ≡ None }
         ensures log { result.log ≡ None }
         ensures metrics { result.metrics ≡ None }
     {
         StartedOutlets {
+            names: None,
             log: None,
             metrics: None,
         }
+    }
+
+    /// Looks up the names of hosts, where a relay's file may have some.
+    pub(crate) fn look_names_up<R: NamesRuntime + Files>(
+        &mut self,
+        server: &Server<R>,
+    ) -> Result<(), ServeFault>
+        ensures faults { IfErr result (λ fault. fault ≡ ServeFault.Memory) }
+        ensures log { self.new.log ≡ self.old.log }
+        ensures metrics { self.new.metrics ≡ self.old.metrics }
+    {
+        let thread = server.names_thread()?;
+        end_names(&server.main.host.rt, mem::replace(&mut self.names, thread));
+        Ok(())
     }
 
     /// Opens a relay's log at this path and starts its thread, where it has one.
@@ -169,7 +194,12 @@ impl StartedOutlets {
 
     /// Ends all of it, the log last.
     pub(crate) fn end<R: Wait + Threads + Clock + Files>(self, rt: &R) {
-        let StartedOutlets { log, metrics } = self;
+        let StartedOutlets {
+            names,
+            log,
+            metrics,
+        } = self;
+        end_names(rt, names);
         end_metrics(rt, metrics);
         if let Some(log) = log {
             log.finish(rt);

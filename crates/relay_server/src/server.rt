@@ -8,6 +8,7 @@ ghost use Rattle.relay_admin.specs.ServeFault.{IsRunFault};
 ghost use Rattle.relay_admin.specs.declared.serve_fault.ServeFault.{ServeFault};
 
 use crate::figures::RelayFigures;
+use crate::names_thread::NamesThread;
 use crate::pollers::Pollers;
 use crate::shared_end::{empty_inboxes, remove_paths};
 use crate::threads::StartedThreads;
@@ -17,6 +18,7 @@ use relay_facts::clock::RelayClock;
 use relay_facts::config::Config;
 use relay_facts::totals::Totals;
 use relay_main::{GivenListener, MainLoop, Sessions};
+use relay_settings::Source;
 use relay_shared::bound_path::BoundPaths;
 use relay_shared::loop_handle::LoopParts;
 use relay_shared::shared::shared_of;
@@ -104,14 +106,14 @@ where
     }
 
     /// Opens all sockets: the listeners in the order of the rules, then the admin socket at this
-    /// path. The faults are `Listen`, with the first rule that can't be listened for, `Admin`,
+    /// path, with this mode, where one is said. The faults are `Listen`, with the first rule that can't be listened for, `Admin`,
     /// `Device` and `Memory`; what was opened before stands, for `end`.
-    pub(crate) fn open(&mut self, admin: &str) -> Result<(), ServeFault>
+    pub(crate) fn open(&mut self, admin: &str, mode: Option<u16>) -> Result<(), ServeFault>
         ensures loops { SameLoops self.old self.new }
         ensures faults { IfErr result IsSocketsFault }
     {
         self.main.listen()?;
-        self.main.open_admin(admin, &mut self.admin)
+        self.main.open_admin(admin, mode, &mut self.admin)
     }
 
     /// Starts the loops' threads. After a fault those that were started run on, for `end`.
@@ -152,6 +154,21 @@ where
         match &self.main.host.shared.log {
             Some(log) => Ok(Some(Arc::try_clone(log)?)),
             None => Ok(None),
+        }
+    }
+
+    /// The thread that looks up the names of hosts, started now, where it was started from a file that may
+    /// have some: a configuration.
+    pub(crate) fn names_thread(&self) -> Result<Option<NamesThread>, ServeFault>
+        ensures faults { IfErr result (λ fault. fault ≡ ServeFault.Memory) }
+    {
+        let (rt, shared) = (self.main.host.rt, &self.main.host.shared);
+        match &shared.start.asked.source {
+            Source::Config(_) => {
+                let thread = NamesThread::start(rt, &shared.lookups, &shared.main, self.start)?;
+                Ok(Some(thread))
+            }
+            Source::Rules(_) => Ok(None),
         }
     }
 

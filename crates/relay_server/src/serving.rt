@@ -55,10 +55,11 @@ where
     ensures unwritten { IfErr result (λ fault. IsRunFault fault
         ⊎ (W.contents writer.new ≡ W.contents writer.old)) }
 {
-    server.open(admin_of(settings))?;
+    server.open(admin_of(settings), settings.admin_mode)?;
     tell_unused(errors, server.unused());
     started.start_log(server, &settings.log, logs)?;
     started.serve_metrics(server, &settings.metrics)?;
+    started.look_names_up(server)?;
     server.start()?;
     write_listening(writer, server.rules())?;
     server.run()
@@ -69,8 +70,8 @@ where
 /// listener that is given at their address, and leave its path. It writes `listening N` once all
 /// sockets are open, and at the end `up U down D`, the bytes copied to the targets and to the clients.
 /// A fault at the start is the first of: the poller, the listeners in the rules' order, the admin
-/// socket, the log, the metrics' address. Whatever comes, no thread, no socket and no path that it
-/// bound is left.
+/// socket, the log, the metrics' address. Whatever comes, no socket and no path that it bound is left, and no
+/// thread but one that waits for the system's resolver.
 // (its bounds are spelt out: a program that calls it over `ServeRuntime` isn't covered by the
 // prover)
 pub fn serve<L, O, R, W: Write>(

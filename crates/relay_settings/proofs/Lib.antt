@@ -1,3 +1,4 @@
 pub mod OneByOne
 pub mod ConvertedLemmas
+pub mod NamesLemmas
 pub mod ToldLemmas

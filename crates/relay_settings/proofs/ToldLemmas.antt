@@ -1,5 +1,5 @@
 -- An address is told as a configuration spells it.
-use Rattle.std.proofs.Common.{◌≡◌, ◌∙◌, ap, refl, sym, ℕ, List, ◌∷◌, ◌++◌, length, Bool, true, false, Option, Some, None, append_assoc}
+use Rattle.std.proofs.Common.{◌≡◌, ◌∙◌, ap, refl, sym, ℕ, List, ◌∷◌, ◌++◌, length, Bool, true, false, Some, None, append_assoc}
 use Rattle.std.specs.Prelude.{IfSome, codes, if◌then◌else◌, nat_le, slice_index}
 use Rattle.std.specs.Fmt.{decimal}
 use Rattle.config_values.specs.Addr as config

@@ -1,9 +1,10 @@
 -- A rules file as a configuration.
-use Rattle.std.specs.Prelude.{ℕ, List, [], ◌∷◌, None, map, false}
+use Rattle.std.specs.Prelude.{ℕ, List, [], ◌∷◌, Some, None, map, false}
 use Rattle.relay_admin.specs.rules.Fault.{SaysRules}
 use Rattle.relay_admin.specs.rules.Grammar.{Entry}
 use Rattle.client_sources.specs.Limits.{no_limits}
 use Rattle.relay_config.specs.Entries.{AccessEntry}
+use Rattle.relay_config.specs.declared.rule.TheConstants.{DEFAULT_RESOLVE_MS}
 use Rattle.relay_settings.specs.Meaning.{SaidEntry, SaidRuleEntry, SaysAll, SettingsEntry}
 use Rattle.relay_settings.specs.Targets.{plain_sockets}
 use Rattle.target_pick.specs.declared.picking.Balance.TheVariants.{RoundRobin}
@@ -12,6 +13,7 @@ use Rattle.target_pick.specs.declared.picking.Balance.TheVariants.{RoundRobin}
 abbrev pub nothing_said : SettingsEntry
 nothing_said = record {
   admin = None;
+  admin_mode = None;
   loops = None;
   pairs = None;
   per_rule = None;
@@ -27,8 +29,8 @@ abbrev pub no_lists : AccessEntry
 no_lists = record { allow = []; deny = [] }
 
 -- a rule at its own address alone, without limits of its own and with plain sockets, whose own target is
--- its only one, isn't checked and is sent no header, and which lets all clients in and awaits a header of
--- none
+-- its only one, names no host, isn't checked and is sent no header, and which lets all clients in and awaits a
+-- header of none
 abbrev pub rule_alone : Entry → SaidRuleEntry
 rule_alone rule = record {
   rule = rule;
@@ -42,6 +44,8 @@ rule_alone rule = record {
   senders = [];
   header = None;
   targets = record { at = rule.target; weight = 1; backup = false } ∷ [];
+  names = [];
+  resolve = Some DEFAULT_RESOLVE_MS;
 }
 
 -- these rules, and no setting

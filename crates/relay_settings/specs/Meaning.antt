@@ -1,7 +1,7 @@
 -- What a configuration means to a relay: its settings and its rules, or the first place that isn't
 -- carried out.
-use Rattle.std.specs.Prelude.{◌≡◌, ◌==◌, ◌⊎◌, ℕ, Bool, true, false, ◌&&◌, List, [], ◌∷◌, ◌++◌, length, map}
-use Rattle.std.specs.Prelude.{nat_le, slice_index, Option, Some, None, is_none, option_map, Result, Ok, Err, if◌then◌else◌}
+use Rattle.std.specs.Prelude.{◌≡◌, ◌⊎◌, ◌+◌, ℕ, Bool, true, false, ◌&&◌, List, [], ◌∷◌, ◌++◌, length, map}
+use Rattle.std.specs.Prelude.{nat_le, slice_index, Option, Some, None, option_map, Result, Ok, Err, if◌then◌else◌}
 use Rattle.std.specs.Option.{option_and_then}
 use Rattle.std.specs.String.{string_bytes}
 use Rattle.client_nets.specs.Net.{Network, network_of}
@@ -10,14 +10,13 @@ use Rattle.config_values.specs.Addr as config
 use Rattle.relay_admin.specs.rules.Addr.{Address, address_of, tcp, tcp6, unix}
 use Rattle.relay_admin.specs.rules.Grammar.{Entry, entry_of}
 use Rattle.relay_config.specs.Config.{SaysConfig, SaysFault}
-use Rattle.relay_config.specs.Entries.{AccessEntry, AdminEntry, ChecksEntry, ClientsEntry, ConfigEntry, HeadEntry, LogEntry}
+use Rattle.relay_config.specs.Entries.{AccessEntry, AdminEntry, ChecksEntry, ClientsEntry, ConfigEntry, LogEntry}
 use Rattle.relay_config.specs.Entries.{access_entry, checks_entry, sockets_entry}
 use Rattle.relay_config.specs.Entries.{ProxyEntry, RuleEntry, SocketsEntry, TargetEntry}
 use Rattle.relay_config.specs.Fault.{item_spot, spot}
 use Rattle.relay_config.specs.Reading.{◌>>=◌, or_fault}
 use Rattle.relay_config.specs.declared.fault.Fault.{Fault}
 use Rattle.relay_config.specs.declared.fault.Fault.TheVariants.{At}
-use Rattle.relay_config.specs.declared.fault.Key.{Key}
 use Rattle.relay_config.specs.declared.fault.Key.TheVariants as key
 use Rattle.relay_config.specs.declared.fault.Place.{Place}
 use Rattle.relay_config.specs.declared.fault.Place.TheVariants as place
@@ -25,11 +24,11 @@ use Rattle.relay_config.specs.declared.fault.Spot.{Spot}
 use Rattle.relay_config.specs.declared.fault.Wrong.TheVariants as wrong
 use Rattle.relay_config.specs.declared.log.Format.{Format}
 use Rattle.relay_config.specs.declared.proxy.Version.{Version}
-use Rattle.relay_config.specs.declared.rule.TheConstants.{DEFAULT_RESOLVE_MS}
 use Rattle.relay_core.specs.Loops.{loop_count}
 use Rattle.relay_core.specs.PairLimit.{pair_count}
 use Rattle.relay_settings.specs.declared.said.Said.{Said}
 use Rattle.relay_settings.specs.declared.settings.Settings.{Settings}
+use Rattle.relay_settings.specs.declared.targets.Named.{Named}
 use Rattle.relay_settings.specs.declared.targets.SaidRule.{SaidRule}
 use Rattle.relay_settings.specs.declared.targets.Target.{Target}
 use Rattle.target_pick.specs.declared.picking.Balance.{Balance}
@@ -59,7 +58,7 @@ abbrev pub each_of : {A B : Type 0} → (List B → A → Result B Fault) → Li
 each_of step found [] = Ok found
 each_of step found (x ∷ xs) = step found x >>= λ y. each_of step (found ++ y ∷ []) xs
 
--- an address that a relay has: one of IPv4 or IPv6, or a path of at most 100 bytes; none of a host by name
+-- an address that a relay has: one of IPv4 or IPv6, or a path of at most 100 bytes; none of a host that is named
 abbrev pub relay_address : config.Address → Option Address
 relay_address (config.v4 ip port) =
     Some (tcp (slice_index ip 0) (slice_index ip 1) (slice_index ip 2) (slice_index ip 3) port)
@@ -80,6 +79,7 @@ relay_time ms = if nat_le 1 ms && nat_le ms 86400000 then Some ms else None
 -- how a relay runs, as far as it is said
 pub record SettingsEntry : Type 0 where
   pub admin : Option (List ℕ)
+  pub admin_mode : Option ℕ
   pub loops : Option ℕ
   pub pairs : Option ℕ
   pub per_rule : Option ℕ
@@ -93,6 +93,7 @@ pub record SettingsEntry : Type 0 where
 abbrev pub settings_entry : Settings → SettingsEntry
 settings_entry settings = record {
   admin = option_map string_bytes settings.admin;
+  admin_mode = settings.admin_mode;
   loops = option_map (λ l. l.count) settings.loops;
   pairs = option_map (λ p. p.count) settings.pairs;
   per_rule = option_map (λ p. p.count) settings.per_rule;
@@ -119,9 +120,14 @@ time_in at time = if_said (λ ms. served at (relay_time ms)) time
 abbrev pub metrics_at : config.Address → Result Address Fault
 metrics_at address = served (spot place.Top key.Metrics) (relay_address address)
 
--- where admin sessions are served, at a socket with the rights that the umask leaves
+-- where admin sessions are served
 abbrev pub admin_at : AdminEntry → Result (List ℕ) Fault
-admin_at admin = served_if (spot place.Admin key.Mode) (is_none admin.mode) >>= λ it. Ok admin.path
+admin_at admin = Ok admin.path
+
+-- the mode of the socket there, if it is said
+abbrev pub mode_in : Option AdminEntry → Option ℕ
+mode_in None = None
+mode_in (Some admin) = admin.mode
 
 -- where the log is
 abbrev pub log_at : LogEntry → Result (List ℕ) Fault
@@ -139,6 +145,7 @@ settings_in config = do
   log ← if_said log_at config.log
   Ok (record {
     admin = admin;
+    admin_mode = mode_in config.service.admin;
     loops = loops;
     pairs = pairs;
     per_rule = per_rule;
@@ -157,9 +164,17 @@ pub record SaidTargetEntry : Type 0 where
   pub weight : ℕ
   pub backup : Bool
 
+-- a target of a rule that names its host, at its place among the rule's targets
+pub record NamedEntry : Type 0 where
+  pub place : ℕ
+  pub host : List ℕ
+  pub port : ℕ
+  pub weight : ℕ
+  pub backup : Bool
+
 -- a rule, where it listens, how many connections of it stand at once, how many clients of one source are let
--- in, how its sockets are set up, its targets, how these are checked and what they are told of a client, who
--- may connect, and who begins with a header
+-- in, how its sockets are set up, its targets, which of them name their hosts and how often these are looked
+-- up, how they are checked and what they are told of a client, who may connect, and who begins with a header
 pub record SaidRuleEntry : Type 0 where
   pub rule : Entry
   pub listens : List Address
@@ -172,14 +187,23 @@ pub record SaidRuleEntry : Type 0 where
   pub senders : List Network
   pub header : Option Version
   pub targets : List SaidTargetEntry
+  pub names : List NamedEntry
+  pub resolve : Option ℕ
 
 -- what values of the program say
 abbrev pub said_target_entry : Target → SaidTargetEntry
 said_target_entry target = record { at = address_of target.at; weight = target.weight; backup = target.is_backup }
 
--- a rule, where it listens, how many connections of it stand at once, how many clients of one source are let
--- in, how its sockets are set up, its targets, how these are checked and what they are told of a client, who
--- may connect, and who begins with a header
+abbrev pub named_entry : Named → NamedEntry
+named_entry named = record {
+  place = named.place;
+  host = named.host.bytes;
+  port = named.port;
+  weight = named.weight;
+  backup = named.is_backup;
+}
+
+-- a rule with all that it says
 abbrev pub said_rule_entry : SaidRule → SaidRuleEntry
 said_rule_entry said = record {
   rule = entry_of said.rule;
@@ -193,21 +217,13 @@ said_rule_entry said = record {
   senders = map network_of said.senders.items;
   header = said.header;
   targets = map said_target_entry said.targets.items;
+  names = map named_entry said.names.items;
+  resolve = said.resolve_ms;
 }
-
--- names are looked up as often as without the key: no target has one
-abbrev pub is_default_resolve : Option ℕ → Bool
-is_default_resolve (Some ms) = ms == DEFAULT_RESOLVE_MS
-is_default_resolve None = false
 
 -- how many clients of one source are let in
 abbrev pub source_limits_in : ClientsEntry → Limits
 source_limits_in clients = record { connections = clients.source_connections; accepts = clients.source_accepts }
-
--- what a rule says beside its lists, its name, its idle time, its limits, how its sockets are set up, how a
--- target is picked and how targets are checked
-unfoldable pub head_alone : Place → HeadEntry → Result (Unit {0}) Fault
-head_alone here head = served_if (spot here key.Resolve) (is_default_resolve head.resolve)
 
 -- the address behind these at which a rule listens
 abbrev pub address_behind : ℕ → List Address → config.Address → Result Address Fault
@@ -219,11 +235,47 @@ abbrev pub first_listener : ℕ → List Address → Result Address Fault
 first_listener rule [] = Err (unserved (spot (place.Rule rule) key.Listen))
 first_listener rule (first ∷ others) = Ok first
 
--- a target, at an address that the relay has
+-- where a target is before names were looked up: one whose host is named is at the address that no host has,
+-- with its port
+abbrev pub target_address : config.Address → Option Address
+target_address (config.v4 ip port) = relay_address (config.v4 ip port)
+target_address (config.v6 ip scope port) = relay_address (config.v6 ip scope port)
+target_address (config.unix path) = relay_address (config.unix path)
+target_address (config.name host port) = Some (tcp 0 0 0 0 port)
+
+-- its weight until then: such a one gets nobody
+abbrev pub weight_before : config.Address → ℕ → ℕ
+weight_before (config.v4 ip port) weight = weight
+weight_before (config.v6 ip scope port) weight = weight
+weight_before (config.unix path) weight = weight
+weight_before (config.name host port) weight = 0
+
+-- a target, at an address that the relay has, or of a host that is looked up
 unfoldable pub target_in : Place → TargetEntry → Result SaidTargetEntry Fault
 target_in here target = do
-  address ← served (spot here key.At) (relay_address target.at)
-  Ok (record { at = address; weight = target.weight; backup = target.backup })
+  address ← served (spot here key.At) (target_address target.at)
+  Ok (record { at = address; weight = weight_before target.at target.weight; backup = target.backup })
+
+-- what a target at a place says where its host is named
+abbrev pub named_by : ℕ → TargetEntry → config.Address → Option NamedEntry
+named_by place target (config.v4 ip port) = None
+named_by place target (config.v6 ip scope port) = None
+named_by place target (config.unix path) = None
+named_by place target (config.name host port) =
+    Some (record { place = place; host = host; port = port; weight = target.weight; backup = target.backup })
+
+abbrev pub named_at : ℕ → TargetEntry → Option NamedEntry
+named_at place target = named_by place target target.at
+
+-- one in front of these, if there is one
+abbrev pub in_front : {A : Type 0} → Option A → List A → List A
+in_front None all = all
+in_front (Some one) all = one ∷ all
+
+-- those of these targets, from a place on, that name their hosts
+abbrev pub names_from : ℕ → List TargetEntry → List NamedEntry
+names_from place [] = []
+names_from place (first ∷ others) = in_front (named_at place first) (names_from (place + 1) others)
 
 -- the target behind these of a rule
 unfoldable pub target_behind : ℕ → List SaidTargetEntry → TargetEntry → Result SaidTargetEntry Fault
@@ -255,7 +307,7 @@ unfoldable pub rule_in : ℕ → RuleEntry → Result SaidRuleEntry Fault
 rule_in n rule = do
   idle ← time_in (spot (place.Rule n) key.Idle) rule.head.idle
   limit ← pairs_in (spot (place.Rule n) key.Connections) rule.head.clients.connections
-  head ← head_alone (place.Rule n) rule.head
+  resolve ← time_in (spot (place.Rule n) key.Resolve) rule.head.resolve
   listens ← each_of (address_behind n) [] rule.listen
   listen ← first_listener n listens
   targets ← targets_in n rule.targets
@@ -272,6 +324,8 @@ rule_in n rule = do
     senders = senders_in rule.proxy;
     header = header_in rule.proxy;
     targets = targets;
+    names = names_from 0 rule.targets;
+    resolve = resolve;
   })
 
 -- the rule behind these, of which there are at most 64 in all

@@ -11,6 +11,7 @@ first_said None second = second
 -- nothing is said
 pub record SaysNothing (settings : Settings) : Type 0 where
   pub admin : settings.admin ≡ None
+  pub admin_mode : settings.admin_mode ≡ None
   pub loops : settings.loops ≡ None
   pub pairs : settings.pairs ≡ None
   pub per_rule : settings.per_rule ≡ None
@@ -24,6 +25,7 @@ pub record SaysNothing (settings : Settings) : Type 0 where
 pub record AreInForce (words file settings : Settings) : Type 0 where
   pub admin : option_map string_bytes settings.admin
       ≡ first_said (option_map string_bytes words.admin) (option_map string_bytes file.admin)
+  pub admin_mode : settings.admin_mode ≡ first_said words.admin_mode file.admin_mode
   pub loops : settings.loops ≡ first_said words.loops file.loops
   pub pairs : settings.pairs ≡ first_said words.pairs file.pairs
   pub per_rule : settings.per_rule ≡ first_said words.per_rule file.per_rule

@@ -16,4 +16,4 @@ first_at (first ∷ others) = Some first.at
 
 -- of sockets nothing is said
 abbrev pub plain_sockets : SocketsEntry
-plain_sockets = record { keepalive = None; user_timeout = None; backlog = None; source = None }
+plain_sockets = record { keepalive = None; user_timeout = None; backlog = None; source = None; mode = None }

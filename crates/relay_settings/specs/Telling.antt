@@ -15,6 +15,7 @@ use Rattle.relay_settings.specs.declared.telling.Setting.TheVariants as setting
 -- the key of each setting
 abbrev pub key_of_setting : Setting → Key
 key_of_setting setting.Admin = key.Admin
+key_of_setting setting.AdminMode = key.Mode
 key_of_setting setting.Loops = key.Loops
 key_of_setting setting.Connections = key.Connections
 key_of_setting setting.ConnectionsPerRule = key.ConnectionsPerRule
@@ -35,6 +36,7 @@ option_word setting = map option_letter (key_word (key_of_setting setting))
 -- the settings say this one
 abbrev pub says : Settings → Setting → Bool
 says settings setting.Admin = is_some settings.admin
+says settings setting.AdminMode = is_some settings.admin_mode
 says settings setting.Loops = is_some settings.loops
 says settings setting.Connections = is_some settings.pairs
 says settings setting.ConnectionsPerRule = is_some settings.per_rule
@@ -63,6 +65,7 @@ is_json other = false
 -- both settings say the same here
 abbrev pub say_same : Setting → Settings → Settings → Bool
 say_same setting.Admin one other = same_said bytes_eq (option_map string_bytes one.admin) (option_map string_bytes other.admin)
+say_same setting.AdminMode one other = same_said (λ a b. a == b) one.admin_mode other.admin_mode
 say_same setting.Loops one other = same_said (λ a b. a.count == b.count) one.loops other.loops
 say_same setting.Connections one other = same_said (λ a b. a.count == b.count) one.pairs other.pairs
 say_same setting.ConnectionsPerRule one other = same_said (λ a b. a.count == b.count) one.per_rule other.per_rule

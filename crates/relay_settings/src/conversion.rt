@@ -23,7 +23,7 @@ use crate::settings::Settings;
 use crate::targets::SaidRule;
 use base_types::OutOfMemory;
 use relay_admin::{Rule, Rules, Verdict, is_same_addr};
-use relay_config::Fault;
+use relay_config::{DEFAULT_RESOLVE_MS, Fault};
 use std::alloc::Global;
 use std::io::Write;
 use stream_base::sink::deliver_to;
@@ -118,6 +118,8 @@ fn says_rule(said: &SaidRule, rule: &Rule) -> bool
         && said.has_no_lists()
         && said.checks.is_none()
         && said.has_no_senders()
+        && said.has_no_names()
+        && said.resolve_ms == Some(DEFAULT_RESOLVE_MS as u32)
         && said.header.is_none()
         && said.balance == Balance::RoundRobin
         && is_same_rule(&said.rule, rule)
@@ -139,6 +141,7 @@ fn says_nothing(settings: &Settings) -> bool
     ensures { IsTrue result → settings_entry settings.now ≡ nothing_said }
 {
     let has_paths = settings.admin.is_some()
+        || settings.admin_mode.is_some()
         || settings.log.is_some()
         || settings.log_format.is_some()
         || settings.metrics.is_some();

@@ -6,13 +6,13 @@ ghost use Rattle.config_values.specs.Addr as config;
 ghost use Rattle.relay_admin.specs.rules.Addr.{address_of};
 ghost use Rattle.relay_config.specs.Entries.{admin_entry, config_entry, log_entry};
 ghost use Rattle.relay_config.specs.Fault.{Answers, Reads};
-ghost use Rattle.relay_settings.specs.Meaning.{admin_at, if_said, log_at, loops_at, metrics_at};
+ghost use Rattle.relay_settings.specs.Meaning.{admin_at, if_said, log_at, loops_at, metrics_at, mode_in};
 ghost use Rattle.relay_settings.specs.Meaning.{settings_entry, settings_in, time_in};
 ghost use Rattle.relay_config.specs.Fault as fault;
 ghost use Rattle.relay_config.specs.declared.fault.Key.TheVariants as key;
 ghost use Rattle.relay_config.specs.declared.fault.Place.TheVariants as place;
 
-use crate::address::{address_at, pairs_in, served_if, time_in, unserved};
+use crate::address::{address_at, pairs_in, time_in, unserved};
 use crate::settings::Settings;
 use relay_admin::Addr;
 use relay_config::{Admin, Config, Fault, Format, Key, Log, Place, Spot};
@@ -37,6 +37,7 @@ pub(crate) fn settings_of(alloc: Global, config: &Config) -> Result<Settings, Fa
     let log = log_of(alloc, &config.log)?;
     Ok(Settings {
         admin,
+        admin_mode: mode_of(&config.service.admin),
         loops,
         pairs,
         per_rule,
@@ -88,10 +89,18 @@ fn admin_of(alloc: Global, said: &Option<Admin>) -> Result<Option<String>, Fault
     let Some(admin) = said else {
         return Ok(None);
     };
-    served_if(Spot::of(Place::Admin, Key::Mode), admin.mode.is_none())?;
     match String::from_str(alloc, admin.path.as_str()) {
         Ok(path) => Ok(Some(path)),
         Err(_) => Err(Fault::Memory),
+    }
+}
+
+fn mode_of(said: &Option<Admin>) -> Option<u16>
+    ensures { result ≡ mode_in (option_map admin_entry said.now) }
+{
+    match said {
+        Some(admin) => admin.mode,
+        None => None,
     }
 }
 

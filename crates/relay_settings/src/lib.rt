@@ -25,5 +25,5 @@ pub use listeners::further_listeners;
 pub use relay_config::{Access, Checks, Sockets, Version};
 pub use said::{MAX_CONFIG_BYTES, Said, read_config};
 pub use settings::{MAX_CONNECT_MS, Settings, in_force};
-pub use targets::{MAX_TARGETS, PLAIN_SOCKETS, SaidRule, Target};
+pub use targets::{HostName, MAX_TARGETS, Named, PLAIN_SOCKETS, SaidRule, Target};
 pub use telling::{SETTINGS, Setting, needs_restart, wins_over_file};

@@ -6,12 +6,13 @@ ghost use Rattle.std.specs.Prelude.{slice_get};
 ghost use Rattle.client_nets.specs.Net.{network_of};
 ghost use Rattle.config_values.specs.Addr as config;
 ghost use Rattle.relay_admin.specs.rules.Addr.{address_of};
-ghost use Rattle.relay_config.specs.Entries.{access_entry, clients_entry, head_entry, rule_entry};
+ghost use Rattle.relay_config.specs.Entries.{access_entry, clients_entry, rule_entry};
 ghost use Rattle.relay_config.specs.Entries.{proxy_entry, target_entry};
 ghost use Rattle.relay_config.specs.Fault.{Answers, Reads};
 ghost use Rattle.relay_config.specs.declared.fault.Fault.{Fault};
 ghost use Rattle.relay_settings.specs.Meaning.{each_of, first_address, first_listener};
-ghost use Rattle.relay_settings.specs.Meaning.{head_alone, header_in, is_default_resolve};
+ghost use Rattle.relay_settings.specs.Meaning.{header_in, served, target_address, weight_before};
+ghost use Rattle.relay_settings.specs.Meaning.{named_at, named_entry, names_from};
 ghost use Rattle.relay_settings.specs.Meaning.{senders_in, source_limits_in};
 ghost use Rattle.relay_settings.specs.Meaning.{address_behind};
 ghost use Rattle.relay_settings.specs.Meaning.{rule_in};
@@ -20,14 +21,12 @@ ghost use Rattle.relay_settings.specs.Meaning.{target_behind, targets_in};
 ghost use Rattle.relay_settings.specs.Targets.{first_at};
 
 use crate::address::{address_at, pairs_in, served_if, time_in, unserved};
-use crate::targets::{MAX_TARGETS, SaidRule, Target};
+use crate::targets::{MAX_TARGETS, Named, SaidRule, Target};
 use client_nets::Net;
 use client_sources::Limits;
 use relay_admin::{Addr, Rule};
 use relay_config as config;
-use relay_config::{
-    Access, Clients, DEFAULT_RESOLVE_MS, Fault, Head, Key, Place, Proxy, Spot, Version,
-};
+use relay_config::{Access, Clients, Fault, Key, Place, Proxy, Spot, Version};
 use std::alloc::Global;
 
 /// The rule with this number as a relay serves it, or its first place that isn't carried out.
@@ -39,13 +38,14 @@ pub(crate) fn rule_of(alloc: Global, number: usize, rule: &config::Rule) -> Resu
     let idle_ms = time_in(Spot::of(place, Key::Idle), rule.head.idle_ms)?;
     let said = rule.head.clients.connections;
     let limit = pairs_in(Spot::of(place, Key::Connections), said)?;
-    head_alone(place, &rule.head)?;
+    let resolve_ms = time_in(Spot::of(place, Key::Resolve), rule.head.resolve_ms)?;
     let access = access_of(alloc, &rule.access)?;
     let senders = senders_of(alloc, &rule.proxy)?;
     let listens = listens_of(alloc, number, rule.listen.as_slice())?;
     let listen = first_listener(number, listens.as_slice())?;
     let targets = targets_of(alloc, number, rule.targets.as_slice())?;
     let target = first_address(number, targets.as_slice())?;
+    let names = names_of(alloc, rule.targets.as_slice())?;
     Ok(SaidRule {
         rule: Rule {
             name: rule.head.name,
@@ -63,6 +63,8 @@ pub(crate) fn rule_of(alloc: Global, number: usize, rule: &config::Rule) -> Resu
         senders,
         header: header_of(&rule.proxy),
         targets,
+        names,
+        resolve_ms,
     })
 }
 
@@ -98,23 +100,6 @@ fn source_limits_of(clients: &Clients) -> Limits
     Limits {
         connections: clients.source_connections,
         accepts: clients.source_accepts,
-    }
-}
-
-#[tactic(auto, unfolding(crate::specs::Meaning::head_alone))]
-fn head_alone(place: Place, head: &Head) -> Result<(), Fault>
-    ensures { result ≡ head_alone place (head_entry head.now) }
-{
-    let resolves = is_default_resolve(head.resolve_ms);
-    served_if(Spot::of(place, Key::Resolve), resolves)
-}
-
-fn is_default_resolve(resolve_ms: Option<u64>) -> bool
-    ensures { result ≡ is_default_resolve resolve_ms }
-{
-    match resolve_ms {
-        Some(ms) => ms == DEFAULT_RESOLVE_MS,
-        None => false,
     }
 }
 
@@ -211,12 +196,67 @@ fn target_behind(rule: usize, found: &[Target], target: &config::Target) -> Resu
         (target_behind rule (map said_target_entry found.now) (target_entry target.now)) }
 {
     let place = Place::Target(rule, found.len());
-    let at = address_at(Spot::of(place, Key::At), &target.at)?;
+    let at = target_at(Spot::of(place, Key::At), &target.at)?;
     Ok(Target {
         at,
-        weight: target.weight,
+        weight: weight_before(target),
         is_backup: target.is_backup,
     })
+}
+
+/// Where a target is before names were looked up.
+fn target_at(spot: Spot, at: &config_values::Addr) -> Result<Addr, Fault>
+    ensures { Reads address_of result (served spot (target_address (config.address_of at.now))) }
+{
+    match at {
+        config_values::Addr::Name(_, port) => Ok(Addr::Tcp([0, 0, 0, 0], *port)),
+        at => address_at(spot, at),
+    }
+}
+
+/// The weight of a target until then.
+fn weight_before(target: &config::Target) -> u16
+    ensures { result ≡ weight_before (target_entry target.now).at (target_entry target.now).weight }
+{
+    match target.at {
+        config_values::Addr::Name(_, _) => 0,
+        _ => target.weight,
+    }
+}
+
+/// Those of these targets that name their hosts.
+#[tactic(auto, using(crate::proofs::NamesLemmas::one_more, crate::proofs::NamesLemmas::none_here, crate::proofs::NamesLemmas::all_named))]
+fn names_of(alloc: Global, targets: &[config::Target]) -> Result<Vec<Named>, Fault>
+    ensures names { IfOk result (λ found.
+        map named_entry found.items ≡ names_from 0 (map target_entry targets.now)) }
+    ensures faults { IfErr result (λ fault. fault ≡ Fault.Memory) }
+{
+    let mut found = Vec::new(alloc);
+    for place in 0..targets.len() {
+        let Some(named) = named_at(place, &targets[place]) else {
+            continue;
+        };
+        if found.push(named).is_err() {
+            return Err(Fault::Memory);
+        }
+    }
+    Ok(found)
+}
+
+/// What a target at a place says where it names its host.
+fn named_at(place: usize, target: &config::Target) -> Option<Named>
+    ensures { option_map named_entry result ≡ named_at place (target_entry target.now) }
+{
+    match target.at {
+        config_values::Addr::Name(host, port) => Some(Named {
+            place,
+            host,
+            port,
+            weight: target.weight,
+            is_backup: target.is_backup,
+        }),
+        _ => None,
+    }
 }
 
 /// The address of the first target.

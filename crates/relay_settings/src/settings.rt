@@ -21,6 +21,9 @@ pub const MAX_CONNECT_MS: u64 = DAY_MS;
 pub struct Settings {
     /// The path at which admin sessions are served.
     pub admin: Option<String>,
+    /// The mode of the socket there, at most 0777, else what the umask leaves of all. No word of a
+    /// command line says it.
+    pub admin_mode: Option<u16>,
     /// How many loops it has, else as many as suit the machine.
     pub loops: Option<Loops>,
     /// How many connections stand at once, else 512.
@@ -76,6 +79,7 @@ pub fn in_force(alloc: Global, words: &Settings, file: &Settings) -> Result<Sett
     let log = first_text(alloc, &words.log, &file.log)?;
     Ok(Settings {
         admin,
+        admin_mode: first_said(words.admin_mode, file.admin_mode),
         loops: first_said(words.loops, file.loops),
         pairs: first_said(words.pairs, file.pairs),
         per_rule: first_said(words.per_rule, file.per_rule),
@@ -94,6 +98,7 @@ impl Settings {
     {
         Settings {
             admin: None,
+            admin_mode: None,
             loops: None,
             pairs: None,
             per_rule: None,

@@ -1,18 +1,21 @@
-//! A rule with where it listens, its limits, its sockets, its targets, their checks, what they are told of a
-//! client, and its lists of clients and of those that begin with a header, as a file says them.
+//! A rule with where it listens, its limits, its sockets, its targets and the names of their hosts, their checks,
+//! what they are told of a client, and its lists of clients and of those that begin with a header, as a file says them.
 
 ghost use Rattle.std.specs.Prelude.{◌≡◌, ◌≤◌, ◌<◌, ◌∷◌, [], IfOk, IsTrue, Some, None, ◌↔◌, length};
 ghost use Rattle.std.specs.Prelude.{slice_get};
 ghost use Rattle.client_sources.specs.Limits.{no_limits};
 ghost use Rattle.relay_config.specs.Entries.{sockets_entry};
+ghost use Rattle.relay_config.specs.declared.rule.TheConstants.{DEFAULT_RESOLVE_MS};
 ghost use Rattle.relay_settings.specs.Targets.{first_at, own_target, plain_sockets};
 ghost use Rattle.target_pick.specs.declared.picking.Balance.TheVariants.{RoundRobin};
 
+use arrayvec::ArrayString;
 use base_types::OutOfMemory;
 use client_nets::Net;
 use client_sources::Limits;
+use config_values::MAX_NAME_BYTES;
 use relay_admin::{Addr, Rule};
-use relay_config::{Access, Checks, Sockets, Version};
+use relay_config::{Access, Checks, DEFAULT_RESOLVE_MS, Sockets, Version};
 use relay_core::PairLimit;
 use std::alloc::Global;
 use target_pick::Balance;
@@ -26,6 +29,7 @@ pub const PLAIN_SOCKETS: Sockets = Sockets {
     user_timeout_ms: None,
     backlog: None,
     source: None,
+    mode: None,
 };
 
 /// A target of a rule.
@@ -38,9 +42,25 @@ pub struct Target {
     pub is_backup: bool,
 }
 
+/// The name of a host.
+pub type HostName = ArrayString<MAX_NAME_BYTES>;
+
+/// A target of a rule that names its host.
+#[derive(Clone, Copy, Debug, PartialEq, Eq, Drop)]
+pub struct Named {
+    /// Its place among the rule's targets. Until its host's name was looked up, that target is at the
+    /// address 0.0.0.0 with its port, and its weight is 0.
+    pub place: usize,
+    pub host: HostName,
+    pub port: u16,
+    /// How many turns each address of the host has. With 0 it gets nobody.
+    pub weight: u16,
+    pub is_backup: bool,
+}
+
 /// A rule, where it listens, how many connections of it stand at once, how many clients of one source are let
-/// in, how its sockets are set up, its targets, how these are checked and what they are told of a client, who
-/// may connect, and who begins with a header.
+/// in, how its sockets are set up, its targets, the names of their hosts, how they are checked and what they
+/// are told of a client, who may connect, and who begins with a header.
 #[derive(Drop)]
 pub struct SaidRule {
     /// Its own address is the first one, and so is its own target.
@@ -65,6 +85,10 @@ pub struct SaidRule {
     pub header: Option<Version>,
     /// 1 to 64, in the order of the file.
     pub targets: Vec<Target>,
+    /// Those of them that name their hosts, in the same order.
+    pub names: Vec<Named>,
+    /// After how many milliseconds such a name is looked up again; without a number it isn't.
+    pub resolve_ms: Option<u32>,
     ghost own: { slice_get listens.items 0 ≡ Some rule.listen },
     ghost some: { 0 < length targets.items },
     ghost first: { first_at targets.items ≡ Some rule.target },
@@ -84,8 +108,8 @@ fn own_target(rule: &Rule) -> Target
 
 impl SaidRule {
     /// A rule at its own address alone, without limits of its own and with plain sockets, whose own
-    /// target is its only one, isn't checked and is sent no header, and which lets all clients in and awaits
-    /// a header of none, as a rules file says it.
+    /// target is its only one, names no host, isn't checked and is sent no header, and which lets all clients
+    /// in and awaits a header of none, as a rules file says it.
     pub fn alone(alloc: Global, rule: Rule) -> Result<SaidRule, OutOfMemory>
         ensures rule { IfOk result (λ said. said.rule ≡ rule) }
         ensures listens { IfOk result (λ said. said.listens.items ≡ rule.listen ∷ []) }
@@ -99,6 +123,8 @@ impl SaidRule {
         ensures senders { IfOk result (λ said. said.senders.items ≡ []) }
         ensures header { IfOk result (λ said. said.header ≡ None) }
         ensures targets { IfOk result (λ said. said.targets.items ≡ own_target rule ∷ []) }
+        ensures names { IfOk result (λ said. said.names.items ≡ []) }
+        ensures resolve { IfOk result (λ said. said.resolve_ms ≡ Some DEFAULT_RESOLVE_MS) }
     {
         let mut listens = Vec::new(alloc);
         listens.push(rule.listen)?;
@@ -119,6 +145,8 @@ impl SaidRule {
             senders: Vec::new(alloc),
             header: None,
             targets,
+            names: Vec::new(alloc),
+            resolve_ms: Some(DEFAULT_RESOLVE_MS as u32),
         })
     }
 
@@ -151,6 +179,7 @@ impl SaidRule {
             && sockets.user_timeout_ms.is_none()
             && sockets.backlog.is_none()
             && sockets.source.is_none()
+            && sockets.mode.is_none()
     }
 
     /// Whether its lists have no network, so that it lets all clients in.
@@ -159,6 +188,13 @@ impl SaidRule {
             ↔ (self.now.access.allow.items ≡ []) × (self.now.access.deny.items ≡ []) }
     {
         self.access.allow.is_empty() && self.access.deny.is_empty()
+    }
+
+    /// Whether none of its targets names its host.
+    pub fn has_no_names(&self) -> bool
+        ensures { IsTrue result ↔ (self.now.names.items ≡ []) }
+    {
+        self.names.is_empty()
     }
 
     /// Whether it awaits a header of no client.

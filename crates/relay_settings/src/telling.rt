@@ -14,11 +14,12 @@ use relay_admin::{Addr, is_same_addr};
 use relay_config::{Format, Key};
 use relay_core::{Loops, PairLimit};
 
-/// A setting that has a key of the configuration, and an option of the command line: but for the
-/// format of the log, which a configuration alone says.
+/// A setting that has a key of the configuration, and an option of the command line: but for the mode
+/// of the admin socket and the format of the log, which a configuration alone says.
 #[derive(Clone, Copy, Debug, PartialEq, Eq, Drop)]
 pub enum Setting {
     Admin,
+    AdminMode,
     Loops,
     Connections,
     ConnectionsPerRule,
@@ -30,7 +31,7 @@ pub enum Setting {
 }
 
 /// All of them, in the order in which they are told.
-pub const SETTINGS: [Setting; 9] = [
+pub const SETTINGS: [Setting; 10] = [
     Setting::Connections,
     Setting::ConnectionsPerRule,
     Setting::ConnectTimeout,
@@ -38,18 +39,20 @@ pub const SETTINGS: [Setting; 9] = [
     Setting::ReplaceStale,
     Setting::Metrics,
     Setting::Admin,
+    Setting::AdminMode,
     Setting::Log,
     Setting::LogFormat,
 ];
 
 impl Setting {
-    /// The option of the command line, without its dashes; for the format of the log, which has none,
-    /// the word of its key.
+    /// The option of the command line, without its dashes; for the mode of the admin socket and the
+    /// format of the log, which have none, the word of the key.
     pub fn option(self) -> &'static str
         ensures { result.now ≡ option_word self }
     {
         match self {
             Setting::Admin => "admin",
+            Setting::AdminMode => "mode",
             Setting::Loops => "loops",
             Setting::Connections => "connections",
             Setting::ConnectionsPerRule => "connections-per-rule",
@@ -67,6 +70,7 @@ impl Setting {
     {
         match self {
             Setting::Admin => Key::Admin.word(),
+            Setting::AdminMode => Key::Mode.word(),
             Setting::Loops => Key::Loops.word(),
             Setting::Connections => Key::Connections.word(),
             Setting::ConnectionsPerRule => Key::ConnectionsPerRule.word(),
@@ -85,6 +89,7 @@ fn says(settings: &Settings, setting: Setting) -> bool
 {
     match setting {
         Setting::Admin => settings.admin.is_some(),
+        Setting::AdminMode => settings.admin_mode.is_some(),
         Setting::Loops => settings.loops.is_some(),
         Setting::Connections => settings.pairs.is_some(),
         Setting::ConnectionsPerRule => settings.per_rule.is_some(),
@@ -163,6 +168,16 @@ fn same_ms(one: Option<u32>, other: Option<u32>) -> bool
     }
 }
 
+fn same_mode(one: Option<u16>, other: Option<u16>) -> bool
+    ensures { result ≡ same_said (λ a b. a == b) one other }
+{
+    match (one, other) {
+        (Some(one), Some(other)) => one == other,
+        (None, None) => true,
+        _ => false,
+    }
+}
+
 fn same_time(one: Option<Option<u32>>, other: Option<Option<u32>>) -> bool
     ensures { result ≡ same_said (same_said (λ a b. a == b)) one other }
 {
@@ -204,6 +219,7 @@ fn say_same(setting: Setting, one: &Settings, other: &Settings) -> bool
 {
     match setting {
         Setting::Admin => same_text(&one.admin, &other.admin),
+        Setting::AdminMode => same_mode(one.admin_mode, other.admin_mode),
         Setting::Loops => same_loops(one.loops, other.loops),
         Setting::Connections => same_pairs(one.pairs, other.pairs),
         Setting::ConnectionsPerRule => same_pairs(one.per_rule, other.per_rule),

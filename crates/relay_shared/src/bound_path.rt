@@ -8,7 +8,7 @@ ghost use Rattle.relay_shared.specs.BoundPath.{bound_addr, is_bound_at, paths_wi
 
 use crate::address::socket_address;
 use base_types::OutOfMemory;
-use readiness::{Listen, listen};
+use readiness::{Listen, listen_with};
 use relay_admin::{Addr, is_same_addr};
 use rwloops::DevKind;
 use std::alloc::Global;
@@ -23,14 +23,19 @@ pub struct BoundPath {
     addr: Addr,
 }
 
-/// Binds a listener at this address; its path is to be removed from then on. The fault is `Other`.
-pub fn bind<R: Files + Net>(rt: &R, addr: &Addr) -> Result<(Listen, BoundPath), DevKind>
+/// Binds a listener at this address, whose path has this mode, where one is said; its path is to be
+/// removed from then on. The fault is `Other`.
+pub fn bind<R: Files + Net>(
+    rt: &R,
+    addr: &Addr,
+    mode: Option<u16>,
+) -> Result<(Listen, BoundPath), DevKind>
     ensures path { IfOk result (λ bound. bound_addr bound.1 ≡ addr.now) }
     ensures family { IfOk result (λ bound.
         is_tcp_listener bound.0 ≡ is_tcp_addr (socket_address addr.now)) }
     ensures faults { IfErr result (λ kind. kind ≡ DevKind.Other) }
 {
-    match listen(rt, &socket_address(addr)) {
+    match listen_with(rt, &socket_address(addr), mode.map(u32::from)) {
         Ok(listener) => Ok((listener, BoundPath { addr: *addr })),
         Err(kind) => Err(kind),
     }

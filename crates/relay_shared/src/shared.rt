@@ -1,7 +1,8 @@
 //! What the relay's threads share.
 //!
 //! Locks are held for a few steps, and taken in this order: the rules', the index's, a rule's or a
-//! cell's, a remote's. Those of the inboxes, of the slots and of tables of sources are held alone.
+//! cell's, that of names, a remote's. Those of the inboxes, of the slots and of tables of sources are held
+//! alone.
 
 ghost use Rattle.std.specs.Prelude.{◌≡◌, ◌↔◌, ◌⊎◌, ◌<◌, ◌≤◌, Err, min, length};
 ghost use Rattle.std.specs.Prelude.{IfErr, IfOk, OnOk, IfSome, IfNone, OnSome};
@@ -14,6 +15,7 @@ ghost use Rattle.relay_shared.specs.Placing.{IsFewest, LacksLoops, sum_of};
 
 use crate::inbox::Woken;
 use crate::index::Index;
+use crate::lookups::Lookups;
 use crate::loop_handle::LoopHandle;
 use crate::requests::{Answer, Question, Request, Slots, Ticket};
 use crate::standing::RelayIndex;
@@ -42,6 +44,8 @@ pub struct Shared {
     pub index: Mutex<RelayIndex>,
     /// The rules that are served, in the order of their file, as it was read last.
     pub rules: Mutex<Vec<Arc<ServedRule>>>,
+    /// The names of their targets' hosts.
+    pub lookups: Arc<Lookups>,
     /// The remote of the main thread's loop, which accepts.
     pub main: Arc<LoopRemote>,
     /// The loops', by their places.
@@ -89,6 +93,7 @@ pub fn shared_of(
     let shared = Shared {
         index: Mutex::new(Index::new(alloc)),
         rules: Mutex::new(rules),
+        lookups: Arc::new(alloc, Lookups::none(alloc))?,
         start,
         slots: Mutex::new(Slots::none(alloc)?),
         is_finishing: AtomicBool::new(false),
@@ -163,12 +168,18 @@ impl Shared {
     pub fn deliver<R: Wait + Clock>(&self, rt: &R, sock: Sock, acceptance: Acceptance) {
         acceptance.served.note_accept();
         let Some(told) = acceptance.try_clone() else {
+            self.note_dropped(rt, &acceptance, Ended::NoMemory);
             return;
         };
         if let Err(how) = self.try_deliver(rt, sock, acceptance) {
-            told.served.counts.note_dropped(how);
-            self.tell_refused(rt, &told, told.at, how);
+            self.note_dropped(rt, &told, how);
         }
+    }
+
+    // A client's socket is dropped for this: its rule counts that, and the log is told.
+    fn note_dropped<R: Wait + Clock>(&self, rt: &R, acceptance: &Acceptance, how: Ended) {
+        acceptance.served.counts.note_dropped(how);
+        self.tell_refused(rt, acceptance, acceptance.at, how);
     }
 
     // The same, or why the socket is dropped. Of a client that isn't let in nothing else is asked, and of one
@@ -252,8 +263,9 @@ impl Shared {
         }
     }
 
-    /// Tells the main thread of a connection that has ended, where it waits for the last.
-    pub fn note_end(&self) {
+    /// Tells the main thread of a connection that has ended, where it waits for the last. An `OwedEnd` alone
+    /// does so.
+    pub(crate) fn note_end(&self) {
         if self.is_finishing.load(Ordering::SeqCst) {
             self.main.wake();
         }

@@ -12,15 +12,15 @@ use Rattle.relay_workers.specs.declared.fd_gate.FdGate.{FdGate}
 abbrev pub idle_setting : Dirs → (now ms : ℕ) → Setting
 idle_setting dirs now ms = setting_of dirs (At (min (now + ms * 1000000) (2 ^ 64 - 1))) now
 
-module _ {X R C A P Q : Type 0} where
+module _ {X R C A P Q K : Type 0} where
   -- its idle time in milliseconds, if it has one
-  abbrev pub gate_idle : FdGate X R C A P Q → Option ℕ
+  abbrev pub gate_idle : FdGate X R C A P Q K → Option ℕ
   gate_idle gate = gate.idle_ms
 
   -- the descriptor that it reads
-  abbrev pub gate_source : FdGate X R C A P Q → FdHandle X Global P Q
+  abbrev pub gate_source : FdGate X R C A P Q K → FdHandle X Global P Q K
   gate_source gate = gate.source
 
   -- the descriptor that it writes
-  abbrev pub gate_target : FdGate X R C A P Q → FdHandle X Global P Q
+  abbrev pub gate_target : FdGate X R C A P Q K → FdHandle X Global P Q K
   gate_target gate = gate.target

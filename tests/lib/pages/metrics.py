@@ -9,9 +9,11 @@ from lib.pages.markdown import bare, rows, section, spans
 from lib.pages.rust import functions
 from lib.pages.tree import GUIDE
 
-FAMILIES = "crates/relay_metrics/src/figures.rt"
+FAMILIES = "crates/relay_metrics/src/family.rt"
 ENDED = "crates/relay_log/src/ended.rt"
 TEXTS = ("crates/relay_metrics/src/text.rt", "crates/relay_metrics/src/rule_text.rt", "crates/relay_metrics/src/target_text.rt")
+# What writes a histogram, whose figures have a name for each part.
+HISTOGRAM, PARTS = "crates/relay_metrics/src/histogram.rt", re.compile(r'b"(_\w+)"')
 # The calls that write a figure of a rule with one label more.
 OF_RULES = ("write_rule_sample", "write_escaped_sample")
 PLACES = "crates/relay_metrics/src/place.rt"
@@ -50,6 +52,9 @@ def labels(tree):
             found[family].setdefault("rule", [])
     for family, table in re.findall(r"Family::(\w+) => \{?\s*write_causes\(into, family, name, &(\w+)", code):
         found[family] = {"rule": [], key_of["write_cause"]: rows_of(tree, table)}
+    bound = re.search(r'b"(\w+)=\\""', tree.text(HISTOGRAM))
+    for family in re.findall(r"write_histogram\(\s*into,\s*Family::(\w+)", tree.text(HISTOGRAM)):
+        found[family] = {"rule": [], bound[1]: []}
     # (each family of targets goes through the one function that writes a figure of a target)
     of_target = re.search(r'write_escaped_sample\(into, family, rule, b"(\w+)"', code)
     for family in re.findall(r"write_family\(into, Family::(\w+), targets\)", code):
@@ -73,12 +78,14 @@ def named(body):
 
 def check(tree, told):
     known = {it.name: it for it in families(tree).values()}
+    parts = PARTS.findall(tree.text(HISTOGRAM))
+    given = known | {it.name + part: it for it in known.values() if it.kind == "histogram" for part in parts}
     told.reads(len(known) > 8 and any(it.labels for it in known.values()), FAMILIES, __file__)
     in_guide(told, known, {bare(it[1][0]): it for it in rows(section(tree.text(GUIDE), "Metrics"))})
     places = re.findall(r'b"(/\w+)"', tree.text(PLACES))
     told.has_all(tree, GUIDE, places, "the path")
     for page in (*tree.pages(), *tree.samples()):
-        figures_in(told, page, tree.text(page), known)
+        figures_in(told, page, tree.text(page), given)
     for page, own in OWN.items():
         its_own(told, page, tree.text(page), own - {os.path.basename(page).split(".")[0]})
 

@@ -25,7 +25,7 @@ ROWS = (
 # asked for in one file alone.)
 OPTIONS = (
     (GUIDE, r"TCP connections have `TCP_NODELAY`", r"crates/readiness/src/(?:sock|open)\.rt", r"\bset_nodelay\(true\)", True),
-    (GUIDE, r"TCP keepalive is off without `keepalive`", r"crates/(?:readiness|listen_fds|net|relay\w*)/src/(?!socket_options).*\.rt", r"SO_KEEPALIVE|set_keepalive", False),
+    (GUIDE, r"TCP keepalive is off without `keepalive`", r"crates/(?:readiness|listen_fds|net|relay\w*)/src/(?!socket_options|sock_control|conn_options).*\.rt", r"SO_KEEPALIVE|set_keepalive", False),
 )
 
 

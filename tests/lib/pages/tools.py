@@ -45,6 +45,7 @@ UNTRIED = {
     "tools/wrong_bodies_list.py": "prints a list",
     "packaging/deb.sh": "`package`",
     "bench/go_word/build.sh": "makes a bench of Go's word, which measures and shows nothing",
+    "bench/relay/calls.py": "measures and shows nothing",
     "bench/relay/tail.py": "measures and shows nothing",
     "bench/relay/memory.py": "measures and shows nothing",
     "bench/relay/instructions.py": "measures and shows nothing",

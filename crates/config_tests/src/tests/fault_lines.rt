@@ -124,6 +124,18 @@ const ROWS: &[(&str, &str)] = &[
         "bad config: rule \"web\": backlog: 0 is not from 1 to 65535",
     ),
     (
+        "[[rule]]\nname = \"web\"\nmode = \"660\"\n",
+        "bad config: rule \"web\": mode: \"660\" is no mode (0 and three octal digits, as 0660)",
+    ),
+    (
+        "[[rule]]\nname = \"web\"\nmode = 432\n",
+        "bad config: rule \"web\": mode: 432 is not a text in quotes",
+    ),
+    (
+        "[[rule]]\nname = \"web\"\nmod = \"0660\"\n",
+        "bad config: rule \"web\": unknown key \"mod\"; \"mode\" is meant?",
+    ),
+    (
         "[[rule]]\nname = \"web\"\nhealth = \"2s\"\n",
         "bad config: rule \"web\": health: \"2s\" is not a table ({ every = .., timeout = .., fall = .., rise = .. })",
     ),

@@ -156,6 +156,20 @@ const ROWS: &[Row] = &[
         Wrong::Value,
     ),
     (
+        "mode = \"0668\"\nhealth = 1\n",
+        RULE,
+        Key::Mode,
+        None,
+        Wrong::Value,
+    ),
+    (
+        "mode = \"0660\"\nsource = 1\n",
+        RULE,
+        Key::Source,
+        None,
+        Wrong::Type,
+    ),
+    (
         "health = \"2s\"\nallow = []\n",
         RULE,
         Key::Health,

@@ -112,6 +112,7 @@ fn a_rule_says_how_its_sockets_are_set_up(rt: HostRuntime) {
             user_timeout_ms: *user_timeout,
             backlog: None,
             source: None,
+            mode: None,
         };
         assert!(rt; has_sockets(rt.alloc(), keys, &want), "{keys}");
     }
@@ -196,6 +197,29 @@ fn a_rule_says_where_connects_come_from(rt: HostRuntime) {
     for row in OTHERS {
         let keys = row.0;
         assert!(rt; has_others(rt.alloc(), row), "{keys}");
+    }
+}
+
+// The keys, and the mode of the rule's Unix sockets.
+const MODES: &[(&str, Option<u16>)] = &[
+    ("", None),
+    ("mode = \"0000\"\n", Some(0)),
+    ("source = \"10.0.0.5\"\nmode = \"0640\"\n", Some(416)),
+    ("mode = \"0777\"\nbacklog = 5\n", Some(511)),
+];
+
+/// Whether the rule with these keys has this mode, or memory was refused.
+fn has_mode(alloc: Global, keys: &str, mode: Option<u16>) -> bool {
+    match rule_of(alloc, keys) {
+        Ok(rule) => rule.head.sockets.mode == mode,
+        Err(fault) => fault == Fault::Memory,
+    }
+}
+
+#[test]
+fn a_rule_says_the_mode_of_its_unix_sockets(rt: HostRuntime) {
+    for (keys, mode) in MODES {
+        assert!(rt; has_mode(rt.alloc(), keys, *mode), "{keys}");
     }
 }
 

@@ -2,7 +2,7 @@
 
 use super::scene::{Answer, Asked, Call};
 use super::scripted::Told;
-use super::{Plain, Silent};
+use super::{Plain, Silent, comes_to};
 use base_types::OutOfMemory;
 use deadline_core::{Deadline, Dirs};
 use fd_descriptor::Alarms;
@@ -76,6 +76,11 @@ pub(super) fn answer<T: Wait + Clock + Drop, L: Alarms>(
         Call::Set(dirs, at, now) => Answer::Done(set(rt, handle, (dirs, at, now), alarms)),
         Call::SetInVain(at) => Answer::Done(set(rt, handle, (Dirs::Both, at, 0), &Full)),
         Call::Drain => Answer::Done(handle.drain(rt)),
+        Call::Ask => Answer::Asked(handle.control(rt, |asked| asked.fault)),
+        Call::AskGated => Answer::Asked(handle.control(rt, |asked| {
+            comes_to(rt, &told.gate, 1);
+            asked.fault
+        })),
         Call::Close => Answer::Done(handle.close(rt)),
         Call::Tell => Answer::Done(handle.close_telling(rt, told)),
     }

@@ -48,6 +48,10 @@ impl Resource for Pair {
 
     type W = Counted;
 
+    type Control = ();
+
+    fn control_of(_read: &Counted) {}
+
     fn destroy(read: Counted, _write: Counted) -> Result<(), DevKind> {
         read.drops.fetch_add(100, Ordering::SeqCst);
         Ok(())
@@ -85,6 +89,7 @@ fn does_all<T: Wait + Abort + Copy>(rt: T, handle: &mut OnHeap<'_>) -> bool {
         && handle
             .set_deadline(&rt, Deadline::At(10), 5, &Silent)
             .is_ok()
+        && handle.control(&rt, |_| 5u8) == Ok(5)
         && handle.drain(&rt).is_ok()
         && handle.close(&rt).is_ok()
 }

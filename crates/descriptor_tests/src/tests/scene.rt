@@ -20,6 +20,10 @@ pub(super) enum Call {
     /// One for both, at the first moment, over alarms that are refused memory.
     SetInVain(Deadline),
     Drain,
+    /// What was made of the read half is asked for, and answered at once.
+    Ask,
+    /// The same, answered once the gate is open.
+    AskGated,
     Close,
     /// A close that tells.
     Tell,
@@ -33,6 +37,8 @@ pub(super) enum Answer {
     /// A write that failed, after so many bytes.
     Cut(Fault, usize),
     Done(Result<(), Fault>),
+    /// The fault of destroying the halves, as it was made of the read half.
+    Asked(Result<Option<DevKind>, Fault>),
 }
 
 /// What happens to the descriptor beside its calls.
@@ -44,7 +50,7 @@ pub(super) enum Event {
     Clock(u64),
     /// So many milliseconds pass.
     Pause(u64),
-    /// Gated tries go on.
+    /// Gated tries and calls go on.
     Gate,
     /// Its destruction is held from now on.
     Hold,

@@ -252,6 +252,12 @@ impl<T: Wait + Clock + Drop> HalfClose for ScriptedHalf<T> {
     }
 }
 
+/// What is made of a read half: the fault of its destruction, which a write half never has.
+#[derive(Drop)]
+pub(super) struct Asked {
+    pub(super) fault: Option<DevKind>,
+}
+
 /// Two scripted halves, whose destruction is counted, may be held, and answers the read half's
 /// fault.
 pub(super) struct Pair<T> {
@@ -262,6 +268,12 @@ impl<T: Wait + Clock + Drop> Resource for Pair<T> {
     type R = ScriptedHalf<T>;
 
     type W = ScriptedHalf<T>;
+
+    type Control = Asked;
+
+    fn control_of(read: &ScriptedHalf<T>) -> Asked {
+        Asked { fault: read.fault }
+    }
 
     fn destroy(read: ScriptedHalf<T>, _write: ScriptedHalf<T>) -> Result<(), DevKind> {
         read.told.destroys.fetch_add(1, Ordering::SeqCst);

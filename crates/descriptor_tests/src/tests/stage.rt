@@ -27,19 +27,21 @@ pub(super) struct Stage<T: Wait + Clock + Copy + Drop> {
 }
 
 /// Calls that take a lock or a reference.
-const ALL: [Call; 6] = [
+const ALL: [Call; 7] = [
     Call::Drain,
     Call::Read,
     Call::Accept,
     Call::Write(b"abc"),
     Call::Shut,
     Call::Set(Dirs::Both, Deadline::At(9), 5),
+    Call::Ask,
 ];
 
 /// Whether this is the answer of a call that was refused.
 fn is_refused(answer: Option<Answer>, fault: Fault) -> bool {
     match answer {
         Some(Answer::Took(Err(why)) | Answer::Done(Err(why)) | Answer::Cut(why, 0)) => why == fault,
+        Some(Answer::Asked(Err(why))) => why == fault,
         _ => false,
     }
 }

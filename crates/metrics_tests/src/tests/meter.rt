@@ -3,7 +3,10 @@
 use arrayvec::ArrayString;
 use base_types::OutOfMemory;
 use relay_log::ended::{CAUSES, ENDS};
-use relay_metrics::{CarriedBytes, Figures, Metered, Refusals, RuleFigures, TargetFigures};
+use relay_metrics::{
+    CONNECT_PLACES, CarriedBytes, Durations, Figures, Metered, Refusals, RuleFigures,
+    STANDING_PLACES, TargetFigures,
+};
 use std::alloc::Global;
 use std::sync::atomic::{AtomicU64, Ordering};
 
@@ -34,6 +37,14 @@ fn web() -> Option<RuleFigures> {
         accept_faults: 34,
         is_listening: true,
         has_target: true,
+        connects: Durations {
+            counts: [1, 2, 3, 4, 5, 6, 7, 8, 9, 10, 11, 12, 13],
+            sum_us: 4_000_205,
+        },
+        stood: Durations {
+            counts: [0, 0, 0, 14, u64::MAX, 0, 0, 0, 1],
+            sum_us: u64::MAX,
+        },
     })
 }
 
@@ -50,6 +61,14 @@ fn unused() -> Option<RuleFigures> {
         accept_faults: 0,
         is_listening: false,
         has_target: true,
+        connects: Durations {
+            counts: [0; CONNECT_PLACES],
+            sum_us: 0,
+        },
+        stood: Durations {
+            counts: [0; STANDING_PLACES],
+            sum_us: 0,
+        },
     })
 }
 

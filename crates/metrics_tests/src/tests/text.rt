@@ -110,6 +110,62 @@ pollrelay_rule_accept_faults_total{rule=\"db-0123456789abc\"} 0\n\
 # TYPE pollrelay_rule_listening gauge\n\
 pollrelay_rule_listening{rule=\"web\"} 1\n\
 pollrelay_rule_listening{rule=\"db-0123456789abc\"} 0\n\
+# HELP pollrelay_connect_seconds Seconds that clients' connects to targets took, where they were made.\n\
+# TYPE pollrelay_connect_seconds histogram\n\
+pollrelay_connect_seconds_bucket{rule=\"web\",le=\"0.001\"} 1\n\
+pollrelay_connect_seconds_bucket{rule=\"web\",le=\"0.002\"} 3\n\
+pollrelay_connect_seconds_bucket{rule=\"web\",le=\"0.005\"} 6\n\
+pollrelay_connect_seconds_bucket{rule=\"web\",le=\"0.01\"} 10\n\
+pollrelay_connect_seconds_bucket{rule=\"web\",le=\"0.02\"} 15\n\
+pollrelay_connect_seconds_bucket{rule=\"web\",le=\"0.05\"} 21\n\
+pollrelay_connect_seconds_bucket{rule=\"web\",le=\"0.1\"} 28\n\
+pollrelay_connect_seconds_bucket{rule=\"web\",le=\"0.2\"} 36\n\
+pollrelay_connect_seconds_bucket{rule=\"web\",le=\"0.5\"} 45\n\
+pollrelay_connect_seconds_bucket{rule=\"web\",le=\"1\"} 55\n\
+pollrelay_connect_seconds_bucket{rule=\"web\",le=\"2\"} 66\n\
+pollrelay_connect_seconds_bucket{rule=\"web\",le=\"5\"} 78\n\
+pollrelay_connect_seconds_bucket{rule=\"web\",le=\"+Inf\"} 91\n\
+pollrelay_connect_seconds_sum{rule=\"web\"} 4.000205\n\
+pollrelay_connect_seconds_count{rule=\"web\"} 91\n\
+pollrelay_connect_seconds_bucket{rule=\"db-0123456789abc\",le=\"0.001\"} 0\n\
+pollrelay_connect_seconds_bucket{rule=\"db-0123456789abc\",le=\"0.002\"} 0\n\
+pollrelay_connect_seconds_bucket{rule=\"db-0123456789abc\",le=\"0.005\"} 0\n\
+pollrelay_connect_seconds_bucket{rule=\"db-0123456789abc\",le=\"0.01\"} 0\n\
+pollrelay_connect_seconds_bucket{rule=\"db-0123456789abc\",le=\"0.02\"} 0\n\
+pollrelay_connect_seconds_bucket{rule=\"db-0123456789abc\",le=\"0.05\"} 0\n\
+pollrelay_connect_seconds_bucket{rule=\"db-0123456789abc\",le=\"0.1\"} 0\n\
+pollrelay_connect_seconds_bucket{rule=\"db-0123456789abc\",le=\"0.2\"} 0\n\
+pollrelay_connect_seconds_bucket{rule=\"db-0123456789abc\",le=\"0.5\"} 0\n\
+pollrelay_connect_seconds_bucket{rule=\"db-0123456789abc\",le=\"1\"} 0\n\
+pollrelay_connect_seconds_bucket{rule=\"db-0123456789abc\",le=\"2\"} 0\n\
+pollrelay_connect_seconds_bucket{rule=\"db-0123456789abc\",le=\"5\"} 0\n\
+pollrelay_connect_seconds_bucket{rule=\"db-0123456789abc\",le=\"+Inf\"} 0\n\
+pollrelay_connect_seconds_sum{rule=\"db-0123456789abc\"} 0.000000\n\
+pollrelay_connect_seconds_count{rule=\"db-0123456789abc\"} 0\n\
+# HELP pollrelay_connection_seconds Seconds that connections stood, from their accept to their end.\n\
+# TYPE pollrelay_connection_seconds histogram\n\
+pollrelay_connection_seconds_bucket{rule=\"web\",le=\"0.1\"} 0\n\
+pollrelay_connection_seconds_bucket{rule=\"web\",le=\"1\"} 0\n\
+pollrelay_connection_seconds_bucket{rule=\"web\",le=\"10\"} 0\n\
+pollrelay_connection_seconds_bucket{rule=\"web\",le=\"60\"} 14\n\
+pollrelay_connection_seconds_bucket{rule=\"web\",le=\"600\"} 18446744073709551615\n\
+pollrelay_connection_seconds_bucket{rule=\"web\",le=\"3600\"} 18446744073709551615\n\
+pollrelay_connection_seconds_bucket{rule=\"web\",le=\"36000\"} 18446744073709551615\n\
+pollrelay_connection_seconds_bucket{rule=\"web\",le=\"86400\"} 18446744073709551615\n\
+pollrelay_connection_seconds_bucket{rule=\"web\",le=\"+Inf\"} 18446744073709551615\n\
+pollrelay_connection_seconds_sum{rule=\"web\"} 18446744073709.551615\n\
+pollrelay_connection_seconds_count{rule=\"web\"} 18446744073709551615\n\
+pollrelay_connection_seconds_bucket{rule=\"db-0123456789abc\",le=\"0.1\"} 0\n\
+pollrelay_connection_seconds_bucket{rule=\"db-0123456789abc\",le=\"1\"} 0\n\
+pollrelay_connection_seconds_bucket{rule=\"db-0123456789abc\",le=\"10\"} 0\n\
+pollrelay_connection_seconds_bucket{rule=\"db-0123456789abc\",le=\"60\"} 0\n\
+pollrelay_connection_seconds_bucket{rule=\"db-0123456789abc\",le=\"600\"} 0\n\
+pollrelay_connection_seconds_bucket{rule=\"db-0123456789abc\",le=\"3600\"} 0\n\
+pollrelay_connection_seconds_bucket{rule=\"db-0123456789abc\",le=\"36000\"} 0\n\
+pollrelay_connection_seconds_bucket{rule=\"db-0123456789abc\",le=\"86400\"} 0\n\
+pollrelay_connection_seconds_bucket{rule=\"db-0123456789abc\",le=\"+Inf\"} 0\n\
+pollrelay_connection_seconds_sum{rule=\"db-0123456789abc\"} 0.000000\n\
+pollrelay_connection_seconds_count{rule=\"db-0123456789abc\"} 0\n\
 # HELP pollrelay_target_up Whether a checked target is up: 1, or 0.\n\
 # TYPE pollrelay_target_up gauge\n\
 pollrelay_target_up{rule=\"web\",target=\"tcp:127.0.0.1:80\"} 1\n\

@@ -20,17 +20,28 @@ fn addr_of<R: Runs + Threads + Sockets + Files>(listener: &Listener<R>) -> io::R
     }
 }
 
-/// Both ends of a connection.
-fn both<R: Runs + Threads + Sockets + Files>(net: &Net<R>) -> io::Result<(Conn<R>, Conn<R>)> {
+/// Both ends of a connection, of which the one has looked up the other's host.
+fn both<R>(net: &Net<R>, alloc: Global) -> io::Result<(Conn<R>, Conn<R>)>
+where
+    R: Runs + Threads + Sockets + Files,
+{
     let mut listener = Listener::bind(net, &tcp(0))?;
-    let near = Conn::connect(net, &addr_of(&listener)?, millis(10_000))?;
+    let Addr::Tcp(_, port) = addr_of(&listener)? else {
+        return Err(ErrorKind::InvalidData.into());
+    };
+    let target = format!(in alloc; "localhost:{port}")?;
+    let near = Conn::dial(net, target.as_str(), millis(10_000))?;
+    listener.set_accept_timeout(millis(10_000))?;
     let far = listener.accept()?;
     Ok((near, far))
 }
 
-/// A round trip of a connection with a time.
+/// A round trip of a connection with a time, which has asked for what there is.
 fn round_trip<R: Runs>(near: &mut Conn<R>, far: &mut Conn<R>) -> io::Result<()> {
     far.set_read_timeout(millis(10_000))?;
+    let (at_once, every) = (near.nodelay()?, near.keepalive()?);
+    near.set_nodelay(at_once)?;
+    near.set_keepalive(every)?;
     near.write_all(b"hello")?;
     far.read_exact(&mut [0; 5])
 }
@@ -54,7 +65,7 @@ where
     R: Runs + Threads + Sockets + Files + Send + Sync + 'static,
 {
     let net = Net::start(rt, alloc)?;
-    let (mut near, mut far) = both(&net)?;
+    let (mut near, mut far) = both(&net, alloc)?;
     round_trip(&mut near, &mut far)?;
     ends_group(&net, &near)?;
     far.close_gently(Duration::from_secs(10))?;
