@@ -152,12 +152,17 @@ def read_to_end(sock):
     return b"".join(parts)
 
 
+# How /proc/net/tcp has a connection that is over on both sides, and whose ports are kept for a while.
+TIME_WAIT = "06"
+
+
 def tcp_rows():
-    """The port of each TCP socket of the system, that of its peer, and how many bytes wait there to be read."""
+    """The port of each TCP socket that somebody has, that of its peer, and how many bytes wait there to be read."""
     with open("/proc/net/tcp", encoding="ascii") as table:
         for line in table.read().splitlines()[1:]:
-            _, own, other, _, queues = line.split()[:5]
-            yield int(own.split(":")[1], 16), int(other.split(":")[1], 16), int(queues.split(":")[1], 16)
+            _, own, other, state, queues = line.split()[:5]
+            if state != TIME_WAIT:
+                yield int(own.split(":")[1], 16), int(other.split(":")[1], 16), int(queues.split(":")[1], 16)
 
 
 def unread_bytes(port, peer):

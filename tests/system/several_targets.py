@@ -152,21 +152,37 @@ def refused(checks, folder):
 
 
 def late(checks, folder):
-    fresh = CountingTarget("F")
+    # (no outgoing connection of anybody has such a port)
+    fresh = CountingTarget("F", port=free_port())
     with BlackHole() as hole, Several((hole, fresh), "first", "2s") as it:
-        began = time.monotonic()
-        client = it.connect(says=bytes(BYTES))
-        counts = unread_until_dialled(it.port, client, fresh)
-        checks.expect("late: unread until then", {BYTES}, set(counts[counts.index(BYTES) :] if BYTES in counts else counts))
+        client, began, counts = unread_client(it, fresh)
+        checks.expect("late: unread until then", {BYTES}, set(counts))
         checks.expect("late: the next one", "F", name_to(client))
         checks.holds("late: after its part of the time", time.monotonic() - began > 0.9, "before")
         checks.expect("late: all bytes", BYTES, received(client, BYTES))
         client.close()
-        checks.expect("late: the log", [(fresh.address, "eof")], it.lines(1))
+        checks.expect("late: the log", (fresh.address, "eof"), it.lines(fresh.taken)[-1])
     with BlackHole() as hole, Several((hole, dead(), B), "first", "2s") as it:
         checks.expect("late, then refused: the next one", "B", it.got()[1])
     with BlackHole() as hole, Several((hole, dead()), "first", "1s") as it:
         checks.expect("late, then refused: all", "end", it.got()[1])
+
+
+def unread_client(it, target):
+    """A client that has said its bytes, when it came, and how many waited to be read from when they had come until its target was dialled.
+
+    On a busy machine that may be over before the first look: then another one comes.
+    """
+    for _ in range(5):
+        began = time.monotonic()
+        client = it.connect(says=bytes(BYTES))
+        counts = unread_until_dialled(it.port, client, target)
+        if BYTES in counts:
+            return client, began, counts[counts.index(BYTES) :]
+        name_to(client)
+        client.close()
+        it.comes_to(0)
+    return client, began, counts
 
 
 def unread_until_dialled(port, client, target):
