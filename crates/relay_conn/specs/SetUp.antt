@@ -13,6 +13,7 @@ use Rattle.relay_conn.specs.declared.connection.Connection.{Connection}
 use Rattle.relay_conn.specs.declared.connection.Phase.TheVariants as phase
 use Rattle.relay_conn.specs.declared.dialing.Dialing.{Dialing}
 use Rattle.relay_conn.specs.declared.trial.Trial.{Trial}
+use Rattle.relay_facts.specs.Acceptance.{said_then}
 use Rattle.relay_facts.specs.declared.connection_facts.ConnectionFacts.{ConnectionFacts}
 
 module _ {U D R : Type 0} where
@@ -40,7 +41,7 @@ module _ {U D R : Type 0} where
     pub follows : connection.target_id ≡ connection.client_id + 1
     pub dialing : Dialing U D R
     pub dials : connection.phase ≡ Some (phase.Dialing dialing)
-    pub begins : BeginsDial (arc_value known).acceptance.rule.idle_ms at connect_by dialing
+    pub begins : BeginsDial (said_then (arc_value known).acceptance).rule.idle_ms at connect_by dialing
 
   -- of the target that was begun first it knows which others are left, what they are registered under,
   -- and when the next one is tried

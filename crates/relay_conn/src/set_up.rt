@@ -272,7 +272,7 @@ impl<'a, R: Wait + Clock + Copy> SetUp<'a, R> {
         let Trial { dialled, picked } = target;
         note_dial(&facts, dialled.began);
         let sides = self.sides(client, dialled, place)?;
-        let ways = match self.both_prepared(facts.acceptance.rule.idle_ms) {
+        let ways = match self.both_prepared(facts.acceptance.idle_ms()) {
             Some(ways) => ways,
             None => return Err(Refused::Memory),
         };

@@ -71,7 +71,7 @@ pub fn next_trial<R: Wait + Net + Clock>(
         down: false,
     };
     while let Some(picked) = walk.next(acceptance) {
-        match dial(rt, &picked.at, &acceptance.sockets) {
+        match dial(rt, &picked.at, &acceptance.said.sockets) {
             Ok(dialled) => return Ok(Trial { dialled, picked }),
             Err(why) => {
                 note_failure(rt, log, acceptance, &picked, &why);

@@ -11,6 +11,7 @@ use Rattle.client_nets.specs.declared.net.Net.{Net}
 use Rattle.relay_admin.specs.declared.rules.addr.Addr.{Addr}
 use Rattle.relay_admin.specs.declared.rules.addr.Addr.TheVariants as addr
 use Rattle.relay_config.specs.declared.access.Access.{Access}
+use Rattle.relay_facts.specs.Acceptance.{said_then}
 use Rattle.relay_facts.specs.declared.connection_facts.Acceptance.{Acceptance}
 
 -- the networks whose clients alone may connect, where there are any
@@ -42,7 +43,7 @@ LetIn allow deny other = ⊤
 
 -- the lists that stood at its accept, if its rule had any
 abbrev pub lists_in : Acceptance → Option Access
-lists_in acceptance = option_map arc_value acceptance.access
+lists_in acceptance = option_map arc_value (said_then acceptance).access
 
 -- lists let the client in; without any all are let in
 abbrev pub LetInBy : Option Access → Option Addr → Type 0

@@ -8,6 +8,7 @@ use Rattle.relay_admin.specs.declared.rules.addr.Addr.{Addr}
 use Rattle.relay_admin.specs.declared.rules.addr.Addr.TheVariants as addr
 use Rattle.relay_config.specs.declared.proxy.Version.{Version}
 use Rattle.relay_config.specs.declared.proxy.Version.TheVariants as version
+use Rattle.relay_facts.specs.Acceptance.{said_then}
 use Rattle.relay_facts.specs.declared.connection_facts.Acceptance.{Acceptance}
 use Rattle.relay_facts.specs.declared.header.AcceptedAt.{AcceptedAt}
 use Rattle.relay_facts.specs.declared.header.AcceptedAt.TheVariants as accepted
@@ -46,4 +47,5 @@ bytes_in (Some version) header = header_bytes version header
 -- what the target of a client gets before any byte of the client's: the client's header in the version
 -- of its rule, and nothing where its rule has none
 abbrev pub first_bytes : Acceptance → List ℕ
-first_bytes acceptance = bytes_in acceptance.header (header_of acceptance.client acceptance.accepted_at)
+first_bytes acceptance =
+    bytes_in (said_then acceptance).header (header_of acceptance.client acceptance.accepted_at)

@@ -10,6 +10,7 @@ use Rattle.client_nets.specs.Net.{IsListed}
 use Rattle.client_nets.specs.declared.net.Net.{Net}
 use Rattle.relay_admin.specs.declared.rules.addr.Addr.{Addr}
 use Rattle.relay_admin.specs.declared.rules.addr.Addr.TheVariants as addr
+use Rattle.relay_facts.specs.Acceptance.{said_then}
 use Rattle.relay_facts.specs.declared.connection_facts.Acceptance.{Acceptance}
 use Rattle.relay_facts.specs.declared.senders.Senders.{Senders}
 
@@ -20,7 +21,7 @@ nets_with (Some list) = list.all.items
 
 -- the list that stood at an accept, if its rule had one
 abbrev pub senders_at : Acceptance → Option Senders
-senders_at acceptance = option_map arc_value acceptance.senders
+senders_at acceptance = option_map arc_value (said_then acceptance).senders
 
 -- one of these networks has the IPv4 address with these bytes
 abbrev pub ListsBytes : List Net → List ℕ → Type 0

@@ -3,7 +3,7 @@ use Rattle.std.specs.Prelude.{◌≡◌, Option, Some, IsSomeAnd}
 use Rattle.relay_admin.specs.declared.rules.addr.Addr.{Addr}
 use Rattle.relay_admin.specs.declared.admin.shown.ShownSide.{ShownSide}
 use Rattle.relay_admin.specs.declared.admin.shown.ShownSide.TheVariants.{Client, Target, Listener}
-use Rattle.relay_facts.specs.Acceptance.{IsTargetOf}
+use Rattle.relay_facts.specs.Acceptance.{IsTargetOf, said_then}
 use Rattle.relay_facts.specs.declared.connection_facts.Acceptance.{Acceptance}
 
 -- of the client's side its own address, if it has one; of the target's side that of a target of its
@@ -11,4 +11,4 @@ use Rattle.relay_facts.specs.declared.connection_facts.Acceptance.{Acceptance}
 abbrev pub IsPeerOfSide : Acceptance → ShownSide → Option Addr → Type 0
 IsPeerOfSide acceptance Client peer = peer ≡ acceptance.client
 IsPeerOfSide acceptance Target peer = IsSomeAnd peer (IsTargetOf acceptance)
-IsPeerOfSide acceptance Listener peer = peer ≡ Some acceptance.rule.listen
+IsPeerOfSide acceptance Listener peer = peer ≡ Some (said_then acceptance).rule.listen

@@ -54,7 +54,7 @@ impl Acceptance {
     fn is_let_in(&self) -> bool
         ensures { IsTrue result ↔ IsLetIn self.now }
     {
-        match &self.access {
+        match &self.said.access {
             Some(access) => let_in(access, &self.client),
             None => true,
         }

@@ -3,21 +3,15 @@
 ghost use Rattle.std.specs.Prelude.{◌≡◌, ◌-◌, ◌/◌, None, IfSome, IfOk, IfErr, option_copied};
 ghost use Rattle.std.specs.Arc.{arc_value};
 ghost use Rattle.relay_facts.specs.Counts.{counts_of_loop};
-ghost use Rattle.relay_facts.specs.Acceptance.{IsPicked, IsTargetOf, address_in, list_in, source_of};
-ghost use Rattle.relay_facts.specs.Acceptance.{checked_in, targets_in};
-ghost use Rattle.relay_facts.specs.Admission.{lists_in};
+ghost use Rattle.relay_facts.specs.Acceptance.{IsPicked, IsSameClient, IsTargetOf, address_in, list_in};
+ghost use Rattle.relay_facts.specs.Acceptance.{checked_in, said_then, source_of, targets_in};
 ghost use Rattle.relay_facts.specs.Targets.{IsNext, IsNoneLeft};
-ghost use Rattle.relay_facts.specs.Senders.{senders_at};
 
 use crate::counts::LoopCounts;
 use crate::header::AcceptedAt;
-use crate::rule_sources::RuleSources;
-use crate::senders::Senders;
-use crate::served_rule::{ServedRule, same_list};
-use crate::target_list::{NoneLeft, Picked, Targets};
-use relay_admin::{Addr, Rule, Shown, ShownSide};
-use relay_core::PairLimit;
-use relay_settings::{Access, Sockets, SourceLimits, Version};
+use crate::served_rule::{Said, ServedRule};
+use crate::target_list::{NoneLeft, Picked};
+use relay_admin::Addr;
 use std::sync::Arc;
 use std::sync::atomic::{AtomicU64, AtomicUsize, Ordering};
 use target_pick::{Tried, source_number};
@@ -26,26 +20,11 @@ use target_pick::{Tried, source_number};
 #[derive(Drop)]
 pub struct Acceptance {
     pub served: Arc<ServedRule>,
-    /// What its rule said then.
-    pub rule: Rule,
-    /// How many connections of its rule might stand then, where the rule said that itself.
-    pub limit: Option<PairLimit>,
-    /// How many clients of one source were let in then, and what counts them, where its rule limits that.
-    pub source_limits: SourceLimits,
-    pub sources: Option<Arc<RuleSources>>,
-    /// How its sockets are set up.
-    pub sockets: Sockets,
-    /// Its rule's targets then; without a list the rule's own target is the only one.
-    pub targets: Option<Arc<Targets>>,
-    /// Who might connect to its rule then; without lists all clients.
-    pub access: Option<Arc<Access>>,
-    /// Whose clients began with a header then; without a list none did.
-    pub senders: Option<Arc<Senders>>,
+    /// What its rule said then, which a reload doesn't change.
+    pub said: Arc<Said>,
     /// The client's address, once it has told one by a header that; an unnamed Unix socket has none.
     pub client: Option<Addr>,
-    /// With which header its connection to a target begins, if with one.
-    pub header: Option<Version>,
-    /// Where it was accepted, as far as such a header says it; or where its own header says so.
+    /// Where it was accepted, as far as a header for its target says it; or where its own header says so.
     pub accepted_at: Option<AcceptedAt>,
     /// The moment, in nanoseconds of the relay's clock.
     pub at: u64,
@@ -54,41 +33,22 @@ pub struct Acceptance {
 impl Acceptance {
     /// The same once more. It takes no memory; refused is only one that is held too often.
     pub fn try_clone(&self) -> Option<Acceptance>
-        ensures served { IfSome result (λ same. arc_value same.served
-            ≡ arc_value self.now.served) }
-        ensures rule { IfSome result (λ same. same.rule ≡ self.now.rule) }
-        ensures limit { IfSome result (λ same. same.limit ≡ self.now.limit) }
-        ensures source_limits { IfSome result (λ same.
-            same.source_limits ≡ self.now.source_limits) }
-        ensures sockets { IfSome result (λ same. same.sockets ≡ self.now.sockets) }
-        ensures targets { IfSome result (λ same. list_in same ≡ list_in self.now) }
-        ensures access { IfSome result (λ same. lists_in same ≡ lists_in self.now) }
-        ensures senders { IfSome result (λ same. senders_at same ≡ senders_at self.now) }
-        ensures client { IfSome result (λ same. same.client ≡ self.now.client) }
-        ensures header { IfSome result (λ same. same.header ≡ self.now.header) }
-        ensures accepted_at { IfSome result (λ same. same.accepted_at ≡ self.now.accepted_at) }
-        ensures at { IfSome result (λ same. same.at ≡ self.now.at) }
+        ensures { IfSome result (IsSameClient self.now) }
     {
-        let served = Arc::try_clone(&self.served).ok()?;
-        let sources = same_list(&self.sources)?;
-        let targets = same_list(&self.targets)?;
-        let access = same_list(&self.access)?;
-        let senders = same_list(&self.senders)?;
         Some(Acceptance {
-            served,
-            rule: self.rule,
-            limit: self.limit,
-            source_limits: self.source_limits,
-            sources,
-            sockets: self.sockets,
-            targets,
-            access,
-            senders,
+            served: Arc::try_clone(&self.served).ok()?,
+            said: Arc::try_clone(&self.said).ok()?,
             client: self.client,
-            header: self.header,
             accepted_at: self.accepted_at,
             at: self.at,
         })
+    }
+
+    /// For how long one of its directions may be silent, in milliseconds, if that has a limit.
+    pub fn idle_ms(&self) -> Option<u32>
+        ensures { result ≡ (said_then self.now).rule.idle_ms }
+    {
+        self.said.rule.idle_ms
     }
 
     /// The whole milliseconds from then to this moment.
@@ -121,7 +81,7 @@ impl Acceptance {
         ensures picked { IfSome (list_in self.now) (λ list. IfOk result (λ picked.
             IsPicked list tried (source_of self.now.client) picked.place)) }
     {
-        match &self.targets {
+        match &self.said.targets {
             Some(targets) => {
                 targets.next(tried, self.served.next_turn(), source_of(&self.client))
             }
@@ -141,7 +101,7 @@ impl Acceptance {
         }
         Ok(Picked {
             place: 0,
-            at: self.rule.target,
+            at: self.said.rule.target,
             tried: tried.with(0),
             others: 0,
         })
@@ -151,9 +111,9 @@ impl Acceptance {
     pub fn address(&self, place: usize) -> Addr
         ensures { result ≡ address_in self.now place }
     {
-        match &self.targets {
-            Some(targets) => targets.address(place).unwrap_or(self.rule.target),
-            None => self.rule.target,
+        match &self.said.targets {
+            Some(targets) => targets.address(place).unwrap_or(self.said.rule.target),
+            None => self.said.rule.target,
         }
     }
 }
@@ -197,7 +157,7 @@ impl ConnectionFacts {
         ensures loop_place { result.loop_place ≡ loop_place }
     {
         let last = AtomicU64::new(acceptance.at);
-        if let Some(targets) = &acceptance.targets {
+        if let Some(targets) = &acceptance.said.targets {
             targets.enter(target);
         }
         ConnectionFacts {
@@ -226,7 +186,7 @@ impl ConnectionFacts {
     /// From now on the target at this place is tried.
     pub fn try_target(&self, place: usize) {
         let was = self.target.swap(place, Ordering::SeqCst);
-        if let Some(targets) = &self.acceptance.targets {
+        if let Some(targets) = &self.acceptance.said.targets {
             targets.enter(place);
             targets.leave(was);
         }
@@ -288,7 +248,7 @@ impl Drop for ConnectionFacts {
             down: _,
             last: _,
         } = self;
-        if let Some(targets) = &acceptance.targets {
+        if let Some(targets) = &acceptance.said.targets {
             targets.leave(target.load(Ordering::SeqCst));
         }
     }

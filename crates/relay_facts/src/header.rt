@@ -89,7 +89,7 @@ impl Acceptance {
     pub fn first_bytes(&self) -> HeaderBytes
         ensures { result.items ≡ first_bytes self.now }
     {
-        match self.header {
+        match self.said.header {
             Some(version) => header_bytes(version, &header_of(&self.client, self.accepted_at)),
             None => ArrayVec::new(),
         }

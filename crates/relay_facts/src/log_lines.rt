@@ -151,7 +151,7 @@ fn tell<R: Wait + Clock>(
     let parties = Parties::of(acceptance, target);
     let line = outcome.line(
         moment_of(rt.since_1970()),
-        acceptance.rule.name.as_str(),
+        acceptance.said.rule.name.as_str(),
         parties.client.as_str(),
         parties.target.as_str(),
         acceptance.age_ms(now),
@@ -167,7 +167,7 @@ pub fn tell_refused<R: Wait + Clock>(
     now: u64,
     how: Ended,
 ) {
-    tell_unserved(rt, log, acceptance, &acceptance.rule.target, now, how);
+    tell_unserved(rt, log, acceptance, &acceptance.said.rule.target, now, how);
 }
 
 /// The same where this target was tried last.

@@ -95,8 +95,8 @@ impl Acceptance {
         place: usize,
         came: &Came,
     ) {
-        if let Some(targets) = &self.targets {
-            note_outcome(rt, log, &self.rule, targets, place, came);
+        if let Some(targets) = &self.said.targets {
+            note_outcome(rt, log, &self.said.rule, targets, place, came);
         }
     }
 }

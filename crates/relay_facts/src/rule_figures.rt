@@ -137,5 +137,5 @@ pub fn add_target_figures<R: Wait>(
     let Some(said) = served.said(rt) else {
         return Err(OutOfMemory);
     };
-    add_said(&said, figures)
+    add_said(&*said, figures)
 }

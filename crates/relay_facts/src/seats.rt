@@ -2,6 +2,7 @@
 //! of a source are let in. One that is to say first who it is needs it by what it says.
 
 ghost use Rattle.std.specs.Prelude.{◌≡◌, true, false, None, Ok, IfOk};
+ghost use Rattle.relay_facts.specs.Acceptance.{said_then};
 ghost use Rattle.relay_facts.specs.Admission.{IsLetIn};
 ghost use Rattle.relay_facts.specs.Seats.{IsSourceOf, IsSourceOfBytes, IsSourceOfV6};
 ghost use Rattle.relay_facts.specs.Seats as spec;
@@ -57,14 +58,14 @@ impl Acceptance {
     /// A seat for the client, at this moment, by who it is as far as it is known; or why there is none for it.
     /// Without a table, and for a client of a Unix socket, none is needed.
     pub fn seat<R: Wait>(&self, rt: &R, now: u64) -> Result<Option<Seat>, NoSeat>
-        ensures unlimited { self.now.sources ≡ None → result ≡ Ok None }
+        ensures unlimited { (said_then self.now).sources ≡ None → result ≡ Ok None }
         ensures nobody { IsSourceOf self.now.client None → result ≡ Ok None }
     {
-        let Some(sources) = &self.sources else {
+        let Some(sources) = &self.said.sources else {
             return Ok(None);
         };
         match source_of(&self.client) {
-            Some(source) => Seat::new(rt, sources, source, &self.source_limits, now),
+            Some(source) => Seat::new(rt, sources, source, &self.said.source_limits, now),
             None => Ok(None),
         }
     }
@@ -72,10 +73,10 @@ impl Acceptance {
     /// Whether the log is to be told at this moment that the client was refused so: of those that were for
     /// their source one a second is told, and of others each.
     pub fn is_to_be_told<R: Wait>(&self, rt: &R, now: u64, how: Ended) -> bool
-        ensures unlimited { self.now.sources ≡ None → result ≡ true }
+        ensures unlimited { (said_then self.now).sources ≡ None → result ≡ true }
         ensures others { spec.is_for_source how ≡ false → result ≡ true }
     {
-        match &self.sources {
+        match &self.said.sources {
             Some(sources) if is_for_source(how) => sources.may_tell(rt, now),
             _ => true,
         }

@@ -68,7 +68,7 @@ impl Acceptance {
     pub fn is_awaited(&self) -> bool
         ensures { IsTrue result ↔ IsAwaited self.now }
     {
-        match &self.senders {
+        match &self.said.senders {
             Some(senders) => is_sender(senders.all.as_slice(), &self.client),
             None => false,
         }

@@ -255,7 +255,8 @@ impl Said {
 #[derive(Drop)]
 pub struct ServedRule {
     pub listen: Addr,
-    said: Mutex<Said>,
+    /// Whoever has taken what it said goes on by that, whatever it says later.
+    said: Mutex<Arc<Said>>,
     /// How many targets were picked by it.
     picks: AtomicU64,
     /// How many of its listeners accept clients.
@@ -273,35 +274,12 @@ impl ServedRule {
         ensures listen { IfOk result (λ served. (arc_value served).listen ≡ said.rule.listen) }
         ensures loops { IfOk result (λ served. loops_of (arc_value served).counts ≡ loops) }
     {
-        let Said {
-            rule,
-            listens,
-            limit,
-            source_limits,
-            sources,
-            sockets,
-            targets,
-            names,
-            header,
-            access,
-            senders,
-        } = said;
+        let listen = said.rule.listen;
+        let said = Arc::new(alloc, said)?;
         let counts = RuleCounts::new(alloc, loops)?;
         let served = ServedRule {
-            listen: rule.listen,
-            said: Mutex::new(Said {
-                rule,
-                listens,
-                limit,
-                source_limits,
-                sources,
-                sockets,
-                targets,
-                names,
-                header,
-                access,
-                senders,
-            }),
+            listen,
+            said: Mutex::new(said),
             picks: AtomicU64::new(0),
             accepting: AtomicU64::new(0),
             standing: AtomicU64::new(0),
@@ -316,17 +294,18 @@ impl ServedRule {
 
     /// What the rule says now, but for its further addresses, its limit, its targets and its lists.
     pub fn rule<R: Wait>(&self, rt: &R) -> Rule {
-        self.said.lock(rt).rule
+        let said = self.said.lock(rt);
+        said.rule
     }
 
-    /// What it says now. It takes no memory; refused is only a list that is held too often.
-    pub fn said<R: Wait>(&self, rt: &R) -> Option<Said> {
+    /// What it says now. It takes no memory; refused is only what is held too often.
+    pub fn said<R: Wait>(&self, rt: &R) -> Option<Arc<Said>> {
         let said = self.said.lock(rt);
-        said.try_clone()
+        Arc::try_clone(&*said).ok()
     }
 
     /// Has it say this from now on.
-    pub fn say<R: Wait>(&self, rt: &R, said: Said) {
+    pub fn say<R: Wait>(&self, rt: &R, said: Arc<Said>) {
         *self.said.lock(rt) = said;
     }
 

@@ -1,6 +1,7 @@
 //! What an admin session is shown of a connection or a listener.
 
 ghost use Rattle.std.specs.Prelude.{◌≡◌, ◌-◌, ◌/◌, Some, None};
+ghost use Rattle.relay_facts.specs.Acceptance.{said_then};
 ghost use Rattle.relay_facts.specs.Shown.{IsPeerOfSide};
 ghost use Rattle.relay_admin.specs.declared.admin.shown.ShownSide.{ShownSide};
 
@@ -16,21 +17,21 @@ fn peer_of(facts: &ConnectionFacts, side: ShownSide) -> Option<Addr>
     match side {
         ShownSide::Client => facts.acceptance.client,
         ShownSide::Target => Some(facts.target()),
-        ShownSide::Listener => Some(facts.acceptance.rule.listen),
+        ShownSide::Listener => Some(facts.acceptance.said.rule.listen),
     }
 }
 
 /// What is shown at this moment of the side with this id.
 pub fn shown_side(facts: &ConnectionFacts, id: u64, side: ShownSide, now: u64) -> Shown
     ensures id { result.id ≡ id }
-    ensures rule { result.rule ≡ facts.now.acceptance.rule.name }
+    ensures rule { result.rule ≡ (said_then facts.now.acceptance).rule.name }
     ensures side { result.side ≡ side }
     ensures peer { IsPeerOfSide facts.now.acceptance side result.peer }
     ensures age { result.age_ms ≡ (now - facts.now.acceptance.at) / 1000000 }
 {
     Shown {
         id,
-        rule: facts.acceptance.rule.name,
+        rule: facts.acceptance.said.rule.name,
         side,
         peer: peer_of(facts, side),
         up: facts.up(),

@@ -19,8 +19,7 @@ use Rattle.relay_conn.specs.declared.refused.Refused.{Refused}
 use Rattle.relay_conn.specs.declared.refused.Refused.TheVariants as refused
 use Rattle.relay_conn.specs.declared.trial.NoTrial.{NoTrial}
 use Rattle.relay_conn.specs.declared.trial.Trial.{Trial}
-use Rattle.relay_facts.specs.Acceptance.{list_in}
-use Rattle.relay_facts.specs.Header.{first_bytes}
+use Rattle.relay_facts.specs.Acceptance.{IsSameClient}
 use Rattle.relay_facts.specs.Told.{IsToldBy}
 use Rattle.relay_facts.specs.declared.connection_facts.Acceptance.{Acceptance}
 use Rattle.relay_facts.specs.declared.connection_facts.ConnectionFacts.{ConnectionFacts}
@@ -44,16 +43,12 @@ IsRefusedFor client (refused.Target last) =
 IsRefusedFor client other = Unit {0}
 
 module _ {U D R : Type 0} where
-  -- a connection is set up for this client, as the one with its address: by what its rule said, with the
-  -- first of its targets, which is told of the client what any is, with what counts it, for this place, and
-  -- with so many milliseconds for its target
+  -- a connection is set up for this client, of whom it has all that is known: with the first of the client's
+  -- targets, with what counts it, for this place, and with so many milliseconds for its target
   pub record IsConnectionFor (client : Acceptance) (counted : Counted) (connect_ms : Option ℕ)
       (at : Place) (connection : Connection U D R) : Type 0 where
     pub facts : Arc ConnectionFacts Global
-    pub rule : (arc_value facts).acceptance.rule ≡ client.rule
-    pub named : (arc_value facts).acceptance.client ≡ client.client
-    pub targets : list_in (arc_value facts).acceptance ≡ list_in client
-    pub told : first_bytes (arc_value facts).acceptance ≡ first_bytes client
+    pub same : IsSameClient client (arc_value facts).acceptance
     pub trial : Trial
     pub first : IsFirstTrial (arc_value facts).acceptance trial
     pub begun : IfDialing connection.phase (IsBegunWith trial at)

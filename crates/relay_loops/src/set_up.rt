@@ -5,8 +5,7 @@ ghost use Rattle.std.specs.Arc.{arc_value};
 ghost use Rattle.readiness.specs.EventLoop.{tasks_of};
 ghost use Rattle.readiness.specs.Tasks.{HasPlace, IsPut, SameTasks, next_place};
 ghost use Rattle.relay_conn.specs.Deadlines.{IsIdleEnd};
-ghost use Rattle.relay_facts.specs.Acceptance.{list_in};
-ghost use Rattle.relay_facts.specs.Header.{first_bytes};
+ghost use Rattle.relay_facts.specs.Acceptance.{IsSameClient};
 ghost use Rattle.relay_facts.specs.Senders.{IsAwaited};
 ghost use Rattle.relay_loops.specs.SetUp.{IsConnectionFor, IsFirstTrial, IsAwaitedOrTold, IsRefusedFor};
 ghost use Rattle.relay_loops.specs.SetUp.{IsServed, IsServedOrGone};
@@ -49,14 +48,8 @@ impl<R: Wait + Net + Clock + Copy> LoopContext<R> {
 
     // What is known of a connection with this client, whose target at this place is tried first.
     fn facts(&self, acceptance: &Acceptance, target: usize) -> Option<Arc<ConnectionFacts>>
-        ensures rule { IfSome result (λ facts.
-            (arc_value facts).acceptance.rule ≡ acceptance.now.rule) }
-        ensures targets { IfSome result (λ facts.
-            list_in (arc_value facts).acceptance ≡ list_in acceptance.now) }
-        ensures client { IfSome result (λ facts.
-            (arc_value facts).acceptance.client ≡ acceptance.now.client) }
-        ensures first { IfSome result (λ facts.
-            first_bytes (arc_value facts).acceptance ≡ first_bytes acceptance.now) }
+        ensures same { IfSome result (λ facts.
+            IsSameClient acceptance.now (arc_value facts).acceptance) }
         ensures place { IfSome result (λ facts. (arc_value facts).loop_place ≡ self.now.place) }
     {
         let facts = ConnectionFacts::new(acceptance.try_clone()?, self.place, target);
@@ -80,14 +73,8 @@ impl<R: Wait + Net + Clock + Copy> LoopContext<R> {
     ) -> Result<Begins, Refused>
         ensures target { IfOk result (λ begins.
             IsFirstTrial (arc_value begins.facts).acceptance begins.target) }
-        ensures rule { IfOk result (λ begins.
-            (arc_value begins.facts).acceptance.rule ≡ acceptance.now.rule) }
-        ensures named { IfOk result (λ begins.
-            (arc_value begins.facts).acceptance.client ≡ acceptance.now.client) }
-        ensures targets { IfOk result (λ begins.
-            list_in (arc_value begins.facts).acceptance ≡ list_in acceptance.now) }
-        ensures first { IfOk result (λ begins.
-            first_bytes (arc_value begins.facts).acceptance ≡ first_bytes acceptance.now) }
+        ensures same { IfOk result (λ begins.
+            IsSameClient acceptance.now (arc_value begins.facts).acceptance) }
         ensures client { IfOk result (λ begins. begins.client ≡ sock) }
         ensures counted { IfOk result (λ begins. begins.counted ≡ counted) }
         ensures time { IfOk result (λ begins.
@@ -112,21 +99,15 @@ impl<R: Wait + Net + Clock + Copy> LoopContext<R> {
         requires { IsFirstTrial acceptance.now target }
         ensures target { IfOk result (λ begins.
             IsFirstTrial (arc_value begins.facts).acceptance begins.target) }
-        ensures rule { IfOk result (λ begins.
-            (arc_value begins.facts).acceptance.rule ≡ acceptance.now.rule) }
-        ensures named { IfOk result (λ begins.
-            (arc_value begins.facts).acceptance.client ≡ acceptance.now.client) }
-        ensures targets { IfOk result (λ begins.
-            list_in (arc_value begins.facts).acceptance ≡ list_in acceptance.now) }
-        ensures first { IfOk result (λ begins.
-            first_bytes (arc_value begins.facts).acceptance ≡ first_bytes acceptance.now) }
+        ensures same { IfOk result (λ begins.
+            IsSameClient acceptance.now (arc_value begins.facts).acceptance) }
         ensures client { IfOk result (λ begins. begins.client ≡ sock) }
         ensures counted { IfOk result (λ begins. begins.counted ≡ counted) }
         ensures time { IfOk result (λ begins.
             IsIdleEnd (arc_value self.now.shared).safeguards.connect_ms begins.connect_by) }
         ensures refused { IfErr result (IsRefusedFor acceptance.now) }
     {
-        set_options(&sock, &acceptance.sockets);
+        set_options(&sock, &acceptance.said.sockets);
         match self.facts(acceptance, target.place()) {
             Some(facts) => Ok(Begins {
                 client: sock,

@@ -1,6 +1,9 @@
 -- What accounts are to say after a reload, and what a session is answered where one is refused.
 use Rattle.std.specs.Prelude.{◌≡◌, ℕ, List, Some, length, slice_get}
+use Rattle.std.specs.Arc.{arc_value}
 use Rattle.std.specs.List.{fold}
+use Rattle.std.specs.declared.alloc.Global.{Global}
+use Rattle.std.specs.declared.sync.Arc.{Arc}
 use Rattle.relay_admin.specs.declared.admin.answers.ReloadAnswer.{ReloadAnswer}
 use Rattle.relay_admin.specs.declared.admin.answers.ReloadAnswer.TheVariants.{CannotRead, CannotListen, Verdict}
 use Rattle.relay_admin.specs.declared.admin.answers.ReloadAnswer.TheVariants.{NoMemory, Device}
@@ -29,10 +32,10 @@ answer_of_fault fault.Memory = NoMemory
 answer_of_fault other = Device
 
 -- what the accounts of these rules are to say, in their order
-pub record SayRules (rules : List SaidRule) (all : List Said) : Type 0 where
+pub record SayRules (rules : List SaidRule) (all : List (Arc Said Global)) : Type 0 where
   pub count : length all ≡ length rules
-  pub each : (k : ℕ) (rule : SaidRule) (said : Said) → slice_get rules k ≡ Some rule
-      → slice_get all k ≡ Some said → SaysRule rule said
+  pub each : (k : ℕ) (rule : SaidRule) (said : Arc Said Global) → slice_get rules k ≡ Some rule
+      → slice_get all k ≡ Some said → SaysRule rule (arc_value said)
 
 -- the paths that are left where these listeners end, in turn: without the first of each one's address
 abbrev pub paths_left : List Listening → List BoundPath → List BoundPath

@@ -4,6 +4,8 @@
 ghost use Rattle.std.specs.Prelude.{◌≡◌, ◌↔◌, ℕ, true, Some, None, [], IfOk, IfErr, OnOk};
 ghost use Rattle.std.specs.Prelude.{List, length};
 ghost use Rattle.std.specs.Arc.{arc_value};
+ghost use Rattle.std.specs.declared.alloc.Global.{Global};
+ghost use Rattle.std.specs.declared.sync.Arc.{Arc};
 ghost use Rattle.readiness.specs.EventLoop.{tasks_of};
 ghost use Rattle.readiness.specs.Tasks.{task_in};
 ghost use Rattle.relay_main.specs.Binding.{IsBindFault, StillStand};
@@ -148,7 +150,7 @@ impl<R: Wait + Net + Files + Clock + Eprint + Copy> MainLoop<R> {
         rt: &R,
         accounts: &[Arc<ServedRule>],
     ) -> Result<Vec<WantedListener>, ServeFault>
-        ensures wanted { IfOk result (λ wanted. (said : List Said)
+        ensures wanted { IfOk result (λ wanted. (said : List (Arc Said Global))
             × (length said ≡ length accounts.now) × (wanted.items ≡ wanted_by said)) }
         ensures faults { IfErr result (λ fault. fault ≡ ServeFault.Memory) }
     {
@@ -157,7 +159,7 @@ impl<R: Wait + Net + Files + Clock + Eprint + Copy> MainLoop<R> {
     }
 
     // What the rules of these accounts say now. Refused is only a list that is held too often.
-    fn said(&self, rt: &R, accounts: &[Arc<ServedRule>]) -> Result<Vec<Said>, ServeFault>
+    fn said(&self, rt: &R, accounts: &[Arc<ServedRule>]) -> Result<Vec<Arc<Said>>, ServeFault>
         ensures each { IfOk result (λ all. length all.items ≡ length accounts.now) }
         ensures faults { IfErr result (λ fault. fault ≡ ServeFault.Memory) }
     {

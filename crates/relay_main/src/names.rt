@@ -14,7 +14,7 @@ use relay_facts::log_lines::calendar_ms;
 use relay_facts::named_list::NamedTargets;
 use relay_facts::served_rule::{Said, ServedRule};
 use relay_shared::lookups::Lookups;
-use std::sync::Wait;
+use std::sync::{Arc, Wait};
 use std::time::Clock;
 
 /// How long after memory was refused it is tried again.
@@ -35,7 +35,7 @@ fn add_names(all: &mut Vec<WantedName>, named: &NamedTargets) -> Result<(), Serv
 
 // Has a rule say this from this moment on, by the calendar, in place of what it said. Its targets that stay
 // keep what an operator has set of them.
-fn say_found<R: Wait>(rt: &R, served: &ServedRule, before: &Said, said: Said, now: u64) {
+fn say_found<R: Wait>(rt: &R, served: &ServedRule, before: &Said, said: Arc<Said>, now: u64) {
     if let (Some(targets), Some(list)) = (&said.targets, &before.targets) {
         targets.come(list, now);
     }
@@ -54,8 +54,8 @@ fn follow_rule<R: Wait>(
     let Some(before) = served.said(rt) else {
         return Err(ServeFault::Memory);
     };
-    if let Some(said) = lookups.looked_up(rt, &before)? {
-        say_found(rt, served, &before, said, now);
+    if let Some(said) = lookups.looked_up(rt, &*before)? {
+        say_found(rt, served, &*before, said, now);
     }
     Ok(())
 }

@@ -2,6 +2,7 @@
 //! listeners that stay come to which account.
 
 ghost use Rattle.std.specs.Prelude.{◌≡◌, IfOk, IfErr, filter_map, map};
+ghost use Rattle.std.specs.Arc.{arc_value};
 ghost use Rattle.readiness.specs.EventLoop.{tasks_of};
 ghost use Rattle.relay_admin.specs.declared.serve_fault.ServeFault.{ServeFault};
 ghost use Rattle.relay_facts.specs.Config.{SaysRule};
@@ -33,7 +34,7 @@ use std::time::Clock;
 pub(crate) struct Prepared {
     pub(crate) plan: Plan,
     /// What the accounts of the file's rules are to say, in its order.
-    pub(crate) said: Vec<Said>,
+    pub(crate) said: Vec<Arc<Said>>,
     /// The listeners that stay.
     pub(crate) followed: Vec<Followed>,
 }
@@ -57,8 +58,8 @@ fn said_of<R: Wait>(
     lookups: &Lookups,
     accounts: &[Arc<ServedRule>],
     rule: &SaidRule,
-) -> Result<Said, ServeFault>
-    ensures said { IfOk result (SaysRule rule.now) }
+) -> Result<Arc<Said>, ServeFault>
+    ensures said { IfOk result (λ said. SaysRule rule.now (arc_value said)) }
     ensures faults { IfErr result (λ fault. fault ≡ ServeFault.Memory) }
 {
     let Some(served) = account_at(accounts, &rule.rule.listen) else {
@@ -67,7 +68,7 @@ fn said_of<R: Wait>(
     let Some(before) = served.said(rt) else {
         return Err(ServeFault::Memory);
     };
-    Ok(lookups.said(rt, rule, Some(&before))?)
+    Ok(lookups.said(rt, rule, Some(&*before))?)
 }
 
 // What the accounts of these rules, among those, are to say.
@@ -77,7 +78,7 @@ fn all_said<R: Wait>(
     lookups: &Lookups,
     accounts: &[Arc<ServedRule>],
     rules: &[SaidRule],
-) -> Result<Vec<Said>, ServeFault>
+) -> Result<Vec<Arc<Said>>, ServeFault>
     ensures said { IfOk result (λ all. SayRules rules.now all.items) }
     ensures faults { IfErr result (λ fault. fault ≡ ServeFault.Memory) }
 {
@@ -119,7 +120,7 @@ impl<R: Wait + Net + Files + Clock + Eprint + Copy> MainLoop<R> {
     }
 
     // The plan of listeners for rules that say this.
-    fn listeners_planned(&self, said: &[Said]) -> Result<ListenerPlan, ServeFault>
+    fn listeners_planned(&self, said: &[Arc<Said>]) -> Result<ListenerPlan, ServeFault>
         ensures plan { IfOk result (AreListenersPlanned (wanted_by said.now)
             self.now.listening.items
             (standing_in (tasks_of self.now.tasks) self.now.listening.items)) }
@@ -139,7 +140,7 @@ impl<R: Wait + Net + Files + Clock + Eprint + Copy> MainLoop<R> {
         &self,
         accounts: Vec<Arc<ServedRule>>,
         file: &[SaidRule],
-        said: &[Said],
+        said: &[Arc<Said>],
     ) -> Result<Plan, ServeFault>
         ensures plan { IfOk result (IsPlanned (rules_said file.now) (wanted_by said.now)
             self.now.listening.items

@@ -46,7 +46,7 @@ fn answer_of_fault(fault: ServeFault) -> ReloadAnswer
 
 // Has an account say this from this moment on, by the calendar. What an operator has set of its targets is
 // over, as its list is.
-fn say_now<R: Wait>(rt: &R, served: &ServedRule, said: Said, now: u64) {
+fn say_now<R: Wait>(rt: &R, served: &ServedRule, said: Arc<Said>, now: u64) {
     if let Some(targets) = &said.targets {
         let before = served.said(rt);
         let list = before.as_ref().and_then(|before| before.targets.as_ref());
@@ -59,7 +59,7 @@ fn say_now<R: Wait>(rt: &R, served: &ServedRule, said: Said, now: u64) {
 fn say_all<R: Wait + Clock>(
     rt: &R,
     accounts: &[Arc<ServedRule>],
-    all: Vec<Said>,
+    all: Vec<Arc<Said>>,
     _bound: &AllBound,
 ) {
     let now = calendar_ms(rt);

@@ -24,7 +24,7 @@ use relay_core::{AcceptStep, Accepting, PollAcceptGate};
 use relay_facts::clock::Moments;
 use relay_facts::connection_facts::Acceptance;
 use relay_facts::header::AcceptedAt;
-use relay_facts::served_rule::{Said, ServedRule};
+use relay_facts::served_rule::ServedRule;
 use relay_facts::shown::ListenerFacts;
 use relay_shared::address::rule_address;
 use relay_shared::shared::Shared;
@@ -131,32 +131,13 @@ where
         ensures client { IfSome result (λ acceptance. acceptance.client ≡ client) }
     {
         let served = Arc::try_clone(self.served).ok()?;
-        let Said {
-            rule,
-            listens: _,
-            limit,
-            source_limits,
-            sources,
-            sockets,
-            targets,
-            names: _,
-            header,
-            access,
-            senders,
-        } = served.said(&self.rt)?;
+        let said = served.said(&self.rt)?;
+        let accepted_at = said.header.and_then(|_| accepted_at(sock));
         Some(Acceptance {
             served,
-            rule,
-            limit,
-            source_limits,
-            sources,
-            sockets,
-            targets,
-            access,
-            senders,
+            said,
             client,
-            header,
-            accepted_at: header.and_then(|_| accepted_at(sock)),
+            accepted_at,
             at: self.clock.now(),
         })
     }

@@ -5,6 +5,7 @@
 //! account gets its number when it is first listed, and keeps it over reloads; none is given again.
 
 ghost use Rattle.std.specs.Prelude.{◌≡◌, ◌⊎◌, ◌<◌, ◌≤◌, ◌^◌, IfOk, IfErr, IfSome};
+ghost use Rattle.std.specs.Arc.{arc_value};
 ghost use Rattle.relay_admin.specs.declared.admin.answers.TargetAnswer.{TargetAnswer};
 ghost use Rattle.relay_main.specs.More.{HasMore};
 ghost use Rattle.relay_main.specs.TargetsDesk as spec;
@@ -111,7 +112,7 @@ impl<R: Wait + Clock + Copy> MainLoop<R> {
     }
 
     // What the rule says now whose account has this number.
-    fn said_by_number(&self, account: u64) -> Option<Said> {
+    fn said_by_number(&self, account: u64) -> Option<Arc<Said>> {
         let rt = self.host.rt;
         for served in self.host.shared.rules.lock(&rt).iter() {
             if served.number() == account {
@@ -139,8 +140,8 @@ impl<R: Wait + Clock + Copy> MainLoop<R> {
     }
 
     // What the rule with this name says now; or why it can't be told.
-    fn said_by_name(&self, name: &[u8]) -> Result<Said, TargetAnswer>
-        ensures said { IfOk result (λ said. said.rule.name.bytes ≡ name.now) }
+    fn said_by_name(&self, name: &[u8]) -> Result<Arc<Said>, TargetAnswer>
+        ensures said { IfOk result (λ said. (arc_value said).rule.name.bytes ≡ name.now) }
         ensures refused { IfErr result spec.IsRuleRefused }
     {
         let rt = self.host.rt;
@@ -162,7 +163,7 @@ impl<R: Wait + Clock + Copy> MainLoop<R> {
     {
         let now = calendar_ms(&self.host.rt);
         match self.said_by_name(order.rule()) {
-            Ok(said) => set_of(&said, order, now),
+            Ok(said) => set_of(&*said, order, now),
             Err(refused) => refused,
         }
     }

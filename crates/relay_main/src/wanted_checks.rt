@@ -125,7 +125,7 @@ pub(crate) fn add_targets<R: Wait>(
     let Some(targets) = &said.targets else {
         return Ok(());
     };
-    match add_each(all, served, targets, &said) {
+    match add_each(all, served, targets, &*said) {
         Some(()) => Ok(()),
         None => Err(ServeFault::Memory),
     }

@@ -7,6 +7,7 @@ ghost use Rattle.relay_main.specs.WantedListeners as spec;
 use relay_admin::{Addr, Rule, ServeFault, is_same_addr};
 use relay_facts::served_rule::Said;
 use std::alloc::Global;
+use std::sync::Arc;
 
 /// A listener that a rule is to have.
 #[derive(Clone, Copy, Debug, PartialEq, Eq, Drop)]
@@ -50,13 +51,13 @@ fn add_wanted(all: &mut Vec<WantedListener>, said: &Said) -> Result<(), ServeFau
 }
 
 /// Those of rules that say this, in their order.
-pub(crate) fn wanted_by(alloc: Global, all: &[Said]) -> Result<Vec<WantedListener>, ServeFault>
+pub(crate) fn wanted_by(alloc: Global, all: &[Arc<Said>]) -> Result<Vec<WantedListener>, ServeFault>
     ensures wanted { IfOk result (λ wanted. wanted.items ≡ spec.wanted_by all.now) }
     ensures faults { IfErr result (λ fault. fault ≡ ServeFault.Memory) }
 {
     let mut wanted = Vec::new(alloc);
     for said in all {
-        add_wanted(&mut wanted, said)?;
+        add_wanted(&mut wanted, &**said)?;
     }
     Ok(wanted)
 }

@@ -52,7 +52,10 @@ ruleset of_lists = (targets_send, targets_sync, sources_send, sources_sync, send
 said_send : IsSend said.the_row
 said_send = declared_send said.the_type (search of_lists depth 60 fits 100000, (search of_lists depth 60 fits 100000, (search of_lists depth 60 fits 100000, (search of_lists depth 60 fits 100000, (search of_lists depth 60 fits 100000, (search of_lists depth 60 fits 100000, (search of_lists depth 60 fits 100000, (search of_lists depth 60 fits 100000, (search of_lists depth 60 fits 100000, (search of_lists depth 60 fits 100000, (search of_lists depth 60 fits 100000, tt)))))))))))
 
-ruleset of_rules = (said_send, counts_send, counts_sync, sendable, crosses)
+said_sync : IsSync said.the_row
+said_sync = declared_sync said.the_type (search of_lists depth 60 fits 100000, (search of_lists depth 60 fits 100000, (search of_lists depth 60 fits 100000, (search of_lists depth 60 fits 100000, (search of_lists depth 60 fits 100000, (search of_lists depth 60 fits 100000, (search of_lists depth 60 fits 100000, (search of_lists depth 60 fits 100000, (search of_lists depth 60 fits 100000, (search of_lists depth 60 fits 100000, (search of_lists depth 60 fits 100000, tt)))))))))))
+
+ruleset of_rules = (said_send, said_sync, counts_send, counts_sync, sendable, crosses)
 
 -- one search for each field of `ServedRule`, in its order
 rule_send : IsSend rule.the_row
@@ -61,7 +64,7 @@ rule_send = declared_send rule.the_type (search of_rules depth 60 fits 100000, (
 rule_sync : IsSync rule.the_row
 rule_sync = declared_sync rule.the_type (search of_rules depth 60 fits 100000, (search of_rules depth 60 fits 100000, (search of_rules depth 60 fits 100000, (search of_rules depth 60 fits 100000, (search of_rules depth 60 fits 100000, (search of_rules depth 60 fits 100000, (search of_rules depth 60 fits 100000, tt)))))))
 
-ruleset of_clients = (rule_send, rule_sync, targets_send, targets_sync, sources_send, sources_sync, sendable, crosses)
+ruleset of_clients = (rule_send, rule_sync, said_send, said_sync, sendable, crosses)
 
 acceptance_send : IsSend acceptance.the_row
 acceptance_send = search of_clients depth 60 fits 100000

@@ -7,6 +7,7 @@ use Rattle.arrayvec.specs.declared.array_string.ArrayString.{ArrayString}
 use Rattle.readiness.specs.declared.loop_token.Place.{Place}
 use Rattle.relay_admin.specs.declared.admin.shown.ShownSide.{ShownSide}
 use Rattle.relay_admin.specs.declared.admin.shown.ShownSide.TheVariants.{Target}
+use Rattle.relay_facts.specs.Acceptance.{said_then}
 use Rattle.relay_facts.specs.declared.served_rule.ServedRule.{ServedRule}
 use Rattle.relay_shared.specs.Index.{Register, IsNamed}
 use Rattle.relay_shared.specs.declared.index.Standing.{Standing}
@@ -30,7 +31,7 @@ IsWhere index id at = (side : ShownSide) × (connected : Connected)
 abbrev pub IsShownSide : Register Connected (Arc ServedRule Global) → ℕ → ShownSide → ArrayString 16 → Type 0
 IsShownSide index id side rule = (connected : Connected)
     × IsNamed index id side (Connection connected)
-    × ((arc_value connected.facts).acceptance.rule.name ≡ rule)
+    × ((said_then (arc_value connected.facts).acceptance).rule.name ≡ rule)
 
 -- the id names nothing, or a listener
 abbrev pub NamesNoSide : Register Connected (Arc ServedRule Global) → ℕ → Type 0

@@ -5,6 +5,7 @@
 //! gives the lock up no sooner than its wait has begun.
 
 ghost use Rattle.std.specs.Prelude.{◌≡◌, ◌⊎◌, List, None, IfOk, IfSome};
+ghost use Rattle.std.specs.Arc.{arc_value};
 ghost use Rattle.relay_facts.specs.Config.{AreFoundBy, SaysRule};
 ghost use Rattle.readiness.specs.Peers.{tcp_addr};
 ghost use Rattle.relay_facts.specs.declared.host_answers.Answer.{Answer};
@@ -22,7 +23,7 @@ use relay_settings::{HostName, SaidRule};
 use std::alloc::Global;
 use std::net::{Ipv4Addr, Net, SocketAddr};
 use std::sync::atomic::{AtomicBool, Ordering};
-use std::sync::{Condvar, Mutex, Wait};
+use std::sync::{Arc, Condvar, Mutex, Wait};
 use std::time::{Clock, Duration};
 
 /// The most addresses of a host that are taken.
@@ -145,22 +146,26 @@ impl Lookups {
         rt: &R,
         rule: &SaidRule,
         before: Option<&Said>,
-    ) -> Result<Said, OutOfMemory>
-        ensures { IfOk result (SaysRule rule.now) }
+    ) -> Result<Arc<Said>, OutOfMemory>
+        ensures { IfOk result (λ said. SaysRule rule.now (arc_value said)) }
     {
         let names = self.names.lock(rt);
-        Said::of(self.alloc, rule, before, &names.answers)
+        let said = Said::of(self.alloc, rule, before, &names.answers)?;
+        Ok(Arc::new(self.alloc, said)?)
     }
 
     /// What a rule says with the addresses that are known now; none where it names no host.
-    pub fn looked_up<R: Wait>(&self, rt: &R, said: &Said) -> Result<Option<Said>, OutOfMemory>
+    pub fn looked_up<R: Wait>(&self, rt: &R, said: &Said) -> Result<Option<Arc<Said>>, OutOfMemory>
         ensures named { IfOk result (λ said_now. IfSome said_now
-            (λ new. (answers : List Answer) × AreFoundBy answers said.now new)) }
+            (λ new. (answers : List Answer) × AreFoundBy answers said.now (arc_value new))) }
         ensures none { IfOk result (λ said_now. said_now ≡ None
             → (said.now.names ≡ None) ⊎ (said.now.targets ≡ None)) }
     {
         let names = self.names.lock(rt);
-        said.looked_up(self.alloc, &names.answers)
+        match said.looked_up(self.alloc, &names.answers)? {
+            Some(said) => Ok(Some(Arc::new(self.alloc, said)?)),
+            None => Ok(None),
+        }
     }
 
     /// Asks the thread to end.

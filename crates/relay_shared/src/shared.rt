@@ -152,7 +152,7 @@ impl Shared {
         ensures { IfErr result IsWantOfRoom }
     {
         let standing = acceptance.served.standing();
-        if self.safeguards.is_at_limit(acceptance.limit, standing) {
+        if self.safeguards.is_at_limit(acceptance.said.limit, standing) {
             return Err(Ended::RuleFull);
         }
         let counts = self.counts();

@@ -1,4 +1,5 @@
 use Rattle.std.proofs.Common.{◌∙◌, ap, subst, sym, inr}
+use Rattle.relay_facts.specs.Acceptance.{said_then}
 use Rattle.relay_shared.specs.Index.{IsNamed}
 use Rattle.relay_shared.specs.declared.index.Standing.TheVariants.{Connection}
 use Rattle.relay_shared.proofs.standing.shown_of_side.Goals as goal
@@ -11,7 +12,7 @@ returns-in-Some-default-Connection-clause-side c =
       subst (λ side. IsNamed c.args.index.now c.args.id side (Connection found.connected))
           (sym c.shown_side.ensures.side)
           (subst (λ standing. IsNamed c.args.index.now c.args.id found.side standing) found.field-0-1-is found.ensures.found),
-      sym (c.shown_side.ensures.rule ∙ ap (λ facts. facts.acceptance.rule.name) c.deref.ensures),
+      sym (c.shown_side.ensures.rule ∙ ap (λ facts. (said_then facts.acceptance).rule.name) c.deref.ensures),
     )
 
 pub returns-in-Some-default-Listener-clause-none :

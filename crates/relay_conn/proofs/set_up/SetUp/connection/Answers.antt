@@ -2,6 +2,7 @@ use Rattle.std.proofs.Common.{◌∙◌, ◌+◌, sym, ap, subst}
 use Rattle.relay_conn.specs.Connection.{IfDialing}
 use Rattle.relay_conn.specs.SetUp.{IsBegunWith}
 use Rattle.relay_conn.specs.Side.{IsWhole, key_of_side}
+use Rattle.relay_facts.specs.Acceptance.{said_then}
 use Rattle.relay_conn.proofs.set_up.SetUp.connection.Goals as goal
 
 pub returns-clause-set_up : goal.returns-clause-set_up
@@ -14,9 +15,9 @@ returns-clause-set_up g c =
       dials = c.new.ensures.dials;
       begins = record {
         up_idle = ap (λ d. d.up.time.idle.idle_ms) kept ∙ ap (λ t. t.idle.idle_ms) made.up_time
-            ∙ c.in-Some.ensures.up ∙ ap (λ f. f.acceptance.rule.idle_ms) c.deref.ensures;
+            ∙ c.in-Some.ensures.up ∙ c.idle_ms.ensures ∙ ap (λ f. (said_then f.acceptance).rule.idle_ms) c.deref.ensures;
         down_idle = ap (λ d. d.down.time.idle.idle_ms) kept ∙ ap (λ t. t.idle.idle_ms) made.down_time
-            ∙ c.in-Some.ensures.down ∙ ap (λ f. f.acceptance.rule.idle_ms) c.deref.ensures;
+            ∙ c.in-Some.ensures.down ∙ c.idle_ms.ensures ∙ ap (λ f. (said_then f.acceptance).rule.idle_ms) c.deref.ensures;
         up_reads = ap (λ d. d.tasks.up) kept ∙ made.up_reads;
         down_reads = ap (λ d. d.tasks.down) kept ∙ made.down_reads;
         time = ap (λ d. d.connect_by) kept ∙ made.connect_by;

@@ -1,5 +1,5 @@
 use Rattle.std.proofs.Common.{◌∙◌, refl, sym, subst, false}
-use Rattle.relay_facts.specs.Acceptance.{checked_with, targets_with}
+use Rattle.relay_facts.specs.Acceptance.{checked_with, said_then, targets_with}
 use Rattle.relay_facts.specs.Targets.{IsNext, IsNoneLeft}
 use Rattle.relay_facts.specs.declared.target_list.Picked.{Picked}
 use Rattle.relay_settings.specs.Targets.{own_target}
@@ -8,18 +8,18 @@ use Rattle.relay_facts.proofs.connection_facts.Acceptance.only_target.Goals as g
 
 pub returns-then-has-clause-none : goal.returns-then-has-clause-none
 returns-then-has-clause-none c =
-    subst (λ list. IsNoneLeft (checked_with list) (targets_with list c.args.self.now.rule) c.args.tried false) (sym c.requires)
-    (only_tried (own_target c.args.self.now.rule) c.args.tried (sym c.has.ensures ∙ c.if-has.true))
+    subst (λ list. IsNoneLeft (checked_with list) (targets_with list (said_then c.args.self.now).rule) c.args.tried false) (sym c.requires)
+    (only_tried (own_target (said_then c.args.self.now).rule) c.args.tried (sym c.has.ensures ∙ c.if-has.true))
 
 pub returns-clause-next : goal.returns-clause-next
 returns-clause-next c =
-    let picked : Picked = record { place = 0; at = c.args.self.now.rule.target; tried = c.with.result; others = 0 } in
-    subst (λ list. IsNext (checked_with list) (targets_with list c.args.self.now.rule) c.args.tried picked) (sym c.requires)
+    let picked : Picked = record { place = 0; at = (said_then c.args.self.now).rule.target; tried = c.with.result; others = 0 } in
+    subst (λ list. IsNext (checked_with list) (targets_with list (said_then c.args.self.now).rule) c.args.tried picked) (sym c.requires)
     (record {
       address = refl;
       fresh = sym c.has.ensures ∙ c.if-has.false;
       marked = c.with.ensures.own;
       others = c.with.ensures.others;
       fewer = c.with.ensures.fewer (sym c.has.ensures ∙ c.if-has.false);
-      last = λ _. (false, only_tried (own_target c.args.self.now.rule) c.with.result c.with.ensures.own);
+      last = λ _. (false, only_tried (own_target (said_then c.args.self.now).rule) c.with.result c.with.ensures.own);
     })

@@ -5,5 +5,4 @@ use Rattle.relay_loops.proofs.loops.LoopContext.begins_with.Goals as goal
 -- it is dialled for the client whose facts these are
 pub returns-in-Some-clause-target : goal.returns-in-Some-clause-target
 returns-in-Some-clause-target g c =
-    let same = c.in-Some.ensures in
-    trial_for c.args.acceptance.now (arc_value c.in-Some.facts).acceptance c.args.target same.rule same.targets same.client c.requires
+    trial_for c.args.acceptance.now (arc_value c.in-Some.facts).acceptance c.args.target c.in-Some.ensures.same c.requires

@@ -7,7 +7,7 @@ pub returns-in-Ok-clause-set_up : goal.returns-in-Ok-clause-set_up
 returns-in-Ok-clause-set_up g c = let begun = c.in_ok-begins.ensures in let its = c.in_ok-begins.begins in
     for_client c.connection.result c.args.acceptance.now c.args.counted its.counted _
     (next_place (tasks_of c.vacant.new.self)) c.in-Ok.place its.facts its.connect_by its.target
-    c.connection.ensures.set_up c.connection.ensures.counted c.connection.ensures.others begun.rule begun.named begun.targets begun.first begun.target
+    c.connection.ensures.set_up c.connection.ensures.counted c.connection.ensures.others begun.same begun.target
     begun.counted begun.time c.in-Ok.ensures.place
 
 -- the client was begun for with a first trial
