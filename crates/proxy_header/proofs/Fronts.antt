@@ -5,7 +5,7 @@ use Rattle.std.proofs.lemmas.List.{get_or-take, take-take, take_at, take-append-
 use Rattle.std.specs.Prelude.{◌⊎◌, codes}
 use Rattle.std.proofs.lemmas.Bool.{cases_lt}
 use Rattle.proxy_header.specs.Block.{IsHead, signature}
-use Rattle.proxy_header.specs.Decoded.{Agrees, word}
+use Rattle.proxy_header.specs.HeaderReading.{Agrees, word}
 use Rattle.proxy_header.specs.Line.{IsEnd}
 
 -- ---- Of two lists with one front

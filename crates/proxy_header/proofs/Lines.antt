@@ -5,7 +5,7 @@ use Rattle.std.specs.Str.{bytes_eq}
 use Rattle.std.proofs.lemmas.Slice.Eq.{bytes_eq-Decides}
 use Rattle.std.specs.Net.Grammar.{IsIpv4Text, IsIpv6Text}
 use Rattle.std.proofs.NetLemmas.Theorems.{IsIpv4Text_unique, IsIpv6Text_unique}
-use Rattle.proxy_header.specs.Decoded.{word}
+use Rattle.proxy_header.specs.HeaderReading.{word}
 use Rattle.proxy_header.specs.Line.{SaysUnknown, SpellsLine, SpellsV4, SpellsV6}
 use Rattle.proxy_header.specs.declared.header.EndsV4.{EndsV4}
 use Rattle.proxy_header.specs.declared.header.EndsV6.{EndsV6}

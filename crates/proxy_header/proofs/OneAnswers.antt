@@ -6,11 +6,11 @@ use Rattle.std.proofs.lemmas.Bool.Decides.{nat_tests}
 use Rattle.std.specs.Prelude.{◌⊎◌, ◌==◌, nat_lt, slice_range, if◌then◌else◌}
 use Rattle.proxy_header.specs.Block.{is_family, least_block, local_command, proxy_command}
 use Rattle.proxy_header.specs.Block.{IsHead, IsVersion2, SaysBlock, block_size, command_in, family_in, head_fault, signature}
-use Rattle.proxy_header.specs.Decoded.{Agrees, BeginsWith, EndsBadly, IsAnswer, IsBegun, IsBegunVersion1, IsBegunVersion2}
-use Rattle.proxy_header.specs.Decoded.{IsEndless, IsFaulty, word}
+use Rattle.proxy_header.specs.HeaderReading.{Agrees, BeginsWith, EndsBadly, IsAnswer, IsBegun, IsBegunVersion1, IsBegunVersion2}
+use Rattle.proxy_header.specs.HeaderReading.{IsEndless, IsFaulty, word}
 use Rattle.proxy_header.specs.Line.{IsEnd, IsVersion1, NoEndBelow, SpellsLine}
-use Rattle.proxy_header.specs.declared.reading.Decoded.{Decoded}
-use Rattle.proxy_header.specs.declared.reading.Decoded.TheVariants.{Whole, More, Fault}
+use Rattle.proxy_header.specs.declared.header_reading.Decoded.{Decoded}
+use Rattle.proxy_header.specs.declared.header_reading.Decoded.TheVariants.{Whole, More, Fault}
 use Rattle.proxy_header.specs.declared.fault.HeaderFault.{HeaderFault}
 use Rattle.proxy_header.specs.declared.fault.HeaderFault.TheVariants as faults
 use Rattle.proxy_header.specs.declared.header.Header.{Header}

@@ -6,7 +6,7 @@ use Rattle.std.proofs.lemmas.Bool.{cases_lt}
 use Rattle.std.proofs.lemmas.Slice.{between_is}
 use Rattle.std.specs.Prelude.{◌⊎◌, slice_range}
 use Rattle.proxy_header.specs.Block.{IsHead, IsVersion2, SaysBlock, block_size, command_in, family_in, head_fault, signature}
-use Rattle.proxy_header.specs.Decoded.{Agrees, BeginsWith, EndsBadly, IsEndless, IsFaulty, word}
+use Rattle.proxy_header.specs.HeaderReading.{Agrees, BeginsWith, EndsBadly, IsEndless, IsFaulty, word}
 use Rattle.proxy_header.specs.Line.{IsEnd, IsVersion1, NoEndBelow, SpellsLine}
 use Rattle.proxy_header.specs.declared.fault.HeaderFault.{HeaderFault}
 use Rattle.proxy_header.specs.declared.fault.HeaderFault.TheVariants as faults

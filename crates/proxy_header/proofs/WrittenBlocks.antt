@@ -6,8 +6,8 @@ use Rattle.std.proofs.NetLemmas.Arrays.{eight_items, four_items}
 use Rattle.std.specs.Prelude.{slice_range}
 use Rattle.std.specs.Net.Addr.{octets_of, segments_of}
 use Rattle.proxy_header.specs.Block.{HasEndsV4, HasEndsV6, HasNames, IsVersion2, SaysBlock, head_fault, number_at, signature}
-use Rattle.proxy_header.specs.Decoded.{BeginsWith}
-use Rattle.proxy_header.specs.Written.{IsHeader, block_of, command_of, family_of, two_bytes, version2_bytes}
+use Rattle.proxy_header.specs.HeaderReading.{BeginsWith}
+use Rattle.proxy_header.specs.HeaderWriting.{IsHeader, block_of, command_of, family_of, two_bytes, version2_bytes}
 use Rattle.proxy_header.specs.declared.header.EndsV4.{EndsV4}
 use Rattle.proxy_header.specs.declared.header.EndsV6.{EndsV6}
 use Rattle.proxy_header.specs.declared.header.Header.{Header}

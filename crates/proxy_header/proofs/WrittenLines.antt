@@ -15,9 +15,9 @@ use Rattle.std.specs.Net.Grammar.{IsIpv4Text, IsIpv6Text}
 use Rattle.stream_base.specs.Lines.{Lacks}
 use Rattle.text_reading.proofs.NumberLemmas.{Lacks-decimal}
 use Rattle.text_reading.proofs.TextLemmas.{Lacks-append, Lacks-word}
-use Rattle.proxy_header.specs.Decoded.{BeginsWith}
+use Rattle.proxy_header.specs.HeaderReading.{BeginsWith}
 use Rattle.proxy_header.specs.Line.{IsVersion1, SpellsLine, SpellsV4, SpellsV6, ends_text, space}
-use Rattle.proxy_header.specs.Written.{IsHeader, said_by_version1, version1_bytes, version1_line}
+use Rattle.proxy_header.specs.HeaderWriting.{IsHeader, said_by_version1, version1_bytes, version1_line}
 use Rattle.proxy_header.specs.declared.header.EndsV4.{EndsV4}
 use Rattle.proxy_header.specs.declared.header.EndsV6.{EndsV6}
 use Rattle.proxy_header.specs.declared.header.Header.{Header}

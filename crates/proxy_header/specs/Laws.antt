@@ -1,8 +1,8 @@
 -- What headers have to be, whoever reads them.
 use Rattle.std.specs.Prelude.{◌≡◌, ◌≤◌, ◌<◌, ℕ, List, ◌++◌, length, take}
-use Rattle.proxy_header.specs.Decoded.{BeginsWith, IsAnswer, IsBegun, IsFaulty}
-use Rattle.proxy_header.specs.Written.{IsHeader, said_by_version1, version1_bytes, version2_bytes}
-use Rattle.proxy_header.specs.declared.reading.Decoded.{Decoded}
+use Rattle.proxy_header.specs.HeaderReading.{BeginsWith, IsAnswer, IsBegun, IsFaulty}
+use Rattle.proxy_header.specs.HeaderWriting.{IsHeader, said_by_version1, version1_bytes, version2_bytes}
+use Rattle.proxy_header.specs.declared.header_reading.Decoded.{Decoded}
 use Rattle.proxy_header.specs.declared.fault.HeaderFault.{HeaderFault}
 use Rattle.proxy_header.specs.declared.header.Header.{Header}
 use Rattle.proxy_header.specs.declared.header.TheConstants.{MAX_BYTES}

@@ -1,5 +1,5 @@
 pub mod Block
-pub mod Decoded
+pub mod HeaderReading
 pub mod Laws
 pub mod Line
-pub mod Written
+pub mod HeaderWriting

@@ -6,17 +6,17 @@
 #![tactic(auto)]
 
 mod block;
-mod encode;
 mod fault;
 mod header;
+mod header_reading;
+mod header_writing;
 pub mod laws;
 mod line;
-mod reading;
 
-pub use encode::{version1, version2};
 pub use fault::HeaderFault;
 pub use header::{
     EndsV4, EndsV6, HEAD_BYTES, Header, MAX_BYTES, MAX_LINE_BYTES, MAX_VERSION2_BYTES, NAME_BYTES,
     Names,
 };
-pub use reading::{Decoded, decode};
+pub use header_reading::{Decoded, decode};
+pub use header_writing::{version1, version2};

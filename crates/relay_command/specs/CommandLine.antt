@@ -13,7 +13,7 @@ use Rattle.clap.specs.Kinds.{Kinds}
 use Rattle.clap.specs.declared.builder.action.ArgAction.TheVariants.{Set, SetTrue}
 use Rattle.stream_base.specs.Decimal.{number_of}
 use Rattle.relay_core.specs.Loops.{loop_count}
-use Rattle.relay_core.specs.PairLimit.{pair_count}
+use Rattle.relay_core.specs.ConnectionLimit.{pair_count}
 use Rattle.relay_admin.specs.TextReading.{◌>>=◌}
 use Rattle.relay_admin.specs.rules.Addr.{Address, address_of}
 use Rattle.relay_settings.specs.Meaning.{relay_address_at}

@@ -1,6 +1,6 @@
 -- A client that is to say by a header who it is: how its bytes are judged, and until when.
 use Rattle.std.specs.Prelude.{◌≡◌, ℕ, Bool, true, false, List, Some}
-use Rattle.proxy_header.specs.Decoded.{BeginsWith, IsBegun, IsFaulty}
+use Rattle.proxy_header.specs.HeaderReading.{BeginsWith, IsBegun, IsFaulty}
 use Rattle.proxy_header.specs.declared.fault.HeaderFault.{HeaderFault}
 use Rattle.proxy_header.specs.declared.header.Header.{Header}
 use Rattle.readiness.specs.declared.agenda.Why.{Why}

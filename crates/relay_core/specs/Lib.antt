@@ -4,7 +4,7 @@ pub mod Lending
 pub mod Loops
 pub mod AcceptTrace
 pub mod Accepting
-pub mod PairLimit
+pub mod ConnectionLimit
 pub mod PairTasks
 pub mod Placing
 pub mod SourceState

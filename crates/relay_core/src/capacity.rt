@@ -1,7 +1,7 @@
 //! How large a relay is.
 
+use crate::connection_limit::PairLimit;
 use crate::loops::Loops;
-use crate::pair_limit::PairLimit;
 
 /// How many loops a relay has, and how many connections it relays at once.
 #[derive(Clone, Copy, Debug, PartialEq, Eq, Drop)]

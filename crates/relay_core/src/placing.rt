@@ -3,7 +3,7 @@
 ghost use Rattle.std.specs.Prelude.{◌≡◌, ◌<◌, ◌≤◌, ◌⊎◌, [], length, IfSome, IfNone};
 ghost use Rattle.relay_core.specs.Placing.{IsFirstLeast};
 
-use crate::pair_limit::{PairLimit, has_room_for_pair};
+use crate::connection_limit::{PairLimit, has_room_for_pair};
 
 /// Of loops with so many connections each, the one with the fewest, and the first of those that
 /// have equally few. This project's own rule.

@@ -2,7 +2,7 @@
 use Rattle.std.proofs.Common.{◌≡◌, ◌∙◌, ◌+◌, ◌&&◌, ℕ, zero, suc, Bool, true, false, List, [], ◌∷◌, nat_lt, refl, sym, subst, arith}
 use Rattle.std.specs.Prelude.{min, replicate}
 use Rattle.std.proofs.lemmas.Bool.Decides.{nat_tests}
-use Rattle.relay_facts.specs.TargetHealth.{Follows, health_in, limits_in}
+use Rattle.relay_facts.specs.SharedHealth.{Follows, health_in, limits_in}
 use Rattle.target_pick.specs.Health.{Stands, failures_of, is_up}
 use Rattle.target_pick.specs.declared.health.Health.{Health}
 use Rattle.target_pick.specs.declared.health.Limits.{Limits}

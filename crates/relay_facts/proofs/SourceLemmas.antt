@@ -8,7 +8,7 @@ use Rattle.client_sources.specs.declared.limits.Limits.{Limits}
 use Rattle.relay_admin.specs.declared.rules.addr.Addr.{Addr}
 use Rattle.relay_admin.specs.declared.rules.rule.Rule.{Rule}
 use Rattle.relay_admin.specs.rules.Addr.{address_of}
-use Rattle.relay_core.specs.declared.pair_limit.PairLimit.{PairLimit}
+use Rattle.relay_core.specs.declared.connection_limit.PairLimit.{PairLimit}
 use Rattle.relay_admin.specs.declared.serve_fault.ServeFault.{ServeFault}
 use Rattle.relay_admin.specs.rules.Grammar.{entry_of}
 use Rattle.relay_config.specs.Entries.{SocketsEntry, checks_entry, sockets_entry}

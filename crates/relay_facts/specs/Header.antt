@@ -1,7 +1,7 @@
 -- With which header of the PROXY protocol a connection to a target begins.
 use Rattle.std.specs.Prelude.{ℕ, List, [], Option, Some, None}
 use Rattle.std.specs.declared.net.ipv4_addr.Ipv4Addr.{Ipv4Addr}
-use Rattle.proxy_header.specs.Written.{version1_bytes, version2_bytes}
+use Rattle.proxy_header.specs.HeaderWriting.{version1_bytes, version2_bytes}
 use Rattle.proxy_header.specs.declared.header.Header.{Header}
 use Rattle.proxy_header.specs.declared.header.Header.TheVariants.{Local, V4, V6}
 use Rattle.relay_admin.specs.declared.rules.addr.Addr.{Addr}

@@ -5,7 +5,7 @@ use Rattle.std.specs.declared.alloc.Global.{Global}
 use Rattle.std.specs.declared.sync.Arc.{Arc}
 use Rattle.relay_admin.specs.declared.rules.addr.Addr.{Addr}
 use Rattle.relay_admin.specs.rules.Addr.{address_of, same_address}
-use Rattle.relay_facts.specs.declared.target_health.TargetHealth.{TargetHealth}
+use Rattle.relay_facts.specs.declared.shared_health.TargetHealth.{TargetHealth}
 use Rattle.relay_facts.specs.declared.target_list.CountedTarget.{CountedTarget}
 use Rattle.relay_facts.specs.declared.target_list.Targets.{Targets}
 

@@ -23,6 +23,6 @@ pub mod Source
 pub mod Steering
 pub mod TargetCounts
 pub mod TargetFigures
-pub mod TargetHealth
+pub mod SharedHealth
 pub mod Targets
 pub mod Told

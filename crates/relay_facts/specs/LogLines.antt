@@ -1,7 +1,7 @@
 -- The moment of a line, and what a line says of a target.
 use Rattle.std.specs.Prelude.{◌≡◌, ◌%◌, ℕ, min}
-use Rattle.relay_facts.specs.declared.target_health.Change.{Change}
-use Rattle.relay_facts.specs.declared.target_health.Change.TheVariants.{Down, Up}
+use Rattle.relay_facts.specs.declared.shared_health.Change.{Change}
+use Rattle.relay_facts.specs.declared.shared_health.Change.TheVariants.{Down, Up}
 use Rattle.relay_log.specs.declared.ended.Ended.{Ended}
 use Rattle.relay_log.specs.declared.ended.Ended.TheVariants.{TargetDown, TargetUp}
 

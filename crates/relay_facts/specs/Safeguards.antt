@@ -1,6 +1,6 @@
 -- A relay's safeguards, and when a rule takes no connection more.
 use Rattle.std.specs.Prelude.{◌≤◌, ℕ, false, Option, Some, None, unwrap_or}
-use Rattle.relay_core.specs.declared.pair_limit.PairLimit.{PairLimit}
+use Rattle.relay_core.specs.declared.connection_limit.PairLimit.{PairLimit}
 use Rattle.relay_facts.specs.declared.safeguards.Safeguards.{Safeguards}
 use Rattle.relay_settings.specs.Settings.{first_said}
 use Rattle.relay_settings.specs.declared.settings.Settings.{Settings}

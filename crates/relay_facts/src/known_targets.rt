@@ -5,8 +5,8 @@ ghost use Rattle.std.specs.Prelude.{◌≡◌, is_some, IfOk, IfSome, option_cop
 ghost use Rattle.std.specs.Arc.{arc_value};
 ghost use Rattle.relay_facts.specs.KnownTargets as spec;
 
+use crate::shared_health::TargetHealth;
 use crate::target_counts::TargetCounts;
-use crate::target_health::TargetHealth;
 use crate::target_list::{CountedTarget, Targets};
 use base_types::OutOfMemory;
 use relay_admin::{Addr, is_same_addr};

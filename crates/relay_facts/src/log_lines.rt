@@ -10,7 +10,7 @@ ghost use Rattle.relay_admin.specs.admin.Shown.{peer_of, peer_text};
 
 use crate::connection_facts::{Acceptance, ConnectionFacts};
 use crate::served_rule::ServedRule;
-use crate::target_health::Change;
+use crate::shared_health::Change;
 use arrayvec::ArrayString;
 use log_writer::Log;
 use relay_admin::{Addr, MAX_ADDR_BYTES, Rule, peer_name};

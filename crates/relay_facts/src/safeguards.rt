@@ -4,12 +4,7 @@ ghost use Rattle.std.specs.Prelude.{◌≡◌, ◌↔◌, true};
 ghost use Rattle.relay_facts.specs.Safeguards.{IsAtRuleLimit, rule_limit, safeguards_of};
 
 use relay_core::PairLimit;
-use relay_settings::Settings;
-
-/// How many milliseconds a target has to be connected where nobody asks for another time. This
-/// project's own rule. The clauses that stand on it have the figures themselves, so that others are
-/// refused.
-pub const DEFAULT_CONNECT_MS: u32 = 5_000;
+use relay_settings::{DEFAULT_CONNECT_MS, Settings};
 
 /// How long targets may keep connections waiting, how many of these each rule may have, and what
 /// becomes of sockets that were left at Unix paths.

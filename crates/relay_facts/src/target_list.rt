@@ -2,8 +2,8 @@
 
 ghost use Rattle.std.specs.Prelude.{◌≤◌, ◌<◌, length};
 
+use crate::shared_health::TargetHealth;
 use crate::target_counts::TargetCounts;
-use crate::target_health::TargetHealth;
 use relay_admin::Addr;
 use relay_settings::{Checks, Target};
 use std::sync::Arc;

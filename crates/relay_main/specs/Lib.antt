@@ -12,7 +12,7 @@ pub mod MainTask
 pub mod More
 pub mod Opening
 pub mod Pauses
-pub mod Plan
+pub mod ReloadPlan
 pub mod Reload
 pub mod RuleListeners
 pub mod RuleTask

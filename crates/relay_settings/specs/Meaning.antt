@@ -25,7 +25,7 @@ use Rattle.relay_config.specs.declared.fault.Wrong.TheVariants as wrong
 use Rattle.relay_config.specs.declared.log.Format.{Format}
 use Rattle.relay_config.specs.declared.proxy.Version.{Version}
 use Rattle.relay_core.specs.Loops.{loop_count}
-use Rattle.relay_core.specs.PairLimit.{pair_count}
+use Rattle.relay_core.specs.ConnectionLimit.{pair_count}
 use Rattle.relay_settings.specs.declared.said.Said.{Said}
 use Rattle.relay_settings.specs.declared.settings.Settings.{Settings}
 use Rattle.relay_settings.specs.declared.targets.Named.{Named}

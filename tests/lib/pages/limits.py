@@ -11,11 +11,11 @@ from lib.pages.tree import GUIDE, HELP, UNIT
 
 # Where each constant stands. One whose name another has too has its crate ahead.
 FILES = {
-    "MAX_PAIRS": "crates/relay_core/src/pair_limit.rt",
-    "DEFAULT_PAIRS": "crates/relay_core/src/pair_limit.rt",
+    "MAX_PAIRS": "crates/relay_core/src/connection_limit.rt",
+    "DEFAULT_PAIRS": "crates/relay_core/src/connection_limit.rt",
     "MAX_LOOPS": "crates/relay_core/src/loops.rt",
     "MOST_BY_DEFAULT": "crates/relay_core/src/loops.rt",
-    "DEFAULT_CONNECT_MS": "crates/relay_facts/src/safeguards.rt",
+    "DEFAULT_CONNECT_MS": "crates/relay_settings/src/defaults.rt",
     "config_values::DAY_MS": "crates/config_values/src/time.rt",
     "LOOP_BUFFER_BYTES": "crates/relay_core/src/buffers.rt",
     "MAX_RULES": "crates/relay_admin/src/rules/file.rt",

@@ -1,7 +1,7 @@
 //! How many pairs stand at once. A pair is a connection by both its sides.
 
 ghost use Rattle.std.specs.Prelude.{◌≡◌, ◌≤◌, ◌<◌, ◌↔◌, true, option_map};
-ghost use Rattle.relay_core.specs.PairLimit.{most_pairs, pair_count};
+ghost use Rattle.relay_core.specs.ConnectionLimit.{most_pairs, pair_count};
 
 /// The most pairs that may be asked for. One loop has places for 65,536, so that all may stand on
 /// one. This project's own rule.

@@ -1,7 +1,7 @@
 use Rattle.std.proofs.Common.{refl, length, arith, rules}
 use Rattle.std.proofs.lemmas.Option.{slice_get_read}
 use Rattle.relay_main.proofs.ReloadLemmas.{all_are_said, one_more_said}
-use Rattle.relay_main.proofs.planning.all_said.Goals as goal
+use Rattle.relay_main.proofs.reload_prepared.all_said.Goals as goal
 
 pub loop-rule-preserved : goal.loop-rule-preserved
 loop-rule-preserved g c =

@@ -4,8 +4,8 @@ ghost use Rattle.std.specs.Prelude.{◌≡◌, ◌≤◌, ◌+◌, [], ◌∷◌
 ghost use Rattle.std.specs.Fmt.{decimal};
 ghost use Rattle.arrayvec.specs.ArrayVec.{array_vec_len};
 ghost use Rattle.proxy_header.specs.Line.{ends_text};
-ghost use Rattle.proxy_header.specs.Written.{block_of, command_of, family_of, two_bytes};
-ghost use Rattle.proxy_header.specs.Written.{version1_bytes, version1_line, version2_bytes};
+ghost use Rattle.proxy_header.specs.HeaderWriting.{block_of, command_of, family_of, two_bytes};
+ghost use Rattle.proxy_header.specs.HeaderWriting.{version1_bytes, version1_line, version2_bytes};
 
 use crate::block::{IPV4_STREAM, IPV6_STREAM, LOCAL, PROXY, SIGNATURE, UNIX_STREAM};
 use crate::header::{Header, MAX_BLOCK_BYTES, MAX_LINE_BYTES, MAX_VERSION2_BYTES};

@@ -1,8 +1,8 @@
 -- The health of a checked target, as a word has it.
 use Rattle.std.specs.Prelude.{◌≡◌, ◌<◌, ◌/◌, ◌%◌, ◌^◌, ◌==◌, ℕ, Bool, true, false, List, ◌∷◌, Option, Some, None, min}
 use Rattle.relay_config.specs.declared.health.Checks.{Checks}
-use Rattle.relay_facts.specs.declared.target_health.Change.{Change}
-use Rattle.relay_facts.specs.declared.target_health.Change.TheVariants.{Down, Up}
+use Rattle.relay_facts.specs.declared.shared_health.Change.{Change}
+use Rattle.relay_facts.specs.declared.shared_health.Change.TheVariants.{Down, Up}
 use Rattle.target_pick.specs.Health.{Stands}
 use Rattle.target_pick.specs.declared.health.Health.{Health}
 use Rattle.target_pick.specs.declared.health.Limits.{Limits}

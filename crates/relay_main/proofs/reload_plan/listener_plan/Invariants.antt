@@ -1,6 +1,6 @@
 use Rattle.std.proofs.Common.{◌≡◌, take}
-use Rattle.relay_main.specs.Plan.{to_bind, to_keep}
-use Rattle.relay_main.proofs.plan.listener_plan.Given as goal
+use Rattle.relay_main.specs.ReloadPlan.{to_bind, to_keep}
+use Rattle.relay_main.proofs.reload_plan.listener_plan.Given as goal
 
 abbrev pub invariant-loop-one : goal.invariant-loop-one
 invariant-loop-one l = record {

@@ -1,6 +1,6 @@
 use Rattle.std.proofs.Common.{refl}
 use Rattle.relay_facts.proofs.HealthLemmas.{anew, follows}
-use Rattle.relay_facts.proofs.target_health.word_anew.Goals as goal
+use Rattle.relay_facts.proofs.shared_health.word_anew.Goals as goal
 use Rattle.target_pick.specs.declared.health.Health.{Health}
 
 pub returns-clause-health : goal.returns-clause-health

@@ -1,9 +1,9 @@
-//! A reload as a plan: what it binds, keeps and ends, before anything is done.
+//! A reload as a plan: what it binds, keeps and closes, before anything is done.
 
 ghost use Rattle.std.specs.Prelude.{◌≡◌, IfOk, IfErr};
 ghost use Rattle.relay_admin.specs.declared.serve_fault.ServeFault.{ServeFault};
 ghost use Rattle.relay_main.specs.Accounts.{AreAccountsOf, without_rules};
-ghost use Rattle.relay_main.specs.Plan as spec;
+ghost use Rattle.relay_main.specs.ReloadPlan as spec;
 ghost use Rattle.relay_main.specs.RuleListeners.{to_close};
 
 use crate::accounts::{accounts_of, without_rules};

@@ -8,8 +8,8 @@ use Rattle.relay_main.specs.declared.rule_listeners.Listening.{Listening}
 use Rattle.relay_main.specs.declared.wanted_listeners.WantedListener.{WantedListener}
 use Rattle.relay_main.specs.Accounts.{AreAccountsOf}
 use Rattle.relay_main.specs.RuleListeners.{to_close}
-use Rattle.relay_main.specs.declared.plan.ListenerPlan.{ListenerPlan}
-use Rattle.relay_main.specs.declared.plan.Plan.{Plan}
+use Rattle.relay_main.specs.declared.reload_plan.ListenerPlan.{ListenerPlan}
+use Rattle.relay_main.specs.declared.reload_plan.Plan.{Plan}
 
 -- a listener of these stands at this address
 abbrev pub stands_at : List Listening → Addr → Bool

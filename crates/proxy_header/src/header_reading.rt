@@ -2,9 +2,9 @@
 
 ghost use Rattle.std.specs.Prelude.{◌≡◌, ◌↔◌, ◌≤◌, ◌+◌, ◌<◌, ℕ, length, min, take, IsTrue};
 ghost use Rattle.proxy_header.specs.Block.{signature};
-ghost use Rattle.proxy_header.specs.Decoded.{Agrees, BeginsWith, IsAnswer, word};
+ghost use Rattle.proxy_header.specs.HeaderReading.{Agrees, BeginsWith, IsAnswer, word};
 ghost use Rattle.proxy_header.specs.declared.header.Header.{Header};
-ghost use Rattle.proxy_header.specs.declared.reading.Decoded.TheVariants.{Whole};
+ghost use Rattle.proxy_header.specs.declared.header_reading.Decoded.TheVariants.{Whole};
 
 use crate::block::{SIGNATURE, fault_of, number, said_by};
 use crate::fault::HeaderFault;

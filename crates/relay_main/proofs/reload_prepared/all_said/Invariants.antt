@@ -6,7 +6,7 @@ use Rattle.std.specs.declared.sync.Arc.{Arc}
 use Rattle.relay_facts.specs.Config.{SaysRule}
 use Rattle.relay_facts.specs.declared.served_rule.Said.{Said}
 use Rattle.relay_settings.specs.declared.targets.SaidRule.{SaidRule}
-use Rattle.relay_main.proofs.planning.all_said.Given as goal
+use Rattle.relay_main.proofs.reload_prepared.all_said.Given as goal
 
 abbrev pub invariant-loop-rule : goal.invariant-loop-rule
 invariant-loop-rule g l = record {

@@ -1,4 +1,5 @@
-//! The health of a checked target: one word, which loops and checks change and picks look at.
+//! The health of a checked target: one word, which loops and checks change and picks look at. What
+//! it comes to after an outcome is decided in `target_pick` (`Health::after`).
 //!
 //! | Bits | Field | Greatest |
 //! |---|---|---|
@@ -12,9 +13,9 @@
 //! stores it: `IsHealth`.
 
 ghost use Rattle.std.specs.Prelude.{◌≡◌, ◌<◌, IfSome, IfErr};
-ghost use Rattle.relay_facts.specs.TargetHealth.{AreSmall, IsHealth, IsNoted, TellsChange};
-ghost use Rattle.relay_facts.specs.TargetHealth.{change_of};
-ghost use Rattle.relay_facts.specs.TargetHealth as spec;
+ghost use Rattle.relay_facts.specs.SharedHealth.{AreSmall, IsHealth, IsNoted, TellsChange};
+ghost use Rattle.relay_facts.specs.SharedHealth.{change_of};
+ghost use Rattle.relay_facts.specs.SharedHealth as spec;
 
 use relay_config::MAX_IN_A_ROW;
 use relay_settings::Checks;
@@ -132,7 +133,7 @@ fn change_of(old: u64, new: u64) -> Option<Change>
 struct HealthRule;
 
 impl Rule for HealthRule {
-    ghost use Rattle.relay_facts.specs.TargetHealth.{IsHealth};
+    ghost use Rattle.relay_facts.specs.SharedHealth.{IsHealth};
 
     ghost invariant = { λ word. IsHealth word };
 }

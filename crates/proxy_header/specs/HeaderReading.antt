@@ -3,8 +3,8 @@ use Rattle.std.specs.Prelude.{◌≡◌, ◌<◌, ◌≤◌, ◌+◌, ◌⊎◌,
 use Rattle.proxy_header.specs.Block.{IsHead, IsVersion2, block_size, command_in, family_in}
 use Rattle.proxy_header.specs.Block.{head_fault, signature}
 use Rattle.proxy_header.specs.Line.{IsEnd, IsVersion1, NoEndBelow, SpellsLine}
-use Rattle.proxy_header.specs.declared.reading.Decoded.{Decoded}
-use Rattle.proxy_header.specs.declared.reading.Decoded.TheVariants.{Whole, More, Fault}
+use Rattle.proxy_header.specs.declared.header_reading.Decoded.{Decoded}
+use Rattle.proxy_header.specs.declared.header_reading.Decoded.TheVariants.{Whole, More, Fault}
 use Rattle.proxy_header.specs.declared.fault.HeaderFault.{HeaderFault}
 use Rattle.proxy_header.specs.declared.fault.HeaderFault.TheVariants as faults
 use Rattle.proxy_header.specs.declared.header.Header.{Header}
