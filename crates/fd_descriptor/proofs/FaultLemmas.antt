@@ -1,5 +1,5 @@
 -- A loop's own fault is one that the call may tell, whatever the handle has seen.
-use Rattle.std.specs.Prelude.{ℕ, Option, Some, None, Result, Ok, Err, IfErr, IfSome}
+use Rattle.std.specs.Prelude.{ℕ, Option, Some, None, Result, Ok, Err, IfErr, IfSome, IfNone}
 use Rattle.std.proofs.Common.{inr}
 use Rattle.rwloops.specs.declared.fault.Fault.{Fault}
 use Rattle.rwloops.specs.declared.fault.WriteFault.{WriteFault}
@@ -22,3 +22,8 @@ pub if_some : {T : Type 0} (answer : Option T) (P Q : T → Type 0) → ((given 
     → IfSome answer P → IfSome answer Q
 if_some None P Q so holds = tt
 if_some (Some given) P Q so holds = so given holds
+
+-- the same where there is no answer
+pub if_none : {T : Type 0} (answer : Option T) (P Q : Type 0) → (P → Q) → IfNone answer P → IfNone answer Q
+if_none None P Q so holds = so holds
+if_none (Some given) P Q so holds = tt

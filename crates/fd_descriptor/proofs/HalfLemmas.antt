@@ -1,5 +1,5 @@
 -- What is left of a lock that was given back, and where its half is.
-use Rattle.std.proofs.Common.{◌≡◌, ◌∙◌, [], ◌∷◌, ◌++◌, ℕ, List, ap, inl, inr, append-nil, Err}
+use Rattle.std.proofs.Common.{◌≡◌, ◌∙◌, [], ◌∷◌, ◌++◌, ℕ, List, ap, sym, inl, inr, append-nil, Err}
 use Rattle.base_types.specs.declared.direction.Dir.{Dir}
 use Rattle.lockword_core.specs.declared.stake.Op.{Op}
 use Rattle.lockword_core.specs.declared.stake.Op.TheVariants as op
@@ -9,7 +9,7 @@ use Rattle.lockword.specs.declared.holders.Freed.{Freed}
 use Rattle.lockword.specs.declared.holders.Freed.TheVariants as freed
 use Rattle.lockword.specs.Home.{WasHome}
 use Rattle.lockword.specs.Dropping.{Leaves}
-use Rattle.lockword.specs.Marks.{Place, deeds, marks_of as marks_at}
+use Rattle.lockword.specs.Marks.{Place, deeds, heard_by, marks_of as marks_at}
 use Rattle.fdmutex.specs.Deeds.{LeavesWithoutEnd, closes, drains}
 use Rattle.fdmutex.specs.Did.{GaveBack}
 use Rattle.fdmutex.specs.declared.answers.Refusal.{Refusal}
@@ -18,6 +18,11 @@ use Rattle.fd_descriptor.specs.Deadlines.{HasSet}
 use Rattle.fd_descriptor.specs.HandleCalls.{lock_fault}
 use Rattle.fd_descriptor.specs.HalfUse.{LeftAtHome}
 use Rattle.fd_descriptor.specs.Marks.{KeepsMarks, marks_left, closes_left, drains_left, deeds_left, duty_left}
+use Rattle.fd_descriptor.specs.Marks.{heard_left}
+use Rattle.fdmutex.specs.Heard.{LeavesHearing}
+use Rattle.lockword.specs.History.{GoesOn}
+use Rattle.lockword.proofs.HeardSteps.{goes_on_on}
+use Rattle.lockword_core.specs.declared.stake.Event.{Event}
 use Rattle.fd_descriptor.specs.declared.deadlines.Setting.{Setting}
 
 module _ {R W : Type 0} where
@@ -58,6 +63,17 @@ module _ {R W : Type 0} where
       → (closes_left left ≡ closes p) × (drains_left left ≡ drains p)
   left_no_end p (freed.Kept s) made = (made.0, made.2)
   left_no_end p (freed.Last l) made = (made.0, made.2)
+
+-- who has heard nothing since has heard what goes on
+pub goes_on_same : (early late : List Event) → late ≡ early → GoesOn early late
+goes_on_same early late same = record { more = []; whole = same ∙ sym (append-nil early) }
+
+module _ {R W : Type 0} where
+  -- what a seat hears goes on through what is left of what it gave back
+  pub left_hearing : (p : Place R W) (left : Freed R W) (late : List Event) → LeavesHearing p left
+      → GoesOn (heard_left left) late → GoesOn (heard_by p) late
+  left_hearing p (freed.Kept s) late left on = goes_on_on _ _ _ left on
+  left_hearing p (freed.Last l) late left on = goes_on_on _ _ _ left on
 
 -- a refusal of the lock word is no refusal of the alarms
 pub no_alarm : (armed refused : ℕ → Dirs → ℕ → Type 0) (disarmed : ℕ → Dirs → Type 0) (key : ℕ) (setting : Setting)

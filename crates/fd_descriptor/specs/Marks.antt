@@ -96,6 +96,11 @@ module _ {R W : Type 0} where
   drains_left (left.Kept s) = drains (seat_place s)
   drains_left (left.Last l) = drains (last_place l)
 
+  -- what all seats had done when the seat made its last operation or look of which this is left
+  abbrev pub heard_left : Freed R W → List Event
+  heard_left (left.Kept s) = heard_by (seat_place s)
+  heard_left (left.Last l) = heard_by (last_place l)
+
   -- the operations that the seat has made of which this is left
   abbrev pub deeds_left : Freed R W → List Op
   deeds_left (left.Kept s) = deeds (seat_place s)

@@ -2,7 +2,7 @@
 
 ghost use Rattle.std.specs.Prelude.{◌≡◌, ◌≤◌, ◌<◌, true, length, Ok, Err, IfOk, IfErr};
 ghost use Rattle.fd_descriptor.specs.FdHandle.{KeepsHandle, marks_of, saw_closed, saw_draining};
-ghost use Rattle.fd_descriptor.specs.FdHandle.{closes_of, destroys_of, drains_of};
+ghost use Rattle.fd_descriptor.specs.FdHandle.{closes_of, destroys_of, drains_of, HearsOn};
 ghost use Rattle.fd_descriptor.specs.HandleCalls.{IsLockFault, MayTell, HasEnded};
 ghost use Rattle.fd_descriptor.specs.HandleCalls.{IsRefusedWrite};
 ghost use Rattle.fd_descriptor.specs.HandleCalls.{TellsWhoClosed, TellsOwnDestroy, WhereEvicted};
@@ -62,6 +62,7 @@ impl<X: Resource, A: Allocator> FdHandle<X, A> {
     where
         X::W: TryWrite,
         ensures keeps { KeepsHandle self.old self.new }
+        ensures heard { HearsOn self.old self.new }
         ensures no_close { closes_of self.new ≡ closes_of self.old }
         ensures no_drain { drains_of self.new ≡ drains_of self.old }
         ensures allowed { IfErr result (λ failed.
@@ -177,6 +178,7 @@ impl<X: Resource, A: Allocator> FdHandle<X, A> {
     /// One that is draining is closed as any other.
     pub fn close<T: Wait>(&mut self, rt: &T) -> Result<(), Fault>
         ensures keeps { KeepsHandle self.old self.new }
+        ensures heard { HearsOn self.old self.new }
         ensures no_drain { drains_of self.new ≡ drains_of self.old }
         ensures closed { saw_closed self.old ≡ true → result ≡ Err Fault.Closed }
         ensures allowed { IfErr result (MayTell Closes (marks_of self.old) (marks_of self.new)) }
@@ -194,6 +196,7 @@ impl<X: Resource, A: Allocator> FdHandle<X, A> {
     /// itself.
     pub fn close_telling<T: Wait, E: AtEviction>(&mut self, rt: &T, who: &E) -> Result<(), Fault>
         ensures keeps { KeepsHandle self.old self.new }
+        ensures heard { HearsOn self.old self.new }
         ensures no_drain { drains_of self.new ≡ drains_of self.old }
         ensures closed { saw_closed self.old ≡ true → result ≡ Err Fault.Closed }
         ensures allowed { IfErr result (MayTell Closes (marks_of self.old) (marks_of self.new)) }

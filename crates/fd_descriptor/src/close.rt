@@ -1,7 +1,8 @@
 //! The close of a descriptor.
 
 ghost use Rattle.std.specs.Prelude.{◌≡◌, ◌+◌, true, Ok, Err, IfErr};
-ghost use Rattle.lockword.specs.Marks.{marks_of as marks_at};
+ghost use Rattle.lockword.specs.Marks.{heard_by, marks_of as marks_at};
+ghost use Rattle.lockword.specs.History.{GoesOn};
 ghost use Rattle.lockword.specs.Places.{seat_place};
 ghost use Rattle.lockword.specs.TransitionOutcomes.{IsSeatOf};
 ghost use Rattle.fdmutex.specs.Deeds.{closes, destroys, drains};
@@ -11,6 +12,7 @@ ghost use Rattle.fd_descriptor.specs.HandleCalls.{TellsWhoClosed, TellsOwnDestro
 ghost use Rattle.fd_descriptor.specs.Marks.{HoldsSeatOf, KeepsMarks, SawTheEnd, IsKept};
 ghost use Rattle.fd_descriptor.specs.Marks.{marks_in, marks_left, closes_in, closes_left};
 ghost use Rattle.fd_descriptor.specs.Marks.{destroys_in, destroys_left, drains_in, drains_left};
+ghost use Rattle.fd_descriptor.specs.Marks.{heard_in, heard_left};
 ghost use Rattle.fd_descriptor.specs.Parking.{WasEvicted};
 
 use crate::descriptor::Fd;
@@ -39,6 +41,7 @@ fn end_close<X: Resource, T: Wait>(
     ensures no_drain { drains (seat_place result.0) ≡ drains_left freed }
     ensures destroyed { IfErr result.1 (λ kind.
         destroys (seat_place result.0) ≡ destroys_left freed + 1) }
+    ensures heard { GoesOn (heard_left freed) (heard_by (seat_place result.0)) }
 {
     match freed {
         Freed::Kept(left) => (wait_done(rt, word, left), Ok(())),
@@ -80,6 +83,7 @@ pub(crate) fn close_by<X: Resource, A: Allocator, T: Wait, E: AtEviction>(
     ensures seat { HoldsSeatOf fd.now.word seat.new }
     ensures marks { KeepsMarks (marks_in seat.old) (marks_in seat.new) }
     ensures no_drain { drains_in seat.new ≡ drains_in seat.old }
+    ensures heard { GoesOn (heard_in seat.old) (heard_in seat.new) }
     ensures closed { (marks_in seat.old).closed ≡ true → result ≡ Err Fault.Closed }
     ensures allowed { IfErr result (MayTell Closes (marks_in seat.old) (marks_in seat.new)) }
     ensures ended { HasEnded result (marks_in seat.new) }

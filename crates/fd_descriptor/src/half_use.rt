@@ -4,7 +4,7 @@
 //! doesn't compile.
 
 ghost use Rattle.std.specs.Prelude.{◌≡◌, ◌≤◌, ◌<◌, true, length, Ok, Err, IfOk, IfErr, Some};
-ghost use Rattle.std.specs.Prelude.{IfSome};
+ghost use Rattle.std.specs.Prelude.{IfSome, IfNone};
 ghost use Rattle.fd_descriptor.specs.HalfUse.{Did};
 ghost use Rattle.rwloops.specs.Waits.{fault_of};
 ghost use Rattle.rwloops.specs.TryNow.{ReadNow, AcceptNow, WriteNow, IsTried, IsPartOf};
@@ -12,7 +12,8 @@ ghost use Rattle.fd_descriptor.specs.HandleCalls.{Reads, Accepts, Writes, Shuts,
 ghost use Rattle.fd_descriptor.specs.HandleCalls.{IsOwnFault};
 ghost use Rattle.fd_descriptor.specs.HandleCalls.{IsRefusedEntry, IfFailed, IsShut};
 ghost use Rattle.fd_descriptor.specs.Marks.{HoldsSeatOf, KeepsMarks, marks_in, closes_in};
-ghost use Rattle.fd_descriptor.specs.Marks.{drains_in};
+ghost use Rattle.fd_descriptor.specs.Marks.{drains_in, heard_in};
+ghost use Rattle.lockword.specs.History.{GoesOn};
 ghost use Rattle.fd_descriptor.specs.Polled.{IsTriedOrRefused, fails_by, write_fails_by};
 
 use crate::descriptor::Fd;
@@ -47,6 +48,7 @@ where
     ensures marks { KeepsMarks (marks_in seat.old) (marks_in seat.new) }
     ensures no_close { closes_in seat.new ≡ closes_in seat.old }
     ensures no_drain { drains_in seat.new ≡ drains_in seat.old }
+    ensures heard { GoesOn (heard_in seat.old) (heard_in seat.new) }
     ensures closed { (marks_in seat.old).closed ≡ true → result ≡ Err Fault.Closed }
     ensures draining { (marks_in seat.old).draining ≡ true → IsRefusedEntry result }
     ensures no_lock { IfErr result (IsLockFault (marks_in seat.old) (marks_in seat.new)) }
@@ -218,6 +220,7 @@ pub(crate) fn shut_now_in<H: HalfClose, T: Wait>(
 ) -> Option<Result<(), Fault>>
     ensures faults { IfSome result (λ answer. IfErr answer (IsOwnFault Shuts)) }
     ensures told { IfSome result (λ answer. IsShut (H.shut_told half.new) answer) }
+    ensures connecting { IfNone result (H.connecting half.new) }
 {
     if half.is_connecting() && cell.prepare(rt, Dir::Write).is_ok() {
         return None;

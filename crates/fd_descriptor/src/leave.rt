@@ -6,14 +6,15 @@
 ghost use Rattle.std.specs.Prelude.{◌≡◌, ◌+◌, [], ◌∷◌, ◌++◌};
 ghost use Rattle.lockword_core.specs.declared.stake.Op.TheVariants as op;
 ghost use Rattle.lockword.specs.Lent.{half_in};
-ghost use Rattle.lockword.specs.Marks.{deeds, marks_of as marks_at};
+ghost use Rattle.lockword.specs.Marks.{HeardOn, deeds, heard_by, marks_of as marks_at};
+ghost use Rattle.lockword.specs.History.{GoesOn};
 ghost use Rattle.lockword.specs.Places.{seat_place, last_place, lock_place};
 ghost use Rattle.lockword.specs.TransitionOutcomes.{IsSeatOf, HasNotTaken};
 ghost use Rattle.fdmutex.specs.Deeds.{closes, destroys, drains};
 ghost use Rattle.fdmutex.specs.Refusal.{IsFreedOf};
 ghost use Rattle.fd_descriptor.specs.HandleCalls.{lock_fault};
 ghost use Rattle.fd_descriptor.specs.Marks.{KeepsMarks, SawTheEnd, marks_left, closes_left};
-ghost use Rattle.fd_descriptor.specs.Marks.{drains_left, deeds_left, duty_left};
+ghost use Rattle.fd_descriptor.specs.Marks.{drains_left, deeds_left, duty_left, heard_left};
 ghost use Rattle.fd_descriptor.specs.HalfUse.{LeftAtHome};
 
 use crate::resource::Resource;
@@ -36,6 +37,7 @@ pub(crate) fn finish<X: Resource>(
     ensures no_drain { drains (seat_place result.0) ≡ drains (last_place last) }
     ensures destroyed { destroys (seat_place result.0) ≡ destroys (last_place last) + 1 }
     ensures did { deeds (seat_place result.0) ≡ deeds (last_place last) ++ op.Destroy ∷ [] }
+    ensures heard { HeardOn (last_place last) (seat_place result.0) }
 {
     let mut last = last;
     let (read, write) = last.halves(word);
@@ -54,6 +56,7 @@ pub(crate) fn leave<X: Resource>(
     ensures no_close { closes (seat_place result) ≡ closes_left freed }
     ensures no_drain { drains (seat_place result) ≡ drains_left freed }
     ensures did { deeds (seat_place result) ≡ deeds_left freed ++ duty_left freed }
+    ensures heard { GoesOn (heard_left freed) (heard_by (seat_place result)) }
 {
     match freed {
         Freed::Kept(seat) => seat,
@@ -73,6 +76,7 @@ pub(crate) fn give_back<D: Guards<X::R, X::W>, X: Resource, T: Wait>(
     ensures no_close { closes (seat_place result) ≡ closes (lock_place held) }
     ensures no_drain { drains (seat_place result) ≡ drains (lock_place held) }
     ensures home { LeftAtHome X.R X.W D.dir (D.stored (half_in held)) (deeds (seat_place result)) }
+    ensures heard { HeardOn (lock_place held) (seat_place result) }
 {
     leave::<X>(word, unlock(rt, word, held))
 }

@@ -18,6 +18,7 @@ ghost use Rattle.fd_descriptor.specs.TaskHalf.{KeepsHalf, StaysUnderWay, IsKeptO
 ghost use Rattle.fd_descriptor.specs.TaskHalf.{is_under_way, descriptor_of_half, marks_of_half};
 ghost use Rattle.fd_descriptor.specs.TaskHalf.{operations_of_half, destroys_of_half};
 ghost use Rattle.fd_descriptor.specs.TaskHalf.{held_by, heard_of_half, key_of_half, IsShutOfItsHalf};
+ghost use Rattle.fd_descriptor.specs.TaskHalf.{UsesItsHalf};
 ghost use Rattle.fd_descriptor.specs.FdHandle.{descriptor_of, marks_of, heard_of, DidNothing};
 ghost use Rattle.fd_descriptor.specs.Deadlines.{HasSet};
 
@@ -218,6 +219,8 @@ impl<X: Resource, T: Wait + Copy, A: Allocator> TaskHalf<Writing, X, T, A> {
             IfErr answer (MayTellHalf Shuts self.old self.new)) }
         ensures shut { IfSome result (λ answer. IsShutOfItsHalf X.W.shut_told
             self.old self.new answer) }
+        ensures connecting { IfNone result (UsesItsHalf self.old self.new
+            (λ first last. X.W.connecting last)) }
         ensures over { IfSome result (λ answer. is_under_way self.new ≡ false) }
         ensures stays { IfNone result (StaysUnderWay self.old self.new) }
     {

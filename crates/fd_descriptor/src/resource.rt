@@ -1,7 +1,7 @@
 //! What a program brings to a descriptor: the two halves and how they are destroyed, a half that
 //! can be shut, and alarms for deadlines.
 
-ghost use Rattle.std.specs.Prelude.{ℕ, Result, IfOk, IfErr};
+ghost use Rattle.std.specs.Prelude.{◌≡◌, ℕ, true, Result, IfOk, IfErr};
 ghost use Rattle.deadline_core.specs.declared.deadline.Dirs.{Dirs};
 ghost use Rattle.rwloops.specs.declared.outcome.DevKind.{DevKind};
 
@@ -36,9 +36,15 @@ pub trait HalfClose {
     /// of it leaves it out.
     ghost shut_told: { Self → Result (Unit {0}) DevKind → Type 0 } = { λ _ _. Unit {0} };
 
+    /// What is so of a half that was asked whether its connection isn't made yet, and answered yes.
+    /// It may be left out too.
+    ghost connecting: { Self → Type 0 } = { λ _. Unit {0} };
+
     /// Whether the connection that it belongs to isn't made yet. Shutting it now would give the
     /// connection up, so a descriptor waits until the half is ready to be written, and asks again.
-    fn is_connecting(&mut self) -> bool {
+    fn is_connecting(&mut self) -> bool
+        ensures told { result ≡ true → connecting self.new }
+    {
         false
     }
 

@@ -4,7 +4,7 @@
 ghost use Rattle.std.specs.Prelude.{◌≡◌, ◌≤◌, ◌<◌, true, length, Err, IfOk, IfErr};
 ghost use Rattle.rwloops.specs.declared.fault.Fault.{Fault};
 ghost use Rattle.fd_descriptor.specs.FdHandle.{KeepsHandle, marks_of, saw_closed, saw_draining};
-ghost use Rattle.fd_descriptor.specs.FdHandle.{closes_of, drains_of};
+ghost use Rattle.fd_descriptor.specs.FdHandle.{closes_of, drains_of, HearsOn};
 ghost use Rattle.fd_descriptor.specs.HandleCalls.{TimedReads, TimedWrites, Connects, MayTell};
 ghost use Rattle.fd_descriptor.specs.HandleCalls.{SetsDeadline, IsOwnFault, IsRefusedWrite};
 ghost use Rattle.fd_descriptor.specs.Entry.{IsEntry};
@@ -140,6 +140,7 @@ impl<X: Resource, A: Allocator> FdHandle<X, A> {
     where
         X::W: TryWrite,
         ensures keeps { KeepsHandle self.old self.new }
+        ensures heard { HearsOn self.old self.new }
         ensures no_close { closes_of self.new ≡ closes_of self.old }
         ensures no_drain { drains_of self.new ≡ drains_of self.old }
         ensures allowed { IfErr result (λ failed.

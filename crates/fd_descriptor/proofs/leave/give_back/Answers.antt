@@ -1,5 +1,5 @@
 use Rattle.std.proofs.Common.{◌∙◌}
-use Rattle.fd_descriptor.proofs.HalfLemmas.{left_at_home, left_marks, left_no_end}
+use Rattle.fd_descriptor.proofs.HalfLemmas.{left_at_home, left_marks, left_no_end, left_hearing}
 use Rattle.fd_descriptor.proofs.leave.give_back.Goals as goal
 
 pub returns-clause-home : goal.returns-clause-home
@@ -20,3 +20,7 @@ returns-clause-no_close g c =
 pub returns-clause-no_drain : goal.returns-clause-no_drain
 returns-clause-no_drain g c =
     c.leave.ensures.no_drain ∙ (left_no_end c.args.held.place c.unlock.result c.unlock.ensures.no_end).1
+
+pub returns-clause-heard : goal.returns-clause-heard
+returns-clause-heard g c =
+    left_hearing c.args.held.place c.unlock.result _ c.unlock.ensures.heard c.leave.ensures.heard
