@@ -274,12 +274,12 @@ impl ServedRule {
         ensures listen { IfOk result (λ served. (arc_value served).listen ≡ said.rule.listen) }
         ensures loops { IfOk result (λ served. loops_of (arc_value served).counts ≡ loops) }
     {
-        let listen = said.rule.listen;
-        let said = Arc::new(alloc, said)?;
+        let held = Arc::new(alloc, said)?;
+        let listen = held.rule.listen;
         let counts = RuleCounts::new(alloc, loops)?;
         let served = ServedRule {
             listen,
-            said: Mutex::new(said),
+            said: Mutex::new(held),
             picks: AtomicU64::new(0),
             accepting: AtomicU64::new(0),
             standing: AtomicU64::new(0),
