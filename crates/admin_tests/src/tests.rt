@@ -4,4 +4,5 @@ mod addresses;
 mod commands;
 mod later;
 mod rules_files;
+mod telling;
 mod verdicts;
