@@ -4,6 +4,7 @@
 mod accepts;
 mod books;
 mod deadlines;
+mod kept;
 mod loops;
 mod machine_rows;
 mod pairs;

@@ -1,4 +1,5 @@
 //! Rows of an accept that is resumed over a listener which says "not yet".
+mod telling;
 
 ghost use Rattle.std.specs.Prelude.{⊤};
 
