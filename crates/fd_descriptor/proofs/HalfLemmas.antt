@@ -1,5 +1,5 @@
 -- What is left of a lock that was given back, and where its half is.
-use Rattle.std.proofs.Common.{◌≡◌, ◌∙◌, [], ◌∷◌, ◌++◌, ℕ, List, ap, sym, inl, inr, append-nil, Err}
+use Rattle.std.proofs.Common.{◌≡◌, ◌∙◌, [], ◌∷◌, ◌++◌, ℕ, List, ap, sym, subst, inl, inr, append-nil, Err}
 use Rattle.base_types.specs.declared.direction.Dir.{Dir}
 use Rattle.lockword_core.specs.declared.stake.Op.{Op}
 use Rattle.lockword_core.specs.declared.stake.Op.TheVariants as op
@@ -16,7 +16,7 @@ use Rattle.fdmutex.specs.declared.answers.Refusal.{Refusal}
 use Rattle.fdmutex.specs.declared.answers.Refusal.TheVariants as refusal
 use Rattle.fd_descriptor.specs.Deadlines.{HasSet}
 use Rattle.fd_descriptor.specs.HandleCalls.{lock_fault}
-use Rattle.fd_descriptor.specs.HalfUse.{LeftAtHome}
+use Rattle.fd_descriptor.specs.HalfUse.{FoundAtHome, LeftAtHome, UsesHome}
 use Rattle.fd_descriptor.specs.Marks.{KeepsMarks, marks_left, closes_left, drains_left, deeds_left, duty_left}
 use Rattle.fd_descriptor.specs.Marks.{heard_left}
 use Rattle.fdmutex.specs.Heard.{LeavesHearing}
@@ -63,6 +63,27 @@ module _ {R W : Type 0} where
       → (closes_left left ≡ closes p) × (drains_left left ≡ drains p)
   left_no_end p (freed.Kept s) made = (made.0, made.2)
   left_no_end p (freed.Last l) made = (made.0, made.2)
+
+module _ {R W G : Type 0} where
+  -- a half that was found at home is the one that a call has of it
+  pub found_so : (d : Dir) (stored : G → Half R W) (before did : List Op) (first half : G) → did ≡ before
+      → first ≡ half → FoundAtHome R W d (stored half) before → FoundAtHome R W d (stored first) did
+  found_so d stored before did first half same_did same found =
+      subst (λ ops. FoundAtHome R W d (stored first) ops) (sym same_did)
+      (subst (λ h. FoundAtHome R W d (stored h) before) (sym same) found)
+
+  -- a use of a half that did this did what follows from it
+  pub uses_so : (d : Dir) (stored : G → Half R W) (before after : List Op) (P Q : G → G → Type 0)
+      → ((first last : G) → P first last → Q first last) → UsesHome R W d stored before after P
+      → UsesHome R W d stored before after Q
+  uses_so d stored before after P Q so used =
+      record {
+        first = used.first;
+        last = used.last;
+        found = used.found;
+        did = so used.first used.last used.did;
+        left = used.left;
+      }
 
 -- who has heard nothing since has heard what goes on
 pub goes_on_same : (early late : List Event) → late ≡ early → GoesOn early late

@@ -6,8 +6,12 @@ use Rattle.fd_descriptor.specs.declared.descriptor.FdHandle.{FdHandle}
 use Rattle.fd_descriptor.specs.declared.poll_cell.PollCell.{PollCell}
 use Rattle.fd_descriptor.specs.CellKey.{key_of_cell}
 use Rattle.fd_descriptor.specs.Marks.{Marks, KeepsMarks, marks_in, closes_in, destroys_in}
-use Rattle.fd_descriptor.specs.Marks.{drains_in, heard_in, LooksThrough}
+use Rattle.fd_descriptor.specs.Marks.{drains_in, operations_in, heard_in, LooksThrough}
+use Rattle.fd_descriptor.specs.HalfUse.{UsesHome}
+use Rattle.base_types.specs.declared.direction.Dir.TheVariants.{Read, Write}
+use Rattle.lockword.specs.Directions.{half_of}
 use Rattle.lockword.specs.History.{GoesOn}
+use Rattle.lockword_core.specs.declared.stake.Op.{Op}
 use Rattle.lockword_core.specs.declared.stake.Event.{Event}
 use Rattle.lockword_core.specs.declared.word.Word.{Word}
 
@@ -55,6 +59,20 @@ module _ {X A R W C : Type 0} where
   -- how many times this handle set the descriptor's drain flag
   abbrev pub drains_of : FdHandle X A R W C → ℕ
   drains_of h = drains_in h.seat
+
+  -- the operations that this handle has made on the descriptor's lock word, in order
+  abbrev pub operations_of_handle : FdHandle X A R W C → List Op
+  operations_of_handle h = operations_in h.seat
+
+  -- a call took its lock and did this with the half that was at home just before, and left it at home so
+  abbrev pub UsesReadHalf : FdHandle X A R W C → FdHandle X A R W C → (R → R → Type 0) → Type 0
+  UsesReadHalf before after Done =
+      UsesHome R W Read (half_of Read) (operations_of_handle before) (operations_of_handle after) Done
+
+  -- the same of the write half
+  abbrev pub UsesWriteHalf : FdHandle X A R W C → FdHandle X A R W C → (W → W → Type 0) → Type 0
+  UsesWriteHalf before after Done =
+      UsesHome R W Write (half_of Write) (operations_of_handle before) (operations_of_handle after) Done
 
   -- what all handles had done when this one made its last operation or look, in one order
   abbrev pub heard_of : FdHandle X A R W C → List Event

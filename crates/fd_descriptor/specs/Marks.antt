@@ -62,6 +62,11 @@ module _ {R W : Type 0} where
   drains_in None = 0
   drains_in (Some s) = drains (seat_place s)
 
+  -- the operations that the seat that a handle holds has made, in order
+  abbrev pub operations_in : Option (Seat R W) → List Op
+  operations_in None = []
+  operations_in (Some s) = deeds (seat_place s)
+
   -- what all seats had done when it made its last operation or look
   abbrev pub heard_in : Option (Seat R W) → List Event
   heard_in None = []

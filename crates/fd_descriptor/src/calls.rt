@@ -8,7 +8,7 @@ ghost use Rattle.fd_descriptor.specs.HandleCalls.{IsRefusedWrite};
 ghost use Rattle.fd_descriptor.specs.HandleCalls.{TellsWhoClosed, TellsOwnDestroy, WhereEvicted};
 ghost use Rattle.fd_descriptor.specs.HandleCalls.{Reads, Accepts, Writes, Shuts, SetsDeadline};
 ghost use Rattle.fd_descriptor.specs.HandleCalls.{Closes};
-ghost use Rattle.fd_descriptor.specs.Entry.{IsEntry};
+ghost use Rattle.fd_descriptor.specs.Entry.{IsEntry, IsShutAtHome};
 ghost use Rattle.fd_descriptor.specs.FdHandle.{key_of};
 ghost use Rattle.fd_descriptor.specs.Deadlines.{HasSet, setting_of};
 ghost use Rattle.fd_descriptor.specs.Parking.{WasEvicted};
@@ -93,7 +93,7 @@ impl<X: Resource, A: Allocator> FdHandle<X, A> {
     where
         X::W: HalfClose,
         ensures entry { IsEntry Shuts self.old self.new result }
-        ensures shut { IfOk result (λ _. (half : X.W) × X.W.shut_told half (Ok tt)) }
+        ensures shut { IsShutAtHome X.W.shut_told self.old self.new result }
     {
         let fd: &Fd<X, A> = &self.fd;
         match with_half::<Writing, X, A, T, _, _>(rt, fd, &mut self.seat, |half| {

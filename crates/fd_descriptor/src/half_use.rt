@@ -5,14 +5,14 @@
 
 ghost use Rattle.std.specs.Prelude.{◌≡◌, ◌≤◌, ◌<◌, true, length, Ok, Err, IfOk, IfErr, Some};
 ghost use Rattle.std.specs.Prelude.{IfSome, IfNone};
-ghost use Rattle.fd_descriptor.specs.HalfUse.{Did};
+ghost use Rattle.fd_descriptor.specs.HalfUse.{Did, UsesHome, CallsOnce};
 ghost use Rattle.rwloops.specs.Waits.{fault_of};
 ghost use Rattle.rwloops.specs.TryNow.{ReadNow, AcceptNow, WriteNow, IsTried, IsPartOf};
 ghost use Rattle.fd_descriptor.specs.HandleCalls.{Reads, Accepts, Writes, Shuts, IsLockFault};
 ghost use Rattle.fd_descriptor.specs.HandleCalls.{IsOwnFault};
 ghost use Rattle.fd_descriptor.specs.HandleCalls.{IsRefusedEntry, IfFailed, IsShut};
 ghost use Rattle.fd_descriptor.specs.Marks.{HoldsSeatOf, KeepsMarks, marks_in, closes_in};
-ghost use Rattle.fd_descriptor.specs.Marks.{drains_in, heard_in};
+ghost use Rattle.fd_descriptor.specs.Marks.{drains_in, operations_in, heard_in};
 ghost use Rattle.lockword.specs.History.{GoesOn};
 ghost use Rattle.fd_descriptor.specs.Polled.{IsTriedOrRefused, fails_by, write_fails_by};
 
@@ -53,6 +53,8 @@ where
     ensures draining { (marks_in seat.old).draining ≡ true → IsRefusedEntry result }
     ensures no_lock { IfErr result (IsLockFault (marks_in seat.old) (marks_in seat.new)) }
     ensures did { IfOk result (λ answer. Did F.FnOnce act answer) }
+    ensures used { IfOk result (λ answer. UsesHome X.R X.W D.dir D.stored
+        (operations_in seat.old) (operations_in seat.new) (CallsOnce F.FnOnce act answer)) }
 {
     let word = &fd.word;
     let Some(free) = seat.take() else {
