@@ -18,6 +18,7 @@
 
 `dead_rule` is tried with HAProxy too, where that is installed. Takes gcc.
 """
+import contextlib
 import os
 import resource
 import signal
@@ -391,30 +392,31 @@ def busy_sessions(checks, _):
             sock.close()
 
 
-def trickled_metrics(checks, _):
-    """Clients of the metrics that send a byte now and then keep none waiting."""
-    address = some_address()
-    with Relay("", options=("--metrics", address)):
-        held, until = [connect(address) for _ in range(200)], threading.Event()
-
-        def trickle():
-            while not until.wait(0.2):
-                for sock in held:
-                    try:
-                        sock.send(b"G")
-                    except OSError:
-                        pass
-
-        threading.Thread(target=trickle, daemon=True).start()
-        # A page that waits for such a client waits for its limit each time; on a machine that is full of other work some are late besides.
-        answered = 0
-        for _ in range(30):
+def trickle(address, held, until):
+    """Sends a byte by each socket now and then, and puts a new one in the place of one that was ended."""
+    while not until.wait(0.2):
+        for at, sock in enumerate(held):
             try:
-                answered += scrape(address, "/healthz", 2) == (200, "ok\n")
-            except (OSError, ValueError):
-                pass
+                sock.send(b"G")
+            except OSError:
+                sock.close()
+                with contextlib.suppress(OSError):
+                    held[at] = connect(address)
+
+
+def trickled_metrics(checks, _):
+    """Clients of the metrics that send a byte now and then keep none waiting: 200 are there all the time, so that who waits for them waits on."""
+    address, until, answered = some_address(), threading.Event(), 0
+    with Relay("", options=("--metrics", address)):
+        held = [connect(address) for _ in range(200)]
+        trickling = threading.Thread(target=trickle, args=(address, held, until), daemon=True)
+        trickling.start()
+        for _ in range(10):
+            with contextlib.suppress(OSError, ValueError):
+                answered += scrape(address, "/healthz", HALF_A_MINUTE) == (200, "ok\n")
+        checks.expect("trickled_metrics: /healthz is answered", 10, answered)
         until.set()
-        checks.holds("trickled_metrics: /healthz is answered", answered >= 20, f"{answered} of 30 times")
+        trickling.join()
         for sock in held:
             sock.close()
 
