@@ -47,9 +47,15 @@ class Trial:
         self.process.kill()
         self.process.wait()
         self.said.close()
-        for path in glob.glob("/proc/[0-9]*/cmdline"):
+        for path in glob.glob("/proc/[0-9]*"):
             with contextlib.suppress(OSError):
-                with open(path, "rb") as file:
-                    is_of_it = self.made.encode() in file.read()
-                if is_of_it:
-                    os.kill(int(path.split("/")[2]), signal.SIGKILL)
+                if self.is_of(path):
+                    os.kill(int(os.path.basename(path)), signal.SIGKILL)
+
+    def is_of(self, path):
+        """Whether rt has started this process: its words name the folder, or, of a check that rt makes beside the build, its environment does."""
+        for name in ("cmdline", "environ"):
+            with open(f"{path}/{name}", "rb") as file:
+                if self.made.encode() in file.read():
+                    return True
+        return False
