@@ -267,6 +267,17 @@ def is_ended(client):
         return True
 
 
+def bad_before_its_accept(checks, folder):
+    """Bytes that wait before their client is accepted are judged by the loop's first look at them."""
+    with Awaited(folder) as it:
+        with it.relay.stopped():
+            client = it.client()
+            client.sendall(BAD["no header"])
+        checks.holds("bad: at the first look: it ends", is_ended(client), "it doesn't")
+        checks.expect("bad: at the first look: the log", [(own_name(client), "-", "0", "0", "bad header")], it.lines(1))
+        checks.expect("bad: at the first look: counted", (1, 0), (it.refused("bad_header"), it.refused("no_header")))
+
+
 def bad(checks, folder):
     for name, bytes_ in BAD.items():
         with Awaited(folder) as it:
@@ -279,6 +290,7 @@ def bad(checks, folder):
             checks.expect(f"bad: {name}: the log", [(own_name(client), "-", "0", "0", "bad header")], it.lines(1))
             checks.expect(f"bad: {name}: counted", (1, 0), (it.refused("bad_header"), it.refused("no_header")))
             served(checks, f"bad: {name}: the next one", it, it.client(), v2(), name_of(SOURCE))
+    bad_before_its_accept(checks, folder)
 
 
 def none(checks, folder):

@@ -68,9 +68,9 @@ def own(checks, _):
         checks.holds("own: those that stand go on", all(has_echo(it) for it in clients + others), "one doesn't")
         clients.pop().close()
         checks.holds("own: the end of one", stands(it, 5), it.ask("show"))
-        again = served(few)
-        checks.holds("own: makes room for one", again is not None, "it isn't served")
-        close([*clients, *others, again])
+        again = served_of(few, 1)
+        checks.expect("own: makes room for one", 1, len(again))
+        close(clients + others + again)
     with relay(rule(few, 3, "few"), rule(many, name="many"), more="connections_per_rule = 1\n") as it:
         clients, others = served_of(few, 4), served_of(many, 2)
         checks.expect("own: more than each has", (3, 1), (len(clients), len(others)))

@@ -63,25 +63,30 @@ def tells(checks, address, name, want, ask=scrape):
     checks.expect(name, want, figure(address, name, ask))
 
 
+def given_up_in_time(checks, who, address):
+    """A client of a target that never answers sees the end, and not before its target's time is over."""
+    # (the target's time may begin before the client's connect returns)
+    began, least = time.monotonic(), TIMEOUT_MS / 1000
+    is_over = seconds_until_end(connect(address), SOON) is not None
+    took = time.monotonic() - began
+    checks.holds(f"dead: {who} sees the end, not before its time", is_over and least - 0.005 <= took, f"after {took} s")
+
+
 def dead_target(checks, folder):
     """20 clients a second of a dead target leave a healthy rule alone, also where there are few places."""
     accepts, target = listener()
     dead_port, port, metrics = free_port(), free_port(), f"tcp:127.0.0.1:{free_port()}"
-    log = f"{folder}/dead.log"
+    dead, log = f"tcp:127.0.0.1:{dead_port}", f"{folder}/dead.log"
     words = ("--connect-timeout", str(TIMEOUT_MS), "--connections", "16", "--log", log, "--metrics", metrics)
     with accepts, BlackHole() as hole, Relay(
-        f"relay dead tcp:127.0.0.1:{dead_port} {hole.address} never\nrelay ok tcp:127.0.0.1:{port} {target} never\n", options=words
+        f"relay dead {dead} {hole.address} never\nrelay ok tcp:127.0.0.1:{port} {target} never\n", options=words
     ) as relay:
         stands = connect(f"tcp:127.0.0.1:{port}")
         stands_target, _ = accepts.accept()
-        # (the target's time may begin before the client's connect returns)
-        began, least = time.monotonic(), TIMEOUT_MS / 1000
-        is_over = seconds_until_end(connect(f"tcp:127.0.0.1:{dead_port}"), 10) is not None
-        took = time.monotonic() - began
-        checks.holds("dead: its client sees the end, not before its time", is_over and least - 0.005 <= took, f"after {took} s")
+        given_up_in_time(checks, "its client", dead)
         clients, served = [], 0
         for turn in range(60):
-            clients.append(connect(f"tcp:127.0.0.1:{dead_port}"))
+            clients.append(connect(dead))
             time.sleep(0.05)
             if turn % 6 == 0:
                 client = connect(f"tcp:127.0.0.1:{port}")
@@ -92,11 +97,13 @@ def dead_target(checks, folder):
         checks.holds("dead: a pair that stands stays", both_ways(stands, stands_target), "no byte came back")
         for client in clients:
             checks.holds("dead: each client sees the end", seconds_until_end(client, 10) is not None, "not in 10 s")
-        tells(checks, metrics, 'pollrelay_rule_no_target_total{rule="dead",cause="timeout"}', 61)
+        # (by now a time that ran from the relay's start is over)
+        given_up_in_time(checks, "one that comes later", dead)
+        tells(checks, metrics, 'pollrelay_rule_no_target_total{rule="dead",cause="timeout"}', 62)
         tells(checks, metrics, 'pollrelay_rule_no_target_total{rule="ok",cause="timeout"}', 0)
         tells(checks, metrics, 'pollrelay_rule_connections{rule="dead"}', 0)
-        ends = [how for rule, how in hows(log, 71) if rule == "dead"]
-        checks.expect("dead: its lines", ["no target timeout"] * 61, ends)
+        ends = [how for rule, how in hows(log, 72) if rule == "dead"]
+        checks.expect("dead: its lines", ["no target timeout"] * 62, ends)
         checks.expect("dead: status", 0, relay.stop()[0])
 
 
