@@ -6,6 +6,7 @@ unread      the client's bytes stay where they are, ids are listed, and a side i
 heard       what the client said before the target was there comes to it whole, also where the client has half-closed.
 gone        a client that resets ends its connection at once.
 """
+import contextlib
 import socket
 import struct
 import sys
@@ -93,12 +94,13 @@ def heard(checks, folder):
         client.shutdown(socket.SHUT_WR)
         it.hole.sock.settimeout(SOON)
         text, others = b"", [sock.getsockname()[1] for sock in it.hole.waiting]
-        while not text:
-            taken, where = it.hole.sock.accept()
-            if where[1] not in others:
-                text = read_to_end(taken)
-                taken.sendall(b"bye")
-            taken.close()
+        with contextlib.suppress(TimeoutError):
+            while not text:
+                taken, where = it.hole.sock.accept()
+                if where[1] not in others:
+                    text = read_to_end(taken)
+                    taken.sendall(b"bye")
+                taken.close()
         checks.expect("heard: whole", b"hello", text)
         checks.expect("heard: and answered", b"bye", read_to_end(client))
         checks.expect("heard: told as ended", ["eof"], it.hows(1))

@@ -259,7 +259,8 @@ def start_pairs(checks, folder):
         write(f"{folder}/{name}", text)
     left = sorted(os.listdir(folder))
     for at, (first, status, changes) in enumerate(START_ORDER):
-        for second, _, others in START_ORDER[at:]:
+        # (the last one first: a fault that isn't told leaves the other, and a relay that serves where it is alone)
+        for second, _, others in reversed(START_ORDER[at:]):
             words = {"--rules": "{folder}/good", "--admin": "{folder}/admin", "--loops": "1", **others, **changes}
             said = run(["serve", *(part.format(folder=folder) for word in words.items() for part in word)])
             checks.expect(f"start: {first} ahead of {second}", (status, b"", f"{first}\n".encode()), said)

@@ -3,7 +3,7 @@
 
     python3 tests/system/shown.py [STAGE]..
 
-peers   each id is shown with its rule, side, peer and bytes.
+peers   each id is shown with its rule, side, peer and bytes, also those of one way alone.
 paths   a client of a Unix socket is shown with its own path, where it has one of at most 100 bytes.
 times   each id is shown since when it stands and is quiet.
 lines   a line of the log has all that is known of its connection.
@@ -51,7 +51,9 @@ def peers(checks, _):
         for id, side, peer in ((1, "listener", it.listens[0]), (2, "client", client), (3, "target", it.target)):
             comes_to_show(it, id, f"show {id} rule a side {side} peer {peer} up 5 down 2 age ")
         it.answers("show 4\n", "error 404 no such connection\n")
-        it.stop("listening 1\nup 5 down 2\n")
+        it.goes("more bytes go up", ends.client, ends.peer, b"more")
+        it.holds("bytes of one way alone are shown", comes(lambda: " up 9 down 2 " in it.answer("show 2\n")), it.answer("show 2\n"))
+        it.stop("listening 1\nup 9 down 2\n")
 
 
 def paths(checks, _):
