@@ -177,8 +177,9 @@ def drained(checks, folder):
         checks.holds("drained: until it ends", it.comes_to(A, connections=0), it.line(A))
         it.set(B, "drain")
         checks.expect("drained: all are", "end", it.names(1))
-        lines = logged(f"{it.relay.folder}/log", 6)
-        checks.expect("drained: the log's word", "no target down", lines[-1]["how"])
+        # (a connection that ended before may have its line later: another loop tells it)
+        ends = [line["how"] for line in logged(f"{it.relay.folder}/log", 6)]
+        checks.expect("drained: the log's word", 1, ends.count("no target down"))
         checks.expect("drained: it is taken back", "ok", it.set(A, "auto"))
         checks.expect("drained: clients come again", ("AA", ["up", "auto"]), (it.names(2), it.told(A, "state", "set")))
         checks.expect("drained: the other is still", ["drained"], it.told(B, "state"))
