@@ -76,7 +76,7 @@ def try_all(chosen, times, lanes):
     stages = sorted({(it.script, it.stage) for it in of_relay})
     with ThreadPoolExecutor(lanes) as pool:
         held = list(pool.map(lambda it: passes(program, it), stages))
-        held += pool.map(lambda it: says_in_its_crate(it, False), of_crates)
+        held += pool.map(lambda it: says_in_its_crate(it, False), {it.script: it for it in of_crates}.values())
         held += pool.map(lambda it: is_seen(program, it), of_relay * times)
         held += pool.map(lambda it: says_in_its_crate(it, True), of_crates * times)
     return sum(held), len(held)

@@ -4,7 +4,7 @@ A plant is a file of `tests/plants`, named for what it does. Its line `seen: SCR
 `tests/system` has to fail. Its other lines are as in `crates/NAME/wrong-bodies`, with paths from the top; in a line `new:` the
 word `planted` stands for whether the plant is on. The environment of the program says that, by the plant's number (`PLANT`).
 
-What a library decides and no relay brings about is seen by the library's tests: there `seen: CRATE TEST: ROW` names the crate
+What a library decides, and no script on a relay sees reliably, is seen by the library's tests: there `seen: CRATE TEST: ROW` names the crate
 of the tests, the test and the row that fails, and the plant is on in a copy of the sources.
 """
 import hashlib
