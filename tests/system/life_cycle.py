@@ -14,7 +14,7 @@
     faults             accepting faults while there is no descriptor, and goes on once there are
     many_faults        so it does after more than 1,024 faults in a row
     busy_sessions      `ctl stop` is answered behind 300 silent sessions and 100 that don't read
-    trickled_metrics   /healthz is answered behind 200 clients that send a byte now and then
+    trickled_metrics   /healthz is answered behind 60 clients that send a byte now and then
 
 `dead_rule` is tried with HAProxy too, where that is installed. Takes gcc.
 """
@@ -50,6 +50,8 @@ SETTLE_SECONDS = 10
 # Who waits for a session that is silent waits for its minute, in seconds. A machine that is full of other work takes some seconds too.
 HALF_A_MINUTE = 30
 RULE = "relay {} {} {} never\n"
+# Fewer than are served at once: one more than those evicts whoever came first.
+TRICKLING = 60
 # As long as a second is on a clock that is 200 times as fast.
 WAKE_SECONDS = 0.005
 GIVEN = options(
@@ -405,10 +407,10 @@ def trickle(address, held, until):
 
 
 def trickled_metrics(checks, _):
-    """Clients of the metrics that send a byte now and then keep none waiting: 200 are there all the time, so that who waits for them waits on."""
+    """Clients of the metrics that send a byte now and then keep none waiting: so many are there all the time, so that who waits for them waits on."""
     address, until, answered = some_address(), threading.Event(), 0
     with Relay("", options=("--metrics", address)):
-        held = [connect(address) for _ in range(200)]
+        held = [connect(address) for _ in range(TRICKLING)]
         trickling = threading.Thread(target=trickle, args=(address, held, until), daemon=True)
         trickling.start()
         for _ in range(10):
