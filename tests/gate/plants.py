@@ -24,6 +24,8 @@ from lib.places import ROOT, TESTS
 
 # The longest that a stage takes, with a plant on too.
 SECONDS = 300
+# The same of the tests of a crate, which are built for it: on a machine that is full of other work that takes minutes.
+CRATE_SECONDS = 1200
 # Stages side by side: some have threads of their own beside the relay's.
 LANES = max(1, len(os.sched_getaffinity(0)) // 2)
 
@@ -63,7 +65,10 @@ def is_seen(program, plant):
 def says_in_its_crate(plant, is_on):
     """Whether the tests of a crate say what they have to: the row of the plant fails where it is on, and none where it isn't."""
     began = time.monotonic()
-    said, passed = planted.tried_in_its_crate(plant, is_on, SECONDS)
+    try:
+        said, passed = planted.tried_in_its_crate(plant, is_on, CRATE_SECONDS)
+    except subprocess.TimeoutExpired:
+        said, passed = f"not over in {CRATE_SECONDS} s", False
     is_well = not passed and f"    {plant.check}:" in said if is_on else passed
     return tell(plant.name if is_on else f"{plant.script} without it", is_well, began, "" if is_well else f": {said[-300:]!r}")
 
