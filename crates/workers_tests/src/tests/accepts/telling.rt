@@ -25,9 +25,9 @@ struct TellingListener {
 
 impl TellingListener {
     fn keep(&mut self, done: Done)
-        ensures { IsTrue self.new.is_whole
-            → reverse self.new.done.items ≡ done ∷ reverse self.old.done.items }
         ensures before { IsTrue self.new.is_whole → IsTrue self.old.is_whole }
+        ensures kept { IsTrue self.new.is_whole
+            → reverse self.new.done.items ≡ done ∷ reverse self.old.done.items }
     {
         if self.done.push(done).is_err() {
             self.is_whole = false;
