@@ -1,14 +1,17 @@
 -- A turn that is told otherwise is the same turn.
-use Rattle.std.proofs.Common.{ℕ, List, Option, Result, Ok, Err, rules}
+use Rattle.std.proofs.Common.{ℕ, List, ◌++◌, Option, Result, Ok, Err, rules}
 use Rattle.std.specs.Prelude.{OnOk}
-use Rattle.rwloops.specs.Waits.{Tells}
 use Rattle.readiness.specs.HostCalls.{HostCall}
 use Rattle.readiness.specs.Turns.{MakesTurn}
 use Rattle.readiness.specs.declared.agenda.Step.{Step}
 use Rattle.readiness.specs.declared.tasks.Tasks.{Tasks}
 
+-- who told a list before tells it after, with these calls on top
+abbrev Told : {T : Type 0} → (List (HostCall T) → Type 0) → (List (HostCall T) → Type 0) → List (HostCall T) → Type 0
+Told {T = T} before after calls = (earlier : List (HostCall T)) → before earlier → after (calls ++ earlier)
+
 pub told_so : {T A : Type 0} (awaited : T → Option ℕ) (before after before' after' : List (HostCall T) → Type 0) →
-    ((calls : List (HostCall T)) → Tells before after calls → Tells before' after' calls) → (now : ℕ)
+    ((calls : List (HostCall T)) → Told before after calls → Told before' after' calls) → (now : ℕ)
     (listed : List Step) (old new : Tasks T A) → MakesTurn awaited before after now listed old new →
     MakesTurn awaited before' after' now listed old new
 told_so awaited before after before' after' so now listed old new turn = record {
