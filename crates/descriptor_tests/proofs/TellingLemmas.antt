@@ -1,5 +1,5 @@
 -- What halves and alarms that tell something can't have answered.
-use Rattle.std.proofs.Common.{◌≡◌, sym, subst, ℕ, ◌<◌, ◌≤◌, Bool, true, false, cond, nat_lt, arith, rules}
+use Rattle.std.proofs.Common.{◌≡◌, subst, ℕ, ◌<◌, ◌≤◌, Bool, true, false, cond, nat_lt, arith, rules}
 use Rattle.std.proofs.Common.{Option, Some, None, Result, Ok, Err}
 use Rattle.std.specs.Prelude.{IfOk, IfSome, IfNone, IsErr, IsSome}
 use Rattle.std.proofs.lemmas.Bool.Decides.{nat_tests}
@@ -8,20 +8,14 @@ use Rattle.deadline_core.specs.declared.deadline.Dirs.{Dirs}
 use Rattle.deadline_core.specs.declared.deadline.Dirs.TheVariants.{Both}
 use Rattle.rwloops.specs.declared.fault.Fault.{Fault}
 use Rattle.rwloops.specs.declared.fault.Fault.TheVariants.{OutOfMemory}
-use Rattle.rwloops.specs.declared.outcome.DevKind.{DevKind}
+use Rattle.rwloops.specs.declared.outcome.DevKind.TheVariants.{BrokenPipe}
 use Rattle.fd_descriptor.specs.Deadlines.{HasSet, WasAsked, WasRefused, setting_of}
 use Rattle.fd_descriptor.specs.HandleCalls.{IsShut}
 
-module _ {G : Type 0} (told : G → Result (Unit {0}) DevKind → Type 0) (never : (half : G) → told half (Ok tt) → ⊥) where
-  -- what no half tells isn't answered
-  pub never_shut : (result : Result (Unit {0}) Fault) → IfOk result (λ _. (half : G) × told half (Ok tt)) →
-      IsErr result
-  never_shut (Ok u) shut = absurd (never shut.0 shut.1)
-  never_shut (Err fault) shut = search rules
-
-  pub never_polled : (half : G) (answer : Result (Unit {0}) Fault) → IsShut (told half) answer → IsErr answer
-  never_polled half (Ok u) shut = absurd (never half shut)
-  never_polled half (Err fault) shut = search rules
+-- what no half tells isn't answered
+pub never_shut : (answer : Result (Unit {0}) Fault) → IsShut (λ told. told ≡ Err BrokenPipe) answer → IsErr answer
+never_shut (Ok u) shut = cc
+never_shut (Err fault) shut = search rules
 
 -- a fault is one
 pub of_fault : (answer : Result (Unit {0}) Fault) (why : Fault) → answer ≡ Err why → IsErr answer
