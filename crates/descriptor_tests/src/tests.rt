@@ -18,6 +18,7 @@ mod scripts;
 mod stage;
 mod storms;
 mod tasks;
+mod telling;
 mod under_way;
 mod wakes;
 mod watch;

@@ -9,6 +9,7 @@ mod memory;
 mod others;
 mod polling;
 mod sockets;
+mod telling;
 
 use fd_descriptor::{AcceptOutcome, TryAccept};
 use readiness::{Addr, Listen, Sock, connect, listen};

@@ -1,5 +1,7 @@
 //! Rows of accepts, by scripted listeners: how an accept worker ends and which pauses it asks for.
 
+mod telling;
+
 use relay_core::AcceptEnded;
 use relay_workers::{AcceptGate, accept_worker};
 use rwloops::{DevKind, Fault};

@@ -1,6 +1,7 @@
 //! Whole sessions, byte by byte: their replies, each of which is out before the next read, and their
 //! ends, also over devices that are slow, short or broken.
 mod devices;
+mod telling;
 
 use crate::tests::fake_desk::FakeDesk;
 use devices::{Full, NarrowWriter, SlowReader};
