@@ -6,6 +6,8 @@ use Rattle.relay_log.specs.declared.ended.Cause.{Cause}
 use Rattle.relay_log.specs.declared.ended.Ended.{Ended}
 use Rattle.relay_log.specs.declared.ended.Ended.TheVariants as how
 use Rattle.relay_log.specs.Ended.{cause_place, end_place}
+use Rattle.relay_metrics.specs.declared.counted.Counted.{Counted}
+use Rattle.relay_metrics.specs.Counted.{counted_place}
 use Rattle.relay_facts.specs.declared.counts.LoopCounts.{LoopCounts}
 use Rattle.relay_facts.specs.declared.counts.RuleCounts.{RuleCounts}
 
@@ -20,6 +22,10 @@ count_of how = count_behind (end_place how)
 -- the count in `CauseCounts` of the targets that weren't reached for this cause
 abbrev pub cause_count_of : Cause → ℕ × ℕ → ℕ × ℕ
 cause_count_of cause = count_behind (cause_place cause)
+
+-- the count in `RelayCounts` of this
+abbrev pub relay_count_of : Counted → ℕ × ℕ → ℕ × ℕ
+relay_count_of what = count_behind (counted_place what)
 
 -- the count in `LoopCounts` of the clients that weren't served so, for want of a target, of room at
 -- the poller, of a header or of a good one, or of memory, or since there were enough of their source

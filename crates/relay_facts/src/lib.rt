@@ -20,6 +20,7 @@ pub mod log_lines;
 pub mod named_list;
 pub mod named_targets;
 pub mod outcomes;
+pub mod relay_counts;
 pub mod rule_figures;
 pub mod rule_sources;
 pub mod rules_file;

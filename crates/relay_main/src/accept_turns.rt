@@ -17,6 +17,7 @@ use relay_core::{AcceptEnded, AcceptStep, Accepting, RESTART_MS, next_pause_ms};
 use relay_facts::clock::Moments;
 use relay_facts::how_ended::reason_of_fault;
 use relay_facts::log_lines::tell_accept_fault;
+use relay_metrics::Counted;
 use rwloops::Fault;
 use std::sync::Wait;
 use std::time::Clock;
@@ -111,12 +112,14 @@ impl<R: Wait + Clock + Copy, C: Moments> MainHost<R, C> {
         ensures listener { door.new.listener ≡ door.old.listener }
     {
         for caller in door.callers.drain(..) {
-            self.shared.sessions.add(1);
+            self.shared.counts.add(Counted::AdminSessions, 1);
             if !self.take_caller(caller) {
-                self.shared.dropped_sessions.add(1);
+                self.shared.counts.add(Counted::AdminDroppedSessions, 1);
             }
         }
-        self.shared.dropped_sessions.add(door.dropped);
+        self.shared
+            .counts
+            .add(Counted::AdminDroppedSessions, door.dropped);
         door.dropped = 0;
     }
 

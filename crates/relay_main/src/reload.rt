@@ -24,6 +24,7 @@ use relay_facts::config::Start;
 use relay_facts::log_lines::calendar_ms;
 use relay_facts::served_rule::{Said, ServedRule};
 use relay_facts::source::said_by;
+use relay_metrics::Counted;
 use relay_settings::{SETTINGS, SaidRule, Settings, needs_restart, rule_count};
 use relay_shared::bound_path::BoundPaths;
 use std::fs::Files;
@@ -133,7 +134,7 @@ impl<R: Wait + Net + Files + Clock + Eprint + Copy> MainLoop<R> {
         self.gone = gone;
         self.follow_at = Some(0);
         self.want_at = Some(0);
-        self.host.shared.reloads.add(1);
+        self.host.shared.counts.add(Counted::Reloads, 1);
     }
 
     // Ends these listeners, removes their paths, and forgets all that were closed.

@@ -26,6 +26,7 @@ use readiness::Sock;
 use relay_admin::ServeFault;
 use relay_core::{MAX_SESSIONS, has_come, silence_end};
 use relay_facts::clock::Moments;
+use relay_metrics::Counted;
 use std::alloc::Global;
 use std::fs::Files;
 use std::mem;
@@ -187,7 +188,10 @@ impl Sessions {
         let (place, session) = self.quietest()?;
         let token = session.token;
         self.end(main, place, token);
-        main.host.shared.dropped_sessions.add(1);
+        main.host
+            .shared
+            .counts
+            .add(Counted::AdminDroppedSessions, 1);
         Some(place)
     }
 
@@ -215,7 +219,10 @@ impl Sessions {
         let mut came = mem::replace(&mut main.host.callers, Vec::new(main.alloc));
         for caller in came.drain(..) {
             if self.begin(main, caller.sock).is_none() {
-                main.host.shared.dropped_sessions.add(1);
+                main.host
+                    .shared
+                    .counts
+                    .add(Counted::AdminDroppedSessions, 1);
             }
         }
         main.host.callers = came;

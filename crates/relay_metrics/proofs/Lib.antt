@@ -1,3 +1,4 @@
 pub mod BucketLemmas
 pub mod CauseLemmas
+pub mod CountLemmas
 pub mod TurnLemmas

@@ -1,6 +1,7 @@
 -- A snapshot of a relay's figures.
-use Rattle.std.specs.Prelude.{◌≡◌, Bool, [], if◌then◌else◌}
+use Rattle.std.specs.Prelude.{◌≡◌, Bool, [], if◌then◌else◌, replicate}
 use Rattle.std.specs.List.{list_all}
+use Rattle.relay_metrics.specs.declared.counted.TheConstants.{COUNTS}
 use Rattle.relay_metrics.specs.declared.figures.CarriedBytes.{CarriedBytes}
 use Rattle.relay_metrics.specs.declared.figures.Figures.{Figures}
 use Rattle.relay_metrics.specs.declared.figures.Health.{Health}
@@ -14,10 +15,8 @@ IsNone bytes = (bytes.up ≡ 0) × (bytes.down ≡ 0)
 pub record IsBlank (f : Figures) : Type 0 where
   pub up_ms : f.up_ms ≡ 0
   pub turns : f.turns.items ≡ []
-  pub admin_sessions : f.admin_sessions ≡ 0
-  pub admin_dropped_sessions : f.admin_dropped_sessions ≡ 0
   pub connections_limit : f.connections_limit ≡ 0
-  pub reloads : f.reloads ≡ 0
+  pub counts : f.counts ≡ replicate COUNTS 0
   pub bytes : IsNone f.bytes
   pub log_lines : f.log_lines ≡ 0
   pub log_lost_lines : f.log_lost_lines ≡ 0

@@ -1,3 +1,4 @@
+pub mod Counted
 pub mod Durations
 pub mod Family
 pub mod Figures

@@ -13,6 +13,7 @@ use Rattle.relay_metrics.specs.declared.figures.Figures.{Figures}
 use Rattle.relay_metrics.specs.declared.figures.Refusals.{Refusals}
 use Rattle.relay_metrics.specs.declared.figures.RuleFigures.{RuleFigures}
 use Rattle.relay_metrics.specs.declared.figures.TargetFigures.{TargetFigures}
+use Rattle.relay_metrics.specs.Counted.{counters_text}
 use Rattle.relay_metrics.specs.Family.{head_text, name_text}
 use Rattle.relay_metrics.specs.Histogram.{histogram_text}
 use Rattle.relay_metrics.specs.Sample.{escaped, rule_sample_text, sample_text, seconds_text}
@@ -123,10 +124,8 @@ rule_family_text f rules = head_text f ++ flat_map (of_rule f) rules
 -- the families of the relay itself
 unfoldable pub relay_text : Figures → List ℕ
 relay_text f = up_text f.up_ms ++ (single_text family.Loops (length f.turns.items)
-    ++ (turns_text f.turns.items ++ (single_text family.AdminSessions f.admin_sessions
-    ++ (single_text family.AdminDroppedSessions f.admin_dropped_sessions
-    ++ (single_text family.ConnectionsLimit f.connections_limit
-    ++ single_text family.Reloads f.reloads)))))
+    ++ (turns_text f.turns.items ++ (single_text family.ConnectionsLimit f.connections_limit
+    ++ counters_text f.counts)))
 
 -- the families of all that it carried and said
 unfoldable pub totals_text : Figures → List ℕ

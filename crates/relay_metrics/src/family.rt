@@ -1,5 +1,5 @@
 //! The families of a relay's figures, by their names, what is said of them, and of which kind they
-//! are.
+//! are. Those of what is counted of the whole relay stand in `counted`.
 
 ghost use Rattle.std.specs.Prelude.{◌≡◌, ◌++◌, OnOk};
 ghost use Rattle.relay_metrics.specs.Family.{name_text, help_text, kind_text};
@@ -14,10 +14,7 @@ pub(crate) enum Family {
     Up,
     Loops,
     Turns,
-    AdminSessions,
-    AdminDroppedSessions,
     ConnectionsLimit,
-    Reloads,
     Bytes,
     LogLines,
     LogLostLines,
@@ -46,10 +43,7 @@ impl Family {
             Family::Up => b"pollrelay_up_seconds",
             Family::Loops => b"pollrelay_loops",
             Family::Turns => b"pollrelay_turns_total",
-            Family::AdminSessions => b"pollrelay_admin_sessions_total",
-            Family::AdminDroppedSessions => b"pollrelay_admin_dropped_sessions_total",
             Family::ConnectionsLimit => b"pollrelay_connections_limit",
-            Family::Reloads => b"pollrelay_reloads_total",
             Family::Bytes => b"pollrelay_bytes_total",
             Family::LogLines => b"pollrelay_log_lines_total",
             Family::LogLostLines => b"pollrelay_log_lost_lines_total",
@@ -78,12 +72,7 @@ impl Family {
             Family::Up => b"Seconds since the relay began.",
             Family::Loops => b"Event loops.",
             Family::Turns => b"Turns of each event loop.",
-            Family::AdminSessions => b"Admin sessions that began.",
-            Family::AdminDroppedSessions => {
-                b"Admin sessions that gave way to another, or for which there was no memory."
-            }
             Family::ConnectionsLimit => b"The most connections that may stand at once.",
-            Family::Reloads => b"Times that the rules were put in force anew.",
             Family::Bytes => b"Bytes written to targets (up) and to clients (down).",
             Family::LogLines => b"Lines that went to the log.",
             Family::LogLostLines => b"Lines that found no room on their way to the log.",
@@ -134,8 +123,9 @@ impl Family {
     }
 }
 
+/// A line that says something of a name.
 #[tactic(auto, unfolding(crate::specs::Family::comment_text))]
-fn write_comment<A: Allocator>(
+pub(crate) fn write_comment<A: Allocator>(
     into: &mut Vec<u8, A>,
     word: &[u8],
     name: &[u8],

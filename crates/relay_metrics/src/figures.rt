@@ -4,6 +4,7 @@ ghost use Rattle.std.specs.Prelude.{◌≡◌};
 ghost use Rattle.relay_metrics.specs.Figures.{IsBlank};
 ghost use Rattle.relay_metrics.specs.Figures.{all_have_targets, all_listen, health_of};
 
+use crate::counted::COUNTS;
 use crate::durations::{CONNECT_PLACES, Durations, STANDING_PLACES};
 use arrayvec::ArrayString;
 use relay_log::ended::{CAUSES, ENDS};
@@ -104,12 +105,10 @@ pub struct Figures {
     pub up_ms: u64,
     /// The turns of each loop, by its place.
     pub turns: Vec<u64>,
-    pub admin_sessions: u64,
-    /// Those that gave way to another, or for which there was no memory.
-    pub admin_dropped_sessions: u64,
     /// The most connections that may stand at once.
     pub connections_limit: u64,
-    pub reloads: u64,
+    /// What is counted of the whole relay, by the places of `Counted`.
+    pub counts: [u64; COUNTS],
     pub bytes: CarriedBytes,
     /// The lines that went to the log; 0 where none is written.
     pub log_lines: u64,
@@ -128,10 +127,8 @@ impl Figures {
         Figures {
             up_ms: 0,
             turns: Vec::new(alloc),
-            admin_sessions: 0,
-            admin_dropped_sessions: 0,
             connections_limit: 0,
-            reloads: 0,
+            counts: [0; COUNTS],
             bytes: CarriedBytes { up: 0, down: 0 },
             log_lines: 0,
             log_lost_lines: 0,

@@ -1,10 +1,11 @@
 //! What a relay tells of itself: a snapshot of its figures, and the text that Prometheus reads. No
 //! thread, no socket and no clock.
 //!
-//! `figures` has the snapshot, `durations` what it knows of those, `family` the names, `metered` who fills
-//! it, `sample` and `text` the text.
+//! `figures` has the snapshot, `durations` what it knows of those, `counted` what is counted of the whole
+//! relay, `family` the other names, `metered` who fills it, `sample` and `text` the text.
 #![tactic(auto)]
 
+mod counted;
 mod durations;
 mod family;
 mod figures;
@@ -15,6 +16,7 @@ mod sample;
 mod target_text;
 mod text;
 
+pub use counted::{COUNTS, Counted};
 pub use durations::{
     CONNECT_BOUNDS_MS, CONNECT_PLACES, Durations, STANDING_BOUNDS_MS, STANDING_PLACES, bound_place,
 };

@@ -4,6 +4,7 @@ ghost use Rattle.std.specs.Prelude.{◌≡◌, ◌++◌, IfOk, OnOk};
 ghost use Rattle.relay_metrics.specs.Text.{bytes_text, metrics_text, relay_text, totals_text};
 ghost use Rattle.relay_metrics.specs.Text.{turns_text, up_text};
 
+use crate::counted::write_counters;
 use crate::family::Family;
 use crate::figures::{CarriedBytes, Figures};
 use crate::rule_text::{write_durations, write_rules};
@@ -36,14 +37,8 @@ impl Figures {
         write_up(into, self.up_ms)?;
         write_single(into, Family::Loops, self.turns.len() as u64)?;
         write_turns(into, self.turns.as_slice())?;
-        write_single(into, Family::AdminSessions, self.admin_sessions)?;
-        write_single(
-            into,
-            Family::AdminDroppedSessions,
-            self.admin_dropped_sessions,
-        )?;
         write_single(into, Family::ConnectionsLimit, self.connections_limit)?;
-        write_single(into, Family::Reloads, self.reloads)
+        write_counters(into, &self.counts)
     }
 
     #[tactic(auto, unfolding(crate::specs::Text::totals_text))]

@@ -31,10 +31,8 @@ impl<R: Wait + Clock + Copy> RelayFigures<R> {
     {
         let shared = &self.shared;
         figures.up_ms = RelayClock::new(self.rt, self.start).now() / 1_000_000;
-        figures.admin_sessions = shared.sessions.get();
-        figures.admin_dropped_sessions = shared.dropped_sessions.get();
         figures.connections_limit = shared.limit.count as u64;
-        figures.reloads = shared.reloads.get();
+        figures.counts = shared.counts.numbers();
         let totals = totals_of(shared.loops.as_slice());
         figures.bytes = CarriedBytes {
             up: totals.up.bytes,

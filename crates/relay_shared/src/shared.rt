@@ -28,8 +28,8 @@ use relay_admin::ServeFault;
 use relay_core::{MAX_LOOPS, PairLimit, place_of_pair};
 use relay_facts::config::{Config, Start};
 use relay_facts::connection_facts::Acceptance;
-use relay_facts::counts::Counter;
 use relay_facts::log_lines::tell_refused;
+use relay_facts::relay_counts::RelayCounts;
 use relay_facts::safeguards::Safeguards;
 use relay_facts::served_rule::ServedRule;
 use relay_log::ended::Ended;
@@ -62,10 +62,7 @@ pub struct Shared {
     /// last. It is never unset.
     pub is_finishing: AtomicBool,
     pub log: Option<Arc<Log>>,
-    pub sessions: Counter,
-    /// Of these, those for which there was no place.
-    pub dropped_sessions: Counter,
-    pub reloads: Counter,
+    pub counts: RelayCounts,
 }
 
 /// What a relay's threads share, where nobody has stopped, and no entry stands: by what it was asked
@@ -103,9 +100,7 @@ pub fn shared_of(
         limit: capacity.pairs,
         safeguards,
         log,
-        sessions: Counter::new(),
-        dropped_sessions: Counter::new(),
-        reloads: Counter::new(),
+        counts: RelayCounts::new(),
     };
     Ok(Arc::new(alloc, shared)?)
 }

@@ -10,6 +10,8 @@ from lib.pages.rust import functions
 from lib.pages.tree import GUIDE
 
 FAMILIES = "crates/relay_metrics/src/family.rt"
+# What is counted of the whole relay: counters without a label.
+COUNTED = "crates/relay_metrics/src/counted.rt"
 ENDED = "crates/relay_log/src/ended.rt"
 TEXTS = ("crates/relay_metrics/src/text.rt", "crates/relay_metrics/src/rule_text.rt", "crates/relay_metrics/src/target_text.rt")
 # What writes a histogram, whose figures have a name for each part.
@@ -32,7 +34,9 @@ def families(tree):
     kinds = dict(re.findall(r'Family::(\w+) => b"([^"]+)"', bodies["kind"]))
     usual = re.search(r'_ => b"([^"]+)"', bodies["kind"])
     found = labels(tree)
-    return {it: Family(name, kinds.get(it) or usual[1], found.get(it, {})) for it, name in names.items()}
+    counted = re.findall(r'Counted::(\w+) => b"([^"]+)"', functions(tree.text(COUNTED))["name"])
+    own = {it: Family(name, kinds.get(it) or usual[1], found.get(it, {})) for it, name in names.items()}
+    return own | {it: Family(name, "counter", {}) for it, name in counted}
 
 
 def labels(tree):

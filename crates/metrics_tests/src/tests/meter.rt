@@ -4,7 +4,7 @@ use arrayvec::ArrayString;
 use base_types::OutOfMemory;
 use relay_log::ended::{CAUSES, ENDS};
 use relay_metrics::{
-    CONNECT_PLACES, CarriedBytes, Durations, Figures, Metered, Refusals, RuleFigures,
+    CONNECT_PLACES, CarriedBytes, Counted, Durations, Figures, Metered, Refusals, RuleFigures,
     STANDING_PLACES, TargetFigures,
 };
 use std::alloc::Global;
@@ -94,10 +94,8 @@ fn fill(figures: &mut Figures) -> Option<()> {
     figures.up_ms = 83_045;
     figures.turns.push(1_000).ok()?;
     figures.turns.push(7).ok()?;
-    figures.admin_sessions = 2;
-    figures.admin_dropped_sessions = 1;
     figures.connections_limit = 512;
-    figures.reloads = 1;
+    figures.counts = [2, 1, 3];
     figures.bytes = CarriedBytes { up: 202, down: 303 };
     figures.log_lines = 40;
     figures.log_lost_lines = 4;
@@ -140,7 +138,7 @@ impl Meter {
 impl Metered for Meter {
     fn read(&self, figures: &mut Figures) -> Result<(), OutOfMemory> {
         let before = self.reads.fetch_add(1, Ordering::SeqCst);
-        figures.admin_sessions = before.saturating_add(1);
+        figures.counts[Counted::AdminSessions.place()] = before.saturating_add(1);
         if before < self.refuses {
             return Err(OutOfMemory);
         }

@@ -4,7 +4,7 @@ use super::meter::Meter;
 use super::text::is_in;
 use http_server::{Config, Connection, serve};
 use metrics_server::MetricsService;
-use relay_metrics::Figures;
+use relay_metrics::{Counted, Figures};
 use std::alloc::Global;
 use std::hash::RandomState;
 
@@ -14,7 +14,7 @@ pub(super) const FIGURES: &str = "content-type: text/plain; version=0.0.4; chars
 /// The page of figures of a meter that was read so often.
 pub(super) fn page_of(alloc: Global, reads: u64) -> Option<String> {
     let mut figures = Figures::new(alloc);
-    figures.admin_sessions = reads;
+    figures.counts[Counted::AdminSessions.place()] = reads;
     String::from_utf8(figures.text(alloc).ok()?).ok()
 }
 

@@ -16,18 +16,18 @@ pollrelay_loops 2\n\
 # TYPE pollrelay_turns_total counter\n\
 pollrelay_turns_total{loop=\"0\"} 1000\n\
 pollrelay_turns_total{loop=\"1\"} 7\n\
+# HELP pollrelay_connections_limit The most connections that may stand at once.\n\
+# TYPE pollrelay_connections_limit gauge\n\
+pollrelay_connections_limit 512\n\
 # HELP pollrelay_admin_sessions_total Admin sessions that began.\n\
 # TYPE pollrelay_admin_sessions_total counter\n\
 pollrelay_admin_sessions_total 2\n\
 # HELP pollrelay_admin_dropped_sessions_total Admin sessions that gave way to another, or for which there was no memory.\n\
 # TYPE pollrelay_admin_dropped_sessions_total counter\n\
 pollrelay_admin_dropped_sessions_total 1\n\
-# HELP pollrelay_connections_limit The most connections that may stand at once.\n\
-# TYPE pollrelay_connections_limit gauge\n\
-pollrelay_connections_limit 512\n\
 # HELP pollrelay_reloads_total Times that the rules were put in force anew.\n\
 # TYPE pollrelay_reloads_total counter\n\
-pollrelay_reloads_total 1\n\
+pollrelay_reloads_total 3\n\
 # HELP pollrelay_bytes_total Bytes written to targets (up) and to clients (down).\n\
 # TYPE pollrelay_bytes_total counter\n\
 pollrelay_bytes_total{way=\"up\"} 202\n\
@@ -191,9 +191,9 @@ pollrelay_target_connect_failures_total{rule=\"web\",target=\"tcp:127.0.0.1:81\"
 const NOTHING_YET: [&str; 10] = [
     "pollrelay_up_seconds 0.000",
     "pollrelay_loops 0",
+    "pollrelay_connections_limit 0",
     "pollrelay_admin_sessions_total 0",
     "pollrelay_admin_dropped_sessions_total 0",
-    "pollrelay_connections_limit 0",
     "pollrelay_reloads_total 0",
     "pollrelay_bytes_total{way=\"up\"} 0",
     "pollrelay_bytes_total{way=\"down\"} 0",
