@@ -4,7 +4,7 @@
 //! |---|---|
 //! | a command | `command`: its variant and its row, and its row of `words_of` |
 //! | an end by a command | `end`: how it is told; `command`: `Command::end`, and `end_of` |
-//! | a question to a desk | `session_desk`: the question, its row; `answers`: its answers' type; `relay_workers`: the same of `Desk` |
+//! | a question to a desk | `session_desk`: the question, its row; `answers`: its answers' type |
 //! | a question that is answered later | `session_desk`: an `Option`; `answers`: its variant of `LateAnswer` |
 //! | a reply | `reply_text`: its words; `reply`: which answer has it |
 //! | a reply that refuses | `refusal`: its first word, if it is none of those there |

@@ -2,11 +2,11 @@
 
 ghost use Rattle.std.specs.Prelude.{◌≡◌, OnErr, OnOk, true};
 ghost use Rattle.stream_base.specs.Attempt.{WriteStopped};
-ghost use Rattle.relay_admin.specs.admin.Parts.{PartComes, left_of, said_of};
+ghost use Rattle.relay_admin.specs.admin.Parts.{left_of, said_of};
 ghost use Rattle.relay_workers.specs.Answering.{Delivers, DeliversFront};
 
 use crate::desk::Desk;
-use relay_admin::{LineReply, Listing, NextPart, Part, part_of, target_part_of};
+use relay_admin::{LineReply, Listing, Part};
 use std::alloc::Allocator;
 use stream_base::sink::{Sink, SinkFault, deliver_to};
 
@@ -55,7 +55,7 @@ fn deliver_each<A: Allocator + Copy, K: Sink, D: Desk>(
 {
     let mut listing = listing;
     'parts: loop {
-        match next_part(memory, desk, &mut listing) {
+        match listing.next_part(memory, desk) {
             Part::Gone => {}
             Part::Line(reply) => match deliver_to(sink, reply.as_slice()) {
                 Ok(()) => {}
@@ -63,21 +63,5 @@ fn deliver_each<A: Allocator + Copy, K: Sink, D: Desk>(
             },
             Part::Last(reply) => return deliver_to(sink, reply.as_slice()),
         }
-    }
-}
-
-// The next part of a listing, for which the desk is asked for one look at most.
-fn next_part<A: Allocator + Copy, D: Desk>(
-    memory: A,
-    desk: &mut D,
-    listing: &mut Listing,
-) -> Part<A>
-    ensures { PartComes result (left_of listing.old) (left_of listing.new)
-        (D.exchanges desk.old) (D.exchanges desk.new) }
-{
-    match listing.begin_part() {
-        NextPart::Made(part) => part,
-        NextPart::LookAt(id) => part_of(memory, desk.look(id)),
-        NextPart::LookAtTarget(number) => target_part_of(memory, desk.look_at_target(number)),
     }
 }

@@ -5,8 +5,8 @@ ghost use Rattle.relay_admin.specs.declared.admin.dialogue.TheConstants.{MAX_LIN
 ghost use Rattle.relay_admin.specs.admin.Parts.{said_of};
 ghost use Rattle.relay_admin.specs.admin.Progress.{AnswersLine};
 
-use crate::desk::{Desk, ask};
-use relay_admin::{AdminEnd, LineIs, LineReply, line_is, line_reply_to};
+use crate::desk::Desk;
+use relay_admin::{AdminEnd, LineReply, NextLine, ask_line};
 use std::alloc::{Allocator, Global};
 
 /// Answers a line without its line feed: the reply, and how the session ends by it, if it does.
@@ -21,11 +21,11 @@ pub(crate) fn answer_line<A: Allocator + Copy, D: Desk>(
     ensures { AnswersLine (D.exchanges desk.old) (D.exchanges desk.new)
         line.now (said_of result.0) result.1 }
 {
-    match line_is(line) {
-        LineIs::Answered(reply, end) => (reply, end),
-        LineIs::Asks(command) => {
-            let answer = ask(alloc, desk, &command);
-            (line_reply_to(memory, &command, answer), None)
-        }
+    match ask_line(alloc, memory, desk, line) {
+        NextLine::Reply(reply, end) => (reply, end),
+        // (the line is whole)
+        NextLine::Unended => unreachable!(),
+        // (the desk has each answer at once)
+        NextLine::Held(_) => unreachable!(),
     }
 }

@@ -1,10 +1,10 @@
 //! What one line of a session asks, and its reply.
 
-ghost use Rattle.std.specs.Prelude.{◌≤◌};
+ghost use Rattle.std.specs.Prelude.{◌≤◌, IfSome};
 ghost use Rattle.relay_admin.specs.Words.{length};
 ghost use Rattle.relay_admin.specs.declared.admin.dialogue.TheConstants.{MAX_LINE_BYTES};
 ghost use Rattle.relay_admin.specs.admin.LineMeaning.{LineMeans};
-ghost use Rattle.relay_admin.specs.admin.Later.{LineComesBy};
+ghost use Rattle.relay_admin.specs.admin.Later.{LineComesBy, held_by};
 
 use crate::admin::command::Command;
 use crate::admin::end::AdminEnd;
@@ -17,7 +17,7 @@ use std::alloc::{Allocator, Global};
 
 /// What a line is to a session.
 #[derive(Drop)]
-pub enum LineIs<A: Allocator> {
+pub(crate) enum LineIs<A: Allocator> {
     /// It asks nothing: its reply, and how the session ends by it, if it does.
     Answered(LineReply<A>, Option<AdminEnd>),
     /// It asks this.
@@ -25,7 +25,7 @@ pub enum LineIs<A: Allocator> {
 }
 
 /// What a line without its line feed is.
-pub fn line_is<A: Allocator>(line: &[u8]) -> LineIs<A>
+pub(crate) fn line_is<A: Allocator>(line: &[u8]) -> LineIs<A>
     requires { length line.now ≤ MAX_LINE_BYTES }
     ensures { LineMeans result line.now }
 {
@@ -40,14 +40,15 @@ pub fn line_is<A: Allocator>(line: &[u8]) -> LineIs<A>
 
 /// What comes of a line without its line feed, at a desk that may answer later. The desk may take
 /// memory of `alloc`, the reply of `memory`.
-pub(crate) fn ask_line<A: Allocator + Copy, D: SessionDesk>(
+pub fn ask_line<A: Allocator + Copy, D: SessionDesk>(
     alloc: Global,
     memory: A,
     desk: &mut D,
     line: &[u8],
 ) -> NextLine<A>
     requires { length line.now ≤ MAX_LINE_BYTES }
-    ensures { LineComesBy result (D.exchanges desk.old) (D.exchanges desk.new) line.now }
+    ensures does { LineComesBy result (D.exchanges desk.old) (D.exchanges desk.new) line.now }
+    ensures late { IfSome (held_by result) (λ question. D.later question) }
 {
     match line_is(line) {
         LineIs::Answered(reply, end) => NextLine::Reply(reply, end),

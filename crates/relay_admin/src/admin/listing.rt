@@ -55,7 +55,7 @@ pub enum Part<A: Allocator> {
 
 /// How the next part of a listing begins.
 #[derive(Drop)]
-pub enum NextPart<A: Allocator> {
+pub(crate) enum NextPart<A: Allocator> {
     /// It is made, and nobody is asked.
     Made(Part<A>),
     /// It shows this id, once that was looked at.
@@ -120,7 +120,7 @@ impl Listing {
 
     /// Begins the next part: it is made, or an id is to be looked at, of which `part_of` makes it, or a
     /// target, of which `target_part_of` does.
-    pub fn begin_part<A: Allocator>(&mut self) -> NextPart<A>
+    pub(crate) fn begin_part<A: Allocator>(&mut self) -> NextPart<A>
         ensures made { IfMade result (λ part. (asked : Option (List Exchange))
             → PartComes part (left_of self.old) (left_of self.new) asked asked) }
         ensures look { IfLooksAt result (λ id.
@@ -173,7 +173,7 @@ impl Listing {
 }
 
 /// The part of an id for which this was seen: its line, or the last one where memory was refused.
-pub fn part_of<A: Allocator + Copy>(memory: A, seen: Option<Shown>) -> Part<A>
+pub(crate) fn part_of<A: Allocator + Copy>(memory: A, seen: Option<Shown>) -> Part<A>
     ensures { IsPartOfLook result (option_map (λ seen. side_seen (particulars_of seen)) seen) }
 {
     match seen {
@@ -183,7 +183,7 @@ pub fn part_of<A: Allocator + Copy>(memory: A, seen: Option<Shown>) -> Part<A>
 }
 
 /// The same of a target.
-pub fn target_part_of<A: Allocator + Copy>(memory: A, seen: Option<ShownTarget>) -> Part<A>
+pub(crate) fn target_part_of<A: Allocator + Copy>(memory: A, seen: Option<ShownTarget>) -> Part<A>
     ensures { IsPartOfLook result (option_map (λ seen. target_seen (facts_of seen)) seen) }
 {
     match seen {

@@ -1,7 +1,8 @@
-//! The desk of a program that has many sessions: it may answer a close, a drain and a deadline later,
-//! where it has to wait for another thread.
+//! The desk of a program that has sessions: it may answer a close, a drain and a deadline later, where
+//! it has to wait for another thread.
 
 ghost use Rattle.std.specs.Prelude.{◌≡◌, List, Option, None, IfNone, IfSome, option_map};
+ghost use Rattle.relay_admin.specs.declared.admin.command.Command.{Command};
 ghost use Rattle.relay_admin.specs.declared.admin.command.Command.TheVariants as commands;
 ghost use Rattle.relay_admin.specs.admin.Answers.{of_close, of_ids, of_reload, of_show, of_steer};
 ghost use Rattle.relay_admin.specs.admin.Answers.{of_setting, of_totals};
@@ -23,14 +24,17 @@ use crate::admin::target_order::TargetOrder;
 use base_types::OutOfMemory;
 use std::alloc::Global;
 
-/// What an `AdminSession` asks: once for each line that asks something,
-/// in the order of the lines, and for nothing else. Each question has a type of answers. Where
-/// `close`, `drain` or `deadline` answer `None`, the answer comes later, by `AdminSession::answer`;
-/// until then the session asks nothing more.
+/// What a session asks: once for each line that asks something, in the order of the lines, and for
+/// nothing else. Each question has a type of answers. Where `close`, `drain` or `deadline` answer
+/// `None`, the answer comes later, by `AdminSession::answer`; until then the session asks nothing
+/// more.
 pub trait SessionDesk {
     // The questions so far with their answers, where the desk still tells them. A question that is
     // answered later isn't among them.
     ghost exchanges: { Self → Option (List Exchange) };
+
+    // The questions that it may answer later.
+    ghost later: { Command → Type 0 } = { λ _. Unit {0} };
 
     /// The ids of all connections and listeners, rising.
     fn ids(&mut self, alloc: Global) -> Result<Vec<u64>, OutOfMemory>
@@ -44,20 +48,23 @@ pub trait SessionDesk {
 
     /// Closes the connection or listener with this id.
     fn close(&mut self, id: u64) -> Option<CloseAnswer>
-        ensures { MayExchange (exchanges self.old) (exchanges self.new)
-            (commands.CloseConn id) (option_map (λ answer. of_close answer) result) };
+        ensures told { MayExchange (exchanges self.old) (exchanges self.new)
+            (commands.CloseConn id) (option_map (λ answer. of_close answer) result) }
+        ensures late { IfNone result (later (commands.CloseConn id)) };
 
     /// Drains the connection or listener with this id: what was begun on it ends as it would,
     /// nothing new is begun, and a close still works.
     fn drain(&mut self, id: u64) -> Option<SteerAnswer>
-        ensures { MayExchange (exchanges self.old) (exchanges self.new)
-            (commands.DrainConn id) (option_map (λ answer. of_steer answer) result) };
+        ensures told { MayExchange (exchanges self.old) (exchanges self.new)
+            (commands.DrainConn id) (option_map (λ answer. of_steer answer) result) }
+        ensures late { IfNone result (later (commands.DrainConn id)) };
 
     /// Sets the deadline of both directions to `after_ms` milliseconds from now, 0 being expired at
     /// once and a moment past the greatest `u64` the greatest; or, at `None`, to none.
     fn deadline(&mut self, alloc: Global, id: u64, after_ms: Option<u32>) -> Option<SteerAnswer>
-        ensures { MayExchange (exchanges self.old) (exchanges self.new)
-            (commands.DeadlineOf id after_ms) (option_map (λ answer. of_steer answer) result) };
+        ensures told { MayExchange (exchanges self.old) (exchanges self.new)
+            (commands.DeadlineOf id after_ms) (option_map (λ answer. of_steer answer) result) }
+        ensures late { IfNone result (later (commands.DeadlineOf id after_ms)) };
 
     /// What is known of the connection or listener with this id, if there is one.
     fn show(&mut self, id: u64) -> Option<Shown>
@@ -117,6 +124,7 @@ pub(crate) fn ask_session_desk<D: SessionDesk>(
         command.now (option_map (λ answer. answer_of answer) result) }
     ensures asked { IfSome result (λ answer. HasAskedId command.now (answer_of answer)) }
     ensures later { IfNone result (MayBeLater command.now) }
+    ensures late { IfNone result (D.later command.now) }
 {
     match *command {
         Command::List => Some(ids_told(desk.ids(alloc))),

@@ -1,16 +1,14 @@
 //! A desk for tests.
 
 ghost use Rattle.std.specs.Prelude.{◌≡◌, None};
-ghost use Rattle.relay_admin.specs.declared.admin.command.Command.TheVariants as commands;
-ghost use Rattle.relay_admin.specs.admin.Reply.{HasAskedId, answer_of};
 
 use arrayvec::ArrayString;
 use relay_admin::{
-    Addr, DeskAnswer, LastFailure, Order, RulesFault, Shown, ShownSide, ShownTarget, TargetOrder,
-    TargetState, Verdict,
+    Addr, CloseAnswer, LastFailure, Order, ReloadAnswer, RulesFault, SessionDesk, Shown, ShownSide,
+    ShownTarget, SteerAnswer, TargetAnswer, TargetOrder, TargetState, TotalBytes, Verdict,
 };
 use relay_workers::Desk;
-use std::alloc::Global;
+use std::alloc::{AllocError, Global};
 
 /// A text in a value of its own, and none of it where it is too long.
 pub(super) fn held<const N: usize>(text: &str) -> ArrayString<N> {
@@ -93,69 +91,71 @@ pub(super) struct FakeDesk {
 }
 
 impl FakeDesk {
-    fn answer(&mut self, id: u64) -> DeskAnswer
-        ensures { HasAskedId (commands.Show id) (answer_of result) }
-    {
+    fn count(&mut self) {
         self.asked = self.asked.saturating_add(1);
+    }
+
+    fn steered(&mut self, id: u64) -> SteerAnswer {
+        self.count();
+        if id == 1 && self.is_drained {
+            return SteerAnswer::Draining;
+        }
         match id {
-            1 | 3 => DeskAnswer::Fine,
-            2 => DeskAnswer::Closed,
-            4 => DeskAnswer::NoMemory,
-            5 => DeskAnswer::Busy,
-            6 => DeskAnswer::Draining,
-            _ => DeskAnswer::Unknown,
+            1 | 3 => SteerAnswer::Fine,
+            2 => SteerAnswer::Closed,
+            4 => SteerAnswer::NoMemory,
+            5 => SteerAnswer::Busy,
+            _ => SteerAnswer::Unknown,
         }
     }
 }
 
-impl Desk for FakeDesk {
+impl SessionDesk for FakeDesk {
     ghost exchanges = { λ _. None };
 
-    fn ids(&mut self, alloc: Global) -> DeskAnswer {
-        self.asked = self.asked.saturating_add(1);
-        match Vec::from_slice(alloc, self.ids) {
-            Ok(ids) => DeskAnswer::Ids(ids),
-            Err(_) => DeskAnswer::NoMemory,
-        }
+    ghost later = { λ _. ⊥ };
+
+    fn ids(&mut self, alloc: Global) -> Result<Vec<u64>, AllocError> {
+        self.count();
+        Vec::from_slice(alloc, self.ids)
     }
 
-    fn totals(&mut self) -> DeskAnswer {
-        self.asked = self.asked.saturating_add(1);
-        DeskAnswer::Totals(12, 0)
+    fn totals(&mut self) -> TotalBytes {
+        self.count();
+        TotalBytes { up: 12, down: 0 }
     }
 
-    fn close(&mut self, id: u64) -> DeskAnswer {
-        self.answer(id)
+    fn close(&mut self, id: u64) -> Option<CloseAnswer> {
+        self.count();
+        Some(match id {
+            1 | 3 => CloseAnswer::Fine,
+            2 => CloseAnswer::Closed,
+            4 => CloseAnswer::NoMemory,
+            5 => CloseAnswer::Busy,
+            _ => CloseAnswer::Unknown,
+        })
     }
 
-    fn drain(&mut self, id: u64) -> DeskAnswer {
-        if id == 1 && self.is_drained {
-            return self.answer(6);
-        }
+    fn drain(&mut self, id: u64) -> Option<SteerAnswer> {
+        let answer = self.steered(id);
         self.is_drained = self.is_drained || id == 1;
-        self.answer(id)
+        Some(answer)
     }
 
-    fn deadline(&mut self, _alloc: Global, id: u64, _after_ms: Option<u32>) -> DeskAnswer {
-        if id == 1 && self.is_drained {
-            return self.answer(6);
-        }
-        self.answer(id)
+    fn deadline(&mut self, _alloc: Global, id: u64, _after_ms: Option<u32>) -> Option<SteerAnswer> {
+        Some(self.steered(id))
     }
 
-    fn finish(&mut self, _after_ms: u64) -> DeskAnswer {
-        self.answer(1)
+    fn finish(&mut self, _after_ms: u64) {
+        self.count();
     }
 
-    fn show(&mut self, id: u64) -> DeskAnswer {
-        if id == 7 {
-            self.asked = self.asked.saturating_add(1);
-            return DeskAnswer::Shown(sight(id));
-        }
-        self.answer(id)
+    fn show(&mut self, id: u64) -> Option<Shown> {
+        self.count();
+        if id == 7 { Some(sight(id)) } else { None }
     }
 
-    fn ids_to_show(&mut self, alloc: Global) -> DeskAnswer {
+    fn ids_to_show(&mut self, alloc: Global) -> Result<Vec<u64>, AllocError> {
         self.ids(alloc)
     }
 
@@ -163,20 +163,20 @@ impl Desk for FakeDesk {
         if id == 2 { None } else { Some(sight(id)) }
     }
 
-    fn reload(&mut self, _alloc: Global) -> DeskAnswer {
-        self.asked = self.asked.saturating_add(1);
+    fn reload(&mut self, _alloc: Global) -> ReloadAnswer {
+        self.count();
         self.reloads = self.reloads.saturating_add(1);
         match self.reloads {
-            1 => DeskAnswer::Verdict(Verdict::Rules(2)),
-            2 => DeskAnswer::Verdict(Verdict::Bad(RulesFault::SameName(65_536))),
-            3 => DeskAnswer::CannotRead,
-            4 => DeskAnswer::CannotListen(held("web-2")),
-            5 => DeskAnswer::NoMemory,
-            _ => DeskAnswer::Closed,
+            1 => ReloadAnswer::Verdict(Verdict::Rules(2)),
+            2 => ReloadAnswer::Verdict(Verdict::Bad(RulesFault::SameName(65_536))),
+            3 => ReloadAnswer::CannotRead,
+            4 => ReloadAnswer::CannotListen(held("web-2")),
+            5 => ReloadAnswer::NoMemory,
+            _ => ReloadAnswer::Finishing,
         }
     }
 
-    fn targets_to_show(&mut self, alloc: Global) -> DeskAnswer {
+    fn targets_to_show(&mut self, alloc: Global) -> Result<Vec<u64>, AllocError> {
         self.ids(alloc)
     }
 
@@ -188,14 +188,18 @@ impl Desk for FakeDesk {
         }
     }
 
-    fn set_target(&mut self, order: TargetOrder) -> DeskAnswer {
-        self.asked = self.asked.saturating_add(1);
+    fn set_target(&mut self, order: TargetOrder) -> TargetAnswer {
+        self.count();
         if order.rule() != b"web".as_slice() {
-            return DeskAnswer::UnknownRule;
+            return TargetAnswer::UnknownRule;
         }
         if order.target() == b"tcp:10.0.0.11:8443".as_slice() || order.target() == b"1".as_slice() {
-            return DeskAnswer::Fine;
+            return TargetAnswer::Fine;
         }
-        DeskAnswer::UnknownTarget
+        TargetAnswer::UnknownTarget
     }
+}
+
+impl Desk for FakeDesk {
+    ghost at_once = { λ question is. is };
 }

@@ -14,7 +14,7 @@ invariant-answers g l = record {
   same : g.K.Sink.stays l.initial.sink l.sink;
   answered :
       Answered (position l.initial.dialogue) (position l.dialogue) (ahead_of l.initial.dialogue) (ahead_of l.dialogue)
-      (g.D.Desk.exchanges l.initial.desk) (g.D.Desk.exchanges l.desk) (g.K.Sink.contents l.initial.sink)
+      (g.D.SessionDesk.exchanges l.initial.desk) (g.D.SessionDesk.exchanges l.desk) (g.K.Sink.contents l.initial.sink)
       (g.K.Sink.contents l.sink);
 }
 

@@ -14,7 +14,7 @@ returns-in-Some-clause-does g c =
     reply_ends c.in-Some.end c.args.dialogue.now.number c.args.dialogue.now.lines.held _ _ _ _ _ _
     (said_of c.reply_to_line-reply.result.0)
     (subst (λ end. ReplyComesTo end (position c.args.dialogue.now) (position c.reply_to_line-reply.new.dialogue)
-    (g.D.Desk.exchanges c.args.desk.now) (g.D.Desk.exchanges c.reply_to_line-reply.new.desk)
+    (g.D.SessionDesk.exchanges c.args.desk.now) (g.D.SessionDesk.exchanges c.reply_to_line-reply.new.desk)
     (said_of c.reply_to_line-reply.result.0)) c.in-Some.is c.reply_to_line-reply.ensures.does)
     c.in_default.ensures.ok
 
@@ -23,6 +23,6 @@ returns-in-None-clause-does g c =
     reply_goes_on (position c.args.dialogue.now) (position c.reply_to_line-reply.new.dialogue) _ _ _ _ _
     (said_of c.reply_to_line-reply.result.0)
     (subst (λ end. ReplyComesTo end (position c.args.dialogue.now) (position c.reply_to_line-reply.new.dialogue)
-    (g.D.Desk.exchanges c.args.desk.now) (g.D.Desk.exchanges c.reply_to_line-reply.new.desk)
+    (g.D.SessionDesk.exchanges c.args.desk.now) (g.D.SessionDesk.exchanges c.reply_to_line-reply.new.desk)
     (said_of c.reply_to_line-reply.result.0)) c.in-None.is c.reply_to_line-reply.ensures.does)
     c.in_default.ensures.ok

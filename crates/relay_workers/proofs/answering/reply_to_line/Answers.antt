@@ -8,6 +8,6 @@ pub returns-clause-does : goal.returns-clause-does
 returns-clause-does g c =
     reply_comes c.answer_line-reply.result.1 c.go_behind_line-end.result (position c.args.dialogue.now)
     (position c.go_behind_line-end.new.self) _ _ (said_of c.answer_line-reply.result.0)
-    (subst (λ line. AnswersLine (g.D.Desk.exchanges c.args.desk.now)
-    (g.D.Desk.exchanges c.answer_line-reply.new.desk) line (said_of c.answer_line-reply.result.0)
+    (subst (λ line. AnswersLine (g.D.SessionDesk.exchanges c.args.desk.now)
+    (g.D.SessionDesk.exchanges c.answer_line-reply.new.desk) line (said_of c.answer_line-reply.result.0)
     c.answer_line-reply.result.1) c.line.ensures.bytes c.answer_line-reply.ensures) c.go_behind_line-end.ensures.goes

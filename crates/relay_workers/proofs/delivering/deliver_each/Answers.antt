@@ -16,7 +16,7 @@ parts-preserved-in-Gone g c = record {
   uninterrupted = c.parts.invariant.uninterrupted;
   same = c.parts.invariant.same;
   so_far =
-      so_far_gone g.row.A.Denot (left_of c.args.listing) (left_of c.parts.listing) (left_of c.next_part.new.listing) _ _ _ _ _
+      so_far_gone g.row.A.Denot (left_of c.args.listing) (left_of c.parts.listing) (left_of c.next_part.new.self) _ _ _ _ _
       c.parts.invariant.so_far c.in-Gone.ensures;
 }
 
@@ -27,7 +27,7 @@ parts-preserved-in-Ok g c = record {
   uninterrupted = c.in-Ok.ensures.row;
   same = g.met.K.Sink.stays_on _ _ _ c.parts.invariant.same c.in-Ok.ensures.same;
   so_far =
-      so_far_line c.in-Line.reply (left_of c.args.listing) (left_of c.parts.listing) (left_of c.next_part.new.listing)
+      so_far_line c.in-Line.reply (left_of c.args.listing) (left_of c.parts.listing) (left_of c.next_part.new.self)
       c.as_slice.result.now _ _ _ _ _ _ c.parts.invariant.so_far c.in-Line.ensures
       c.as_slice.ensures c.in-Ok.ensures.ok;
 }
@@ -37,14 +37,14 @@ parts-preserved g c = record {
   uninterrupted = c.in-Ok.ensures.row;
   same = g.met.K.Sink.stays_on _ _ _ c.parts.invariant.same c.in-Ok.ensures.same;
   so_far =
-      so_far_line c.in-Line.reply (left_of c.args.listing) (left_of c.parts.listing) (left_of c.next_part.new.listing)
+      so_far_line c.in-Line.reply (left_of c.args.listing) (left_of c.parts.listing) (left_of c.next_part.new.self)
       c.as_slice.result.now _ _ _ _ _ _ c.parts.invariant.so_far c.in-Line.ensures
       c.as_slice.ensures c.in-Ok.ensures.ok;
 }
 
 pub returns-in-Err-clause-front : goal.returns-in-Err-clause-front
 returns-in-Err-clause-front g c =
-    line_breaks_off c.in-Line.reply (left_of c.args.listing) (left_of c.parts.listing) (left_of c.next_part.new.listing)
+    line_breaks_off c.in-Line.reply (left_of c.args.listing) (left_of c.parts.listing) (left_of c.next_part.new.self)
     c.as_slice.result.now _ _ _ _ _ _ c.parts.invariant.so_far c.in-Line.ensures
     c.as_slice.ensures c.in-Err.ensures.front
 
@@ -55,7 +55,7 @@ returns-in-Last-clause-ok g c =
     ok_then c.deliver_to-in-Last.result _ _ c.deliver_to-in-Last.ensures.ok
     (λ written. so_far_ends (left_of c.args.listing) (left_of c.parts.listing) (bytes_of c.in-Last.reply)
     c.as_slice-in-Last.result.now _ _ _ _ _ _ c.parts.invariant.so_far
-    (last_comes c.in-Last.reply (left_of c.parts.listing) (left_of c.next_part.new.listing) _ _ c.in-Last.ensures)
+    (last_comes c.in-Last.reply (left_of c.parts.listing) (left_of c.next_part.new.self) _ _ c.in-Last.ensures)
     c.as_slice-in-Last.ensures written)
 
 pub returns-in-Last-clause-front : goal.returns-in-Last-clause-front
@@ -63,5 +63,5 @@ returns-in-Last-clause-front g c =
     err_then c.deliver_to-in-Last.result _ _ c.deliver_to-in-Last.ensures.front
     (λ front. last_breaks_off (left_of c.args.listing) (left_of c.parts.listing) (bytes_of c.in-Last.reply)
     c.as_slice-in-Last.result.now _ _ _ _ _ _ c.parts.invariant.so_far
-    (last_comes c.in-Last.reply (left_of c.parts.listing) (left_of c.next_part.new.listing) _ _ c.in-Last.ensures)
+    (last_comes c.in-Last.reply (left_of c.parts.listing) (left_of c.next_part.new.self) _ _ c.in-Last.ensures)
     c.as_slice-in-Last.ensures front)

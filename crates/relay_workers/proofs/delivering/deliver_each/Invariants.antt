@@ -8,8 +8,8 @@ invariant-parts g l = record {
   uninterrupted : g.K.Sink.interruptions l.sink ≡ 0;
   same : g.K.Sink.stays l.initial.sink l.sink;
   so_far :
-      SoFar (left_of l.initial.listing) (left_of l.listing) (g.D.Desk.exchanges l.initial.desk)
-      (g.D.Desk.exchanges l.desk) (g.K.Sink.contents l.initial.sink) (g.K.Sink.contents l.sink);
+      SoFar (left_of l.initial.listing) (left_of l.listing) (g.D.SessionDesk.exchanges l.initial.desk)
+      (g.D.SessionDesk.exchanges l.desk) (g.K.Sink.contents l.initial.sink) (g.K.Sink.contents l.sink);
 }
 
 abbrev pub decreases-parts : goal.decreases-parts

@@ -20,7 +20,7 @@ started p asked contents e =
 pub loop-n-init : goal.loop-n-init
 loop-n-init g c =
     let s =
-    started (position c.new-dialogue.result) (g.D.Desk.exchanges c.args.desk.now) (g.K.Sink.contents c.args.sink.now)
+    started (position c.new-dialogue.result) (g.D.SessionDesk.exchanges c.args.desk.now) (g.K.Sink.contents c.args.sink.now)
     c.new-dialogue.ensures.start in
     record {
       ready = s.0;

@@ -18,8 +18,8 @@ invariant-loop-n g l = record {
   flushed : IsFlushedOrUntouched (g.K.Sink.contents l.initial.sink) (g.K.Sink.contents l.sink)
       (g.K.Sink.flushed l.initial.sink) (g.K.Sink.flushed l.sink);
   went : (got : List ℕ) × Consumes (g.S.Source.remaining l.initial.source) (g.S.Source.remaining l.source) got
-      × AdvancesMeanwhile start (position l.dialogue) got (g.D.Desk.exchanges l.initial.desk)
-      (g.D.Desk.exchanges l.desk) (g.K.Sink.contents l.initial.sink) (g.K.Sink.contents l.sink);
+      × AdvancesMeanwhile start (position l.dialogue) got (g.D.SessionDesk.exchanges l.initial.desk)
+      (g.D.SessionDesk.exchanges l.desk) (g.K.Sink.contents l.initial.sink) (g.K.Sink.contents l.sink);
 }
 
 abbrev pub decreases-loop-n : goal.decreases-loop-n
