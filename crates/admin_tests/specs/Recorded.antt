@@ -1,12 +1,13 @@
 -- What a desk keeps of its questions, as its trait tells it. Lists are oldest first.
-use Rattle.std.specs.Prelude.{ℕ, Bool, true, false, List, map, Option, Some, None}
+use Rattle.std.specs.Prelude.{ℕ, Bool, true, false, List, [], ◌∷◌, codes, map, Option, Some, None}
 use Rattle.relay_admin.specs.declared.admin.command.Command.TheVariants.{Totals}
-use Rattle.relay_admin.specs.admin.Reply.{Exchange, asked_for, looked_at, totals, side}
+use Rattle.relay_admin.specs.admin.Reply.{Exchange, asked_for, figures, looked_at, side}
 
 -- a look at this id, where nothing stood; or the question for the totals, and so many bytes up
 abbrev pub exchange_of : Bool → ℕ → Exchange
 exchange_of true id = looked_at (side id) None
-exchange_of false up = asked_for Totals (totals up 0)
+exchange_of false up =
+    asked_for Totals (figures Totals ((codes "up", up) ∷ (codes "down", 0) ∷ []))
 
 -- whether each is a look, and its number
 abbrev pub exchanges_of : List (Bool × ℕ) → List Exchange

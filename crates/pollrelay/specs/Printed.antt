@@ -1,10 +1,12 @@
--- What the program prints of a file.
-use Rattle.std.specs.Prelude.{◌≡◌, ℕ, List, Option}
+-- What the program prints of a file, and of itself.
+use Rattle.std.specs.Prelude.{◌≡◌, ◌++◌, ℕ, List, Option}
 use Rattle.std.specs.Io.KnownBytes.{Appends}
 use Rattle.relay_admin.specs.ServeFault.{IsConfigReadFault, IsReadFault}
+use Rattle.relay_admin.specs.declared.admin.command.TheConstants.{COMMAND_HELP}
 use Rattle.relay_admin.specs.declared.rules.verdict.Verdict.{Verdict}
 use Rattle.relay_admin.specs.declared.serve_fault.ServeFault.{ServeFault}
 use Rattle.relay_admin.specs.rules.Verdict.{IsVerdict, verdict_line, verdict_status}
+use Rattle.relay_command.specs.declared.usage.TheConstants.{HELP, HELP_BEHIND}
 use Rattle.relay_settings.specs.Conversion.{MeansRules}
 use Rattle.relay_settings.specs.Verdict.{IsConfigVerdict}
 use Rattle.relay_settings.specs.declared.asked.Source.{Source}
@@ -33,3 +35,7 @@ PrintsVerdictOnRules file old new =
 -- a configuration that says what the rules file says was printed, and nothing else
 abbrev pub PrintsConfig : List ℕ → (old new : Option (List ℕ)) → Type 0
 PrintsConfig file old new = (text : List ℕ) × MeansRules file text × Appends old new text
+
+-- its help: the admin commands stand where `ctl` is told
+abbrev pub printed_help : List ℕ
+printed_help = HELP.now ++ (COMMAND_HELP.now ++ HELP_BEHIND.now)

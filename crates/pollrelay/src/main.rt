@@ -20,13 +20,13 @@ mod printed;
 mod words;
 
 use crate::given::{listeners_among, sockets_given};
-use crate::printed::{check_file, convert_rules, say};
+use crate::printed::{check_file, convert_rules, say, say_help};
 use crate::words::job_asked;
 use base_types::OutOfMemory;
 use log_writer::open_log;
 use relay_admin::{Command, ServeFault};
 use relay_command::{
-    Fault, HELP, Job, NO_MEMORY, VERSION, descriptors_allowed, descriptors_needed, reply_status,
+    Fault, Job, NO_MEMORY, VERSION, descriptors_allowed, descriptors_needed, reply_status,
     trace_status,
 };
 use relay_core::Capacity;
@@ -201,7 +201,7 @@ fn main(rt: HostRuntime) -> ExitCode {
             Err(_) => Err(NO_MEMORY),
         },
         Ok(Job::Ctl { admin, line }) => control(&rt, admin.as_str(), line.as_str()),
-        Ok(Job::Help) => say(&mut output, HELP),
+        Ok(Job::Help) => say_help(&mut output),
         Ok(Job::Version) => say(&mut output, VERSION),
         Err(fault) => Err(fault),
     };

@@ -3,12 +3,12 @@
 ghost use Rattle.std.specs.Prelude.{◌≡◌, ◌≢◌, Err, IfErr, IfOk, OnOk, IsOk};
 ghost use Rattle.std.specs.Io.KnownBytes.{Appends};
 ghost use Rattle.pollrelay.specs.Ending.{IsFileStatus};
-ghost use Rattle.pollrelay.specs.Printed.{PrintsConfig, PrintsVerdict, PrintsVerdictOnRules};
+ghost use Rattle.pollrelay.specs.Printed.{PrintsConfig, PrintsVerdict, PrintsVerdictOnRules, printed_help};
 ghost use Rattle.relay_admin.specs.declared.serve_fault.ServeFault.{ServeFault};
 ghost use Rattle.relay_command.specs.declared.fault.Fault.{Fault};
 
-use relay_admin::{ServeFault, check_status};
-use relay_command::Fault;
+use relay_admin::{COMMAND_HELP, ServeFault, check_status};
+use relay_command::{Fault, HELP, HELP_BEHIND};
 use relay_settings::{Source, check_config, convert};
 use std::alloc::Global;
 use std::io::Write;
@@ -62,4 +62,15 @@ pub(crate) fn say<W: Write>(writer: &mut W, text: &str) -> Result<u8, Fault>
         Ok(()) => Ok(0),
         Err(_) => Err(Fault::Print),
     }
+}
+
+/// Prints the program's help, and says the exit status.
+pub(crate) fn say_help<W: Write>(writer: &mut W) -> Result<u8, Fault>
+    ensures known { IfOk result (λ status. status ≡ 0) }
+    ensures said { OnOk result (Appends (W.contents writer.old) (W.contents writer.new) printed_help) }
+    ensures faults { IfErr result (λ fault. fault ≡ Fault.Print) }
+{
+    say(writer, HELP)?;
+    say(writer, COMMAND_HELP)?;
+    say(writer, HELP_BEHIND)
 }

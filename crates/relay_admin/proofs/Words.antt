@@ -3,8 +3,8 @@ pub use Rattle.relay_admin.specs.TextReading.{◌>>=◌}
 unfoldable pub use Rattle.relay_admin.specs.TextReading.{split_at_first, number_within, time_within}
 pub use Rattle.relay_admin.specs.admin.Command.{IsDeadline, IsCommand, command_text, SpellsCommand}
 pub use Rattle.relay_admin.specs.admin.Command.{words_of, end_of, AreArguments, arguments_text}
-unfoldable pub use Rattle.relay_admin.specs.admin.CommandReading.{arguments_at, words_at}
-pub use Rattle.relay_admin.specs.admin.CommandReading.{arguments_of_parts, words_of_parts}
+unfoldable pub use Rattle.relay_admin.specs.admin.Command.{arguments_at, words_at}
+pub use Rattle.relay_admin.specs.admin.Command.{arguments_of_parts, words_of_parts}
 pub use Rattle.relay_admin.specs.admin.Progress.{Position, start, IsReady, Advances}
 pub use Rattle.relay_admin.specs.admin.Progress.{AnswersLine, Closes}
 pub use Rattle.relay_admin.specs.admin.Reply.{Exchange, bad_command, questions_of}

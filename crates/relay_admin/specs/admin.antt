@@ -1,6 +1,5 @@
 pub mod Answers
 pub mod Command
-pub mod CommandReading
 pub mod Later
 pub mod LineMeaning
 pub mod Listing

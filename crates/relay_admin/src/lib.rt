@@ -11,8 +11,8 @@ mod text;
 pub use admin::answers::{
     CloseAnswer, LateAnswer, ReloadAnswer, SteerAnswer, TargetAnswer, TotalBytes,
 };
-pub use admin::command::Command;
-pub use admin::desk::DeskAnswer;
+pub use admin::command::{COMMAND_HELP, Command};
+pub use admin::desk::{DeskAnswer, Figure};
 pub use admin::dialogue::Dialogue;
 pub use admin::end::AdminEnd;
 pub use admin::line_answer::ask_line;

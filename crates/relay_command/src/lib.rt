@@ -18,4 +18,4 @@ pub use fault::{Fault, NO_MEMORY};
 pub use job::{Job, job_of};
 pub use soft_limit::descriptors_allowed;
 pub use status::trace_status;
-pub use usage::{HELP, VERSION};
+pub use usage::{HELP, HELP_BEHIND, VERSION};

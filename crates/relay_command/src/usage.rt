@@ -3,7 +3,7 @@
 /// What `pollrelay version` prints.
 pub const VERSION: &str = "pollrelay 0.1.0\n";
 
-/// What `pollrelay help` prints.
+/// What `pollrelay help` prints before the admin commands, which are `relay_admin::COMMAND_HELP`.
 pub const HELP: &str = "\
 pollrelay relays TCP and Unix-socket connections by a rules file or a configuration.
 
@@ -23,9 +23,10 @@ pollrelay convert --rules FILE
     prints the configuration that says what a rules file says
 pollrelay ctl --admin PATH WORD..
     has a relay carry out an admin command, and prints its reply:
-    list, totals, show, show ID, close ID, drain ID, deadline ID MS,
-    deadline ID never, targets, target RULE ADDRESS auto|up|drain|down,
-    reload, finish MS, stop
+";
+
+/// What it prints behind them.
+pub const HELP_BEHIND: &str = "\
 pollrelay trace
     runs a script of the lock word on standard input; without a word, likewise
 pollrelay help, pollrelay version

@@ -28,7 +28,7 @@ pub enum AdminFault {
 
 /// Answers the lines of a source up to its end, or to a line that ends the session. A line of more
 /// than 64 bytes ends it at its 65th byte; no read is made after the line that ends it, nor after
-/// line 65,536. Each reply is written and flushed before the next read. A reply to `Ids`, `Totals`
+/// line 65,536. Each reply is written and flushed before the next read. A reply to `Ids`, `Figures`
 /// or `Shown` alone takes memory, of `memory`, and frees it before the next line; where it is
 /// refused, the reply is `error 507 out of memory`, and the session goes on. The desk may take
 /// memory of `alloc`.

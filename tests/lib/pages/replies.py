@@ -9,6 +9,7 @@ from lib.pages.tree import GUIDE
 
 FIXED = "crates/relay_admin/src/admin/reply_text.rt"
 MADE = "crates/relay_admin/src/admin/reply.rt"
+FIGURES = ("crates/relay_admin/src/admin/answers.rt", "crates/relay_admin/src/admin/session_desk.rt")
 SHOWN = "crates/relay_admin/src/admin/shown.rt"
 REFUSED = "crates/relay_admin/src/admin/refusal.rt"
 NUMBER = re.compile(r"^error \d+")
@@ -25,12 +26,22 @@ def shown_words(tree):
     return [it for name in bodies if name.startswith("write_") for it in texts(bodies[name]) if re.fullmatch(r" ?\w+ ", it)]
 
 
+def of_figures(tree):
+    """The replies of figures: the word of a command, and each figure behind its own."""
+    code = "".join(tree.text(it) for it in FIGURES)
+    made = re.findall(r"((?:Figure::of\([^)]*\),?\s*)+)\];[^;]*?of_figures\(Command::(\w+)", code)
+    return ["".join([it.lower(), *(rf" {word} \w+" for word in re.findall(r'of\("(\w+)"', row))]) for row, it in made]
+
+
 def check(tree, told):
     known = fixed(tree)
     told.reads(len(known) > 5, FIXED, __file__)
     told.has_all(tree, FORMAT, known, "the reply")
     text = re.sub(r"\s+", " ", tree.text(FORMAT))
     figures = [it for it in texts(tree.text(MADE)) if "{" in it]
+    told.reads(of_figures(tree), FIGURES[0], __file__)
+    for it in of_figures(tree):
+        told.holds(re.search(it, text), FORMAT, f"says nothing of the reply `{it}`, which the code has")
     for it in figures:
         told.holds(re.search(re.sub(r"\\{\w+\\}", r"\\w+", re.escape(it)), text), FORMAT, f"says nothing of the reply `{it}`, which the code has")
     shown = r"\S+ ".join(re.escape(it) for it in "".join(f"{it}\0" for it in shown_words(tree)).replace("\0 ", "\0").split("\0") if it)

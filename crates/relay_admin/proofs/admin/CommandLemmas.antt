@@ -11,7 +11,7 @@ use Rattle.relay_admin.proofs.Words.{time_within, arguments_at, arguments_of_par
 use Rattle.relay_admin.specs.declared.admin.command.Arguments.{Arguments}
 use Rattle.relay_admin.specs.declared.admin.command.Arguments.TheVariants as behind
 use Rattle.relay_admin.specs.declared.admin.command.Command.TheVariants as command
-use Rattle.relay_admin.specs.admin.CommandReading.{behind_word, command_alone, command_at, command_at_id, ms_at, target_at}
+use Rattle.relay_admin.specs.admin.Command.{behind_word, command_alone, command_at, command_at_id, ms_at, target_at}
 use Rattle.relay_admin.specs.declared.admin.command.TheConstants.{MAX_ID, MAX_DEADLINE_MS}
 use Rattle.relay_admin.proofs.TextLemmas.{bind_some, bind_is, split_sound, split_complete, split_lacks}
 use Rattle.relay_admin.proofs.TextLemmas.{word_lacks, Lacks-word, same_bytes}

@@ -98,7 +98,7 @@ late_reply (late.Deadline answer) text h = steer_reply answer text h
 -- an answer's own reply is one to it
 own_reply : (answer : Answer) → IsReplyTo answer (reply_text answer)
 own_reply (answers.ids list) = inl refl
-own_reply (answers.totals up down) = inl refl
+own_reply (answers.figures question list) = inl refl
 own_reply answers.fine = refl
 own_reply answers.unknown = refl
 own_reply answers.closed = refl

@@ -1,5 +1,5 @@
 -- What the answers of a session's desk say, each of the type that its question has.
-use Rattle.std.specs.Prelude.{ℕ, Option, Some, None, Result, Ok, Err}
+use Rattle.std.specs.Prelude.{ℕ, [], ◌∷◌, Option, Some, None, Result, Ok, Err, codes}
 use Rattle.std.specs.Global.{Vec}
 use Rattle.relay_admin.specs.declared.admin.answers.CloseAnswer.{CloseAnswer}
 use Rattle.relay_admin.specs.declared.admin.answers.CloseAnswer.TheVariants as closing
@@ -12,6 +12,7 @@ use Rattle.relay_admin.specs.declared.admin.answers.SteerAnswer.TheVariants as s
 use Rattle.relay_admin.specs.declared.admin.answers.TotalBytes.{TotalBytes}
 use Rattle.relay_admin.specs.declared.admin.answers.TargetAnswer.{TargetAnswer}
 use Rattle.relay_admin.specs.declared.admin.answers.TargetAnswer.TheVariants as setting
+use Rattle.relay_admin.specs.declared.admin.command.Command.TheVariants as command
 use Rattle.relay_admin.specs.declared.admin.shown.Shown.{Shown}
 use Rattle.relay_admin.specs.admin.Reply.{Answer}
 use Rattle.relay_admin.specs.admin.Reply as answers
@@ -24,7 +25,8 @@ of_ids (Err refused) = answers.no_memory
 
 -- the bytes that were copied
 abbrev pub of_totals : TotalBytes → Answer
-of_totals total = answers.totals total.up total.down
+of_totals total =
+    answers.figures command.Totals ((codes "up", total.up) ∷ (codes "down", total.down) ∷ [])
 
 -- how a close ended
 abbrev pub of_close : CloseAnswer → Answer

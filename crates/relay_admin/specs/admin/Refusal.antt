@@ -34,7 +34,7 @@ reply_is_whole other reply = ends_by (10 ∷ []) reply
 -- the answer says that what was asked for wasn't done
 abbrev pub refuses : Answer → Bool
 refuses (answers.ids list) = false
-refuses (answers.totals up down) = false
+refuses (answers.figures question list) = false
 refuses answers.fine = false
 refuses (answers.shown particulars) = false
 refuses (answers.verdict (Rules count)) = false

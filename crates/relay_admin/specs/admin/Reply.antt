@@ -1,9 +1,10 @@
 -- What a desk is asked and answers, and the reply to each answer.
-use Rattle.std.specs.Prelude.{◌≡◌, ◌⊎◌, ℕ, List, [], ◌∷◌, ◌++◌, Option, Some, None, codes, option_map}
+use Rattle.std.specs.Prelude.{◌≡◌, ◌⊎◌, ℕ, List, [], ◌∷◌, ◌++◌, Option, Some, None, codes, map, option_map}
 use Rattle.std.specs.List.{flat_map}
 use Rattle.std.specs.Fmt.{decimal}
 use Rattle.relay_admin.specs.rules.Grammar.{space}
 use Rattle.relay_admin.specs.rules.Verdict.{verdict_line}
+use Rattle.relay_admin.specs.admin.Command.{words_of}
 use Rattle.relay_admin.specs.admin.Shown.{Particulars, particulars_of, shown_text}
 use Rattle.relay_admin.specs.admin.ShownTarget.{TargetFacts, shown_target_text}
 use Rattle.relay_admin.specs.declared.admin.command.Command.{Command}
@@ -15,12 +16,13 @@ use Rattle.relay_admin.specs.declared.admin.reply_text.TheConstants.{CANNOT_READ
 use Rattle.relay_admin.specs.declared.admin.reply_text.TheConstants.{NO_SUCH_RULE, NO_SUCH_TARGET}
 use Rattle.relay_admin.specs.declared.rules.verdict.Verdict.{Verdict}
 use Rattle.relay_admin.specs.declared.admin.desk.DeskAnswer.{DeskAnswer}
+use Rattle.relay_admin.specs.declared.admin.desk.Figure.{Figure}
 use Rattle.relay_admin.specs.declared.admin.desk.DeskAnswer.TheVariants as variant
 
 -- an answer, by what it says
 pub data Answer : Type 0 where
   ids : List ℕ → Answer
-  totals : ℕ → ℕ → Answer
+  figures : Command → List (List ℕ × ℕ) → Answer
   fine : Answer
   unknown : Answer
   closed : Answer
@@ -35,10 +37,14 @@ pub data Answer : Type 0 where
   unknown_rule : Answer
   unknown_target : Answer
 
+-- a figure, and the word behind which a reply has it
+abbrev pub figure_of : Figure → List ℕ × ℕ
+figure_of figure = (figure.word.now, figure.n)
+
 -- what an answer of the program says
 abbrev pub answer_of : DeskAnswer → Answer
 answer_of (variant.Ids list) = ids list.items
-answer_of (variant.Totals up down) = totals up down
+answer_of (variant.Figures question list) = figures question (map figure_of list.items)
 answer_of variant.Fine = fine
 answer_of variant.Unknown = unknown
 answer_of variant.Closed = closed
@@ -57,12 +63,16 @@ answer_of variant.UnknownTarget = unknown_target
 abbrev pub ids_text : List ℕ → List ℕ
 ids_text list = flat_map (λ id. space ∷ decimal id) list
 
--- the reply to an answer, with its line feed; `ids` and `totals` stand in `src/admin/reply.rt` as
--- formats, which are no constants that could be cited, so their words are spelled here too
+-- figures, each behind its word
+abbrev pub told_figures : List (List ℕ × ℕ) → List ℕ
+told_figures list = flat_map (λ figure. space ∷ (figure.0 ++ space ∷ decimal figure.1)) list
+
+-- the reply to an answer, with its line feed; one of figures begins with the word of its command. The
+-- word `ids` stands in `src/admin/reply.rt` as text that is no constant which could be cited, so it is
+-- spelled here too
 abbrev pub reply_text : Answer → List ℕ
 reply_text (ids list) = codes "ids" ++ ids_text list ++ 10 ∷ []
-reply_text (totals up down) =
-    codes "totals up " ++ (decimal up ++ (codes " down " ++ (decimal down ++ 10 ∷ [])))
+reply_text (figures question list) = (words_of question).0 ++ (told_figures list ++ 10 ∷ [])
 reply_text fine = DONE.now
 reply_text unknown = NO_SUCH_CONNECTION.now
 reply_text closed = CLOSED.now
@@ -84,8 +94,8 @@ bad_command = BAD_COMMAND.now
 -- the answer's own reply, or, where that takes memory, that there was none
 abbrev pub IsReplyTo : Answer → List ℕ → Type 0
 IsReplyTo (ids list) reply = (reply ≡ reply_text (ids list)) ⊎ (reply ≡ reply_text no_memory)
-IsReplyTo (totals up down) reply =
-    (reply ≡ reply_text (totals up down)) ⊎ (reply ≡ reply_text no_memory)
+IsReplyTo (figures question list) reply =
+    (reply ≡ reply_text (figures question list)) ⊎ (reply ≡ reply_text no_memory)
 IsReplyTo (shown particulars) reply =
     (reply ≡ reply_text (shown particulars)) ⊎ (reply ≡ reply_text no_memory)
 IsReplyTo answer reply = reply ≡ reply_text answer

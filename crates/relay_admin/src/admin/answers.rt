@@ -8,7 +8,7 @@ ghost use Rattle.relay_admin.specs.admin.Later.{IsAnswerTo};
 ghost use Rattle.relay_admin.specs.admin.Reply.{answer_of};
 
 use crate::admin::command::Command;
-use crate::admin::desk::DeskAnswer;
+use crate::admin::desk::{DeskAnswer, Figure};
 use crate::admin::shown::Shown;
 use crate::rules::rule::MAX_NAME_BYTES;
 use crate::rules::verdict::Verdict;
@@ -98,7 +98,8 @@ impl TotalBytes {
     pub(crate) fn told(self) -> DeskAnswer
         ensures { answer_of result ≡ of_totals self }
     {
-        DeskAnswer::Totals(self.up, self.down)
+        let figures = [Figure::of("up", self.up), Figure::of("down", self.down)];
+        DeskAnswer::of_figures(Command::Totals, &figures)
     }
 }
 

@@ -1,12 +1,13 @@
-//! A command of the admin socket, the line that spells it, and what it brings.
+//! A command of the admin socket, the line that spells it, its words in the program's help, and what it
+//! brings.
 //!
 //! A line is read as a word and its arguments; `command_named` makes a command of them.
 
 ghost use Rattle.std.specs.Prelude.{◌≡◌, ◌≢◌, IfSome, IfNone};
 ghost use Rattle.relay_admin.specs.TextReading.{Views};
-ghost use Rattle.relay_admin.specs.admin.Command.{IsCommand, SpellsCommand, command_text, end_of};
-ghost use Rattle.relay_admin.specs.admin.CommandReading.{arguments_at, behind_word, words_at};
-ghost use Rattle.relay_admin.specs.admin.CommandReading.{command_alone, command_at, command_at_id};
+ghost use Rattle.relay_admin.specs.admin.Command.{IsCommand, SpellsCommand, arguments_at};
+ghost use Rattle.relay_admin.specs.admin.Command.{behind_word, command_alone, command_at, command_at_id};
+ghost use Rattle.relay_admin.specs.admin.Command.{command_text, end_of, words_at, words_of};
 
 use crate::admin::end::AdminEnd;
 use crate::admin::target_order::{TargetOrder, target_order_of};
@@ -45,6 +46,13 @@ pub enum Command {
     SetTarget(TargetOrder),
 }
 
+/// The commands but `quit`, as the program's help has them.
+pub const COMMAND_HELP: &str = "\
+    list, totals, show, show ID, close ID, drain ID, deadline ID MS,
+    deadline ID never, targets, target RULE ADDRESS auto|up|drain|down,
+    reload, finish MS, stop
+";
+
 /// What stands behind the word of a command.
 #[derive(Clone, Copy, Drop)]
 pub(crate) enum Arguments {
@@ -75,6 +83,26 @@ impl Command {
         command_named(word, arguments)
     }
 
+    /// Its word, with which its line begins, and a reply of figures.
+    pub(crate) fn word(&self) -> &'static [u8]
+        ensures { result.now ≡ (words_of self.now).0 }
+    {
+        match self {
+            Command::List => b"list",
+            Command::Totals => b"totals",
+            Command::Quit => b"quit",
+            Command::Stop => b"stop",
+            Command::CloseConn(_) => b"close",
+            Command::DrainConn(_) => b"drain",
+            Command::DeadlineOf(_, _) => b"deadline",
+            Command::Show(_) | Command::ShowAll => b"show",
+            Command::Reload => b"reload",
+            Command::Finish(_) => b"finish",
+            Command::Targets => b"targets",
+            Command::SetTarget(_) => b"target",
+        }
+    }
+
     /// How the session ends by the command. Where it doesn't, the desk is asked.
     pub(crate) fn end(&self) -> Option<AdminEnd>
         ensures { result ≡ end_of self.now }
@@ -88,7 +116,7 @@ impl Command {
 }
 
 /// The command of this word with these arguments.
-#[tactic(auto, unfolding(crate::specs::admin::CommandReading::command_at))]
+#[tactic(auto, unfolding(crate::specs::admin::Command::command_at))]
 fn command_named(word: &[u8], arguments: Arguments) -> Option<Command>
     ensures { result ≡ command_at word.now arguments }
 {
@@ -106,7 +134,7 @@ fn command_named(word: &[u8], arguments: Arguments) -> Option<Command>
     }
 }
 
-#[tactic(auto, unfolding(crate::specs::admin::CommandReading::command_alone))]
+#[tactic(auto, unfolding(crate::specs::admin::Command::command_alone))]
 fn named_alone(word: &[u8]) -> Option<Command>
     ensures { result ≡ command_alone word.now }
 {
@@ -129,7 +157,7 @@ fn named_alone(word: &[u8]) -> Option<Command>
     }
 }
 
-#[tactic(auto, unfolding(crate::specs::admin::CommandReading::command_at_id))]
+#[tactic(auto, unfolding(crate::specs::admin::Command::command_at_id))]
 fn named_with_id(word: &[u8], id: u64) -> Option<Command>
     ensures { result ≡ command_at_id word.now id }
 {
@@ -144,7 +172,7 @@ fn named_with_id(word: &[u8], id: u64) -> Option<Command>
     }
 }
 
-#[tactic(auto, unfolding(crate::specs::admin::CommandReading::words_at))]
+#[tactic(auto, unfolding(crate::specs::admin::Command::words_at))]
 fn words_in(text: &[u8]) -> Option<(&[u8], Arguments)>
     ensures { Views (λ words. (words.0.now, words.1)) result (words_at text.now) }
 {
@@ -159,7 +187,7 @@ fn words_in(text: &[u8]) -> Option<(&[u8], Arguments)>
 
 // (a number alone is an id behind all words but `finish`, which may have 0, and a day at most; the
 // words of a target stand behind `target` alone)
-#[tactic(auto, unfolding(crate::specs::admin::CommandReading::behind_word))]
+#[tactic(auto, unfolding(crate::specs::admin::Command::behind_word))]
 fn arguments_behind(word: &[u8], text: &[u8]) -> Option<Arguments>
     ensures { result ≡ behind_word word.now text.now }
 {
@@ -174,7 +202,7 @@ fn arguments_behind(word: &[u8], text: &[u8]) -> Option<Arguments>
     arguments_of(text)
 }
 
-#[tactic(auto, unfolding(crate::specs::admin::CommandReading::arguments_at))]
+#[tactic(auto, unfolding(crate::specs::admin::Command::arguments_at))]
 fn arguments_of(text: &[u8]) -> Option<Arguments>
     ensures { result ≡ arguments_at text.now }
 {

@@ -1,11 +1,12 @@
 //! The reply to what a desk answered.
 
-ghost use Rattle.std.specs.Prelude.{◌≡◌, IfOk, OnErr};
-ghost use Rattle.relay_admin.specs.admin.Reply.{IsReplyTo, answer_of, reply_text};
+ghost use Rattle.std.specs.Prelude.{◌≡◌, IfOk, OnErr, map};
+ghost use Rattle.relay_admin.specs.admin.Reply.{IsReplyTo, answer_of, figure_of, reply_text};
 ghost use Rattle.relay_admin.specs.admin.Reply as answers;
 ghost use Rattle.relay_admin.specs.admin.ReplyBytes.{bytes_of};
 
-use crate::admin::desk::DeskAnswer;
+use crate::admin::command::Command;
+use crate::admin::desk::{DeskAnswer, Figure};
 use crate::admin::reply_bytes::Reply;
 use crate::admin::reply_text::{
     BUSY, CANNOT_LISTEN, CANNOT_READ, CLOSED, DEVICE, DONE, DRAINING, NO_SUCH_CONNECTION,
@@ -27,8 +28,8 @@ pub fn reply_in<A: Allocator + Copy>(
 {
     match answer {
         DeskAnswer::Ids(ids) => ids_reply(alloc, ids.as_slice()),
-        DeskAnswer::Totals(up, down) => {
-            Ok(format!(in alloc; "totals up {up} down {down}\n")?.into_bytes())
+        DeskAnswer::Figures(question, figures) => {
+            figures_reply(alloc, question, figures.as_slice())
         }
         DeskAnswer::Fine => Vec::from_slice(alloc, DONE),
         DeskAnswer::Unknown => Vec::from_slice(alloc, NO_SUCH_CONNECTION),
@@ -62,6 +63,27 @@ fn ids_reply<A: Allocator + Copy>(alloc: A, ids: &[u64]) -> Result<Vec<u8, A>, O
     Ok(text)
 }
 
+// The line that has figures behind the word of the command that they answer, each behind its own.
+fn figures_reply<A: Allocator + Copy>(
+    alloc: A,
+    question: &Command,
+    figures: &[Figure],
+) -> Result<Vec<u8, A>, OutOfMemory>
+    ensures { IfOk result (λ reply. reply.items
+        ≡ reply_text (answers.figures question.now (map figure_of figures.now))) }
+{
+    let mut text = Vec::from_slice(alloc, question.word())?;
+    let mut digits = Buffer::new();
+    for figure in figures {
+        text.push(b' ')?;
+        text.extend_from_slice(figure.word.as_bytes())?;
+        text.push(b' ')?;
+        text.extend_from_slice(digits.format(figure.n).as_bytes())?;
+    }
+    text.push(b'\n')?;
+    Ok(text)
+}
+
 /// The line that says that the rule of this name can't be listened for.
 fn cannot_listen_line(name: &ArrayString<MAX_NAME_BYTES>) -> ArrayString<64>
     ensures { result.bytes ≡ reply_text (answers.cannot_listen name.now.bytes) }
@@ -73,14 +95,14 @@ fn cannot_listen_line(name: &ArrayString<MAX_NAME_BYTES>) -> ArrayString<64>
     line
 }
 
-/// The reply to an answer, or that memory was refused. Only `Ids`, `Totals` and `Shown` take
+/// The reply to an answer, or that memory was refused. Only `Ids`, `Figures` and `Shown` take
 /// memory: a reload that was carried out is never told as a want of it.
 pub(crate) fn reply_to<A: Allocator + Copy>(alloc: A, answer: &DeskAnswer) -> Reply<A>
     ensures { IsReplyTo (answer_of answer.now) (bytes_of result) }
 {
     match answer {
         DeskAnswer::Ids(_) => made_or_refused(reply_in(alloc, answer)),
-        DeskAnswer::Totals(_, _) => made_or_refused(reply_in(alloc, answer)),
+        DeskAnswer::Figures(_, _) => made_or_refused(reply_in(alloc, answer)),
         DeskAnswer::Fine => Reply::Fixed(DONE),
         DeskAnswer::Unknown => Reply::Fixed(NO_SUCH_CONNECTION),
         DeskAnswer::Closed => Reply::Fixed(CLOSED),

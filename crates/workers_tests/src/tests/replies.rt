@@ -2,7 +2,9 @@
 
 use crate::tests::fake_desk::{LONG_PATH, held};
 use linked_list_allocator::LocalHeap;
-use relay_admin::{Addr, Command, DeskAnswer, RulesFault, Shown, ShownSide, Verdict, reply_in};
+use relay_admin::{
+    Addr, Command, DeskAnswer, Figure, RulesFault, Shown, ShownSide, Verdict, reply_in,
+};
 use relay_workers::reply_of;
 use std::alloc::Global;
 
@@ -156,7 +158,10 @@ fn answer_of(alloc: Global, said: &Said) -> DeskAnswer {
             Ok(ids) => DeskAnswer::Ids(ids),
             Err(_) => DeskAnswer::NoMemory,
         },
-        Said::Totals(up, down) => DeskAnswer::Totals(*up, *down),
+        Said::Totals(up, down) => DeskAnswer::of_figures(
+            Command::Totals,
+            &[Figure::of("up", *up), Figure::of("down", *down)],
+        ),
         Said::Fine => DeskAnswer::Fine,
         Said::Unknown => DeskAnswer::Unknown,
         Said::Closed => DeskAnswer::Closed,
