@@ -23,7 +23,7 @@ pub enum Counted {
 pub const COUNTS: usize = 3;
 
 /// What each of them counts, by their places.
-pub(crate) const COUNTED: [Counted; COUNTS] = [
+pub const COUNTED: [Counted; COUNTS] = [
     Counted::AdminSessions,
     Counted::AdminDroppedSessions,
     Counted::Reloads,

@@ -47,8 +47,7 @@ pub enum Command {
 }
 
 /// The commands but `quit`, as the program's help has them.
-pub const COMMAND_HELP: &str = "\
-    list, totals, show, show ID, close ID, drain ID, deadline ID MS,
+pub const COMMAND_HELP: &str = "    list, totals, show, show ID, close ID, drain ID, deadline ID MS,
     deadline ID never, targets, target RULE ADDRESS auto|up|drain|down,
     reload, finish MS, stop
 ";
